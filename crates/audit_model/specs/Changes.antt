@@ -1,0 +1,80 @@
+-- What a step changes in the situation.
+use Rattle.std.specs.Prelude.{ℕ, suc, ◌+◌, Bool, false, not, ◌&&◌, ◌||◌, List, [], ◌∷◌, ◌++◌, map, Option, Some, None, if◌then◌else◌, is_some}
+use Rattle.std.specs.Option.{option_map, option_map_or, option_to_list}
+use Rattle.audit_model.specs.History.{Effect, Value}
+use Rattle.audit_model.specs.Commands.{looks_up, covers, drops, syncs, quits}
+use Rattle.audit_model.specs.Stream.{behind_lines, is_waiting, is_held}
+use Rattle.audit_model.specs.Values.{untold}
+use Rattle.audit_model.specs.Loads.{key_loaded}
+use Rattle.audit_model.specs.View.{View}
+use Rattle.audit_model.specs.Notes.{is_over, candidates_of, tells_size}
+use Rattle.audit_model.specs.Steps.{Task, Store, RunLines}
+use Rattle.audit_model.specs.Situation.{Situation, Connection, HeldValue, Standing, Ready, Held, Waiting, connection_in, with_connection, with_waiting, is_live_now}
+use Rattle.audit_model.specs.declared.config.Config.{Config}
+use Rattle.audit_model.specs.declared.transcript.Step.{Step}
+
+-- ---- values
+
+-- a value just accepted
+abbrev pub newly_held : Value → HeldValue
+newly_held value = record { value = value; last_use = value.accepted_at; covered = false; evictable = false }
+
+-- the values held after the step
+abbrev pub left_held : Situation → Effect → List HeldValue
+left_held s effect = untold (λ held. held.value.key) effect.notes (s.held ++ option_to_list (option_map newly_held effect.value))
+
+-- a look-up that finds the value live uses it
+abbrev pub use_after : Config → Situation → Effect → HeldValue → ℕ
+use_after config s effect held = if looks_up held.value.key effect && is_live_now config s held then effect.at else held.last_use
+
+-- earlier points count no more after a `SYNC`, and after a step that tells a value of the part with `Size`
+abbrev pub is_evictable_after : Config → View → Effect → List Value → HeldValue → Bool
+is_evictable_after config seen effect values held =
+    let starts_anew = syncs effect || tells_size held.value.part (map (λ c. c.value) (candidates_of config seen effect)) effect.notes in
+    is_over config held.value.part values || (not starts_anew && held.evictable)
+
+-- a value that the step leaves held among these
+abbrev pub held_after : Config → Situation → View → Effect → List Value → HeldValue → HeldValue
+held_after config s seen effect values held =
+    record { value = held.value; last_use = use_after config s effect held; covered = held.covered || covers held.value.key effect; evictable = is_evictable_after config seen effect values held }
+
+abbrev pub all_held_after : Config → Situation → View → Effect → List HeldValue
+all_held_after config s seen effect =
+    let left = left_held s effect in
+    map (held_after config s seen effect (map (λ held. held.value) left)) left
+
+-- ---- connections and loads
+
+-- the connection after a step of its own
+abbrev pub connection_after : Option Task → Step → Effect → Connection → Connection
+connection_after task step effect c = record { number = c.number; unread = read_by task; standing = stands; waited = waits }
+  where
+    read_by : Option Task → List ℕ
+    read_by (Some (RunLines conn)) = behind_lines 1 c.unread
+    read_by task = c.unread
+
+    stands : Standing
+    stands = if is_held effect then Held step.line else (if is_waiting effect then Waiting step.line else Ready)
+
+    waits : ℕ
+    waits = if is_some effect.reply then 0 else ((if is_waiting effect then 1 else 0) + c.waited)
+
+-- a `LOAD` that waits joins its key's load, or the load that it sent
+abbrev pub join_by : ℕ → Bool → Option (List ℕ) → Option ℕ → Situation → Situation
+join_by conn waits None load s = s
+join_by conn waits (Some key) (Some number) s =
+    record s { sent = suc s.sent; pending = record { number = number; key = key; waiting = conn ∷ [] } ∷ s.pending }
+join_by conn waits (Some key) None s = if waits then record s { pending = map (with_waiting conn key) s.pending } else s
+
+abbrev pub join_load : ℕ → Effect → Situation → Situation
+join_load conn effect s = join_by conn (is_waiting effect) (key_loaded effect.action) effect.load s
+
+-- the situation after what a step does to its connection and to the loads; an answer's own step has neither
+abbrev pub with_connection_after : Option Task → Step → Effect → Situation → Situation
+with_connection_after (Some (Store key outcome)) step effect s = s
+with_connection_after task step effect s =
+    option_map_or (λ c. with_connection (quits effect) (connection_after task step effect c) (join_load step.conn effect s)) (connection_in step.conn s) s
+
+abbrev pub after_step : Config → Situation → View → Option Task → Step → Effect → Situation
+after_step config s seen task step effect =
+    with_connection_after task step effect (record s { held = all_held_after config s seen effect; dropped = s.dropped || drops effect })

@@ -1,0 +1,105 @@
+-- Which values a step tells, and with which causes.
+use Rattle.std.specs.Prelude.{ℕ, Bool, true, false, not, ◌&&◌, ◌||◌, ◌==◌, nat_lt, List, [], ◌∷◌, ◌++◌, map, Option, Some, None, if◌then◌else◌, is_some}
+use Rattle.std.specs.List.{list_all, list_any, find, filter, sum_by}
+use Rattle.std.specs.Option.{option_to_list, option_map, option_map_or}
+use Rattle.audit_model.specs.Bytewise.{same}
+use Rattle.audit_model.specs.History.{Effect, Action, Running, Holding, Abandoning, Value, share}
+use Rattle.audit_model.specs.Values.{deadline, has_come, without_key, is_value_of}
+use Rattle.audit_model.specs.Commands.{deletes, adds}
+use Rattle.audit_model.specs.View.{View, Candidate}
+use Rattle.audit_model.specs.declared.config.Config.{Config}
+use Rattle.audit_model.specs.declared.command.Command.TheVariants as says
+use Rattle.audit_model.specs.declared.transcript.Note.{Note}
+use Rattle.audit_model.specs.declared.transcript.RemovalCause.{RemovalCause}
+use Rattle.audit_model.specs.declared.transcript.RemovalCause.TheVariants.{Expired, Explicit, Replaced, Size}
+
+abbrev pub same_cause : RemovalCause → RemovalCause → Bool
+same_cause Expired Expired = true
+same_cause Explicit Explicit = true
+same_cause Replaced Replaced = true
+same_cause Size Size = true
+same_cause a b = false
+
+-- the values of a part weigh more than its share
+abbrev pub is_over : Config → ℕ → List Value → Bool
+is_over config part values = go config.capacity
+  where
+    go : Option ℕ → Bool
+    go None = false
+    go (Some capacity) = nat_lt (share config capacity) (sum_by (λ v. v.weight) (filter (λ v. v.part == part) values))
+
+-- each part weighs at most its share
+abbrev pub is_within : Config → List Value → Bool
+is_within config values = list_all (λ v. not (is_over config v.part values)) values
+
+-- the values held just after a step's acceptance: the key's other value is gone
+abbrev pub just_accepted : List Value → Option Value → List Value
+just_accepted values None = values
+just_accepted values (Some value) = without_key (λ v. v.key) value.key values ++ value ∷ []
+
+-- the value that a step accepts may be told by the same step
+abbrev pub newcomer : Config → Value → Candidate
+newcomer config value =
+    record { value = value; dead = has_come (deadline config value value.accepted_at) value.accepted_at; covered = false; evictable = false; new = true }
+
+abbrev pub candidates_of : Config → View → Effect → List Candidate
+candidates_of config seen effect = seen.held ++ option_to_list (option_map (newcomer config) effect.value)
+
+-- the part is over its share just after the step's acceptance
+abbrev pub overfills : Config → View → Effect → ℕ → Bool
+overfills config seen effect part = is_some effect.value && is_over config part (just_accepted (map (λ c. c.value) seen.held) effect.value)
+
+-- the step writes the key of this older value
+abbrev pub is_rewritten : Effect → Candidate → Bool
+is_rewritten effect c = not c.new && is_value_of c.value.key effect.value
+
+-- the step writes or deletes the key of this older value
+abbrev pub is_succeeded : Effect → Candidate → Bool
+is_succeeded effect c = is_rewritten effect c || deletes c.value.key effect
+
+-- a cause is true of a value
+abbrev pub is_true_cause : Config → View → Effect → Candidate → RemovalCause → Bool
+is_true_cause config seen effect c Expired = c.dead
+is_true_cause config seen effect c Explicit = c.covered || (deletes c.value.key effect && not c.dead)
+is_true_cause config seen effect c Replaced = is_rewritten effect c && not c.dead && not c.covered
+is_true_cause config seen effect c Size = c.evictable || overfills config seen effect c.value.part
+
+-- the first of `Expired`, `Explicit`, `Replaced` that is true of an older value which the step writes over or deletes
+abbrev pub first_cause : Config → View → Effect → Candidate → RemovalCause
+first_cause config seen effect c =
+    if is_true_cause config seen effect c Expired then Expired else (if is_true_cause config seen effect c Explicit then Explicit else Replaced)
+
+-- a write or a removal tells its key's older value with the first cause; not an `ADD`, which looks the value up before it writes
+abbrev pub is_told_first : Effect → Candidate → Bool
+is_told_first effect c = is_succeeded effect c && not (adds effect)
+
+abbrev pub is_true_note : Config → View → Effect → Note → Option Candidate → Bool
+is_true_note config seen effect note None = false
+is_true_note config seen effect note (Some c) =
+    same note.value c.value.bytes
+    && (if is_told_first effect c then same_cause note.cause (first_cause config seen effect c) else is_true_cause config seen effect c note.cause)
+
+abbrev pub first_of : List ℕ → List Candidate → Option Candidate
+first_of key cs = find (λ c. same key c.value.key) cs
+
+-- each note tells its key's first value that is not told yet, with a true cause; and no older value of a written or deleted key is left
+abbrev pub are_true_notes : Config → View → Effect → List Candidate → List Note → Bool
+are_true_notes config seen effect cs [] = list_all (λ c. not (is_succeeded effect c)) cs
+are_true_notes config seen effect cs (note ∷ notes) =
+    is_true_note config seen effect note (first_of note.key cs) && are_true_notes config seen effect (without_key (λ c. c.value.key) note.key cs) notes
+
+-- one of the notes tells one of these values, in this part, with `Size`
+abbrev pub tells_size : ℕ → List Value → List Note → Bool
+tells_size part values notes =
+    list_any (λ n. same_cause n.cause Size && option_map_or (λ v. v.part == part) (find (λ v. same n.key v.key) values) false) notes
+
+-- steps that tell nothing
+abbrev pub is_silent : Action → Bool
+is_silent (Running (says.Has key)) = true
+is_silent (Running says.Keys) = true
+is_silent (Running says.Clear) = true
+is_silent (Running (says.DropIf prefix)) = true
+is_silent (Running says.Quit) = true
+is_silent Holding = true
+is_silent Abandoning = true
+is_silent action = false

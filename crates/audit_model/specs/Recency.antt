@@ -1,0 +1,19 @@
+-- The keys that a least recently used cache of n places holds.
+use Rattle.std.specs.Prelude.{ℕ, not, List, [], ◌∷◌, take, if◌then◌else◌}
+use Rattle.std.specs.List.{list_any, filter, fold}
+use Rattle.audit_model.specs.Bytewise.{same}
+use Rattle.audit_model.specs.declared.command.Command.{Command}
+use Rattle.audit_model.specs.declared.command.Command.TheVariants as says
+
+abbrev pub without : List ℕ → List (List ℕ) → List (List ℕ)
+without key keys = filter (λ k. not (same k key)) keys
+
+-- a `SET`, and a `GET` of a key on the list, put the key first; `DEL` takes it out; the list is cut at n
+abbrev pub recency_after : ℕ → List (List ℕ) → Command → List (List ℕ)
+recency_after n keys (says.Set key ms value) = take n (key ∷ without key keys)
+recency_after n keys (says.Get key) = if list_any (λ k. same k key) keys then key ∷ without key keys else keys
+recency_after n keys (says.Del key) = without key keys
+recency_after n keys command = keys
+
+abbrev pub recency : ℕ → List Command → List (List ℕ)
+recency n commands = fold (recency_after n) [] commands

@@ -1,0 +1,132 @@
+-- What later steps depend on, and what a step sees of it.
+use Rattle.std.specs.Prelude.{ℕ, suc, Bool, true, false, not, ◌&&◌, ◌||◌, ◌==◌, nat_lt, List, [], ◌++◌, ◌∷◌, length, map, Option, if◌then◌else◌, is_some}
+use Rattle.std.specs.List.{find, filter}
+use Rattle.std.specs.Option.{option_map, option_map_or}
+use Rattle.audit_model.specs.Bytewise.{same, cut_at}
+use Rattle.audit_model.specs.History.{Value}
+use Rattle.audit_model.specs.Stream.{first_line}
+use Rattle.audit_model.specs.Values.{deadline, has_come, sorted}
+use Rattle.audit_model.specs.View.{View, Candidate}
+use Rattle.audit_model.specs.declared.config.Config.{Config}
+
+-- a connection runs lines, or holds a line back, or its `LOAD` waits
+pub data Standing : Type 0 where
+  Ready : Standing
+  Held : (line : List ℕ) → Standing
+  Waiting : (line : List ℕ) → Standing
+
+-- an open connection: its unread bytes, and how often its `LOAD` that has no reply yet began to wait
+pub record Connection : Type 0 where
+  pub number : ℕ
+  pub unread : List ℕ
+  pub standing : Standing
+  pub waited : ℕ
+
+-- a load under way, with the connections that wait for it in the order in which they joined
+pub record PendingLoad : Type 0 where
+  pub number : ℕ
+  pub key : List ℕ
+  pub waiting : List ℕ
+
+-- a value held, with its last use; evictable where its part was over its share at a point that still counts for it
+pub record HeldValue : Type 0 where
+  pub value : Value
+  pub last_use : ℕ
+  pub covered : Bool
+  pub evictable : Bool
+
+-- the latest moment; how many connections were opened and loads sent; the open connections; the loads under way; the values held, oldest
+-- first; and whether a `DROPIF` was accepted
+pub record Situation : Type 0 where
+  pub latest : ℕ
+  pub opened : ℕ
+  pub sent : ℕ
+  pub connections : List Connection
+  pub pending : List PendingLoad
+  pub held : List HeldValue
+  pub dropped : Bool
+
+-- before the first record
+abbrev pub empty_situation : ℕ → Situation
+empty_situation made = record { latest = made; opened = 0; sent = 0; connections = []; pending = []; held = []; dropped = false }
+
+-- ---- connections
+
+abbrev pub is_ready : Standing → Bool
+is_ready Ready = true
+is_ready standing = false
+
+abbrev pub is_holding : Standing → Bool
+is_holding (Held line) = true
+is_holding standing = false
+
+abbrev pub is_waiting_now : Standing → Bool
+is_waiting_now (Waiting line) = true
+is_waiting_now standing = false
+
+abbrev pub connection_in : ℕ → Situation → Option Connection
+connection_in conn s = find (λ c. c.number == conn) s.connections
+
+-- its next line may run
+abbrev pub may_run_in : Situation → ℕ → Bool
+may_run_in s conn = option_map_or (λ c. is_ready c.standing && is_some (first_line c.unread)) (connection_in conn s) false
+
+abbrev pub is_holding_in : Situation → ℕ → Bool
+is_holding_in s conn = option_map_or (λ c. is_holding c.standing) (connection_in conn s) false
+
+-- it closes for too long a line, or for too many bytes behind its waiting `LOAD`
+abbrev pub is_overlong : Connection → Bool
+is_overlong c =
+    (is_ready c.standing && nat_lt 8192 (length (cut_at 10 c.unread).0)) || (is_waiting_now c.standing && nat_lt 8192 (length c.unread))
+
+-- a load without that connection among those that wait for it
+abbrev pub without_waiting : ℕ → PendingLoad → PendingLoad
+without_waiting conn load = record load { waiting = filter (λ n. not (n == conn)) load.waiting }
+
+abbrev pub without_connection : ℕ → Situation → Situation
+without_connection conn s =
+    record s { connections = filter (λ c. not (c.number == conn)) s.connections; pending = map (without_waiting conn) s.pending }
+
+-- the situation with that connection as it now is, which closes after a `QUIT` or where it must
+abbrev pub with_connection : Bool → Connection → Situation → Situation
+with_connection quits connection s =
+    if quits || is_overlong connection then without_connection connection.number s
+    else record s { connections = map (λ c. if c.number == connection.number then connection else c) s.connections }
+
+-- ---- loads
+
+-- the connection waits for the key's load
+abbrev pub with_waiting : ℕ → List ℕ → PendingLoad → PendingLoad
+with_waiting conn key load = if same load.key key then record load { waiting = load.waiting ++ conn ∷ [] } else load
+
+-- the load under way of a key
+abbrev pub load_in : Situation → List ℕ → Option ℕ
+load_in s key = option_map (λ load. load.number) (find (λ load. same load.key key) s.pending)
+
+abbrev pub pending_in : ℕ → Situation → Option PendingLoad
+pending_in number s = find (λ load. load.number == number) s.pending
+
+abbrev pub key_in : ℕ → Situation → Option (List ℕ)
+key_in number s = option_map (λ load. load.key) (pending_in number s)
+
+abbrev pub waiting_in : ℕ → Situation → List ℕ
+waiting_in number s = option_map_or (λ load. load.waiting) (pending_in number s) []
+
+-- ---- what a step sees
+
+abbrev pub is_dead_now : Config → Situation → HeldValue → Bool
+is_dead_now config s held = has_come (deadline config held.value held.last_use) s.latest
+
+abbrev pub is_live_now : Config → Situation → HeldValue → Bool
+is_live_now config s held = not held.covered && not (is_dead_now config s held)
+
+abbrev pub live_in : Config → Situation → List ℕ → Option Value
+live_in config s key = option_map (λ held. held.value) (find (λ held. same key held.value.key && is_live_now config s held) s.held)
+
+abbrev pub candidate_in : Config → Situation → HeldValue → Candidate
+candidate_in config s held =
+    record { value = held.value; dead = is_dead_now config s held; covered = held.covered; evictable = held.evictable; new = false }
+
+abbrev pub view_in : Config → Situation → View
+view_in config s =
+    record { now = s.latest; live = live_in config s; live_keys = sorted (map (λ held. held.value.key) (filter (is_live_now config s) s.held)); load_of_key = load_in s; next_load = suc s.sent; dropped = s.dropped; held = map (candidate_in config s) s.held }

@@ -1,0 +1,18 @@
+//! The types of the line protocol's events and records, and the definitions that contracts cite.
+#![tactic(auto)]
+
+mod command;
+mod config;
+mod event;
+mod grammar;
+mod input;
+mod seq;
+mod transcript;
+
+pub use command::{Closing, Command, LineError};
+pub use config::{Config, EvictionPolicy, Weight};
+pub use event::{Event, Instant, Outcome};
+pub use grammar::{are_same, key_fits};
+pub use input::{Conn, Input, LoadId, ServiceError};
+pub use seq::{Bytes, Seq, copy_bytes};
+pub use transcript::{Accepted, Note, Record, RemovalCause, Step, Transcript};
