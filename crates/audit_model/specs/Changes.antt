@@ -2,15 +2,15 @@
 use Rattle.std.specs.Prelude.{ℕ, suc, ◌+◌, Bool, false, not, ◌&&◌, ◌||◌, List, [], ◌∷◌, ◌++◌, map, Option, Some, None, if◌then◌else◌, is_some}
 use Rattle.std.specs.Option.{option_map, option_map_or, option_to_list}
 use Rattle.audit_model.specs.History.{Effect, Value}
-use Rattle.audit_model.specs.Commands.{looks_up, covers, drops, syncs, quits}
+use Rattle.audit_model.specs.Commands.{Deed, deed_of, is_this, covers_key, drops, quits}
 use Rattle.audit_model.specs.Stream.{behind_lines, is_waiting, is_held}
 use Rattle.audit_model.specs.Values.{untold}
 use Rattle.audit_model.specs.Loads.{key_loaded}
-use Rattle.audit_model.specs.View.{View}
 use Rattle.audit_model.specs.Notes.{is_over, candidates_of, tells_size}
 use Rattle.audit_model.specs.Steps.{Task, Store, RunLines}
-use Rattle.audit_model.specs.Situation.{Situation, Connection, HeldValue, Standing, Ready, Held, Waiting, connection_in, with_connection, with_waiting, is_live_now}
+use Rattle.audit_model.specs.Situation.{Situation, Connection, HeldValue, Standing, Ready, Held, Waiting, connection_in, with_connection, with_waiting, is_live_at, candidate_at}
 use Rattle.audit_model.specs.declared.config.Config.{Config}
+use Rattle.audit_model.specs.declared.transcript.Note.{Note}
 use Rattle.audit_model.specs.declared.transcript.Step.{Step}
 
 -- ---- values
@@ -20,28 +20,28 @@ abbrev pub newly_held : Value → HeldValue
 newly_held value = record { value = value; last_use = value.accepted_at; covered = false; evictable = false }
 
 -- the values held after the step
-abbrev pub left_held : Situation → Effect → List HeldValue
-left_held s effect = untold (λ held. held.value.key) effect.notes (s.held ++ option_to_list (option_map newly_held effect.value))
+abbrev pub left_held : List HeldValue → Deed → List Note → List HeldValue
+left_held held deed notes = untold (λ h. h.value.key) notes (held ++ option_to_list (option_map newly_held deed.value))
 
 -- a look-up that finds the value live uses it
-abbrev pub use_after : Config → Situation → Effect → HeldValue → ℕ
-use_after config s effect held = if looks_up held.value.key effect && is_live_now config s held then effect.at else held.last_use
+abbrev pub use_after : Config → ℕ → Deed → HeldValue → ℕ
+use_after config now deed h = if is_this h.value.key deed.uses && is_live_at config now h then now else h.last_use
 
 -- earlier points count no more after a `SYNC`, and after a step that tells a value of the part with `Size`
-abbrev pub is_evictable_after : Config → View → Effect → List Value → HeldValue → Bool
-is_evictable_after config seen effect values held =
-    let starts_anew = syncs effect || tells_size held.value.part (map (λ c. c.value) (candidates_of config seen effect)) effect.notes in
-    is_over config held.value.part values || (not starts_anew && held.evictable)
+abbrev pub is_evictable_after : Config → ℕ → List HeldValue → Deed → List Note → List Value → HeldValue → Bool
+is_evictable_after config now held deed notes values h =
+    let starts_anew = deed.syncs || tells_size h.value.part (map (λ c. c.value) (candidates_of config (map (candidate_at config now) held) deed)) notes in
+    is_over config h.value.part values || (not starts_anew && h.evictable)
 
 -- a value that the step leaves held among these
-abbrev pub held_after : Config → Situation → View → Effect → List Value → HeldValue → HeldValue
-held_after config s seen effect values held =
-    record { value = held.value; last_use = use_after config s effect held; covered = held.covered || covers held.value.key effect; evictable = is_evictable_after config seen effect values held }
+abbrev pub held_after : Config → ℕ → List HeldValue → Deed → List Note → List Value → HeldValue → HeldValue
+held_after config now held deed notes values h =
+    record { value = h.value; last_use = use_after config now deed h; covered = h.covered || covers_key h.value.key deed.covers; evictable = is_evictable_after config now held deed notes values h }
 
-abbrev pub all_held_after : Config → Situation → View → Effect → List HeldValue
-all_held_after config s seen effect =
-    let left = left_held s effect in
-    map (held_after config s seen effect (map (λ held. held.value) left)) left
+abbrev pub all_held_after : Config → ℕ → List HeldValue → Deed → List Note → List HeldValue
+all_held_after config now held deed notes =
+    let left = left_held held deed notes in
+    map (held_after config now held deed notes (map (λ h. h.value) left)) left
 
 -- ---- connections and loads
 
@@ -75,6 +75,6 @@ with_connection_after (Some (Store key outcome)) step effect s = s
 with_connection_after task step effect s =
     option_map_or (λ c. with_connection (quits effect) (connection_after task step effect c) (join_load step.conn effect s)) (connection_in step.conn s) s
 
-abbrev pub after_step : Config → Situation → View → Option Task → Step → Effect → Situation
-after_step config s seen task step effect =
-    with_connection_after task step effect (record s { held = all_held_after config s seen effect; dropped = s.dropped || drops effect })
+abbrev pub after_step : Config → Situation → Option Task → Step → Effect → Situation
+after_step config s task step effect =
+    with_connection_after task step effect (record s { held = all_held_after config s.latest s.held (deed_of effect) effect.notes; dropped = s.dropped || drops effect })

@@ -1,30 +1,77 @@
 -- What a step's command does.
-use Rattle.std.specs.Prelude.{ℕ, Bool, true, false, ◌&&◌, nat_eq, List, codes}
+use Rattle.std.specs.Prelude.{ℕ, Bool, true, false, nat_eq, List, Option, Some, None, codes, if◌then◌else◌}
 use Rattle.std.specs.List.{starts_with}
 use Rattle.std.specs.Option.{option_map_or}
 use Rattle.audit_model.specs.Bytewise.{same, text_line}
-use Rattle.audit_model.specs.History.{Action, Running, Effect, Happening, effect_of}
+use Rattle.audit_model.specs.History.{Action, Running, Effect, Happening, Value, effect_of}
 use Rattle.audit_model.specs.declared.command.Command.TheVariants as says
 
--- `GET`, `LOAD` and `ADD` look their key up
-abbrev pub looks_up : List ℕ → Effect → Bool
-looks_up key effect = go effect.action
-  where
-    go : Action → Bool
-    go (Running (says.Get k)) = same k key
-    go (Running (says.Load k)) = same k key
-    go (Running (says.Add k ms number)) = same k key
-    go action = false
+-- which keys a step covers
+pub data Covering : Type 0 where
+  Nothing : Covering
+  Everything : Covering
+  Prefixed : (prefix : List ℕ) → Covering
 
-abbrev pub deletes : List ℕ → Effect → Bool
-deletes key effect = go effect.action
-  where
-    go : Action → Bool
-    go (Running (says.Del k)) = same k key
-    go action = false
+-- what a step does to values: it looks a key up, accepts a value, deletes a key's value, covers some, runs all parts
+pub record Deed : Type 0 where
+  pub uses : Option (List ℕ)
+  pub value : Option Value
+  pub deletes : Option (List ℕ)
+  pub covers : Covering
+  pub syncs : Bool
+
+-- there is a key, and it is this one
+abbrev pub is_this : List ℕ → Option (List ℕ) → Bool
+is_this key None = false
+is_this key (Some k) = same k key
+
+-- `GET`, `LOAD` and `ADD` look their key up
+abbrev pub key_used : Action → Option (List ℕ)
+key_used (Running (says.Get key)) = Some key
+key_used (Running (says.Load key)) = Some key
+key_used (Running (says.Add key ms number)) = Some key
+key_used action = None
+
+abbrev pub key_deleted : Action → Option (List ℕ)
+key_deleted (Running (says.Del key)) = Some key
+key_deleted action = None
 
 abbrev pub replies_ok : Effect → Bool
 replies_ok effect = option_map_or (λ reply. same reply (text_line (codes "OK"))) effect.reply false
+
+-- a `CLEAR` covers each key, a `DROPIF` that is accepted each one of its prefix
+abbrev pub covering_of : Effect → Covering
+covering_of effect = go effect.action
+  where
+    go : Action → Covering
+    go (Running says.Clear) = Everything
+    go (Running (says.DropIf prefix)) = if replies_ok effect then Prefixed prefix else Nothing
+    go action = Nothing
+
+abbrev pub is_sync : Action → Bool
+is_sync (Running says.Sync) = true
+is_sync action = false
+
+abbrev pub deed_of : Effect → Deed
+deed_of effect =
+    record { uses = key_used effect.action; value = effect.value; deletes = key_deleted effect.action; covers = covering_of effect; syncs = is_sync effect.action }
+
+abbrev pub covers_key : List ℕ → Covering → Bool
+covers_key key Nothing = false
+covers_key key Everything = true
+covers_key key (Prefixed prefix) = starts_with nat_eq key prefix
+
+abbrev pub looks_up : List ℕ → Effect → Bool
+looks_up key effect = is_this key (key_used effect.action)
+
+abbrev pub deletes : List ℕ → Effect → Bool
+deletes key effect = is_this key (key_deleted effect.action)
+
+abbrev pub covers : List ℕ → Effect → Bool
+covers key effect = covers_key key (covering_of effect)
+
+abbrev pub syncs : Effect → Bool
+syncs effect = is_sync effect.action
 
 -- a `DROPIF` that is accepted
 abbrev pub drops : Effect → Bool
@@ -32,29 +79,6 @@ drops effect = go effect.action
   where
     go : Action → Bool
     go (Running (says.DropIf prefix)) = replies_ok effect
-    go action = false
-
--- a `CLEAR` covers each key, a `DROPIF` that is accepted each one of its prefix
-abbrev pub covers : List ℕ → Effect → Bool
-covers key effect = go effect.action
-  where
-    go : Action → Bool
-    go (Running says.Clear) = true
-    go (Running (says.DropIf prefix)) = replies_ok effect && starts_with nat_eq key prefix
-    go action = false
-
-abbrev pub adds : Effect → Bool
-adds effect = go effect.action
-  where
-    go : Action → Bool
-    go (Running (says.Add key ms number)) = true
-    go action = false
-
-abbrev pub syncs : Effect → Bool
-syncs effect = go effect.action
-  where
-    go : Action → Bool
-    go (Running says.Sync) = true
     go action = false
 
 abbrev pub quits : Effect → Bool

@@ -3,6 +3,7 @@ use Rattle.std.specs.Prelude.{◌≡◌, ◌↔◌, ℕ, suc, max, false, not, �
 use Rattle.std.specs.List.{filter}
 use Rattle.std.specs.Option.{option_and_then, option_map_or}
 use Rattle.audit_model.specs.Bytewise.{is_empty}
+use Rattle.audit_model.specs.Commands.{deed_of}
 use Rattle.audit_model.specs.Stream.{first_line}
 use Rattle.audit_model.specs.Steps.{Task, Store, PlacedStep, action_in, effect_in, is_right}
 use Rattle.audit_model.specs.Places.{due, first_due, left_after, tasks_to_answer, tasks_to_give_up, tasks_to_feed, steps_of, placed_steps}
@@ -54,7 +55,7 @@ placed_step_in config s task step =
     let seen = view_in config s in
     let connection = connection_in step.conn s in
     let effect = effect_in config seen (action_in config (option_map_or (λ c. c.waited) connection 0) task step) step in
-    record { task = task; line = line_in task connection; seen = seen; step = step; effect = effect; held = map (λ held. held.value) (left_held s effect) }
+    record { task = task; line = line_in task connection; seen = seen; step = step; effect = effect; held = map (λ h. h.value) (left_held s.held (deed_of effect) effect.notes) }
 
 -- the situation after these steps, if they are as they should be
 abbrev pub after_steps : Config → Situation → List Task → List Step → Option Situation
@@ -62,7 +63,7 @@ after_steps config s tasks [] = if is_empty (due (may_run_in s) tasks) then Some
 after_steps config s tasks (step ∷ steps) =
     let now_due = due (may_run_in s) tasks in
     let placed = placed_step_in config s (first_due now_due) step in
-    let rest = after_steps config (after_step config s placed.seen placed.task step placed.effect) (left_after now_due) steps in
+    let rest = after_steps config (after_step config s placed.task step placed.effect) (left_after now_due) steps in
     if is_right config placed then rest else None
 
 abbrev pub known_in : Situation → Known

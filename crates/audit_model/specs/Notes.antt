@@ -1,12 +1,12 @@
 -- Which values a step tells, and with which causes.
-use Rattle.std.specs.Prelude.{ℕ, Bool, true, false, not, ◌&&◌, ◌||◌, ◌==◌, nat_lt, List, [], ◌∷◌, ◌++◌, map, Option, Some, None, if◌then◌else◌, is_some}
+use Rattle.std.specs.Prelude.{ℕ, Bool, true, false, not, ◌&&◌, ◌||◌, ◌==◌, nat_lt, List, [], ◌∷◌, ◌++◌, map, Option, Some, None, if◌then◌else◌, is_some, is_none}
 use Rattle.std.specs.List.{list_all, list_any, find, filter, sum_by}
 use Rattle.std.specs.Option.{option_to_list, option_map, option_map_or}
 use Rattle.audit_model.specs.Bytewise.{same}
-use Rattle.audit_model.specs.History.{Effect, Action, Running, Holding, Abandoning, Value, share}
+use Rattle.audit_model.specs.History.{Action, Running, Holding, Abandoning, Value, share}
 use Rattle.audit_model.specs.Values.{deadline, has_come, without_key, is_value_of}
-use Rattle.audit_model.specs.Commands.{deletes, adds}
-use Rattle.audit_model.specs.View.{View, Candidate}
+use Rattle.audit_model.specs.Commands.{Deed, is_this}
+use Rattle.audit_model.specs.View.{Candidate}
 use Rattle.audit_model.specs.declared.config.Config.{Config}
 use Rattle.audit_model.specs.declared.command.Command.TheVariants as says
 use Rattle.audit_model.specs.declared.transcript.Note.{Note}
@@ -42,51 +42,51 @@ abbrev pub newcomer : Config → Value → Candidate
 newcomer config value =
     record { value = value; dead = has_come (deadline config value value.accepted_at) value.accepted_at; covered = false; evictable = false; new = true }
 
-abbrev pub candidates_of : Config → View → Effect → List Candidate
-candidates_of config seen effect = seen.held ++ option_to_list (option_map (newcomer config) effect.value)
+abbrev pub candidates_of : Config → List Candidate → Deed → List Candidate
+candidates_of config held deed = held ++ option_to_list (option_map (newcomer config) deed.value)
 
 -- the part is over its share just after the step's acceptance
-abbrev pub overfills : Config → View → Effect → ℕ → Bool
-overfills config seen effect part = is_some effect.value && is_over config part (just_accepted (map (λ c. c.value) seen.held) effect.value)
+abbrev pub overfills : Config → List Candidate → Deed → ℕ → Bool
+overfills config held deed part = is_some deed.value && is_over config part (just_accepted (map (λ c. c.value) held) deed.value)
 
 -- the step writes the key of this older value
-abbrev pub is_rewritten : Effect → Candidate → Bool
-is_rewritten effect c = not c.new && is_value_of c.value.key effect.value
+abbrev pub is_rewritten : Deed → Candidate → Bool
+is_rewritten deed c = not c.new && is_value_of c.value.key deed.value
 
 -- the step writes or deletes the key of this older value
-abbrev pub is_succeeded : Effect → Candidate → Bool
-is_succeeded effect c = is_rewritten effect c || deletes c.value.key effect
+abbrev pub is_succeeded : Deed → Candidate → Bool
+is_succeeded deed c = is_rewritten deed c || is_this c.value.key deed.deletes
 
 -- a cause is true of a value
-abbrev pub is_true_cause : Config → View → Effect → Candidate → RemovalCause → Bool
-is_true_cause config seen effect c Expired = c.dead
-is_true_cause config seen effect c Explicit = c.covered || (deletes c.value.key effect && not c.dead)
-is_true_cause config seen effect c Replaced = is_rewritten effect c && not c.dead && not c.covered
-is_true_cause config seen effect c Size = c.evictable || overfills config seen effect c.value.part
+abbrev pub is_true_cause : Config → List Candidate → Deed → Candidate → RemovalCause → Bool
+is_true_cause config held deed c Expired = c.dead
+is_true_cause config held deed c Explicit = c.covered || (is_this c.value.key deed.deletes && not c.dead)
+is_true_cause config held deed c Replaced = is_rewritten deed c && not c.dead && not c.covered
+is_true_cause config held deed c Size = c.evictable || overfills config held deed c.value.part
 
 -- the first of `Expired`, `Explicit`, `Replaced` that is true of an older value which the step writes over or deletes
-abbrev pub first_cause : Config → View → Effect → Candidate → RemovalCause
-first_cause config seen effect c =
-    if is_true_cause config seen effect c Expired then Expired else (if is_true_cause config seen effect c Explicit then Explicit else Replaced)
+abbrev pub first_cause : Config → List Candidate → Deed → Candidate → RemovalCause
+first_cause config held deed c =
+    if is_true_cause config held deed c Expired then Expired else (if is_true_cause config held deed c Explicit then Explicit else Replaced)
 
--- a write or a removal tells its key's older value with the first cause; not an `ADD`, which looks the value up before it writes
-abbrev pub is_told_first : Effect → Candidate → Bool
-is_told_first effect c = is_succeeded effect c && not (adds effect)
+-- a write or a removal tells its key's older value with the first cause; not one that looks the value up before it writes
+abbrev pub is_told_first : Deed → Candidate → Bool
+is_told_first deed c = is_succeeded deed c && is_none deed.uses
 
-abbrev pub is_true_note : Config → View → Effect → Note → Option Candidate → Bool
-is_true_note config seen effect note None = false
-is_true_note config seen effect note (Some c) =
+abbrev pub is_true_note : Config → List Candidate → Deed → Note → Option Candidate → Bool
+is_true_note config held deed note None = false
+is_true_note config held deed note (Some c) =
     same note.value c.value.bytes
-    && (if is_told_first effect c then same_cause note.cause (first_cause config seen effect c) else is_true_cause config seen effect c note.cause)
+    && (if is_told_first deed c then same_cause note.cause (first_cause config held deed c) else is_true_cause config held deed c note.cause)
 
 abbrev pub first_of : List ℕ → List Candidate → Option Candidate
 first_of key cs = find (λ c. same key c.value.key) cs
 
 -- each note tells its key's first value that is not told yet, with a true cause; and no older value of a written or deleted key is left
-abbrev pub are_true_notes : Config → View → Effect → List Candidate → List Note → Bool
-are_true_notes config seen effect cs [] = list_all (λ c. not (is_succeeded effect c)) cs
-are_true_notes config seen effect cs (note ∷ notes) =
-    is_true_note config seen effect note (first_of note.key cs) && are_true_notes config seen effect (without_key (λ c. c.value.key) note.key cs) notes
+abbrev pub are_true_notes : Config → List Candidate → Deed → List Candidate → List Note → Bool
+are_true_notes config held deed cs [] = list_all (λ c. not (is_succeeded deed c)) cs
+are_true_notes config held deed cs (note ∷ notes) =
+    is_true_note config held deed note (first_of note.key cs) && are_true_notes config held deed (without_key (λ c. c.value.key) note.key cs) notes
 
 -- one of the notes tells one of these values, in this part, with `Size`
 abbrev pub tells_size : ℕ → List Value → List Note → Bool

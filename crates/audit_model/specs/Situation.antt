@@ -114,19 +114,24 @@ waiting_in number s = option_map_or (λ load. load.waiting) (pending_in number s
 
 -- ---- what a step sees
 
-abbrev pub is_dead_now : Config → Situation → HeldValue → Bool
-is_dead_now config s held = has_come (deadline config held.value held.last_use) s.latest
+abbrev pub is_dead_at : Config → ℕ → HeldValue → Bool
+is_dead_at config now held = has_come (deadline config held.value held.last_use) now
 
-abbrev pub is_live_now : Config → Situation → HeldValue → Bool
-is_live_now config s held = not held.covered && not (is_dead_now config s held)
+abbrev pub is_live_at : Config → ℕ → HeldValue → Bool
+is_live_at config now held = not held.covered && not (is_dead_at config now held)
 
-abbrev pub live_in : Config → Situation → List ℕ → Option Value
-live_in config s key = option_map (λ held. held.value) (find (λ held. same key held.value.key && is_live_now config s held) s.held)
+-- the live value of a key
+abbrev pub live_at : Config → ℕ → List HeldValue → List ℕ → Option Value
+live_at config now held key = option_map (λ h. h.value) (find (λ h. same key h.value.key && is_live_at config now h) held)
 
-abbrev pub candidate_in : Config → Situation → HeldValue → Candidate
-candidate_in config s held =
-    record { value = held.value; dead = is_dead_now config s held; covered = held.covered; evictable = held.evictable; new = false }
+-- the live keys in byte order
+abbrev pub live_keys_at : Config → ℕ → List HeldValue → List (List ℕ)
+live_keys_at config now held = sorted (map (λ h. h.value.key) (filter (is_live_at config now) held))
+
+abbrev pub candidate_at : Config → ℕ → HeldValue → Candidate
+candidate_at config now held =
+    record { value = held.value; dead = is_dead_at config now held; covered = held.covered; evictable = held.evictable; new = false }
 
 abbrev pub view_in : Config → Situation → View
 view_in config s =
-    record { now = s.latest; live = live_in config s; live_keys = sorted (map (λ held. held.value.key) (filter (is_live_now config s) s.held)); load_of_key = load_in s; next_load = suc s.sent; dropped = s.dropped; held = map (candidate_in config s) s.held }
+    record { now = s.latest; live = live_at config s.latest s.held; live_keys = live_keys_at config s.latest s.held; load_of_key = load_in s; next_load = suc s.sent; dropped = s.dropped; held = map (candidate_at config s.latest) s.held }

@@ -1,7 +1,7 @@
 -- When a step is as it should be: in its turn, with its line, reply, load, value and notes.
 use Rattle.std.specs.Prelude.{ℕ, Bool, true, false, not, ◌&&◌, ◌||◌, ◌==◌, nat_lt, nat_le, nat_eq, List, Option, Some, None, Ok, Err, if◌then◌else◌, is_some}
 use Rattle.std.specs.Option.{option_eq, option_map}
-use Rattle.audit_model.specs.Commands.{syncs}
+use Rattle.audit_model.specs.Commands.{syncs, deed_of}
 use Rattle.audit_model.specs.Bytewise.{same, is_empty}
 use Rattle.audit_model.specs.Grammar.{reading, Reading}
 use Rattle.audit_model.specs.History.{Effect, Action, Running, Faulting, Holding, Delivering, Abandoning, Storing, Value, part_count}
@@ -88,7 +88,8 @@ has_right_acceptance config placed = go (option_map (λ a. a.part) placed.step.a
 
 -- each note tells a value that is held, or that this step accepts, with a true cause
 abbrev pub has_right_notes : Config → PlacedStep → Bool
-has_right_notes config placed = are_true_notes config placed.seen placed.effect (candidates_of config placed.seen placed.effect) placed.effect.notes
+has_right_notes config placed =
+    let deed = deed_of placed.effect in are_true_notes config placed.seen.held deed (candidates_of config placed.seen.held deed) placed.effect.notes
 
 abbrev pub is_quiet_where_silent : PlacedStep → Bool
 is_quiet_where_silent placed = not (is_silent placed.effect.action) || is_empty placed.effect.notes
