@@ -1,0 +1,63 @@
+-- What a call of a store does to the values held, and which of them it tells.
+use Rattle.std.specs.Prelude.{◌≡◌, ℕ, Bool, true, false, List, ◌++◌, map, Option, Some, None, IsTrue}
+use Rattle.audit_model.specs.Changes.{all_held_after}
+use Rattle.audit_model.specs.Commands.{Deed, Nothing}
+use Rattle.audit_model.specs.History.{Value, weight_of}
+use Rattle.audit_model.specs.Notes.{are_true_notes, candidates_of}
+use Rattle.audit_model.specs.Situation.{HeldValue, candidate_at}
+use Rattle.audit_model.specs.Values.{own_deadline_from}
+use Rattle.audit_model.specs.declared.config.Config.{Config}
+use Rattle.audit_model.specs.declared.transcript.Note.{Note}
+
+-- what a store was made with, whether a `DROPIF` was accepted, and the latest moment handed in
+pub record Frame : Type 0 where
+  pub config : Config
+  pub part_of : List ℕ → ℕ
+  pub dropped : Bool
+  pub latest : ℕ
+
+-- ---- deeds
+
+abbrev pub no_deed : Deed
+no_deed = record { uses = None; value = None; deletes = None; covers = Nothing; syncs = false }
+
+-- a key is looked up
+abbrev pub using : List ℕ → Deed
+using key = record no_deed { uses = Some key }
+
+-- a value is accepted; the same step looked that key up before, or none
+abbrev pub accepting : Option (List ℕ) → Value → Deed
+accepting used value = record no_deed { uses = used; value = Some value }
+
+-- the key's value is deleted
+abbrev pub deleting : List ℕ → Deed
+deleting key = record no_deed { deletes = Some key }
+
+-- all parts run
+abbrev pub syncing : Deed
+syncing = record no_deed { syncs = true }
+
+-- the value that is accepted for a key and bytes
+abbrev pub value_of : Frame → ℕ → List ℕ → List ℕ → Option ℕ → Value
+value_of frame now key bytes ms =
+    record { key = key; bytes = bytes; part = frame.part_of key; weight = weight_of frame.config.weight bytes; accepted_at = now; own_deadline = own_deadline_from now ms }
+
+-- ---- what a call does
+
+-- Where these values were held, the call told some with true causes, left the others as the deed leaves them, and handed its notes on.
+pub record Done (config : Config) (now : ℕ) (deed : Deed) (held : List HeldValue) (Stands : List HeldValue → Type 0) (Handed : List Note → Type 0) : Type 0 where
+  pub told : List Note
+  pub right : IsTrue (are_true_notes config (map (candidate_at config now) held) deed (candidates_of config (map (candidate_at config now) held) deed) told)
+  pub left : Stands (all_held_after config now held deed told)
+  pub handed : Handed told
+
+-- nothing has changed
+pub record IsUnchanged (old_stands new_stands : List HeldValue → Type 0) (old_frame new_frame : Frame) (old_untaken new_untaken : List Note) : Type 0 where
+  pub stands : (held : List HeldValue) → old_stands held → new_stands held
+  pub frame : new_frame ≡ old_frame
+  pub untaken : new_untaken ≡ old_untaken
+
+-- what a look-up answers and writes behind the bytes that were there
+abbrev pub Finds : Option Value → Bool → List ℕ → List ℕ → Type 0
+Finds None is_found old new = (is_found ≡ false) × (new ≡ old)
+Finds (Some value) is_found old new = (is_found ≡ true) × (new ≡ old ++ value.bytes)
