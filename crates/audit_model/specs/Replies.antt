@@ -112,7 +112,10 @@ offered seen action = None
 abbrev pub offer_of : Config → View → Action → Option Offer
 offer_of config seen action = if accepts_values config.capacity then offered seen action else None
 
+abbrev pub value_with : Config → ℕ → ℕ → Offer → Value
+value_with config now part offer =
+    record { key = offer.key; bytes = offer.bytes; part = part; weight = weight_of config.weight offer.bytes; accepted_at = now; own_deadline = own_deadline_from now offer.ms }
+
 abbrev pub value_from : Config → ℕ → Option Offer → Option ℕ → Option Value
-value_from config now (Some offer) (Some part) =
-    Some (record { key = offer.key; bytes = offer.bytes; part = part; weight = weight_of config.weight offer.bytes; accepted_at = now; own_deadline = own_deadline_from now offer.ms })
-value_from config now offer part = None
+value_from config now offer None = None
+value_from config now offer (Some part) = option_map (value_with config now part) offer

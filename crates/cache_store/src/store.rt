@@ -1,11 +1,12 @@
 //! The values of one namespace, as its service sees them.
-ghost use Rattle.std.specs.Prelude.{◌≡◌, ℕ, ◌<◌, ◌≤◌, ◌^◌, List, length, map, Option, None, Some, IsSome, IfSome, IsTrue, IfOk, OnOk, OnErr, if◌then◌else◌};
+ghost use Rattle.std.specs.Prelude.{◌≡◌, ℕ, ◌<◌, ◌≤◌, ◌^◌, List, [], length, map, Option, None, Some, IsSome, IfSome, IsTrue, IfOk, OnOk, OnErr, if◌then◌else◌};
 ghost use Rattle.std.specs.List.{sum_by};
 ghost use Rattle.audit_model.specs.History.{accepts_values, part_count};
 ghost use Rattle.audit_model.specs.Notes.{is_within};
+ghost use Rattle.audit_model.specs.Changes.{all_held_after};
 ghost use Rattle.audit_model.specs.Situation.{HeldValue, live_at};
 ghost use Rattle.audit_model.specs.declared.transcript.Note.{Note as Told};
-ghost use Rattle.cache_store.specs.Promises.{Frame, Done, IsUnchanged, Finds, using, accepting, deleting, syncing, value_of};
+ghost use Rattle.cache_store.specs.Promises.{Frame, Done, IsUnchanged, Finds, using, accepting, deleting, syncing, no_deed, value_of};
 ghost use Rattle.cache_store.specs.Handing.{Hands, Takes};
 
 use audit_model::Note;
@@ -89,4 +90,7 @@ pub trait Store: Drop {
 
     // a value's part is its key's, and there is such a part
     ghost parted: { (s : Self) (key : List ℕ) → (frame s).part_of key < part_count (frame s).config };
+
+    // a step that does nothing to values leaves those that are held
+    ghost idle: { (s : Self) (held : List HeldValue) (now : ℕ) → stands s held → stands s (all_held_after (frame s).config now held no_deed []) };
 }
