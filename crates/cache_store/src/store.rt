@@ -1,5 +1,5 @@
 //! The values of one namespace, as its service sees them.
-ghost use Rattle.std.specs.Prelude.{◌≡◌, ℕ, ◌<◌, ◌≤◌, ◌^◌, List, [], length, map, Option, None, Some, IsSome, IfSome, IsTrue, IfOk, OnOk, OnErr, if◌then◌else◌};
+ghost use Rattle.std.specs.Prelude.{◌≡◌, ℕ, ◌<◌, ◌≤◌, ◌^◌, Bool, true, List, [], length, map, vec_len, vec_capacity, Option, None, Some, IsSome, IfSome, IsTrue, IfOk, OnOk, OnErr, if◌then◌else◌};
 ghost use Rattle.std.specs.List.{sum_by};
 ghost use Rattle.audit_model.specs.History.{accepts_values, part_count};
 ghost use Rattle.audit_model.specs.Notes.{is_within};
@@ -40,13 +40,16 @@ pub trait Store: Drop {
         ensures { (held : List HeldValue) → stands self.now held → result ≡ length held };
 
     /// Looks a key up, which uses its live value, writes that value's bytes behind `found`, and answers whether there is one.
+    /// Where there is, `found` has room for one more byte.
     fn look_up(&mut self, key: &[u8], now: u64, found: &mut Vec<u8>) -> Result<bool, AllocError>
         requires { (frame self.old).latest ≤ now }
         ensures answer { IfOk result (λ is_found. (held : List HeldValue) → stands self.old held → Finds (live_at (frame self.old).config now held key.now) is_found found.old.items found.new.items) }
         ensures done { OnOk result ((held : List HeldValue) → stands self.old held → Done (frame self.old).config now (using key.now) held (stands self.new) (Hands (frame self.old).part_of (untaken self.old) (untaken self.new))) }
         ensures frame { OnOk result (frame self.new ≡ record (frame self.old) { latest = now }) }
         ensures unchanged { OnErr result (IsUnchanged (stands self.old) (stands self.new) (frame self.old) (frame self.new) (untaken self.old) (untaken self.new)) }
-        ensures unwritten { OnErr result (found.new.items ≡ found.old.items) };
+        ensures unwritten { OnErr result (found.new.items ≡ found.old.items) }
+        ensures room { vec_capacity found.old ≤ vec_capacity found.new }
+        ensures spare { IfOk result (λ is_found. is_found ≡ true → vec_len found.new < vec_capacity found.new) };
 
     /// Accepts a value that lives for that many milliseconds, and answers its part. `looked_up` says whether the same step
     /// looked the key up before.
