@@ -108,9 +108,13 @@ offered seen (Running (says.Add key ms number)) =
 offered seen (Storing (Some key) (came.Value bytes ms)) = Some (record { key = key; bytes = bytes; ms = ms })
 offered seen action = None
 
+abbrev pub taken_where : Bool → Option Offer → Option Offer
+taken_where accepts None = None
+taken_where accepts (Some offer) = if accepts then Some offer else None
+
 -- the value that a step offers, which is accepted exactly where the capacity is not 0
 abbrev pub offer_of : Config → View → Action → Option Offer
-offer_of config seen action = if accepts_values config.capacity then offered seen action else None
+offer_of config seen action = taken_where (accepts_values config.capacity) (offered seen action)
 
 abbrev pub value_with : Config → ℕ → ℕ → Offer → Value
 value_with config now part offer =

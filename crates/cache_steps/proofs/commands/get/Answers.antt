@@ -1,0 +1,12 @@
+use Rattle.cache_steps.proofs.Answering.{answers-found, answers-none}
+use Rattle.cache_steps.proofs.commands.get.Goals as goal
+
+pub returns-in-Ok-true-clause-ok : goal.returns-in-Ok-true-clause-ok
+returns-in-Ok-true-clause-ok g c = λ s e m.
+    answers-found (g.S.Store.frame c.args.store.now).config s c.args.now c.args.key.now c.args.output.now.items c.write.new.output.items c.look_up.new.found.items c.write-in-Ok-true.new.output.items c.in-Ok-true.field-0 _ _
+    e c.in-Ok-true.field-0-test (cc) (c.in-Ok-true.ensures.answer s.held m) (cc) (c.in-Ok-true.ensures.done s.held m)
+
+pub returns-in-Ok-false-clause-ok : goal.returns-in-Ok-false-clause-ok
+returns-in-Ok-false-clause-ok g c = λ s e m.
+    answers-none (g.S.Store.frame c.args.store.now).config s c.args.now c.args.key.now c.args.output.now.items c.write.new.output.items c.look_up.new.found.items c.write-in-Ok-false.new.output.items c.in-Ok-false.field-0 _ _
+    e c.in-Ok-false.field-0-test (cc) (c.in-Ok-false.ensures.answer s.held m) (cc) (c.in-Ok-false.ensures.done s.held m)
