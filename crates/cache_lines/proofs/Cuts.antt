@@ -1,5 +1,6 @@
 -- Where the first byte c stands, and what `cut_at` gives.
-use Rattle.std.proofs.Common.{◌≡◌, ◌≢◌, ℕ, zero, suc, ◌+◌, ◌<◌, ◌≤◌, Bool, true, false, eqb, List, [], ◌∷◌, length, take, drop, get_or, Option, Some, None, refl, sym, ap, ◌∙◌, subst, arith, add-one, ⊎_elim}
+use Rattle.std.proofs.Common.{◌≡◌, ◌≢◌, ℕ, zero, suc, ◌+◌, ◌<◌, ◌≤◌, false, eqb, List, [], ◌∷◌, length, take, drop, get_or, Option, Some, None, refl, sym, ap, ◌∙◌, subst, arith, add-one, ⊎_elim}
+use Rattle.std.specs.Prelude.{IfSome}
 use Rattle.std.proofs.lemmas.Bool.{eqb-true, eq-eqb}
 use Rattle.std.proofs.lemmas.Bool.Decides.{eqb_tells}
 use Rattle.std.proofs.lemmas.List.{length-take-le, get_or-take}
@@ -66,3 +67,26 @@ pub NoneBelow-from_search : (c window : ℕ) (bs : List ℕ) → window ≤ leng
 NoneBelow-from_search c window bs within none = λ k under same.
     let long = length-take-le window bs within in
     none k (omega arith) (omega arith) (eq-eqb _ c (get_or-take window bs k 0 under ∙ same))
+
+-- a search of all bytes
+pub cut_at-searched : (c n : ℕ) (bs : List ℕ) → IsFirstByte (is_byte c) bs (Some n) → cut_at c bs ≡ (take n bs, Some (drop (n + 1) bs))
+cut_at-searched c n bs found =
+    cut_at-found c n bs found.0.high (eqb-true _ c found.1) (λ k under same. found.0.before k (omega arith) under (eq-eqb _ c same))
+
+pub cut_at-missed : (c : ℕ) (bs : List ℕ) → IsFirstByte (is_byte c) bs None → cut_at c bs ≡ (bs, None)
+cut_at-missed c bs none = cut_at-none c bs (λ k under same. none k (omega arith) under (eq-eqb _ c same))
+
+-- what stands behind a cut is shorter
+behind_cut : (c : ℕ) (bs : List ℕ) → IfSome (cut_at c bs).1 (λ rest. length rest < length bs)
+behind_cut c [] = tt
+behind_cut c (b ∷ bs) = ⊎_elim
+    (λ same. subst (λ cut. IfSome cut.1 (λ rest. length rest < suc (length bs))) (sym (cut_at-here c b bs same.1)) (omega arith))
+    (λ other. subst (λ cut. IfSome cut.1 (λ rest. length rest < suc (length bs))) (sym (cut_at-other c b bs other.1)) (later (cut_at c bs).1 (behind_cut c bs)))
+    (eqb_tells b c)
+  where
+    later : (o : Option (List ℕ)) → IfSome o (λ rest. length rest < length bs) → IfSome o (λ rest. length rest < suc (length bs))
+    later None shorter = tt
+    later (Some rest) shorter = omega arith
+
+pub cut_at-shorter : (c : ℕ) (bs word rest : List ℕ) → cut_at c bs ≡ (word, Some rest) → length rest < length bs
+cut_at-shorter c bs word rest cut = subst (λ cut. IfSome cut.1 (λ rest. length rest < length bs)) cut (behind_cut c bs)

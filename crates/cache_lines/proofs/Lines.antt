@@ -1,5 +1,5 @@
 -- What the front of a stream means for its lines, and what more bytes change.
-use Rattle.std.proofs.Common.{◌≡◌, ℕ, zero, suc, ◌+◌, ◌<◌, ◌≤◌, true, false, rules, tests, if◌then◌else◌, List, [], ◌∷◌, ◌++◌, length, take, drop, Option, Some, None, refl, sym, ap, ◌∙◌, subst, arith, ⊎_elim, length-drop, length-take, length-append}
+use Rattle.std.proofs.Common.{◌≡◌, ℕ, ◌+◌, ◌<◌, ◌≤◌, true, false, rules, tests, if◌then◌else◌, List, [], ◌∷◌, ◌++◌, length, take, drop, Option, Some, None, refl, sym, ap, ◌∙◌, arith, ⊎_elim, length-drop, length-append}
 use Rattle.std.specs.Prelude.{nat_lt, unwrap_or, is_some}
 use Rattle.std.proofs.lemmas.Bool.Decides.{eqb_tells}
 use Rattle.std.proofs.lemmas.List.{length-take-le}
@@ -59,7 +59,7 @@ cut_at-append c (b ∷ bs) more =
     ⊎_elim
     (λ same. cut_at-here c b (bs ++ more) same.1 ∙ sym (ap (λ cut. cut_with c cut more) (cut_at-here c b bs same.1)))
     (λ other. cut_at-other c b (bs ++ more) other.1 ∙ ap (onto b) (cut_at-append c bs more) ∙ onto-cut_with c b (cut_at c bs) more
-        ∙ sym (ap (λ cut. cut_with c cut more) (cut_at-other c b bs other.1)))
+    ∙ sym (ap (λ cut. cut_with c cut more) (cut_at-other c b bs other.1)))
     (eqb_tells b c)
 
 -- a line stays the first one

@@ -1,5 +1,5 @@
 -- What stands at the front of a stream of bytes.
-use Rattle.std.specs.Prelude.{◌≡◌, ℕ, ◌+◌, ◌<◌, ◌≤◌, List, length, take, drop, Option, Some, None}
+use Rattle.std.specs.Prelude.{◌≡◌, ℕ, ◌+◌, ◌<◌, ◌≤◌, List, length, take, drop, Some, None}
 use Rattle.audit_model.specs.Bytewise.{cut_at}
 use Rattle.cache_lines.specs.declared.buffer.Next.{Next}
 use Rattle.cache_lines.specs.declared.buffer.Next.TheVariants.{Line, More, TooLong}

@@ -2,5 +2,7 @@
 #![tactic(auto)]
 
 mod buffer;
+mod request;
 
 pub use buffer::{Buffer, MAX_LINE, Next};
+pub use request::{Request, fault_text, read_line};

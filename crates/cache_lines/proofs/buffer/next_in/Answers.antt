@@ -1,4 +1,4 @@
-use Rattle.std.proofs.Common.{length, arith}
+use Rattle.std.proofs.Common.{arith}
 use Rattle.cache_lines.proofs.Cuts.{cut_at-found_in, NoneBelow-from_search, cut_at-none, cut_at-long}
 use Rattle.cache_lines.proofs.buffer.next_in.Goals as goal
 
