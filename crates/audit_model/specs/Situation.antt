@@ -83,15 +83,20 @@ is_overlong c =
 abbrev pub without_waiting : ℕ → PendingLoad → PendingLoad
 without_waiting conn load = record load { waiting = filter (λ n. not (n == conn)) load.waiting }
 
+abbrev pub without_number : ℕ → List Connection → List Connection
+without_number conn connections = filter (λ c. not (c.number == conn)) connections
+
 abbrev pub without_connection : ℕ → Situation → Situation
-without_connection conn s =
-    record s { connections = filter (λ c. not (c.number == conn)) s.connections; pending = map (without_waiting conn) s.pending }
+without_connection conn s = record s { connections = without_number conn s.connections; pending = map (without_waiting conn) s.pending }
 
 -- the situation with that connection as it now is, which closes after a `QUIT` or where it must
 abbrev pub with_connection : Bool → Connection → Situation → Situation
 with_connection quits connection s =
-    if quits || is_overlong connection then without_connection connection.number s
-    else record s { connections = map (λ c. if c.number == connection.number then connection else c) s.connections }
+    let closes = quits || is_overlong connection in
+    record s {
+      connections = if closes then without_number connection.number s.connections else map (λ c. if c.number == connection.number then connection else c) s.connections;
+      pending = if closes then map (without_waiting connection.number) s.pending else s.pending;
+    }
 
 -- ---- loads
 

@@ -1,5 +1,5 @@
 //! The values of one namespace, as its service sees them.
-ghost use Rattle.std.specs.Prelude.{◌≡◌, ℕ, ◌<◌, ◌≤◌, ◌^◌, Bool, true, List, [], length, map, vec_len, vec_capacity, Option, None, Some, IsSome, IfSome, IsTrue, IfOk, OnOk, OnErr, if◌then◌else◌};
+ghost use Rattle.std.specs.Prelude.{◌≡◌, ℕ, ◌<◌, ◌≤◌, ◌^◌, ◌+◌, Bool, true, List, [], length, map, vec_len, vec_capacity, Option, None, Some, IsSome, IfSome, IsTrue, IfOk, OnOk, OnErr, if◌then◌else◌};
 ghost use Rattle.std.specs.List.{sum_by};
 ghost use Rattle.audit_model.specs.History.{accepts_values, part_count};
 ghost use Rattle.audit_model.specs.Notes.{is_within};
@@ -32,12 +32,15 @@ pub trait Store: Drop {
     // these values are held, oldest first
     ghost stands: { Self → List HeldValue → Type 0 };
 
+    // how many values are held
+    ghost count: { Self → ℕ };
+
     // the notes that were told and not taken, oldest first
     ghost untaken: { Self → List Told };
 
     /// How many values are held.
     fn len(&self) -> usize
-        ensures { (held : List HeldValue) → stands self.now held → result ≡ length held };
+        ensures { result ≡ count self.now };
 
     /// Looks a key up, which uses its live value, writes that value's bytes behind `found`, and answers whether there is one.
     /// Where there is, `found` has room for one more byte.
@@ -45,6 +48,7 @@ pub trait Store: Drop {
         requires { (frame self.old).latest ≤ now }
         ensures answer { IfOk result (λ is_found. (held : List HeldValue) → stands self.old held → Finds (live_at (frame self.old).config now held key.now) is_found found.old.items found.new.items) }
         ensures done { OnOk result ((held : List HeldValue) → stands self.old held → Done (frame self.old).config now (using key.now) held (stands self.new) (Hands (frame self.old).part_of (untaken self.old) (untaken self.new))) }
+        ensures few { length (untaken self.new) ≤ length (untaken self.old) + count self.old + 1 }
         ensures frame { OnOk result (frame self.new ≡ record (frame self.old) { latest = now }) }
         ensures unchanged { OnErr result (IsUnchanged (stands self.old) (stands self.new) (frame self.old) (frame self.new) (untaken self.old) (untaken self.new)) }
         ensures unwritten { OnErr result (found.new.items ≡ found.old.items) }
@@ -69,6 +73,7 @@ pub trait Store: Drop {
         requires timed { IsSome milliseconds → IsTrue (frame self.old).config.own_deadlines }
         ensures part { IfOk result (λ part. part ≡ (frame self.old).part_of key.now) }
         ensures done { OnOk result ((held : List HeldValue) → stands self.old held → Done (frame self.old).config now (accepting (if looked_up then Some key.now else None) (value_of (frame self.old) now key.now bytes.now milliseconds)) held (stands self.new) (Hands (frame self.old).part_of (untaken self.old) (untaken self.new))) }
+        ensures few { length (untaken self.new) ≤ length (untaken self.old) + count self.old + 1 }
         ensures frame { OnOk result (frame self.new ≡ record (frame self.old) { latest = now }) }
         ensures unchanged { OnErr result (IsUnchanged (stands self.old) (stands self.new) (frame self.old) (frame self.new) (untaken self.old) (untaken self.new)) };
 
@@ -76,6 +81,7 @@ pub trait Store: Drop {
     fn remove(&mut self, key: &[u8], now: u64) -> Result<(), AllocError>
         requires { (frame self.old).latest ≤ now }
         ensures done { OnOk result ((held : List HeldValue) → stands self.old held → Done (frame self.old).config now (deleting key.now) held (stands self.new) (Hands (frame self.old).part_of (untaken self.old) (untaken self.new))) }
+        ensures few { length (untaken self.new) ≤ length (untaken self.old) + count self.old + 1 }
         ensures frame { OnOk result (frame self.new ≡ record (frame self.old) { latest = now }) }
         ensures unchanged { OnErr result (IsUnchanged (stands self.old) (stands self.new) (frame self.old) (frame self.new) (untaken self.old) (untaken self.new)) };
 
@@ -83,6 +89,7 @@ pub trait Store: Drop {
     fn run_all(&mut self, now: u64) -> Counts
         requires { (frame self.old).latest ≤ now }
         ensures done { (held : List HeldValue) → stands self.old held → Done (frame self.old).config now syncing held (λ left. stands self.new left × IsTrue (is_within (frame self.old).config (map (λ h. h.value) left)) × (result.number ≡ length left) × (result.weight ≡ sum_by (λ h. h.value.weight) left)) (Hands (frame self.old).part_of (untaken self.old) (untaken self.new)) }
+        ensures few { length (untaken self.new) ≤ length (untaken self.old) + count self.old + 1 }
         ensures frame { frame self.new ≡ record (frame self.old) { latest = now } };
 
     /// Takes the first note of the first part that has one.
@@ -90,6 +97,9 @@ pub trait Store: Drop {
         ensures taken { Takes (frame self.old).part_of (untaken self.old) (untaken self.new) result }
         ensures stands { (held : List HeldValue) → stands self.old held → stands self.new held }
         ensures frame { frame self.new ≡ frame self.old };
+
+    // the values held are that many
+    ghost counted: { (s : Self) (held : List HeldValue) → stands s held → length held ≡ count s };
 
     // a value's part is its key's, and there is such a part
     ghost parted: { (s : Self) (key : List ℕ) → (frame s).part_of key < part_count (frame s).config };

@@ -1,0 +1,41 @@
+-- Numbers of digits.
+use Rattle.std.proofs.Common.{◌≡◌, ℕ, ◌+◌, ◌-◌, ◌*◌, ◌<◌, ◌≤◌, true, List, length, take, get_or, ap, ◌∙◌, arith, rules}
+use Rattle.std.specs.List.{list_all}
+use Rattle.std.specs.Int.{IsInRange}
+use Rattle.std.specs.Str.Parse.{digits_value}
+use Rattle.std.proofs.lemmas.Bool.{and_parts, and_from, leb-true}
+use Rattle.std.proofs.lemmas.List.{take_more, length-take-le}
+use Rattle.std.proofs.lemmas.List.Folds.{list_all_more}
+use Rattle.std.proofs.lemmas.Int.Digits.{digits_value_push}
+use Rattle.std.proofs.lemmas.Str.{digit_value_digit}
+use Rattle.std.proofs.lemmas.Str.Parse.{IsDigitsTest, IsNumeralModel, numerals_by_value, digits_value_short}
+use Rattle.audit_model.specs.Grammar.{is_digit}
+
+abbrev pub AreDigits : List ℕ → Type 0
+AreDigits word = list_all is_digit word ≡ true
+
+digits_tested : IsDigitsTest AreDigits
+digits_tested = search rules
+
+numerals : IsNumeralModel AreDigits (digits_value 10)
+numerals = numerals_by_value AreDigits digits_tested
+
+is_digit-range : (b : ℕ) → is_digit b ≡ true → IsInRange 48 57 b
+is_digit-range b digit = let parts = and_parts _ _ digit in (leb-true 48 b parts.0, leb-true b 57 parts.1)
+
+-- one digit more
+pub digits_more : (word : List ℕ) (i : ℕ) → i < length word → is_digit (get_or word i 0) ≡ true → AreDigits (take i word) → AreDigits (take (i + 1) word)
+digits_more word i inside digit before = list_all_more is_digit word i 0 inside ∙ and_from _ _ before digit
+
+pub digits_value_more : (word : List ℕ) (i : ℕ) → i < length word → is_digit (get_or word i 0) ≡ true → digits_value 10 (take (i + 1) word) ≡ digits_value 10 (take i word) * 10 + (get_or word i 0 - 48)
+digits_value_more word i inside digit =
+    let low : IsInRange 48 57 (get_or word i 0) = is_digit-range (get_or word i 0) digit in
+    let value = digit_value_digit (get_or word i 0) low in
+    ap (digits_value 10) (take_more word i 0 inside) ∙ digits_value_push 10 (take i word) (get_or word i 0) ∙ ap (λ d. digits_value 10 (take i word) * 10 + d) (omega arith)
+
+-- fewer than twelve digits write a number below 10 ^ 11, and twelve one below 10 ^ 12
+pub digits_value_front : (word : List ℕ) (i : ℕ) → i < length word → length word ≤ 12 → AreDigits (take i word) → digits_value 10 (take i word) < 100000000000
+digits_value_front word i inside short digits = digits_value_short numerals (take i word) 11 digits (omega (arith, length-take-le i word (omega arith)))
+
+pub digits_value_whole : (word : List ℕ) → length word ≤ 12 → AreDigits word → digits_value 10 word ≤ 999999999999
+digits_value_whole word short digits = omega (arith, digits_value_short numerals word 12 digits short)

@@ -1,0 +1,38 @@
+-- What a request says, and what is known of its words.
+use Rattle.std.specs.Prelude.{◌≡◌, ℕ, ◌≤◌, false, List, length, Option, None, Ok, Err, IsTrue, IfSome, ◌⊎◌}
+use Rattle.audit_model.specs.Grammar.{Reading, is_key, is_value}
+use Rattle.audit_model.specs.declared.config.Config.{Config}
+use Rattle.audit_model.specs.declared.command.Command.TheVariants as says
+use Rattle.cache_lines.specs.declared.request.Request.{Request}
+use Rattle.cache_lines.specs.declared.request.Request.TheVariants.{Set, Get, Del, Sync, Fault}
+
+-- the command, or the fault
+abbrev pub said : Request → Reading
+said (Set key deadline value) = Ok (says.Set key.now deadline value.now)
+said (Get key) = Ok (says.Get key.now)
+said (Del key) = Ok (says.Del key.now)
+said Sync = Ok says.Sync
+said (Fault error) = Err error
+
+-- there are milliseconds only where there are own deadlines, and they have at most twelve digits
+abbrev pub IsOwn : Config → Option ℕ → Type 0
+IsOwn config deadline = IfSome deadline (λ ms. (ms ≤ 999999999999) × IsTrue config.own_deadlines)
+
+-- the words of a `SET` that can be read
+pub record IsFitSet (config : Config) (line key : List ℕ) (deadline : Option ℕ) (value : List ℕ) : Type 0 where
+  pub key_fits : IsTrue (is_key key)
+  pub value_fits : IsTrue (is_value value)
+  pub short : length value ≤ length line
+  pub own : IsOwn config deadline
+
+-- the words of a request are such as the grammar has, and no longer than its line
+abbrev pub IsFit : Config → List ℕ → Request → Type 0
+IsFit config line (Set key deadline value) = IsFitSet config line key.now deadline value.now
+IsFit config line (Get key) = IsTrue (is_key key.now)
+IsFit config line (Del key) = IsTrue (is_key key.now)
+IsFit config line Sync = Unit {0}
+IsFit config line (Fault error) = Unit {0}
+
+-- no key stands before the first space, or there is no space
+abbrev pub LacksKey : List ℕ × Option (List ℕ) → Type 0
+LacksKey cut = (is_key cut.0 ≡ false) ⊎ (cut.1 ≡ None)
