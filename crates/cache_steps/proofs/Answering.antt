@@ -45,7 +45,7 @@ and-false true = refl
 and-false false = refl
 
 -- a step that neither writes nor deletes has no older value to tell
-none_succeeded : (cs : List Candidate) → list_all (λ c. not (is_succeeded no_deed c)) cs ≡ true
+pub none_succeeded : (cs : List Candidate) → list_all (λ c. not (is_succeeded no_deed c)) cs ≡ true
 none_succeeded [] = refl
 none_succeeded (c ∷ cs) = ap (λ b. not (b || false) && list_all (λ d. not (is_succeeded no_deed d)) cs) (and-false (not c.new)) ∙ none_succeeded cs
 

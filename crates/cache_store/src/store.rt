@@ -40,7 +40,8 @@ pub trait Store: Drop {
 
     /// How many values are held.
     fn len(&self) -> usize
-        ensures { result ≡ count self.now };
+        ensures number { result ≡ count self.now }
+        ensures small { result < 2 ^ 63 };
 
     /// Looks a key up, which uses its live value, writes that value's bytes behind `found`, and answers whether there is one.
     /// Where there is, `found` has room for one more byte.

@@ -1,0 +1,88 @@
+-- One line of a connection runs.
+use Rattle.std.proofs.Common.{◌≡◌, ℕ, ◌+◌, Bool, true, false, not, ◌&&◌, ◌||◌, ◌==◌, List, [], ◌∷◌, ◌++◌, map, take, drop, Option, Some, None, if◌then◌else◌, refl, sym, ap, ◌∙◌, subst}
+use Rattle.std.specs.Prelude.{is_some, IsTrue}
+use Rattle.std.specs.Option.{option_eq, option_map_or}
+use Rattle.std.proofs.lemmas.Bool.{eq-eqb, and_from}
+use Rattle.audit_model.specs.Bytewise.{same, cut_at}
+use Rattle.audit_model.specs.Changes.{after_step, join_by, join_load, connection_after, with_connection_after, all_held_after}
+use Rattle.audit_model.specs.Commands.{deed_of, drops, quits}
+use Rattle.audit_model.specs.Follows.{line_in, placed_step_in}
+use Rattle.audit_model.specs.History.{Action, Effect}
+use Rattle.audit_model.specs.Loads.{key_loaded}
+use Rattle.audit_model.specs.Situation.{Situation, Connection, HeldValue, Standing, Ready, Held, view_in, connection_in, may_run_in, with_connection, is_overlong}
+use Rattle.audit_model.specs.Steps.{Task, RunLines, RunHeld, action_by, effect_in, is_right, is_in_turn, is_held_rightly, has_right_line, has_right_reply, has_right_load, has_right_acceptance, has_right_notes, is_quiet_where_silent, keeps_shares}
+use Rattle.audit_model.specs.Grammar.{reading}
+use Rattle.audit_model.specs.Stream.{is_held, is_waiting, first_line, behind_lines, without_return}
+use Rattle.audit_model.specs.declared.config.Config.{Config}
+use Rattle.audit_model.specs.declared.transcript.Accepted.{Accepted}
+use Rattle.audit_model.specs.declared.transcript.Note.{Note}
+use Rattle.audit_model.specs.declared.transcript.Step.{Step}
+use Rattle.cache_steps.specs.Right.{DoesRight, step_saying, placed_by, held_when_run}
+use Rattle.cache_steps.proofs.Answering.{same-refl}
+use Rattle.cache_namespace.specs.Lines.{IsPlain, IsThere, set_in, ready, holding, placed_in}
+use Rattle.cache_namespace.proofs.Placing.{found-there, set-again, numbered}
+
+-- the effect of a step of a line
+abbrev pub effect_saying : Config → Situation → ℕ → List ℕ → List ℕ → Option Accepted → List Note → Effect
+effect_saying config s conn line reply accepted told = effect_in config (view_in config s) (action_by (reading config line)) (step_saying conn line reply accepted told)
+
+-- a step that is right in all but turn and line, whose line is due, is right
+pub right-in-turn : (config : Config) (s : Situation) (task : Task) (conn : ℕ) (line reply : List ℕ) (accepted : Option Accepted) (told : List Note)
+    → DoesRight config s (action_by (reading config line)) (step_saying 0 [] reply accepted told)
+    → is_in_turn (placed_by config s (Some task) (Some line) (action_by (reading config line)) (step_saying conn line reply accepted told)) ≡ true
+    → is_right config (placed_by config s (Some task) (Some line) (action_by (reading config line)) (step_saying conn line reply accepted told)) ≡ true
+right-in-turn config s task conn line reply accepted told r turn =
+    let placed = placed_by config s (Some task) (Some line) (action_by (reading config line)) (step_saying conn line reply accepted told) in
+    and_from _ _ (and_from _ _ (and_from _ _ (and_from _ _ (and_from _ _ (and_from _ _ (and_from _ _ (and_from (is_in_turn placed) (is_held_rightly placed) turn refl) (same-refl line)) r.replies) r.loads) r.accepts) r.tells) r.silent) r.within
+
+or-false : (b : Bool) → (b || false) ≡ b
+or-false true = refl
+or-false false = refl
+
+-- a plain step puts its connection in its place again
+placed-again : (base : Situation) (held left : List HeldValue) (n : ℕ) (c d : Connection) (effect : Effect) (after : Connection → Connection)
+    → IsThere n base → is_overlong (numbered n c) ≡ false → quits effect ≡ false → drops effect ≡ false → key_loaded effect.action ≡ None → after (numbered n c) ≡ numbered n d
+    → (let s = record (set_in base held (numbered n c)) { held = left; dropped = base.dropped || drops effect } in
+    option_map_or (λ k. with_connection (quits effect) (after k) (join_load n effect s)) (connection_in n s) s)
+    ≡ set_in base left (numbered n d)
+placed-again base held left n c d effect after there fits stays keeps alone e =
+    let put = set_in base held (numbered n c) in
+    let s = record put { held = left; dropped = base.dropped || drops effect } in
+    ap (λ o. option_map_or (λ k. with_connection (quits effect) (after k) (join_load n effect s)) o s) (found-there base held n c there fits)
+    ∙ ap (λ b. with_connection b (after (numbered n c)) (join_load n effect s)) stays
+    ∙ ap (λ key. with_connection false (after (numbered n c)) (join_by n (is_waiting effect) key effect.load s)) alone
+    ∙ ap (λ k. with_connection false k s) e
+    ∙ ap (λ b. with_connection false (numbered n d) (record put { held = left; dropped = b })) (ap (λ b. base.dropped || b) keeps ∙ or-false base.dropped)
+    ∙ set-again base held left n c d fits
+
+-- the connection that runs lines, without its first line
+abbrev pub beyond : Connection → Connection
+beyond c = record { number = c.number; unread = behind_lines 1 c.unread; standing = Ready; waited = 0 }
+
+-- the connection that held a line, ready again
+abbrev pub released : Connection → Connection
+released c = record { number = c.number; unread = c.unread; standing = Ready; waited = 0 }
+
+-- what a plain step of a line leaves of the situation
+pub after-line : (config : Config) (base : Situation) (held : List HeldValue) (n : ℕ) (c : Connection) (line reply : List ℕ) (accepted : Option Accepted) (told : List Note)
+    → IsThere n base → is_overlong (numbered n c) ≡ false → IsPlain (effect_saying config (set_in base held (numbered n c)) n line reply accepted told)
+    → after_step config (set_in base held (numbered n c)) (Some (RunLines n)) (step_saying n line reply accepted told) (effect_saying config (set_in base held (numbered n c)) n line reply accepted told)
+    ≡ set_in base (held_when_run config (set_in base held (numbered n c)) (action_by (reading config line)) (step_saying n line reply accepted told)) (numbered n (beyond c))
+after-line config base held n c line reply accepted told there fits plain =
+    let s = set_in base held (numbered n c) in
+    let effect = effect_saying config s n line reply accepted told in
+    placed-again base held (held_when_run config s (action_by (reading config line)) (step_saying n line reply accepted told)) n c (beyond c) effect
+    (connection_after (Some (RunLines n)) (step_saying n line reply accepted told) effect) there fits plain.quits plain.drops plain.loads
+    (ap (λ b. record { number = n; unread = behind_lines 1 c.unread; standing = if b then Held line else Ready; waited = 0 }) plain.stays)
+
+-- what a plain step of a held command leaves of the situation
+pub after-held : (config : Config) (base : Situation) (held : List HeldValue) (n : ℕ) (c : Connection) (line reply : List ℕ) (accepted : Option Accepted) (told : List Note)
+    → IsThere n base → is_overlong (numbered n c) ≡ false → IsPlain (effect_saying config (set_in base held (numbered n c)) n line reply accepted told)
+    → after_step config (set_in base held (numbered n c)) (Some (RunHeld n)) (step_saying n line reply accepted told) (effect_saying config (set_in base held (numbered n c)) n line reply accepted told)
+    ≡ set_in base (held_when_run config (set_in base held (numbered n c)) (action_by (reading config line)) (step_saying n line reply accepted told)) (numbered n (released c))
+after-held config base held n c line reply accepted told there fits plain =
+    let s = set_in base held (numbered n c) in
+    let effect = effect_saying config s n line reply accepted told in
+    placed-again base held (held_when_run config s (action_by (reading config line)) (step_saying n line reply accepted told)) n c (released c) effect
+    (connection_after (Some (RunHeld n)) (step_saying n line reply accepted told) effect) there fits plain.quits plain.drops plain.loads
+    (ap (λ b. record { number = n; unread = c.unread; standing = if b then Held line else Ready; waited = 0 }) plain.stays)

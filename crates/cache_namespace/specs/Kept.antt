@@ -1,0 +1,16 @@
+-- Whether a command can be held back without memory.
+use Rattle.std.specs.Prelude.{◌≡◌, ℕ, ◌<◌, ◌≤◌, [], List, Option, MatchOption, option_map, vec_len, vec_capacity}
+use Rattle.audit_model.specs.declared.transcript.Step.{Step}
+use Rattle.cache_namespace.specs.declared.kept.Kept.{Kept}
+
+-- there is room for one more step, and for its line
+pub record IsReady (kept : Kept) : Type 0 where
+  pub step : vec_len kept.steps < vec_capacity kept.steps
+  pub line : 8192 ≤ vec_capacity kept.spare
+  pub empty : vec_len kept.spare ≡ 0
+
+abbrev pub IsReadyToHold : Option Kept → Type 0
+IsReadyToHold kept = MatchOption kept (Unit {0}) IsReady
+
+abbrev pub steps_of : Option Kept → Option (List Step)
+steps_of kept = option_map (λ k. k.steps.items) kept

@@ -1,0 +1,113 @@
+//! The steps of a record, while it is made.
+ghost use Rattle.std.specs.Prelude.{◌≡◌, ◌<◌, ◌≤◌, ◌+◌, ◌++◌, ◌∷◌, [], length, IfOk, OnOk, OnErr, Some, None, vec_len, vec_capacity};
+ghost use Rattle.audit_model.specs.declared.transcript.Step.{Step as Ran};
+ghost use Rattle.cache_namespace.specs.Kept.{IsReady};
+ghost use Rattle.cache_namespace.specs.Lines.{held_step};
+ghost use Rattle.cache_steps.specs.Right.{step_saying};
+
+use audit_model::{Accepted, Note, Seq, Step};
+use std::alloc::{AllocError, Global};
+use std::mem;
+
+/// A line has at most this many bytes.
+const MAX_LINE: usize = 8192;
+
+/// The steps of a record, and room to hold a command back.
+#[derive(Drop)]
+pub struct Kept {
+    pub steps: Vec<Step>,
+    pub spare: Vec<u8>,
+}
+
+/// What one step needs before it runs.
+#[derive(Drop)]
+pub struct Draft {
+    pub line: Vec<u8>,
+    pub notes: Vec<Note>,
+}
+
+impl Kept {
+    /// No step yet, and room to hold a command back.
+    pub fn new(alloc: Global) -> Result<Kept, AllocError>
+        ensures { IfOk result (λ kept. IsReady kept × (kept.steps.items ≡ [])) }
+    {
+        let steps = Vec::with_capacity(alloc, 1)?;
+        let spare = Vec::with_capacity(alloc, MAX_LINE)?;
+        Ok(Kept { steps, spare })
+    }
+
+    /// Makes ready for a step of that line which tells at most so many notes. An `Err` changes no step.
+    pub fn begin(&mut self, alloc: Global, line: &[u8], most: usize) -> Result<Draft, AllocError>
+        requires { IsReady self.old }
+        ensures steps { self.new.steps.items ≡ self.old.steps.items }
+        ensures ready { IsReady self.new }
+        ensures room { OnOk result (vec_len self.new.steps + 2 ≤ vec_capacity self.new.steps) }
+        ensures draft { IfOk result (λ draft. (draft.line.items ≡ line.now) × (draft.notes.items ≡ []) × (most ≤ vec_capacity draft.notes)) }
+    {
+        self.steps.try_reserve(2)?;
+        let line = Vec::from_slice(alloc, line)?;
+        let notes = Vec::with_capacity(alloc, most)?;
+        Ok(Draft { line, notes })
+    }
+
+    /// Adds the step, with what was written as its reply.
+    pub fn end(
+        &mut self,
+        alloc: Global,
+        draft: Draft,
+        conn: u64,
+        accepted: Option<Accepted>,
+        text: &mut Vec<u8>,
+    )
+        requires room { vec_len self.old.steps + 2 ≤ vec_capacity self.old.steps }
+        requires ready { IsReady self.old }
+        ensures steps { self.new.steps.items ≡ self.old.steps.items ++ step_saying conn draft.line.items text.old.items accepted draft.notes.items ∷ [] }
+        ensures ready { IsReady self.new }
+        ensures text { text.new.items ≡ [] }
+    {
+        let Draft { line, notes } = draft;
+        let reply = mem::replace(text, Vec::new(alloc));
+        let step = Step {
+            conn,
+            line: Seq::from_vec(line),
+            held: false,
+            reply: Some(Seq::from_vec(reply)),
+            load: None,
+            accepted,
+            notices: Seq::from_vec(notes),
+        };
+        push_within(&mut self.steps, step);
+    }
+
+    /// Adds a step that holds a line back.
+    pub fn hold(&mut self, alloc: Global, conn: u64, line: &[u8])
+        requires ready { IsReady self.old }
+        requires short { length line.now ≤ MAX_LINE }
+        ensures steps { self.new.steps.items ≡ self.old.steps.items ++ held_step conn line.now ∷ [] }
+    {
+        let mut copy = mem::replace(&mut self.spare, Vec::new(alloc));
+        copy.extend_from_slice(line).unwrap();
+        let step = Step {
+            conn,
+            line: Seq::from_vec(copy),
+            held: true,
+            reply: None,
+            load: None,
+            accepted: None,
+            notices: Seq::new(alloc),
+        };
+        push_within(&mut self.steps, step);
+    }
+}
+
+/// Adds a step for which there is room.
+fn push_within(steps: &mut Vec<Step>, step: Step)
+    requires { vec_len steps.old < vec_capacity steps.old }
+    ensures items { steps.new.items ≡ steps.old.items ++ step ∷ [] }
+    ensures len { vec_len steps.new ≡ vec_len steps.old + 1 }
+    ensures capacity { vec_capacity steps.old ≤ vec_capacity steps.new }
+{
+    let Ok(()) = steps.push(step) else {
+        unreachable!();
+    };
+}
