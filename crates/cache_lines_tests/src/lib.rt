@@ -1,0 +1,7 @@
+//! Tests of lines and requests.
+#![tactic(auto)]
+
+#[cfg(test)]
+mod buffers;
+#[cfg(test)]
+mod requests;
