@@ -1,2 +1,4 @@
+pub mod Draining
 pub mod Placing
+pub mod Recording
 pub mod Stepping

@@ -1,6 +1,8 @@
 -- Whether a command can be held back without memory.
 use Rattle.std.specs.Prelude.{◌≡◌, ℕ, ◌<◌, ◌≤◌, [], List, Option, MatchOption, option_map, vec_len, vec_capacity}
 use Rattle.audit_model.specs.declared.transcript.Step.{Step}
+use Rattle.audit_model.specs.declared.transcript.Note.{Note}
+use Rattle.cache_namespace.specs.Gathered.{Gathered}
 use Rattle.cache_namespace.specs.declared.kept.Kept.{Kept}
 
 -- there is room for one more step, and for its line
@@ -14,3 +16,7 @@ IsReadyToHold kept = MatchOption kept (Unit {0}) IsReady
 
 abbrev pub steps_of : Option Kept → Option (List Step)
 steps_of kept = option_map (λ k. k.steps.items) kept
+
+-- what is gathered so far
+abbrev pub gathered : List ℕ → Option Kept → List Note → Gathered
+gathered text kept waiting = record { text = text; kept = steps_of kept; waiting = waiting }

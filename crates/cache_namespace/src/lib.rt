@@ -3,6 +3,7 @@
 
 mod connection;
 mod kept;
+mod lines;
 
 pub use connection::Connection;
 pub use kept::{Draft, Kept};

@@ -27,6 +27,7 @@ pub fn get<S: Store>(
     requires { (S.frame store.old).latest ≤ now }
     ensures ok { OnOk result ((s : Situation) → s.latest ≡ now → S.stands store.old s.held → Answers (S.frame store.old).config s (Running (says.Get key.now)) None (S.stands store.new) (Hands (S.frame store.old).part_of (S.untaken store.old) (S.untaken store.new)) output.old.items output.new.items) }
     ensures frame { OnOk result (KeepsFrame (S.frame store.old) (S.frame store.new) now) }
+    ensures few { length (S.untaken store.new) ≤ length (S.untaken store.old) + S.count store.old + 1 }
     ensures unchanged { OnErr result (IsUnchanged (S.stands store.old) (S.stands store.new) (S.frame store.old) (S.frame store.new) (S.untaken store.old) (S.untaken store.new)) }
     ensures unwritten { OnErr result (output.new.items ≡ output.old.items) }
 {
@@ -69,6 +70,7 @@ pub fn set<S: Store>(
     ensures ok { IfOk result (λ accepted. (s : Situation) → s.latest ≡ now → S.stands store.old s.held → Answers (S.frame store.old).config s (Running (says.Set key.now milliseconds value.now)) accepted (S.stands store.new) (Hands (S.frame store.old).part_of (S.untaken store.old) (S.untaken store.new)) output.old.items output.new.items) }
     ensures part { IfOk result (λ accepted. IfSome accepted (λ a. a.part ≡ (S.frame store.old).part_of key.now)) }
     ensures frame { OnOk result (KeepsFrame (S.frame store.old) (S.frame store.new) now) }
+    ensures few { length (S.untaken store.new) ≤ length (S.untaken store.old) + S.count store.old + 1 }
     ensures unchanged { OnErr result (IsUnchanged (S.stands store.old) (S.stands store.new) (S.frame store.old) (S.frame store.new) (S.untaken store.old) (S.untaken store.new)) }
     ensures unwritten { OnErr result (output.new.items ≡ output.old.items) }
 {
@@ -102,6 +104,7 @@ pub fn del<S: Store>(
     requires { (S.frame store.old).latest ≤ now }
     ensures ok { OnOk result ((s : Situation) → s.latest ≡ now → S.stands store.old s.held → Answers (S.frame store.old).config s (Running (says.Del key.now)) None (S.stands store.new) (Hands (S.frame store.old).part_of (S.untaken store.old) (S.untaken store.new)) output.old.items output.new.items) }
     ensures frame { OnOk result (KeepsFrame (S.frame store.old) (S.frame store.new) now) }
+    ensures few { length (S.untaken store.new) ≤ length (S.untaken store.old) + S.count store.old + 1 }
     ensures unchanged { OnErr result (IsUnchanged (S.stands store.old) (S.stands store.new) (S.frame store.old) (S.frame store.new) (S.untaken store.old) (S.untaken store.new)) }
     ensures unwritten { OnErr result (output.new.items ≡ output.old.items) }
 {
@@ -116,6 +119,7 @@ pub fn sync<S: Store>(store: &mut S, now: u64, output: &mut Vec<u8>) -> Result<(
     requires { (S.frame store.old).latest ≤ now }
     ensures ok { OnOk result ((s : Situation) → s.latest ≡ now → S.stands store.old s.held → Answers (S.frame store.old).config s (Running says.Sync) None (S.stands store.new) (Hands (S.frame store.old).part_of (S.untaken store.old) (S.untaken store.new)) output.old.items output.new.items) }
     ensures frame { OnOk result (KeepsFrame (S.frame store.old) (S.frame store.new) now) }
+    ensures few { length (S.untaken store.new) ≤ length (S.untaken store.old) + S.count store.old + 1 }
     ensures unchanged { OnErr result (IsUnchanged (S.stands store.old) (S.stands store.new) (S.frame store.old) (S.frame store.new) (S.untaken store.old) (S.untaken store.new)) }
     ensures unwritten { OnErr result (output.new.items ≡ output.old.items) }
 {

@@ -1,0 +1,127 @@
+//! A connection's lines, run one after another.
+ghost use Rattle.std.specs.Prelude.{◌≡◌, ◌<◌, ◌≤◌, ◌^◌, ◌+◌, ◌++◌, ◌∷◌, [], IfOk, OnOk, OnErr, IsSome, List, length, option_map, vec_len, vec_capacity};
+ghost use Rattle.audit_model.specs.Grammar.{reading};
+ghost use Rattle.audit_model.specs.Situation.{Situation, HeldValue};
+ghost use Rattle.audit_model.specs.Steps.{action_by};
+ghost use Rattle.cache_store.specs.Handing.{Hands, ArePartByPart};
+ghost use Rattle.cache_store.specs.Promises.{IsUnchanged};
+ghost use Rattle.cache_steps.specs.Right.{Answers, KeepsFrame};
+ghost use Rattle.cache_namespace.specs.Gathered.{IsFresh};
+ghost use Rattle.cache_namespace.specs.Kept.{IsReadyToHold, gathered};
+ghost use Rattle.cache_namespace.specs.Ran.{RanOne, IsPlainLine};
+
+use crate::kept::Kept;
+use audit_model::{Accepted, Config, Note};
+use cache_lines::{Request, read_line};
+use cache_steps::{del, fault, get, set, sync};
+use cache_store::Store;
+use std::alloc::{AllocError, Global};
+
+/// Runs a line: its reply stands behind `text`.
+fn run_line<S: Store>(
+    store: &mut S,
+    config: &Config,
+    now: u64,
+    line: &[u8],
+    text: &mut Vec<u8>,
+) -> Result<Option<Accepted>, AllocError>
+    requires config { (S.frame store.old).config ≡ config.now }
+    requires in_time { (S.frame store.old).latest ≤ now }
+    requires moment { now < 2 ^ 63 }
+    requires short { length line.now ≤ 8192 }
+    ensures ok { IfOk result (λ accepted. (s : Situation) → s.latest ≡ now → S.stands store.old s.held → Answers config.now s (action_by (reading config.now line.now)) accepted (S.stands store.new) (Hands (S.frame store.old).part_of (S.untaken store.old) (S.untaken store.new)) text.old.items text.new.items) }
+    ensures plain { IsPlainLine config.now line.now }
+    ensures few { length (S.untaken store.new) ≤ length (S.untaken store.old) + S.count store.old + 1 }
+    ensures frame { OnOk result (KeepsFrame (S.frame store.old) (S.frame store.new) now) }
+    ensures unchanged { OnErr result (IsUnchanged (S.stands store.old) (S.stands store.new) (S.frame store.old) (S.frame store.new) (S.untaken store.old) (S.untaken store.new)) }
+    ensures unwritten { OnErr result (text.new.items ≡ text.old.items) }
+{
+    match read_line(config, line) {
+        Request::Set {
+            key,
+            deadline,
+            value,
+        } => { set(store, config.capacity, key, deadline, value, now, text) }
+        Request::Get { key } => match get(store, key, now, text) {
+            Ok(()) => Ok(None),
+            Err(error) => Err(error),
+        },
+        Request::Del { key } => match del(store, key, now, text) {
+            Ok(()) => Ok(None),
+            Err(error) => Err(error),
+        },
+        Request::Sync => match sync(store, now, text) {
+            Ok(()) => Ok(None),
+            Err(error) => Err(error),
+        },
+        Request::Fault(error) => match fault(store, error, text) {
+            Ok(()) => Ok(None),
+            Err(error) => Err(error),
+        },
+    }
+}
+
+/// Takes all notes that the store has.
+fn drain<S: Store>(store: &mut S, notes: &mut Vec<Note>)
+    requires { vec_len notes.old + length (S.untaken store.old) ≤ vec_capacity notes.old }
+    ensures drained { ArePartByPart (S.frame store.old).part_of (S.untaken store.old) → notes.new.items ≡ notes.old.items ++ S.untaken store.old }
+    ensures none { S.untaken store.new ≡ [] }
+    ensures stands { (held : List HeldValue) → S.stands store.old held → S.stands store.new held }
+    ensures frame { S.frame store.new ≡ S.frame store.old }
+{
+    while let Some(note) = store.next_notice() {
+        push_within(notes, note);
+    }
+}
+
+/// Adds a note for which there is room.
+fn push_within(notes: &mut Vec<Note>, note: Note)
+    requires { vec_len notes.old < vec_capacity notes.old }
+    ensures items { notes.new.items ≡ notes.old.items ++ note ∷ [] }
+    ensures len { vec_len notes.new ≡ vec_len notes.old + 1 }
+    ensures capacity { vec_capacity notes.old ≤ vec_capacity notes.new }
+{
+    let Ok(()) = notes.push(note) else {
+        unreachable!();
+    };
+}
+
+/// Runs a line, and gathers its reply, its step where a record is made, and its notes. An `Err` changes nothing.
+fn run_one<S: Store>(
+    store: &mut S,
+    alloc: Global,
+    config: &Config,
+    now: u64,
+    number: u64,
+    line: &[u8],
+    text: &mut Vec<u8>,
+    kept: &mut Option<Kept>,
+) -> Result<(), AllocError>
+    requires config { (S.frame store.old).config ≡ config.now }
+    requires in_time { (S.frame store.old).latest ≤ now }
+    requires moment { now < 2 ^ 63 }
+    requires short { length line.now ≤ 8192 }
+    requires fresh { IsFresh (gathered text.old.items kept.old (S.untaken store.old)) }
+    requires ready { IsReadyToHold kept.old }
+    ensures ok { OnOk result ((s : Situation) → s.latest ≡ now → S.stands store.old s.held → RanOne config.now s number line.now (S.stands store.new) (gathered text.old.items kept.old (S.untaken store.old)) (gathered text.new.items kept.new (S.untaken store.new))) }
+    ensures fresh { IsFresh (gathered text.new.items kept.new (S.untaken store.new)) }
+    ensures ready { IsReadyToHold kept.new }
+    ensures frame { OnOk result (KeepsFrame (S.frame store.old) (S.frame store.new) now) }
+    ensures unchanged { OnErr result (IsUnchanged (S.stands store.old) (S.stands store.new) (S.frame store.old) (S.frame store.new) (S.untaken store.old) (S.untaken store.new)) }
+    ensures ungathered { OnErr result (gathered text.new.items kept.new (S.untaken store.new) ≡ gathered text.old.items kept.old (S.untaken store.old)) }
+{
+    match kept {
+        None => {
+            run_line(store, config, now, line, text)?;
+            Ok(())
+        }
+        Some(kept) => {
+            let most = store.len() + 1;
+            let mut draft = kept.begin(alloc, line, most)?;
+            let accepted = run_line(store, config, now, line, text)?;
+            drain(store, &mut draft.notes);
+            kept.end(alloc, draft, number, accepted, text);
+            Ok(())
+        }
+    }
+}
