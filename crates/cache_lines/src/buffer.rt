@@ -82,7 +82,8 @@ impl Buffer {
     /// The line of `n` bytes at the front, without one carriage return at its end.
     pub fn line(&self, n: usize) -> &[u8]
         requires { n < length self.now.bytes }
-        ensures { result.now ≡ without_return (take n self.now.bytes) }
+        ensures line { result.now ≡ without_return (take n self.now.bytes) }
+        ensures short { length result.now ≤ n }
     {
         trim(&self.bytes[self.start..self.start + n])
     }
@@ -173,7 +174,8 @@ fn next_in(bytes: &[u8]) -> Next
 
 /// The line without one carriage return at its end.
 fn trim(line: &[u8]) -> &[u8]
-    ensures { result.now ≡ without_return line.now }
+    ensures line { result.now ≡ without_return line.now }
+    ensures short { length result.now ≤ length line.now }
 {
     let len = line.len();
     if len == 0 {

@@ -1,4 +1,5 @@
 pub mod Draining
 pub mod Placing
 pub mod Recording
+pub mod Running
 pub mod Stepping

@@ -2,3 +2,4 @@ pub mod Gathered
 pub mod Kept
 pub mod Lines
 pub mod Ran
+pub mod Stops

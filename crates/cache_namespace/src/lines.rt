@@ -8,11 +8,13 @@ ghost use Rattle.cache_store.specs.Promises.{IsUnchanged};
 ghost use Rattle.cache_steps.specs.Right.{Answers, KeepsFrame};
 ghost use Rattle.cache_namespace.specs.Gathered.{IsFresh};
 ghost use Rattle.cache_namespace.specs.Kept.{IsReadyToHold, gathered};
-ghost use Rattle.cache_namespace.specs.Ran.{RanOne, IsPlainLine};
+ghost use Rattle.cache_namespace.specs.Lines.{IsThere};
+ghost use Rattle.cache_namespace.specs.Ran.{RanOne, RanLines, IsPlainLine};
+ghost use Rattle.cache_namespace.specs.Stops.{StopsFor};
 
 use crate::kept::Kept;
 use audit_model::{Accepted, Config, Note};
-use cache_lines::{Request, read_line};
+use cache_lines::{Buffer, Next, Request, read_line};
 use cache_steps::{del, fault, get, set, sync};
 use cache_store::Store;
 use std::alloc::{AllocError, Global};
@@ -122,6 +124,54 @@ fn run_one<S: Store>(
             drain(store, &mut draft.notes);
             kept.end(alloc, draft, number, accepted, text);
             Ok(())
+        }
+    }
+}
+
+/// Why no further line runs now.
+#[derive(Clone, Copy, PartialEq, Eq, Drop)]
+pub enum Stop {
+    /// Less than a line has come.
+    More,
+    /// The line is longer than a line may be.
+    TooLong,
+    /// Memory was wanted for the line of that many bytes.
+    Held(usize),
+}
+
+/// Runs the connection's lines until no whole one is left, or memory is wanted for one.
+pub fn run_lines<S: Store>(
+    store: &mut S,
+    alloc: Global,
+    config: &Config,
+    now: u64,
+    number: u64,
+    unread: &mut Buffer,
+    text: &mut Vec<u8>,
+    kept: &mut Option<Kept>,
+) -> Stop
+    requires config { (S.frame store.old).config ≡ config.now }
+    requires in_time { (S.frame store.old).latest ≤ now }
+    requires moment { now < 2 ^ 63 }
+    requires fresh { IsFresh (gathered text.old.items kept.old (S.untaken store.old)) }
+    requires ready { IsReadyToHold kept.old }
+    ensures ran { (base : Situation) (held : List HeldValue) → base.latest ≡ now → IsThere number base → S.stands store.old held → RanLines config.now base number held unread.old.bytes unread.new.bytes (S.stands store.new) (gathered text.old.items kept.old (S.untaken store.old)) (gathered text.new.items kept.new (S.untaken store.new)) }
+    ensures stops { StopsFor result unread.new.bytes }
+    ensures frame { KeepsFrame (S.frame store.old) (S.frame store.new) now }
+    ensures fresh { IsFresh (gathered text.new.items kept.new (S.untaken store.new)) }
+    ensures ready { IsReadyToHold kept.new }
+{
+    loop {
+        match unread.next() {
+            Next::More => return Stop::More,
+            Next::TooLong => return Stop::TooLong,
+            Next::Line(len) => {
+                let line = unread.line(len);
+                match run_one(store, alloc, config, now, number, line, text, kept) {
+                    Ok(()) => unread.skip(len),
+                    Err(_) => return Stop::Held(len),
+                }
+            }
         }
     }
 }

@@ -1,0 +1,111 @@
+-- A connection's lines run, one after another.
+use Rattle.std.proofs.Common.{◌≡◌, ℕ, ◌+◌, Bool, true, false, not, ◌&&◌, ◌||◌, ◌==◌, List, [], ◌∷◌, ◌++◌, map, take, drop, Option, Some, None, if◌then◌else◌, refl, sym, ap, ◌∙◌, subst, append_assoc}
+use Rattle.std.specs.Prelude.{is_some, IsTrue, unwrap_or}
+use Rattle.std.specs.List.{flat_map}
+use Rattle.std.specs.Option.{option_map_or}
+use Rattle.std.proofs.lemmas.List.{append-nil}
+use Rattle.std.proofs.lemmas.Grind.{flat_map-append}
+use Rattle.std.proofs.lemmas.Bool.{eq-eqb}
+use Rattle.audit_model.specs.Changes.{after_step}
+use Rattle.audit_model.specs.Follows.{line_in, placed_step_in}
+use Rattle.audit_model.specs.Grammar.{reading}
+use Rattle.audit_model.specs.Situation.{Situation, Connection, HeldValue, Ready, is_ready, connection_in, may_run_in, is_overlong}
+use Rattle.audit_model.specs.Steps.{RunLines, action_by, is_right}
+use Rattle.audit_model.specs.Stream.{first_line, behind_lines, without_return}
+use Rattle.audit_model.specs.declared.config.Config.{Config}
+use Rattle.audit_model.specs.declared.transcript.Note.{Note}
+use Rattle.audit_model.specs.declared.transcript.Step.{Step}
+use Rattle.cache_lines.specs.Next.{IsLine}
+use Rattle.cache_lines.proofs.Lines.{IsLine-first_line, IsLine-behind_lines, IsLine-not_long}
+use Rattle.cache_steps.specs.Right.{step_saying, placed_by, held_when_run}
+use Rattle.cache_namespace.specs.Gathered.{Gathered, gather, reply_in}
+use Rattle.cache_namespace.specs.Lines.{Runs, IsThere, set_in, ready, placed_in}
+use Rattle.cache_namespace.specs.Ran.{RanOne, RanLines}
+use Rattle.cache_namespace.proofs.Placing.{found-there}
+use Rattle.cache_namespace.proofs.Stepping.{right-in-turn, after-line}
+
+-- ---- what is gathered
+
+gather-none : (g : Gathered) → gather g [] ≡ g
+gather-none g = go g.kept
+  where
+    go : (kept : Option (List Step)) → gather (record g { kept = kept }) [] ≡ record g { kept = kept }
+    go None = ap (λ t. record { text = t; kept = None; waiting = g.waiting ++ [] }) (append-nil g.text) ∙ ap (λ w. record { text = g.text; kept = None; waiting = w }) (append-nil g.waiting)
+    go (Some before) = ap (λ ss. record { text = g.text; kept = Some ss; waiting = g.waiting }) (append-nil before)
+
+pub gather-more : (g : Gathered) (xs ys : List Step) → gather (gather g xs) ys ≡ gather g (xs ++ ys)
+gather-more g xs ys = go g.kept
+  where
+    go : (kept : Option (List Step)) → gather (gather (record g { kept = kept }) xs) ys ≡ gather (record g { kept = kept }) (xs ++ ys)
+    go None =
+        ap (λ t. record { text = t; kept = None; waiting = (g.waiting ++ flat_map (λ (step : Step). step.notices) xs) ++ flat_map (λ (step : Step). step.notices) ys })
+        (append_assoc g.text (flat_map reply_in xs) (flat_map reply_in ys) ∙ ap (λ r. g.text ++ r) (sym (flat_map-append reply_in xs ys)))
+        ∙ ap (λ w. record { text = g.text ++ flat_map reply_in (xs ++ ys); kept = None; waiting = w })
+        (append_assoc g.waiting (flat_map (λ (step : Step). step.notices) xs) (flat_map (λ (step : Step). step.notices) ys) ∙ ap (λ r. g.waiting ++ r) (sym (flat_map-append (λ (step : Step). step.notices) xs ys)))
+    go (Some before) = ap (λ ss. record { text = g.text; kept = Some ss; waiting = g.waiting }) (append_assoc before xs ys)
+
+-- ---- runs of lines
+
+pub runs-more : (config : Config) (number : ℕ) (steps : List Step) (s t : Situation) (step : Step) (u : Situation)
+    → Runs config number s steps t → may_run_in t number ≡ true → is_right config (placed_step_in config t (Some (RunLines number)) step) ≡ true
+    → after_step config t (Some (RunLines number)) step (placed_in config number t step) ≡ u
+    → Runs config number s (steps ++ step ∷ []) u
+runs-more config number [] s t step u runs may right after = (
+  subst (λ x. may_run_in x number ≡ true) runs may,
+  subst (λ x. is_right config (placed_step_in config x (Some (RunLines number)) step) ≡ true) runs right,
+  sym after ∙ ap (λ x. after_step config x (Some (RunLines number)) step (placed_in config number x step)) runs,
+)
+runs-more config number (x ∷ xs) s t step u runs may right after = (runs.0, runs.1, runs-more config number xs _ t step u runs.2 may right after)
+
+-- a connection with a whole line is not closed for a long one
+pub line-fits : (number : ℕ) (bytes : List ℕ) (n : ℕ) → IsLine bytes n → is_overlong (ready number bytes) ≡ false
+line-fits number bytes n line = ap (λ b. b || false) (IsLine-not_long bytes n line)
+
+-- a line that may run
+pub may-run : (base : Situation) (held : List HeldValue) (number : ℕ) (bytes : List ℕ) (n : ℕ) → IsThere number base → IsLine bytes n
+    → may_run_in (set_in base held (ready number bytes)) number ≡ true
+may-run base held number bytes n there line =
+    ap (λ c. option_map_or (λ k. is_ready k.standing && is_some (first_line k.unread)) c false) (found-there base held number (ready number bytes) there (line-fits number bytes n line))
+    ∙ ap is_some (IsLine-first_line bytes n line)
+
+-- the line that is due
+pub line-due : (base : Situation) (held : List HeldValue) (number : ℕ) (bytes line : List ℕ) (n : ℕ) → IsThere number base → IsLine bytes n → line ≡ without_return (take n bytes)
+    → line_in (Some (RunLines number)) (connection_in number (set_in base held (ready number bytes))) ≡ Some line
+line-due base held number bytes line n there at said =
+    ap (line_in (Some (RunLines number))) (found-there base held number (ready number bytes) there (line-fits number bytes n at))
+    ∙ IsLine-first_line bytes n at ∙ ap Some (sym said)
+
+-- one more line ran
+pub ran-more : (config : Config) (base : Situation) (number : ℕ) (held : List HeldValue) (bytes mid rest line : List ℕ) (n : ℕ) (Stood Stands : List HeldValue → Type 0) (old middle new : Gathered)
+    → IsThere number base → (r : RanLines config base number held bytes mid Stood old middle) → IsLine mid n → line ≡ without_return (take n mid) → rest ≡ drop (n + 1) mid
+    → RanOne config (set_in base r.left (ready number mid)) number line Stands middle new
+    → RanLines config base number held bytes rest Stands old new
+ran-more config base number held bytes mid rest line n Stood Stands old middle new there r at said after one =
+    let s = set_in base r.left (ready number mid) in
+    let step = step_saying number line one.reply one.accepted one.told in
+    let action = action_by (reading config line) in
+    let right : is_right config (placed_step_in config s (Some (RunLines number)) step) ≡ true =
+    subst (λ due. is_right config (placed_by config s (Some (RunLines number)) due action step) ≡ true) (sym (line-due base r.left number mid line n there at said))
+    (right-in-turn config s (RunLines number) number line one.reply one.accepted one.told one.right (eq-eqb number number refl)) in
+    record {
+      steps = r.steps ++ step ∷ [];
+      left = held_when_run config s action step;
+      stands = one.left;
+      runs =
+          runs-more config number r.steps _ s step _ r.runs (may-run base r.left number mid n there at) right
+          (after-line config base r.left number (ready number mid) line one.reply one.accepted one.told there (line-fits number mid n at) one.plain
+          ∙ ap (λ b. set_in base (held_when_run config s action step) (ready number b)) (IsLine-behind_lines mid n at ∙ sym after));
+      gathered = one.gathered ∙ ap (λ g. gather g (step ∷ [])) r.gathered ∙ gather-more old r.steps (step ∷ []);
+    }
+
+-- no line ran yet
+pub ran-none : (config : Config) (base : Situation) (number : ℕ) (held : List HeldValue) (bytes : List ℕ) (Stands : List HeldValue → Type 0) (old : Gathered)
+    → Stands held → RanLines config base number held bytes bytes Stands old old
+ran-none config base number held bytes Stands old m = record { steps = []; left = held; stands = m; runs = refl; gathered = sym (gather-none old) }
+
+-- a line that was refused changed nothing
+pub ran-kept : (config : Config) (base : Situation) (number : ℕ) (held : List HeldValue) (bytes rest : List ℕ) (Stood Stands : List HeldValue → Type 0) (old middle new : Gathered)
+    → RanLines config base number held bytes rest Stood old middle → ((left : List HeldValue) → Stood left → Stands left) → new ≡ middle
+    → RanLines config base number held bytes rest Stands old new
+ran-kept config base number held bytes rest Stood Stands old middle new r stays same =
+    record { steps = r.steps; left = r.left; stands = stays r.left r.stands; runs = r.runs; gathered = same ∙ r.gathered }

@@ -1,0 +1,19 @@
+use Rattle.std.proofs.Common.{◌≡◌, List, length}
+use Rattle.audit_model.specs.Situation.{Situation, HeldValue}
+use Rattle.cache_steps.specs.Right.{KeepsFrame}
+use Rattle.cache_namespace.specs.Gathered.{IsFresh}
+use Rattle.cache_namespace.specs.Kept.{IsReadyToHold, gathered}
+use Rattle.cache_namespace.specs.Lines.{IsThere}
+use Rattle.cache_namespace.specs.Ran.{RanLines}
+use Rattle.cache_namespace.proofs.lines.run_lines.Given as goal
+
+abbrev pub invariant-loop-len : goal.invariant-loop-len
+invariant-loop-len g l = record {
+  ran : (base : Situation) (held : List HeldValue) → base.latest ≡ l.fn.now → IsThere l.fn.number base → g.S.Store.stands l.fn.store held → RanLines l.fn.config base l.fn.number held l.fn.unread.bytes l.unread.bytes (g.S.Store.stands l.store) (gathered l.fn.text.items l.fn.kept (g.S.Store.untaken l.fn.store)) (gathered l.text.items l.kept (g.S.Store.untaken l.store));
+  frame : KeepsFrame (g.S.Store.frame l.fn.store) (g.S.Store.frame l.store) l.fn.now;
+  fresh : IsFresh (gathered l.text.items l.kept (g.S.Store.untaken l.store));
+  ready : IsReadyToHold l.kept;
+}
+
+abbrev pub decreases-loop-len : goal.decreases-loop-len
+decreases-loop-len g l = length l.unread.bytes

@@ -1,0 +1,12 @@
+-- Why no further line runs.
+use Rattle.std.specs.Prelude.{ℕ, ◌<◌, List, length}
+use Rattle.audit_model.specs.Bytewise.{cut_at}
+use Rattle.cache_lines.specs.Next.{IsLine, IsPartial}
+use Rattle.cache_namespace.specs.declared.lines.Stop.{Stop}
+use Rattle.cache_namespace.specs.declared.lines.Stop.TheVariants.{More, TooLong, Held}
+
+-- less than a line is left; or more than a line may have; or a line of that many bytes, for which memory was wanted
+abbrev pub StopsFor : Stop → List ℕ → Type 0
+StopsFor More rest = IsPartial rest
+StopsFor TooLong rest = 8192 < length (cut_at 10 rest).0
+StopsFor (Held n) rest = IsLine rest n
