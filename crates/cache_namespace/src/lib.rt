@@ -5,5 +5,5 @@ mod connection;
 mod kept;
 mod lines;
 
-pub use connection::Connection;
+pub use connection::{Connection, new_connection};
 pub use kept::{Draft, Kept};

@@ -11,6 +11,9 @@ ghost use Rattle.cache_namespace.specs.Kept.{IsReadyToHold, gathered};
 ghost use Rattle.cache_namespace.specs.Lines.{IsThere};
 ghost use Rattle.cache_namespace.specs.Ran.{RanOne, RanLines, IsPlainLine};
 ghost use Rattle.cache_namespace.specs.Stops.{StopsFor};
+ghost use Rattle.cache_namespace.specs.Whole.{has_line, held_line};
+ghost use Rattle.audit_model.specs.Stream.{behind_lines};
+ghost use Rattle.std.specs.Prelude.{IsTrue};
 
 use crate::kept::Kept;
 use audit_model::{Accepted, Config, Note};
@@ -173,5 +176,44 @@ pub fn run_lines<S: Store>(
                 }
             }
         }
+    }
+}
+
+/// Runs the command that is held back, and takes its line. An `Err` changes nothing.
+pub fn release<S: Store>(
+    store: &mut S,
+    alloc: Global,
+    config: &Config,
+    now: u64,
+    number: u64,
+    unread: &mut Buffer,
+    text: &mut Vec<u8>,
+    kept: &mut Option<Kept>,
+) -> Result<(), AllocError>
+    requires config { (S.frame store.old).config ≡ config.now }
+    requires in_time { (S.frame store.old).latest ≤ now }
+    requires moment { now < 2 ^ 63 }
+    requires fresh { IsFresh (gathered text.old.items kept.old (S.untaken store.old)) }
+    requires ready { IsReadyToHold kept.old }
+    requires whole { IsTrue (has_line unread.old.bytes) }
+    ensures ok { OnOk result ((s : Situation) → s.latest ≡ now → S.stands store.old s.held → RanOne config.now s number (held_line unread.old.bytes) (S.stands store.new) (gathered text.old.items kept.old (S.untaken store.old)) (gathered text.new.items kept.new (S.untaken store.new))) }
+    ensures rest { OnOk result (unread.new.bytes ≡ behind_lines 1 unread.old.bytes) }
+    ensures room { unread.new.room ≡ unread.old.room }
+    ensures fresh { IsFresh (gathered text.new.items kept.new (S.untaken store.new)) }
+    ensures ready { IsReadyToHold kept.new }
+    ensures frame { OnOk result (KeepsFrame (S.frame store.old) (S.frame store.new) now) }
+    ensures unread { OnErr result (unread.new ≡ unread.old) }
+    ensures unchanged { OnErr result (IsUnchanged (S.stands store.old) (S.stands store.new) (S.frame store.old) (S.frame store.new) (S.untaken store.old) (S.untaken store.new)) }
+    ensures ungathered { OnErr result (gathered text.new.items kept.new (S.untaken store.new) ≡ gathered text.old.items kept.old (S.untaken store.old)) }
+{
+    match unread.next() {
+        Next::Line(len) => {
+            let line = unread.line(len);
+            run_one(store, alloc, config, now, number, line, text, kept)?;
+            unread.skip(len);
+            Ok(())
+        }
+        Next::More => unreachable!(),
+        Next::TooLong => unreachable!(),
     }
 }
