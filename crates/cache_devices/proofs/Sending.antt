@@ -6,17 +6,20 @@ use Rattle.std.specs.Io.KnownBytes.{Appends, Keeps}
 use Rattle.cache_devices.specs.Failures.{HasFailed}
 use Rattle.cache_devices.specs.Sent.{SentBut}
 
+-- bytes appended one after another
 pub appends_more : (a b c : Option (List ℕ)) (xs ys : List ℕ) → Appends a b xs → Appends b c ys → Appends a c (xs ++ ys)
 appends_more None b c xs ys p q = tt
 appends_more (Some a) None c xs ys p q = absurd p
 appends_more (Some a) (Some b) None xs ys p q = absurd q
 appends_more (Some a) (Some b) (Some c) xs ys p q = q ∙ ap (λ z. z ++ ys) p ∙ append_assoc a xs ys
 
+-- what keeps the bytes appends none
 pub appends_none : (a b : Option (List ℕ)) → Keeps a b → Appends a b []
 appends_none None b k = tt
 appends_none (Some a) None k = absurd k
 appends_none (Some a) (Some b) k = k ∙ sym (append-nil a)
 
+-- doing nothing appends none
 pub same_appends : (a : Option (List ℕ)) → Appends a a []
 same_appends None = tt
 same_appends (Some a) = sym (append-nil a)
@@ -47,6 +50,7 @@ sent_all output rest a b s e = subst (Appends a b) (sym (append-nil s.sent) ∙ 
 pub failed_before : (a b c : ℕ) → HasFailed a b → b ≤ c → HasFailed a c
 failed_before a b c failed later = λ room. let more = failed room in omega arith
 
+-- a later failure is one since then
 pub failed_after : (a b c : ℕ) → a ≤ b → b ≤ c → HasFailed b c → HasFailed a c
 failed_after a b c earlier later failed = λ room.
     ⊎_elim (λ below. let more = failed below in omega arith) (λ full. omega arith) (cases_lt b (2 ^ 64 - 1))

@@ -1,6 +1,7 @@
 //! Bytes sent to a writer.
 ghost use Rattle.std.specs.Prelude.{◌≡◌, ◌≤◌, ℕ, List, OnOk, OnErr};
 ghost use Rattle.std.specs.Io.KnownBytes.{Appends};
+ghost use Rattle.cache_devices.specs.Watched.{device, failures};
 ghost use Rattle.cache_devices.specs.Failures.{HasFailed};
 ghost use Rattle.cache_devices.specs.Sent.{SentBut};
 
@@ -18,12 +19,12 @@ pub enum SendError {
 
 /// Sends all of the output. An interrupted write is made again.
 pub fn send<W: Write>(output: &[u8], writer: &mut Watched<W>) -> Result<(), SendError>
-    ensures ok { OnOk result (Appends (W.contents writer.old.inner) (W.contents writer.new.inner) output.now) }
+    ensures ok { OnOk result (Appends (W.contents (device writer.old)) (W.contents (device writer.new)) output.now) }
 
     // After an error a beginning of the output was sent.
-    ensures err { OnErr result ((rest : List ℕ) × SentBut rest output.now (W.contents writer.old.inner) (W.contents writer.new.inner)) }
-    ensures cause { OnErr result (HasFailed writer.old.failed writer.new.failed) }
-    ensures count { writer.old.failed ≤ writer.new.failed }
+    ensures err { OnErr result ((rest : List ℕ) × SentBut rest output.now (W.contents (device writer.old)) (W.contents (device writer.new))) }
+    ensures cause { OnErr result (HasFailed (failures writer.old) (failures writer.new)) }
+    ensures count { failures writer.old ≤ failures writer.new }
 {
     let mut rest = output;
     for _turn in 0..u64::MAX {

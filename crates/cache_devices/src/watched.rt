@@ -3,13 +3,13 @@ ghost use Rattle.std.specs.Prelude.{◌≡◌, ◌<◌, ◌≤◌, MatchResult, 
 ghost use Rattle.std.specs.Result.{is_err};
 ghost use Rattle.std.specs.Io.KnownBytes.{Keeps, ReadConsumes, WriteAppends};
 ghost use Rattle.std.specs.Io.{ReadsAtMost, WritesAtMost};
-ghost use Rattle.cache_devices.specs.Failures.{HasFailed, counted};
-ghost use Rattle.cache_devices.specs.Failures.{took_none};
+ghost use Rattle.cache_devices.specs.Watched.{device, failures};
+ghost use Rattle.cache_devices.specs.Failures.{HasFailed, counted, took_none};
 
 use std::io;
 use std::io::{Read, Write};
 
-/// A device, and how many of its calls failed: an error, or a write that took nothing of a piece that isn't empty.
+/// A device, and how many of its calls failed: an error, or a write that took nothing of a piece that is not empty.
 #[derive(Drop)]
 pub struct Watched<T> {
     inner: T,
@@ -17,34 +17,37 @@ pub struct Watched<T> {
 }
 
 impl<T> Watched<T> {
+    /// A device of which no call has failed.
     pub fn new(inner: T) -> Watched<T>
-        ensures { (result.inner ≡ inner) × (result.failed ≡ 0) }
+        ensures holds { device result ≡ inner }
+        ensures none_failed { failures result ≡ 0 }
     {
         Watched { inner, failed: 0 }
     }
 
     /// The device.
     pub fn inner(&self) -> &T
-        ensures { result.now ≡ self.now.inner }
+        ensures { result.now ≡ device self.now }
     {
         &self.inner
     }
 
     /// How many calls failed, at most `u64::MAX`.
     pub fn failed(&self) -> u64
-        ensures { result ≡ self.now.failed }
+        ensures { result ≡ failures self.now }
     {
         self.failed
     }
 }
 
 impl<R: Read> Watched<R> {
+    /// Reads what there is, at most as much as fits.
     pub fn read(&mut self, buf: &mut [u8]) -> io::Result<usize>
         ensures bound { ReadsAtMost result buf.new }
-        ensures bytes { ReadConsumes (R.remaining self.old.inner) (R.remaining self.new.inner) result buf.new }
-        ensures counts { self.new.failed ≡ counted (is_err result) self.old.failed }
-        ensures later { self.old.failed ≤ self.new.failed }
-        ensures failed { OnErr result (HasFailed self.old.failed self.new.failed) }
+        ensures bytes { ReadConsumes (R.remaining (device self.old)) (R.remaining (device self.new)) result buf.new }
+        ensures counts { failures self.new ≡ counted (is_err result) (failures self.old) }
+        ensures later { failures self.old ≤ failures self.new }
+        ensures failed { OnErr result (HasFailed (failures self.old) (failures self.new)) }
     {
         let result = self.inner.read(buf);
         if result.is_err() {
@@ -55,12 +58,13 @@ impl<R: Read> Watched<R> {
 }
 
 impl<W: Write> Watched<W> {
+    /// Writes a beginning of the bytes. It fails also where it takes none of them.
     pub fn write(&mut self, buf: &[u8]) -> io::Result<usize>
         ensures bound { WritesAtMost result buf.now }
-        ensures bytes { WriteAppends (W.contents self.old.inner) (W.contents self.new.inner) result buf.now }
-        ensures counts { self.new.failed ≡ counted (took_none buf.now result) self.old.failed }
-        ensures later { self.old.failed ≤ self.new.failed }
-        ensures failed { MatchResult result (λ n. n ≡ 0 → 0 < length buf.now → HasFailed self.old.failed self.new.failed) (λ _. HasFailed self.old.failed self.new.failed) }
+        ensures bytes { WriteAppends (W.contents (device self.old)) (W.contents (device self.new)) result buf.now }
+        ensures counts { failures self.new ≡ counted (took_none buf.now result) (failures self.old) }
+        ensures later { failures self.old ≤ failures self.new }
+        ensures failed { MatchResult result (λ n. n ≡ 0 → 0 < length buf.now → HasFailed (failures self.old) (failures self.new)) (λ _. HasFailed (failures self.old) (failures self.new)) }
     {
         let result = self.inner.write(buf);
         let took_none = match &result {
@@ -73,11 +77,12 @@ impl<W: Write> Watched<W> {
         result
     }
 
+    /// Has the device hand on what it was given.
     pub fn flush(&mut self) -> io::Result<()>
-        ensures bytes { Keeps (W.contents self.old.inner) (W.contents self.new.inner) }
-        ensures counts { self.new.failed ≡ counted (is_err result) self.old.failed }
-        ensures later { self.old.failed ≤ self.new.failed }
-        ensures failed { OnErr result (HasFailed self.old.failed self.new.failed) }
+        ensures bytes { Keeps (W.contents (device self.old)) (W.contents (device self.new)) }
+        ensures counts { failures self.new ≡ counted (is_err result) (failures self.old) }
+        ensures later { failures self.old ≤ failures self.new }
+        ensures failed { OnErr result (HasFailed (failures self.old) (failures self.new)) }
     {
         let result = self.inner.flush();
         if result.is_err() {

@@ -1,7 +1,7 @@
 -- Where the first byte c stands, and what `cut_at` gives.
-use Rattle.std.proofs.Common.{◌≡◌, ◌≢◌, ℕ, zero, suc, ◌+◌, ◌<◌, ◌≤◌, false, eqb, List, [], ◌∷◌, length, take, drop, get_or, Option, Some, None, refl, sym, ap, ◌∙◌, subst, arith, add-one, ⊎_elim}
+use Rattle.std.proofs.Common.{◌≡◌, ◌≢◌, ℕ, zero, suc, ◌+◌, ◌<◌, ◌≤◌, List, [], ◌∷◌, length, take, drop, get_or, Option, Some, None, refl, sym, ap, ◌∙◌, subst, arith, add-one, ⊎_elim}
 use Rattle.std.specs.Prelude.{IfSome}
-use Rattle.std.proofs.lemmas.Bool.{eqb-true, eq-eqb}
+use Rattle.std.proofs.lemmas.Bool.{eqb-true, eq-eqb, ne_eqb}
 use Rattle.std.proofs.lemmas.Bool.Decides.{eqb_tells}
 use Rattle.std.proofs.lemmas.List.{length-take-le, get_or-take}
 use Rattle.memchr.specs.Find.{IsFirstByte, is_byte}
@@ -11,15 +11,15 @@ use Rattle.audit_model.specs.Bytewise.{cut_at}
 abbrev pub NoneBelow : ℕ → ℕ → List ℕ → Type 0
 NoneBelow c n bytes = (k : ℕ) → k < n → get_or bytes k 0 ≢ c
 
+-- behind the first byte there is no c either
 pub NoneBelow-tail : (c n b : ℕ) (bs : List ℕ) → NoneBelow c (suc n) (b ∷ bs) → NoneBelow c n bs
 NoneBelow-tail c n b bs none = λ k below. none (suc k) (omega arith)
 
-pub eqb-other : (a b : ℕ) → a ≢ b → eqb a b ≡ false
-eqb-other a b differs = ⊎_elim (λ same. absurd (differs same.1)) (λ other. other.0) (eqb_tells a b)
-
+-- what stands before a byte, and behind it if there is one
 abbrev pub Cut : Type 0
 Cut = List ℕ × Option (List ℕ)
 
+-- with one byte more in front
 abbrev pub onto : ℕ → Cut → Cut
 onto b rest = (b ∷ rest.0, rest.1)
 
@@ -29,7 +29,7 @@ cut_at-here c b bs same = rw (eq-eqb b c same, cut_at)
 
 -- a byte that differs goes to the front of what is cut
 pub cut_at-other : (c b : ℕ) (bs : List ℕ) → b ≢ c → cut_at c (b ∷ bs) ≡ onto b (cut_at c bs)
-cut_at-other c b bs differs = rw (eqb-other b c differs, cut_at)
+cut_at-other c b bs differs = rw (ne_eqb b c differs, cut_at)
 
 -- the first c stands at n
 cut_at-first : (c n : ℕ) (bs : List ℕ) → n < length bs → get_or bs n 0 ≡ c → NoneBelow c n bs → cut_at c bs ≡ (take n bs, Some (drop (suc n) bs))
@@ -38,6 +38,7 @@ cut_at-first c zero (b ∷ bs) inside found none = cut_at-here c b bs found
 cut_at-first c (suc n) (b ∷ bs) inside found none =
     cut_at-other c b bs (none 0 (omega arith)) ∙ ap (onto b) (cut_at-first c n bs (omega arith) found (NoneBelow-tail c n b bs none))
 
+-- the same, as callers write it
 pub cut_at-found : (c n : ℕ) (bs : List ℕ) → n < length bs → get_or bs n 0 ≡ c → NoneBelow c n bs → cut_at c bs ≡ (take n bs, Some (drop (n + 1) bs))
 cut_at-found c n bs inside found none = rw (add-one n) (cut_at-first c n bs inside found none)
 
@@ -73,6 +74,7 @@ pub cut_at-searched : (c n : ℕ) (bs : List ℕ) → IsFirstByte (is_byte c) bs
 cut_at-searched c n bs found =
     cut_at-found c n bs found.0.high (eqb-true _ c found.1) (λ k under same. found.0.before k (omega arith) under (eq-eqb _ c same))
 
+-- a search of all bytes that finds none
 pub cut_at-missed : (c : ℕ) (bs : List ℕ) → IsFirstByte (is_byte c) bs None → cut_at c bs ≡ (bs, None)
 cut_at-missed c bs none = cut_at-none c bs (λ k under same. none k (omega arith) under (eq-eqb _ c same))
 
@@ -88,5 +90,6 @@ behind_cut c (b ∷ bs) = ⊎_elim
     later None shorter = tt
     later (Some rest) shorter = omega arith
 
+-- the same of a cut that is known
 pub cut_at-shorter : (c : ℕ) (bs word rest : List ℕ) → cut_at c bs ≡ (word, Some rest) → length rest < length bs
 cut_at-shorter c bs word rest cut = subst (λ cut. IfSome cut.1 (λ rest. length rest < length bs)) cut (behind_cut c bs)

@@ -14,12 +14,15 @@ use Rattle.audit_model.specs.Grammar.{is_digit}
 abbrev pub AreDigits : List ℕ → Type 0
 AreDigits word = list_all is_digit word ≡ true
 
+-- the grammar's test of digits is one of std's kind
 digits_tested : IsDigitsTest AreDigits
 digits_tested = search rules
 
+-- so std's lemmas on digits hold of it
 numerals : IsNumeralModel AreDigits (digits_value 10)
 numerals = numerals_by_value AreDigits digits_tested
 
+-- a digit is a byte from 48 to 57
 is_digit-range : (b : ℕ) → is_digit b ≡ true → IsInRange 48 57 b
 is_digit-range b digit = let parts = and_parts _ _ digit in (leb-true 48 b parts.0, leb-true b 57 parts.1)
 
@@ -27,6 +30,7 @@ is_digit-range b digit = let parts = and_parts _ _ digit in (leb-true 48 b parts
 pub digits_more : (word : List ℕ) (i : ℕ) → i < length word → is_digit (get_or word i 0) ≡ true → AreDigits (take i word) → AreDigits (take (i + 1) word)
 digits_more word i inside digit before = list_all_more is_digit word i 0 inside ∙ and_from _ _ before digit
 
+-- one digit more makes the number ten times as large, and adds the digit
 pub digits_value_more : (word : List ℕ) (i : ℕ) → i < length word → is_digit (get_or word i 0) ≡ true → digits_value 10 (take (i + 1) word) ≡ digits_value 10 (take i word) * 10 + (get_or word i 0 - 48)
 digits_value_more word i inside digit =
     let low : IsInRange 48 57 (get_or word i 0) = is_digit-range (get_or word i 0) digit in
@@ -37,5 +41,6 @@ digits_value_more word i inside digit =
 pub digits_value_front : (word : List ℕ) (i : ℕ) → i < length word → length word ≤ 12 → AreDigits (take i word) → digits_value 10 (take i word) < 100000000000
 digits_value_front word i inside short digits = digits_value_short numerals (take i word) 11 digits (omega (arith, length-take-le i word (omega arith)))
 
+-- twelve digits write a number of at most 999999999999
 pub digits_value_whole : (word : List ℕ) → length word ≤ 12 → AreDigits word → digits_value 10 word ≤ 999999999999
 digits_value_whole word short digits = omega (arith, digits_value_short numerals word 12 digits short)

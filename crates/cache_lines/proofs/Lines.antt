@@ -10,15 +10,19 @@ use Rattle.cache_lines.proofs.Cuts.{Cut, onto, cut_at-here, cut_at-other}
 
 -- ---- a line
 
+-- it is the first line
 pub IsLine-first_line : (bytes : List ℕ) (n : ℕ) → IsLine bytes n → first_line bytes ≡ Some (without_return (take n bytes))
 IsLine-first_line bytes n line = rw line.cut
 
+-- what stands behind it
 pub IsLine-behind_lines : (bytes : List ℕ) (n : ℕ) → IsLine bytes n → behind_lines 1 bytes ≡ drop (n + 1) bytes
 IsLine-behind_lines bytes n line = ap (λ cut. unwrap_or cut.1 []) line.cut
 
+-- that is less than there was
 pub IsLine-shorter : (bytes : List ℕ) (n : ℕ) → IsLine bytes n → length (drop (n + 1) bytes) < length bytes
 IsLine-shorter bytes n line = let inside = line.inside in omega (arith, length-drop (n + 1) bytes)
 
+-- it is not too long
 pub IsLine-not_long : (bytes : List ℕ) (n : ℕ) → IsLine bytes n → nat_lt 8192 (length (cut_at 10 bytes).0) ≡ false
 IsLine-not_long bytes n line =
     let short = line.short in
@@ -28,9 +32,11 @@ IsLine-not_long bytes n line =
 
 -- ---- less than a line
 
+-- there is no first line yet
 pub IsPartial-first_line : (bytes : List ℕ) → IsPartial bytes → first_line bytes ≡ None
 IsPartial-first_line bytes partial = rw partial.none
 
+-- what there is is not too long
 pub IsPartial-not_long : (bytes : List ℕ) → IsPartial bytes → nat_lt 8192 (length (cut_at 10 bytes).0) ≡ false
 IsPartial-not_long bytes partial =
     let short = partial.short in
@@ -39,6 +45,7 @@ IsPartial-not_long bytes partial =
 
 -- ---- more than a line may have
 
+-- the test that a line is too long
 pub long_from : (bytes : List ℕ) → 8192 < length (cut_at 10 bytes).0 → nat_lt 8192 (length (cut_at 10 bytes).0) ≡ true
 long_from bytes long = search (rules, tests)
 
@@ -49,10 +56,12 @@ abbrev pub cut_with : ℕ → Cut → List ℕ → Cut
 cut_with c (word, Some rest) more = (word, Some (rest ++ more))
 cut_with c (word, None) more = (word ++ (cut_at c more).0, (cut_at c more).1)
 
+-- a byte in front changes nothing of that
 onto-cut_with : (c b : ℕ) (cut : Cut) (more : List ℕ) → onto b (cut_with c cut more) ≡ cut_with c (onto b cut) more
 onto-cut_with c b (word, Some rest) more = refl
 onto-cut_with c b (word, None) more = refl
 
+-- the cut of the bytes with more behind them
 pub cut_at-append : (c : ℕ) (bytes more : List ℕ) → cut_at c (bytes ++ more) ≡ cut_with c (cut_at c bytes) more
 cut_at-append c [] more = refl
 cut_at-append c (b ∷ bs) more =
@@ -66,6 +75,7 @@ cut_at-append c (b ∷ bs) more =
 pub IsLine-append : (bytes more : List ℕ) (n : ℕ) → IsLine bytes n → cut_at 10 (bytes ++ more) ≡ (take n bytes, Some (drop (n + 1) bytes ++ more))
 IsLine-append bytes more n line = cut_at-append 10 bytes more ∙ ap (λ cut. cut_with 10 cut more) line.cut
 
+-- the same of any first line
 pub first_line-append : (bytes more line : List ℕ) → first_line bytes ≡ Some line → first_line (bytes ++ more) ≡ Some line
 first_line-append bytes more line first = ap of_cut (cut_at-append 10 bytes more) ∙ kept (cut_at 10 bytes) first
   where

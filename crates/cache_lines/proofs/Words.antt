@@ -58,21 +58,25 @@ one_or_more (b ∷ bs) = ⊎_elim (λ space. inr (behind space.1 (one_or_more bs
 
 -- ---- one key
 
+-- bytes that are no key are a fault
 with_key-fault : (bytes : List ℕ) (command : Command) → list_all is_key_byte bytes ≡ false → with_key bytes command ≡ Err fault.Syntax
 with_key-fault bytes command other = cond-false (is_key bytes) _ _ (is_key-other_byte bytes other)
 
+-- behind a `GET` all bytes are the key
 pub read_words-get : (config : Config) (bytes : List ℕ) → read_words config get (words bytes) ≡ with_key bytes (says.Get bytes)
 read_words-get config bytes = ⊎_elim
     (λ one. ap (read_words config get) one)
     (λ more. ap (read_words config get) more.are ∙ sym (with_key-fault bytes _ more.no_key))
     (one_or_more bytes)
 
+-- behind a `DEL` too
 pub read_words-del : (config : Config) (bytes : List ℕ) → read_words config del (words bytes) ≡ with_key bytes (says.Del bytes)
 read_words-del config bytes = ⊎_elim
     (λ one. ap (read_words config del) one)
     (λ more. ap (read_words config del) more.are ∙ sym (with_key-fault bytes _ more.no_key))
     (one_or_more bytes)
 
+-- behind a `SYNC` and a space there is a word, if an empty one
 pub read_words-sync : (config : Config) (bytes : List ℕ) → read_words config sync (words bytes) ≡ Err fault.Syntax
 read_words-sync config bytes = ⊎_elim (λ one. ap (read_words config sync) one) (λ more. ap (read_words config sync) more.are) (one_or_more bytes)
 

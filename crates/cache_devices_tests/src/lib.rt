@@ -1,0 +1,7 @@
+//! Tests of devices.
+#![tactic(auto)]
+
+#[cfg(test)]
+mod sources;
+#[cfg(test)]
+mod writers;

@@ -1,0 +1,67 @@
+ghost use Rattle.std.specs.Prelude.{◌≡◌};
+
+use audit_model::Outcome;
+use cache_devices::{Clock, Loader};
+use std::test::Fail;
+
+/// A clock that goes on by one at each reading.
+#[derive(Drop)]
+struct Ticking {
+    nanos: u64,
+}
+
+impl Clock for Ticking {
+    ghost use Rattle.std.specs.Prelude.{◌≡◌};
+
+    ghost reads = { λ before moment after. moment ≡ before.nanos };
+
+    fn now(&mut self) -> u64 {
+        let moment = self.nanos;
+        self.nanos = self.nanos.saturating_add(1);
+        moment
+    }
+}
+
+/// A loader that has no values, and no answer for the empty key.
+#[derive(Drop)]
+struct Nothing;
+
+impl Loader for Nothing {
+    ghost use Rattle.std.specs.Prelude.{◌≡◌, [], Option, None};
+
+    ghost loads = { λ before key came after. key ≡ [] → came ≡ None };
+
+    fn load(&mut self, key: &[u8]) -> Option<Outcome> {
+        if key.is_empty() {
+            None
+        } else {
+            Some(Outcome::None)
+        }
+    }
+}
+
+fn reading<C: Clock>(clock: &mut C) -> u64
+    ensures { C.reads clock.old result clock.new }
+{
+    clock.now()
+}
+
+fn answers<L: Loader>(loader: &mut L, key: &[u8]) -> bool {
+    loader.load(key).is_some()
+}
+
+#[test]
+fn readings(rt: HostRuntime) -> Result<(), Fail> {
+    let mut clock = Ticking { nanos: 5 };
+    assert_eq!(rt; reading(&mut clock), 5);
+    assert_eq!(rt; reading(&mut clock), 6);
+    Ok(())
+}
+
+#[test]
+fn answers_of_a_loader(rt: HostRuntime) -> Result<(), Fail> {
+    let mut loader = Nothing;
+    assert!(rt; answers(&mut loader, b"a"));
+    assert!(rt; !answers(&mut loader, b""));
+    Ok(())
+}
