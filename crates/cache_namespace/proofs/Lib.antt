@@ -1,4 +1,5 @@
 pub mod Draining
+pub mod Feeding
 pub mod Placing
 pub mod Recording
 pub mod Running

@@ -5,7 +5,9 @@ use Rattle.std.specs.List.{flat_map}
 use Rattle.std.specs.Option.{option_map_or}
 use Rattle.std.proofs.lemmas.List.{append-nil}
 use Rattle.std.proofs.lemmas.Grind.{flat_map-append}
-use Rattle.std.proofs.lemmas.Bool.{eq-eqb}
+use Rattle.std.proofs.lemmas.Bool.{eq-eqb, and_from}
+use Rattle.std.proofs.lemmas.List.Folds.{list_all-append}
+use Rattle.std.specs.List.{list_all}
 use Rattle.audit_model.specs.Changes.{after_step}
 use Rattle.audit_model.specs.Follows.{line_in, placed_step_in}
 use Rattle.audit_model.specs.Grammar.{reading}
@@ -75,6 +77,9 @@ line-due base held number bytes line n there at said =
     ap (line_in (Some (RunLines number))) (found-there base held number (ready number bytes) there (line-fits number bytes n at))
     ∙ IsLine-first_line bytes n at ∙ ap Some (sym said)
 
+all-more : (p : Step → Bool) (xs : List Step) (x : Step) → list_all p xs ≡ true → p x ≡ true → list_all p (xs ++ x ∷ []) ≡ true
+all-more p xs x all one = list_all-append p xs (x ∷ []) ∙ and_from (list_all p xs) (p x && true) all (and_from (p x) true one refl)
+
 -- one more line ran
 pub ran-more : (config : Config) (base : Situation) (number : ℕ) (held : List HeldValue) (bytes mid rest line : List ℕ) (n : ℕ) (Stood Stands : List HeldValue → Type 0) (old middle new : Gathered)
     → IsThere number base → (r : RanLines config base number held bytes mid Stood old middle) → IsLine mid n → line ≡ without_return (take n mid) → rest ≡ drop (n + 1) mid
@@ -95,17 +100,18 @@ ran-more config base number held bytes mid rest line n Stood Stands old middle n
           runs-more config number r.steps _ s step _ r.runs (may-run base r.left number mid n there at) right
           (after-line config base r.left number (ready number mid) line one.reply one.accepted one.told there (line-fits number mid n at) one.plain
           ∙ ap (λ b. set_in base (held_when_run config s action step) (ready number b)) (IsLine-behind_lines mid n at ∙ sym after));
+      none_held = all-more (λ (x : Step). not x.held) r.steps step r.none_held refl;
       gathered = one.gathered ∙ ap (λ g. gather g (step ∷ [])) r.gathered ∙ gather-more old r.steps (step ∷ []);
     }
 
 -- no line ran yet
 pub ran-none : (config : Config) (base : Situation) (number : ℕ) (held : List HeldValue) (bytes : List ℕ) (Stands : List HeldValue → Type 0) (old : Gathered)
     → Stands held → RanLines config base number held bytes bytes Stands old old
-ran-none config base number held bytes Stands old m = record { steps = []; left = held; stands = m; runs = refl; gathered = sym (gather-none old) }
+ran-none config base number held bytes Stands old m = record { steps = []; left = held; stands = m; runs = refl; none_held = refl; gathered = sym (gather-none old) }
 
 -- a line that was refused changed nothing
 pub ran-kept : (config : Config) (base : Situation) (number : ℕ) (held : List HeldValue) (bytes rest : List ℕ) (Stood Stands : List HeldValue → Type 0) (old middle new : Gathered)
     → RanLines config base number held bytes rest Stood old middle → ((left : List HeldValue) → Stood left → Stands left) → new ≡ middle
     → RanLines config base number held bytes rest Stands old new
 ran-kept config base number held bytes rest Stood Stands old middle new r stays same =
-    record { steps = r.steps; left = r.left; stands = stays r.left r.stands; runs = r.runs; gathered = same ∙ r.gathered }
+    record { steps = r.steps; left = r.left; stands = stays r.left r.stands; runs = r.runs; none_held = r.none_held; gathered = same ∙ r.gathered }

@@ -40,7 +40,7 @@ or-false true = refl
 or-false false = refl
 
 -- a plain step puts its connection in its place again
-placed-again : (base : Situation) (held left : List HeldValue) (n : ℕ) (c d : Connection) (effect : Effect) (after : Connection → Connection)
+pub placed-again : (base : Situation) (held left : List HeldValue) (n : ℕ) (c d : Connection) (effect : Effect) (after : Connection → Connection)
     → IsThere n base → is_overlong (numbered n c) ≡ false → quits effect ≡ false → drops effect ≡ false → key_loaded effect.action ≡ None → after (numbered n c) ≡ numbered n d
     → (let s = record (set_in base held (numbered n c)) { held = left; dropped = base.dropped || drops effect } in
     option_map_or (λ k. with_connection (quits effect) (after k) (join_load n effect s)) (connection_in n s) s)
