@@ -1,5 +1,5 @@
 pub mod Draining
-pub mod Feeding
+pub mod FeedSteps
 pub mod Placing
 pub mod Recording
 pub mod Running

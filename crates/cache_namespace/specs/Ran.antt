@@ -7,7 +7,7 @@ use Rattle.audit_model.specs.Stream.{behind_lines}
 use Rattle.cache_namespace.specs.Whole.{held_line}
 use Rattle.audit_model.specs.Grammar.{reading}
 use Rattle.audit_model.specs.Situation.{Situation, Connection, HeldValue, view_in}
-use Rattle.audit_model.specs.Steps.{action_by, effect_in}
+use Rattle.audit_model.specs.Steps.{RunLines, action_by, effect_in}
 use Rattle.audit_model.specs.declared.config.Config.{Config}
 use Rattle.audit_model.specs.declared.transcript.Accepted.{Accepted}
 use Rattle.audit_model.specs.declared.transcript.Note.{Note}
@@ -52,6 +52,15 @@ standing_with number held bytes = if held then holding number (held_line bytes) 
 -- the connection with a piece more
 abbrev pub with_piece : List ℕ → Connection → Connection
 with_piece piece c = record c { unread = c.unread ++ piece }
+
+-- Lines of a connection that is ready ran; the last one may be held.
+pub record RanReady (config : Config) (base : Situation) (number : ℕ) (held : List HeldValue) (bytes : List ℕ) (is_held : Bool) (rest : List ℕ) (Stands : List HeldValue → Type 0) (old new : Gathered) : Type 0 where
+  pub steps : List Step
+  pub left : List HeldValue
+  pub stands : Stands left
+  pub after : after_steps config (set_in base held (ready number bytes)) (RunLines number ∷ []) steps ≡ Some (set_in base left (standing_with number is_held rest))
+  pub ends : ends_held steps ≡ is_held
+  pub gathered : new ≡ gather old steps
 
 -- The steps of a feed ran: a held command first, then lines; the last one may be held.
 pub record RanFeed (config : Config) (base : Situation) (number : ℕ) (held : List HeldValue) (was_held : Bool) (bytes piece : List ℕ) (is_held : Bool) (rest : List ℕ) (Stands : List HeldValue → Type 0) (old new : Gathered) : Type 0 where

@@ -1,5 +1,5 @@
 -- Why no further line runs.
-use Rattle.std.specs.Prelude.{ℕ, ◌<◌, List, length}
+use Rattle.std.specs.Prelude.{ℕ, ◌<◌, Bool, true, false, List, length}
 use Rattle.audit_model.specs.Bytewise.{cut_at}
 use Rattle.cache_lines.specs.Next.{IsLine, IsPartial}
 use Rattle.cache_namespace.specs.declared.lines.Stop.{Stop}
@@ -10,3 +10,8 @@ abbrev pub StopsFor : Stop → List ℕ → Type 0
 StopsFor More rest = IsPartial rest
 StopsFor TooLong rest = 8192 < length (cut_at 10 rest).0
 StopsFor (Held n) rest = IsLine rest n
+
+abbrev pub holds_back : Stop → Bool
+holds_back More = false
+holds_back TooLong = false
+holds_back (Held n) = true

@@ -2,8 +2,10 @@
 #![tactic(auto)]
 
 mod connection;
+mod feeding;
 mod kept;
 mod lines;
 
 pub use connection::{Connection, new_connection};
+pub use feeding::{FeedError, feed_lines};
 pub use kept::{Draft, Kept};

@@ -22,9 +22,10 @@ use Rattle.cache_steps.proofs.Answering.{same-refl, none_succeeded}
 use Rattle.cache_store.specs.Promises.{no_deed}
 use Rattle.cache_namespace.specs.Gathered.{Gathered, gather}
 use Rattle.cache_namespace.specs.Lines.{Runs, IsThere, set_in, ready, holding, held_step, placed_in}
-use Rattle.cache_namespace.specs.Ran.{RanOne, RanLines, RanFeed, ends_held, standing_with, with_piece}
+use Rattle.cache_namespace.specs.Ran.{RanOne, RanLines, RanReady, RanFeed, ends_held, standing_with, with_piece}
 use Rattle.cache_namespace.proofs.Placing.{found-there}
-use Rattle.cache_namespace.proofs.Running.{runs-more, may-run, line-due, line-fits}
+use Rattle.cache_namespace.specs.Whole.{held_line}
+use Rattle.cache_namespace.proofs.Running.{runs-more, may-run, line-due, line-fits, gather-more}
 use Rattle.cache_namespace.proofs.Stepping.{right-in-turn, after-held, placed-again}
 
 -- the tasks that are due while lines may run or not
@@ -90,3 +91,99 @@ runs-held config base number s steps left rest line n there at said runs =
     (subst (λ d. is_right config (placed_by config t (Some (RunLines number)) d Holding step) ≡ true) (sym (line-due base left number rest line n there at said)) (right-held config t number line))
     (placed-again base left (all_held_after config base.latest left no_deed []) number (ready number rest) (holding number line (behind_lines 1 rest)) (effect_in config (view_in config t) Holding step)
     (connection_after (Some (RunLines number)) step (effect_in config (view_in config t) Holding step)) there (line-fits number rest n at) refl refl refl refl)
+
+-- ---- how steps end
+
+ends-none : (steps : List Step) → list_all (λ step. not step.held) steps ≡ true → ends_held steps ≡ false
+ends-none [] all = refl
+ends-none (step ∷ []) all = not-true step.held (and-left (not step.held) true all)
+  where
+    not-true : (b : Bool) → not b ≡ true → b ≡ false
+    not-true true e = let h : false ≡ true = e in cc
+    not-true false e = refl
+
+    and-left : (a b : Bool) → (a && b) ≡ true → a ≡ true
+    and-left true b e = refl
+    and-left false b e = e
+ends-none (step ∷ next ∷ steps) all = ends-none (next ∷ steps) (and-right (not step.held) (list_all (λ (x : Step). not x.held) (next ∷ steps)) all)
+  where
+    and-right : (a b : Bool) → (a && b) ≡ true → b ≡ true
+    and-right true b e = e
+    and-right false b e = let h : false ≡ true = e in cc
+
+ends-held : (steps : List Step) (number : ℕ) (line : List ℕ) → ends_held (steps ++ held_step number line ∷ []) ≡ true
+ends-held [] number line = refl
+ends-held (step ∷ []) number line = refl
+ends-held (step ∷ next ∷ steps) number line = ends-held (next ∷ steps) number line
+
+-- ---- lines of a connection that is ready
+
+-- lines ran until less than one, or too long a one, was left
+pub ready-stopped : (config : Config) (base : Situation) (number : ℕ) (held : List HeldValue) (bytes rest : List ℕ) (Stands : List HeldValue → Type 0) (old new : Gathered)
+    → (r : RanLines config base number held bytes rest Stands old new) → may_run_in (set_in base r.left (ready number rest)) number ≡ false
+    → RanReady config base number held bytes false rest Stands old new
+ready-stopped config base number held bytes rest Stands old new r stops = record {
+  steps = r.steps;
+  left = r.left;
+  stands = r.stands;
+  after = runs-end config number r.steps _ _ r.runs stops;
+  ends = ends-none r.steps r.none_held;
+  gathered = r.gathered;
+}
+
+-- lines ran until memory was wanted for one
+pub ready-held : (config : Config) (base : Situation) (number : ℕ) (held : List HeldValue) (bytes rest line : List ℕ) (n : ℕ) (Stands : List HeldValue → Type 0) (old middle new : Gathered)
+    → IsThere number base → (r : RanLines config base number held bytes rest Stands old middle) → IsLine rest n → line ≡ without_return (take n rest)
+    → Stands (all_held_after config base.latest r.left no_deed []) → new ≡ gather middle (held_step number line ∷ [])
+    → RanReady config base number held bytes true rest Stands old new
+ready-held config base number held bytes rest line n Stands old middle new there r at said stands gathers = record {
+  steps = r.steps ++ held_step number line ∷ [];
+  left = all_held_after config base.latest r.left no_deed [];
+  stands = stands;
+  after =
+      runs-end config number (r.steps ++ held_step number line ∷ []) _ _ (runs-held config base number _ r.steps r.left rest line n there at said r.runs)
+      (stops-held base (all_held_after config base.latest r.left no_deed []) number line (behind_lines 1 rest) there)
+      ∙ ap (λ l. Some (set_in base (all_held_after config base.latest r.left no_deed []) (holding number l (behind_lines 1 rest)))) (said ∙ sym (ap (λ o. unwrap_or o []) (IsLine-first_line rest n at)));
+  ends = ends-held r.steps number line;
+  gathered = gathers ∙ ap (λ g. gather g (held_step number line ∷ [])) r.gathered ∙ gather-more old r.steps (held_step number line ∷ []);
+}
+
+-- ---- feeds
+
+-- a feed of a connection that is ready
+pub feeds-ready : (config : Config) (base : Situation) (number : ℕ) (held : List HeldValue) (bytes piece : List ℕ) (is_held : Bool) (rest : List ℕ) (Stands : List HeldValue → Type 0) (old new : Gathered)
+    → RanReady config base number held (bytes ++ piece) is_held rest Stands old new → RanFeed config base number held false bytes piece is_held rest Stands old new
+feeds-ready config base number held bytes piece is_held rest Stands old new r =
+    record { steps = r.steps; left = r.left; stands = r.stands; after = r.after; ends = r.ends; gathered = r.gathered }
+
+-- a feed of a connection that holds a command back: that command runs first
+pub feeds-held : (config : Config) (base : Situation) (number : ℕ) (held : List HeldValue) (bytes piece : List ℕ) (is_held : Bool) (rest : List ℕ) (Stood Stands : List HeldValue → Type 0) (old middle new : Gathered)
+    → IsThere number base
+    → (one : RanOne config (set_in base held (holding number (held_line bytes) (behind_lines 1 bytes ++ piece))) number (held_line bytes) Stood old middle)
+    → RanReady config base number (held_when_run config (set_in base held (holding number (held_line bytes) (behind_lines 1 bytes ++ piece))) (action_by (reading config (held_line bytes))) (step_saying 0 [] one.reply one.accepted one.told)) (behind_lines 1 bytes ++ piece) is_held rest Stands middle new
+    → RanFeed config base number held true bytes piece is_held rest Stands old new
+feeds-held config base number held bytes piece is_held rest Stood Stands old middle new there one r =
+    let line = held_line bytes in
+    let s = set_in base held (holding number line (behind_lines 1 bytes ++ piece)) in
+    let action = action_by (reading config line) in
+    let step = step_saying number line one.reply one.accepted one.told in
+    let right : is_right config (placed_step_in config s (Some (RunHeld number)) step) ≡ true =
+    subst (λ d. is_right config (placed_by config s (Some (RunHeld number)) d action step) ≡ true)
+    (sym (ap (line_in (Some (RunHeld number))) (found-there base held number (holding number line (behind_lines 1 bytes ++ piece)) there refl)))
+    (right-in-turn config s (RunHeld number) number line one.reply one.accepted one.told one.right (eq-eqb number number refl)) in
+    record {
+      steps = step ∷ r.steps;
+      left = r.left;
+      stands = r.stands;
+      after =
+          ap (λ b. if b then after_steps config (after_step config s (Some (RunHeld number)) step (effect_in config (view_in config s) action step)) (RunLines number ∷ []) r.steps else None) right
+          ∙ ap (λ x. after_steps config x (RunLines number ∷ []) r.steps)
+          (after-held config base held number (holding number line (behind_lines 1 bytes ++ piece)) line one.reply one.accepted one.told there refl one.plain)
+          ∙ r.after;
+      ends = starts step r.steps is_held refl r.ends;
+      gathered = r.gathered ∙ ap (λ g. gather g r.steps) one.gathered ∙ gather-more old (step ∷ []) r.steps;
+    }
+  where
+    starts : (x : Step) (xs : List Step) (b : Bool) → x.held ≡ false → ends_held xs ≡ b → ends_held (x ∷ xs) ≡ b
+    starts x [] b e h = e ∙ h
+    starts x (y ∷ ys) b e h = h
