@@ -23,3 +23,4 @@ pub mod WalkAgrees
 pub mod RecordsAgree
 pub mod TranscriptsAgree
 pub mod Journals
+pub mod BreaksAgree

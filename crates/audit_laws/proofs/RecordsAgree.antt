@@ -1,7 +1,7 @@
 -- Records, and whole transcripts, agree.
-use Rattle.std.proofs.Common.{◌≡◌, refl, ap, ◌∙◌, sym, ℕ, Bool, true, false, true≢false, ◌&&◌, cond, List, [], ◌∷◌, Option, Some, None, is_some, is_none, nat_lt, nat_le, arith}
+use Rattle.std.proofs.Common.{◌≡◌, refl, ap, ◌∙◌, sym, ℕ, Bool, true, false, true≢false, ◌&&◌, cond, List, [], ◌∷◌, ◌++◌, Option, Some, None, is_some, is_none, nat_lt, nat_le, arith}
 use Rattle.std.specs.Prelude.{◌==◌}
-use Rattle.std.specs.List.{list_all, find}
+use Rattle.std.specs.List.{list_all, find, flat_map}
 use Rattle.std.specs.Option.{option_map, option_map_or, option_and_then}
 use Rattle.std.proofs.Math.Path.{fun_ext}
 use Rattle.std.proofs.lemmas.Bool.{and_parts}
@@ -21,6 +21,7 @@ use Rattle.audit_model.specs.declared.config.Config.{Config}
 use Rattle.audit_model.specs.declared.event.Event.{Event}
 use Rattle.audit_model.specs.declared.event.Event.TheVariants as event
 use Rattle.audit_model.specs.declared.transcript.Record.{Record}
+use Rattle.audit_laws.specs.Placing.{placed_steps_in, placed_in, all_placed_in}
 use Rattle.audit_laws.proofs.HeldStep.{find-map}
 use Rattle.audit_laws.proofs.Views.{key-same}
 use Rattle.audit_laws.proofs.Connections.{connection-of, open-same}
@@ -131,6 +132,17 @@ module _ (config : Config) (made : ℕ) (past : History) (h : Sound past) (entry
       let r = and_parts (has_right_number placed && is_finished placed) _ q.0 in
       (taken p.0 (and_parts N _ r.0).0).sound q.1
 
+  pub record-placed : is_good_record config placed ≡ true → placed.walked.placed_steps ≡ placed_in config now entry
+  record-placed e =
+      let p = and_parts A _ e in
+      let q = and_parts (has_right_number placed && is_finished placed && has_right_own_value entry) _ p.1 in
+      let r = and_parts (has_right_number placed && is_finished placed) _ q.0 in
+      let n = (and_parts N _ r.0).0 in
+      let ad : Admitted past entry.event = is-admitted config past entry.event p.0 n in
+      (taken p.0 n).placed q.1
+      ∙ ap (λ s'. placed_steps_in config s' (tasks_of past entry.event) (steps_of entry)) (situation-event config made past h entry.event ad)
+      ∙ ap (λ ts. placed_steps_in config (after_event entry.event now) ts (steps_of entry)) (sym (tasks-same config made past h entry.event ad))
+
 abbrev pub outcome_after : Config → ℕ → History → List Record → Option Situation
 outcome_after config made past entries =
     cond (list_all (is_good_record config) (placed_records_after config made past entries)) (Some (situation_of config made (history_after config made past entries))) None
@@ -147,6 +159,19 @@ records-same config made (entry ∷ entries) past h =
         ≡ cond (b && list_all (is_good_record config) (placed_records_after config made (placed_record config made past entry).walked.after entries)) (Some (situation_of config made (history_after config made (placed_record config made past entry).walked.after entries))) None
     go true f = f refl
     go false f = refl
+
+-- the steps of good records have the same places
+pub records-placed : (config : Config) (made : ℕ) (entries : List Record) (past : History) → Sound past
+    → list_all (is_good_record config) (placed_records_after config made past entries) ≡ true
+    → flat_map (λ placed. placed.walked.placed_steps) (placed_records_after config made past entries) ≡ all_placed_in config (situation_of config made past) entries
+records-placed config made [] past h e = refl
+records-placed config made (entry ∷ entries) past h e =
+    let good = and_parts (is_good_record config (placed_record config made past entry)) _ e in
+    let later = (placed_record config made past entry).walked.after in
+    ap (λ xs. (placed_record config made past entry).walked.placed_steps ++ xs) (records-placed config made entries later (record-sound config made past h entry good.0) good.1)
+    ∙ ap (λ xs. xs ++ all_placed_in config (situation_of config made later) entries) (record-placed config made past h entry good.0)
+    ∙ ap (λ o. placed_in config (situation_of config made past) entry ++ option_map_or (λ t. all_placed_in config t entries) o [])
+    (sym (record-same config made past h entry ∙ ap (λ b. cond b (Some (situation_of config made later)) None) good.0))
 
 none_opened : (c : ℕ) → false ≡ (nat_lt 0 c && nat_le c 0)
 none_opened c = grind (arith, nat_tests)

@@ -13,6 +13,7 @@ use Rattle.audit_model.specs.Stream.{may_run}
 use Rattle.audit_model.specs.Summary.{situation_of}
 use Rattle.audit_model.specs.declared.config.Config.{Config}
 use Rattle.audit_model.specs.declared.transcript.Step.{Step}
+use Rattle.audit_laws.specs.Placing.{placed_steps_in}
 use Rattle.audit_laws.proofs.Connections.{ready-same}
 use Rattle.audit_laws.proofs.Sound.{Sound}
 use Rattle.audit_laws.proofs.InOrder.{InOrder, RunsFirst, due-in_order, due-runs}
@@ -24,6 +25,8 @@ outcome_of config made w = cond (list_all (is_right config) w.placed_steps && is
 pub record Agrees (config : Config) (made : ℕ) (past : History) (tasks : List Task) (steps : List Step) : Type 0 where
   pub is : after_steps config (situation_of config made past) tasks steps ≡ outcome_of config made (walk config made past tasks steps)
   pub sound : list_all (is_right config) (walk config made past tasks steps).placed_steps ≡ true → Sound (walk config made past tasks steps).after
+  pub placed : list_all (is_right config) (walk config made past tasks steps).placed_steps ≡ true
+      → (walk config made past tasks steps).placed_steps ≡ placed_steps_in config (situation_of config made past) tasks steps
 
 pub ready_tests : (config : Config) (made : ℕ) (past : History) → may_run_in (situation_of config made past) ≡ (λ c. may_run c past)
 ready_tests config made past = fun_ext (λ c. sym (ready-same config made past c))
@@ -44,9 +47,15 @@ module _ (config : Config) (made : ℕ) (past : History) (step : Step) (steps : 
       let rest = walk config made (step_happens placed.task step placed.effect ∷ past) (left_after now_due) steps in
       record { placed_steps = placed ∷ rest.placed_steps; left = rest.left; after = rest.after }
 
+  abbrev placed_due : List Task → List PlacedStep
+  placed_due now_due =
+      let placed = placed_step_in config s (first_due now_due) step in
+      placed ∷ placed_steps_in config (after_step config s placed.task step placed.effect) (left_after now_due) steps
+
   record DueAgrees (now_due : List Task) : Type 0 where
     due_is : after_due now_due ≡ outcome_of config made (walk_due now_due)
     due_sound : list_all (is_right config) (walk_due now_due).placed_steps ≡ true → Sound (walk_due now_due).after
+    due_placed : list_all (is_right config) (walk_due now_due).placed_steps ≡ true → (walk_due now_due).placed_steps ≡ placed_due now_due
 
   module _ (h : Sound past) (ih : (past' : History) (tasks : List Task) → Sound past' → InOrder past' tasks → Agrees config made past' tasks steps) where
     module _ (task : Task) (tasks : List Task) (order : InOrder past (task ∷ tasks)) (runs : RunsFirst (λ c. may_run c past) (task ∷ tasks)) where
@@ -69,6 +78,7 @@ module _ (config : Config) (made : ℕ) (past : History) (step : Step) (steps : 
                 ap (λ b. cond b (after_steps config (after_step config s inner.task step inner.effect) (left_after (task ∷ tasks)) steps) None) (sym (right-same config made past h task tasks order runs step) ∙ e)
                 ∙ sym (ap (λ b. cond ((b && list_all (is_right config) rest.placed_steps) && is_empty rest.left) (Some (situation_of config made rest.after)) None) e);
             due_sound = λ k. absurd (true≢false (sym k ∙ ap (λ b. b && list_all (is_right config) rest.placed_steps) e));
+            due_placed = λ k. absurd (true≢false (sym k ∙ ap (λ b. b && list_all (is_right config) rest.placed_steps) e));
           }
 
       right_due : is_right config outer ≡ true → DueAgrees (task ∷ tasks)
@@ -83,6 +93,10 @@ module _ (config : Config) (made : ℕ) (past : History) (step : Step) (steps : 
                 ∙ more.is
                 ∙ sym (ap (λ b. cond ((b && list_all (is_right config) rest.placed_steps) && is_empty rest.left) (Some (situation_of config made rest.after)) None) e);
             due_sound = λ k. more.sound (sym (ap (λ b. b && list_all (is_right config) rest.placed_steps) e) ∙ k);
+            due_placed = λ k.
+                ap (λ xs. outer ∷ xs) (more.placed (sym (ap (λ b. b && list_all (is_right config) rest.placed_steps) e) ∙ k))
+                ∙ ap (λ t. outer ∷ placed_steps_in config t (left_after (task ∷ tasks)) steps) on.situation
+                ∙ ap (λ (x : PlacedStep). x ∷ placed_steps_in config (after_step config s x.task step x.effect) (left_after (task ∷ tasks)) steps) on.same;
           }
 
       one_due : (b : Bool) → is_right config outer ≡ b → DueAgrees (task ∷ tasks)
@@ -90,7 +104,7 @@ module _ (config : Config) (made : ℕ) (past : History) (step : Step) (steps : 
       one_due false e = wrong_due e
 
     none_due : DueAgrees []
-    none_due = record { due_is = refl; due_sound = λ k. absurd (true≢false (sym k)) }
+    none_due = record { due_is = refl; due_sound = λ k. absurd (true≢false (sym k)); due_placed = λ k. absurd (true≢false (sym k)) }
 
     due_agrees : (now_due : List Task) → InOrder past now_due → RunsFirst (λ c. may_run c past) now_due → DueAgrees now_due
     due_agrees [] order runs = none_due
@@ -99,12 +113,13 @@ module _ (config : Config) (made : ℕ) (past : History) (step : Step) (steps : 
     step_agrees : (tasks : List Task) → InOrder past tasks → Agrees config made past tasks (step ∷ steps)
     step_agrees tasks order =
         let d : DueAgrees (due (λ c. may_run c past) tasks) = due_agrees (due (λ c. may_run c past) tasks) (due-in_order past (λ c. may_run c past) tasks order) (due-runs (λ c. may_run c past) tasks) in
-        record { is = ap (λ r. after_due (due r tasks)) (ready_tests config made past) ∙ d.due_is; sound = d.due_sound }
+        record { is = ap (λ r. after_due (due r tasks)) (ready_tests config made past) ∙ d.due_is; sound = d.due_sound; placed = λ k. d.due_placed k ∙ ap (λ r. placed_due (due r tasks)) (sym (ready_tests config made past)) }
 
 pub walk_agrees : (config : Config) (made : ℕ) (steps : List Step) (past : History) (tasks : List Task) → Sound past → InOrder past tasks → Agrees config made past tasks steps
 walk_agrees config made [] past tasks h order =
     record {
       is = ap (λ r. cond (is_empty (due r tasks)) (Some (situation_of config made past)) None) (ready_tests config made past);
       sound = λ e. h;
+      placed = λ e. refl;
     }
 walk_agrees config made (step ∷ steps) past tasks h order = step_agrees config made past step steps h (walk_agrees config made steps) tasks order

@@ -1,13 +1,19 @@
 -- Laws of the definitions.
-use Rattle.std.specs.Prelude.{ℕ, List, ◌++◌, IsTrue, is_some}
+use Rattle.std.specs.Prelude.{◌≡◌, ℕ, List, [], ◌∷◌, ◌++◌, IsTrue, is_some}
+use Rattle.std.specs.List.{list_all}
+use Rattle.audit_model.specs.Belongs.{IsAdmitted, first_break}
+use Rattle.audit_model.specs.Follows.{AgreesWithHistory, Follows, after_records}
 use Rattle.audit_model.specs.Obeys.{Obeys}
-use Rattle.audit_model.specs.Follows.{AgreesWithHistory, after_records}
-use Rattle.audit_model.specs.Situation.{empty_situation}
+use Rattle.audit_model.specs.Places.{placed_steps}
+use Rattle.audit_model.specs.Situation.{Situation, empty_situation}
 use Rattle.audit_model.specs.Summary.{LeadsToSummary}
 use Rattle.audit_model.specs.declared.config.Config.{Config}
 use Rattle.audit_model.specs.declared.event.Instant.{Instant}
 use Rattle.audit_model.specs.declared.transcript.Record.{Record}
 use Rattle.audit_model.specs.declared.transcript.Transcript.{Transcript}
+use Rattle.audit_laws.specs.Placing.{accepted_in, all_placed_in}
+use Rattle.audit_laws.specs.Leading.{LeadsTo, LeadsBy, is_parted}
+use Rattle.audit_laws.specs.Breaking.{first_break_from}
 
 -- a front of an obeying transcript obeys
 abbrev pub FrontsObey : Type 0
@@ -24,3 +30,37 @@ abbrev pub RecordsLead : Type 0
 RecordsLead =
     (config : Config) (made : ℕ) (records : List Record)
     → IsTrue (is_some (after_records config (empty_situation made) records)) → LeadsToSummary config made records
+
+-- where records follow one another, each step has the same place in the whole history and in the situations
+abbrev pub PlacesAgree : Type 0
+PlacesAgree =
+    (config : Config) (transcript : Transcript)
+    → IsTrue (is_some (after_records config (empty_situation transcript.made.nanos) transcript.records))
+    → placed_steps config transcript ≡ all_placed_in config (empty_situation transcript.made.nanos) transcript.records
+
+-- a transcript that leads to a situation leads on with a record that follows
+abbrev pub LeadsOn : Type 0
+LeadsOn =
+    (config : Config) (made : Instant) (records : List Record) (added : Record) (s t : Situation)
+    → LeadsTo config (record { made = made; records = records }) s → Follows config s added t
+    → LeadsTo config (record { made = made; records = records ++ added ∷ [] }) t
+
+-- the same with the parts of keys: each value that the record accepts has its key's part
+abbrev pub LeadsOnBy : Type 0
+LeadsOnBy =
+    (config : Config) (part_of : List ℕ → ℕ) (made : Instant) (records : List Record) (added : Record) (s t : Situation)
+    → LeadsBy config part_of (record { made = made; records = records }) s → Follows config s added t
+    → IsTrue (list_all (is_parted part_of) (accepted_in config s added))
+    → LeadsBy config part_of (record { made = made; records = records ++ added ∷ [] }) t
+
+-- such a transcript obeys, and none of its events is refused
+abbrev pub LedObeys : Type 0
+LedObeys =
+    (config : Config) (part_of : List ℕ → ℕ) (transcript : Transcript) (s : Situation)
+    → LeadsBy config part_of transcript s → Obeys config transcript × IsAdmitted config transcript
+
+-- the first record of which the front is not good is the first that does not follow, or with which a key has two parts
+abbrev pub BreaksAgree : Type 0
+BreaksAgree =
+    (config : Config) (transcript : Transcript)
+    → first_break config transcript ≡ first_break_from config (empty_situation transcript.made.nanos) [] 0 transcript.records

@@ -1,7 +1,7 @@
-//! Laws of the definitions of transcripts.
+//! Laws of the definitions of transcripts. Each function does nothing: its contract is the law.
 #![tactic(auto)]
 
-ghost use Rattle.audit_laws.specs.Laws.{FrontsObey, RecordsLead, StepsAgree};
+ghost use Rattle.audit_laws.specs.Laws.{FrontsObey, RecordsLead, StepsAgree, PlacesAgree, LeadsOn, LeadsOnBy, LedObeys, BreaksAgree};
 ghost use Rattle.audit_model.specs.Configs.{DeadlinesAgree};
 
 /// A front of an obeying transcript obeys.
@@ -22,4 +22,29 @@ pub fn steps_agree()
 /// Records that follow one another lead to the situation that their history leaves.
 pub fn records_lead()
     ensures { RecordsLead }
+{}
+
+/// Where records follow one another, each step has the same place in the whole history and in the situations.
+pub fn places_agree()
+    ensures { PlacesAgree }
+{}
+
+/// A transcript that leads to a situation leads on with a record that follows.
+pub fn leads_on()
+    ensures { LeadsOn }
+{}
+
+/// A transcript that leads to a situation by a function of parts leads on with a record whose values have their key's part.
+pub fn leads_on_by()
+    ensures { LeadsOnBy }
+{}
+
+/// A transcript that leads to a situation by a function of parts obeys, and none of its events is refused.
+pub fn led_obeys()
+    ensures { LedObeys }
+{}
+
+/// The first record of which the front is not good is the first that does not follow, or with which a key has two parts.
+pub fn breaks_agree()
+    ensures { BreaksAgree }
 {}

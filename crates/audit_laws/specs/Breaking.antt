@@ -1,0 +1,17 @@
+-- The first record that breaks a rule, by situations alone.
+use Rattle.std.specs.Prelude.{ℕ, suc, List, [], ◌∷◌, ◌++◌, Option, Some, None, if◌then◌else◌}
+use Rattle.std.specs.Option.{option_map_or}
+use Rattle.audit_model.specs.Follows.{after_record}
+use Rattle.audit_model.specs.History.{Value}
+use Rattle.audit_model.specs.Obeys.{agree_on_parts}
+use Rattle.audit_model.specs.Situation.{Situation}
+use Rattle.audit_model.specs.declared.config.Config.{Config}
+use Rattle.audit_model.specs.declared.transcript.Record.{Record}
+use Rattle.audit_laws.specs.Placing.{accepted_in}
+
+-- the number of the first record that does not follow, or with which a key has two parts; n records came before, which accepted these values
+abbrev pub first_break_from : Config → Situation → List Value → ℕ → List Record → Option ℕ
+first_break_from config s values n [] = None
+first_break_from config s values n (entry ∷ entries) =
+    let more = values ++ accepted_in config s entry in
+    option_map_or (λ t. if agree_on_parts more then first_break_from config t more (suc n) entries else Some (suc n)) (after_record config s entry) (Some (suc n))
