@@ -24,3 +24,4 @@ pub mod RecordsAgree
 pub mod TranscriptsAgree
 pub mod Journals
 pub mod BreaksAgree
+pub mod NoSize

@@ -1,5 +1,5 @@
 -- Laws of the definitions.
-use Rattle.std.specs.Prelude.{◌≡◌, ℕ, List, [], ◌∷◌, ◌++◌, IsTrue, is_some}
+use Rattle.std.specs.Prelude.{◌≡◌, ℕ, List, [], ◌∷◌, ◌++◌, None, IsTrue, is_some}
 use Rattle.std.specs.List.{list_all}
 use Rattle.audit_model.specs.Belongs.{IsAdmitted, first_break}
 use Rattle.audit_model.specs.Follows.{AgreesWithHistory, Follows, after_records}
@@ -14,6 +14,7 @@ use Rattle.audit_model.specs.declared.transcript.Transcript.{Transcript}
 use Rattle.audit_laws.specs.Placing.{accepted_in, all_placed_in}
 use Rattle.audit_laws.specs.Leading.{LeadsTo, LeadsBy, is_parted}
 use Rattle.audit_laws.specs.Breaking.{first_break_from}
+use Rattle.audit_laws.specs.Telling.{notes_of, none_with_size}
 
 -- a front of an obeying transcript obeys
 abbrev pub FrontsObey : Type 0
@@ -64,3 +65,9 @@ abbrev pub BreaksAgree : Type 0
 BreaksAgree =
     (config : Config) (transcript : Transcript)
     → first_break config transcript ≡ first_break_from config (empty_situation transcript.made.nanos) [] 0 transcript.records
+
+-- with no capacity an obeying transcript tells nothing `Size`
+abbrev pub NothingToldSize : Type 0
+NothingToldSize =
+    (config : Config) (transcript : Transcript) → config.capacity ≡ None → Obeys config transcript
+    → IsTrue (list_all (λ entry. none_with_size (notes_of entry)) transcript.records)

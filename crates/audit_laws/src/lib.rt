@@ -1,7 +1,7 @@
 //! Laws of the definitions of transcripts. Each function does nothing: its contract is the law.
 #![tactic(auto)]
 
-ghost use Rattle.audit_laws.specs.Laws.{FrontsObey, RecordsLead, StepsAgree, PlacesAgree, LeadsOn, LeadsOnBy, LedObeys, BreaksAgree};
+ghost use Rattle.audit_laws.specs.Laws.{FrontsObey, RecordsLead, StepsAgree, PlacesAgree, LeadsOn, LeadsOnBy, LedObeys, BreaksAgree, NothingToldSize};
 ghost use Rattle.audit_model.specs.Configs.{DeadlinesAgree};
 
 /// A front of an obeying transcript obeys.
@@ -47,4 +47,9 @@ pub fn led_obeys()
 /// The first record of which the front is not good is the first that does not follow, or with which a key has two parts.
 pub fn breaks_agree()
     ensures { BreaksAgree }
+{}
+
+/// With no capacity an obeying transcript tells nothing `Size`.
+pub fn nothing_told_size()
+    ensures { NothingToldSize }
 {}
