@@ -25,3 +25,5 @@ pub mod TranscriptsAgree
 pub mod Journals
 pub mod BreaksAgree
 pub mod NoSize
+pub mod Kept
+pub mod Living

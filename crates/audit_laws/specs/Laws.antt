@@ -1,11 +1,12 @@
 -- Laws of the definitions.
-use Rattle.std.specs.Prelude.{◌≡◌, ℕ, List, [], ◌∷◌, ◌++◌, None, IsTrue, is_some}
+use Rattle.std.specs.Prelude.{◌≡◌, ℕ, List, [], ◌∷◌, ◌++◌, Some, None, IsTrue, is_some, Contains}
 use Rattle.std.specs.List.{list_all}
 use Rattle.audit_model.specs.Belongs.{IsAdmitted, first_break}
 use Rattle.audit_model.specs.Follows.{AgreesWithHistory, Follows, after_records}
-use Rattle.audit_model.specs.Obeys.{Obeys}
+use Rattle.audit_model.specs.History.{Value}
+use Rattle.audit_model.specs.Obeys.{Obeys, accepted_values}
 use Rattle.audit_model.specs.Places.{placed_steps}
-use Rattle.audit_model.specs.Situation.{Situation, empty_situation}
+use Rattle.audit_model.specs.Situation.{Situation, empty_situation, live_at}
 use Rattle.audit_model.specs.Summary.{LeadsToSummary}
 use Rattle.audit_model.specs.declared.config.Config.{Config}
 use Rattle.audit_model.specs.declared.event.Instant.{Instant}
@@ -71,3 +72,11 @@ abbrev pub NothingToldSize : Type 0
 NothingToldSize =
     (config : Config) (transcript : Transcript) → config.capacity ≡ None → Obeys config transcript
     → IsTrue (list_all (λ entry. none_with_size (notes_of entry)) transcript.records)
+
+-- what is not live becomes live only by a newly accepted value: where records lead from one situation to another and a key has no live
+-- value in the first, its live value in the second is one that those records accept
+abbrev pub LiveByAcceptance : Type 0
+LiveByAcceptance =
+    (config : Config) (records : List Record) (s t : Situation) (key : List ℕ) (value : Value)
+    → after_records config s records ≡ Some t → live_at config s.latest s.held key ≡ None → live_at config t.latest t.held key ≡ Some value
+    → Contains (accepted_values (all_placed_in config s records)) value

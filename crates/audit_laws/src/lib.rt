@@ -1,7 +1,7 @@
 //! Laws of the definitions of transcripts. Each function does nothing: its contract is the law.
 #![tactic(auto)]
 
-ghost use Rattle.audit_laws.specs.Laws.{FrontsObey, RecordsLead, StepsAgree, PlacesAgree, LeadsOn, LeadsOnBy, LedObeys, BreaksAgree, NothingToldSize};
+ghost use Rattle.audit_laws.specs.Laws.{FrontsObey, RecordsLead, StepsAgree, PlacesAgree, LeadsOn, LeadsOnBy, LedObeys, BreaksAgree, NothingToldSize, LiveByAcceptance};
 ghost use Rattle.audit_model.specs.Configs.{DeadlinesAgree};
 
 /// A front of an obeying transcript obeys.
@@ -52,4 +52,9 @@ pub fn breaks_agree()
 /// With no capacity an obeying transcript tells nothing `Size`.
 pub fn nothing_told_size()
     ensures { NothingToldSize }
+{}
+
+/// What is not live becomes live only by a newly accepted value.
+pub fn live_by_acceptance()
+    ensures { LiveByAcceptance }
 {}
