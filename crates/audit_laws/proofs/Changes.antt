@@ -87,7 +87,7 @@ abbrev pub is_of_conn : Option Task → Bool
 is_of_conn (Some (Store key outcome)) = false
 is_of_conn task = true
 
-of_conn-connection : (task : Option Task) (step : Step) (effect : Effect) (s : Situation) → is_of_conn task ≡ true
+pub of_conn-connection : (task : Option Task) (step : Step) (effect : Effect) (s : Situation) → is_of_conn task ≡ true
     → with_connection_after task step effect s ≡ option_map_or (λ l. with_connection (quits effect) (connection_after task step effect l) (join_load step.conn effect s)) (connection_in step.conn s) s
 of_conn-connection (Some (Store key outcome)) step effect s e = absurd (true≢false (sym e))
 of_conn-connection (Some (Deliver c outcome)) step effect s e = refl

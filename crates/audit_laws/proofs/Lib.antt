@@ -27,3 +27,7 @@ pub mod BreaksAgree
 pub mod NoSize
 pub mod Kept
 pub mod Living
+pub mod Pairs
+pub mod KeysListed
+pub mod StaysOrderly
+pub mod Asking

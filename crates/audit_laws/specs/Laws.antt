@@ -1,20 +1,32 @@
 -- Laws of the definitions.
-use Rattle.std.specs.Prelude.{◌≡◌, ℕ, List, [], ◌∷◌, ◌++◌, Some, None, IsTrue, is_some, Contains}
-use Rattle.std.specs.List.{list_all}
+use Rattle.std.specs.Prelude.{◌≡◌, ℕ, false, List, Option, [], ◌∷◌, ◌++◌, Some, None, IsTrue, is_some, Contains}
+use Rattle.std.specs.List.{list_all, list_any}
+use Rattle.std.specs.List.Sorted.{IsStrictlySortedBy}
+use Rattle.std.specs.Option.{option_map_or}
+use Rattle.std.specs.Ordering.{nat_cmp}
+use Rattle.std.specs.Cmp.Lexicographic.{slice_cmp}
 use Rattle.audit_model.specs.Belongs.{IsAdmitted, first_break}
-use Rattle.audit_model.specs.Follows.{AgreesWithHistory, Follows, after_records}
-use Rattle.audit_model.specs.History.{Value}
+use Rattle.audit_model.specs.Follows.{AgreesWithHistory, Follows, after_event, placed_step_in, after_records}
+use Rattle.audit_model.specs.History.{Value, Running}
+use Rattle.audit_model.specs.Replies.{keys_listed}
+use Rattle.audit_model.specs.Bytewise.{same}
+use Rattle.audit_model.specs.Changes.{connection_after, after_step}
 use Rattle.audit_model.specs.Obeys.{Obeys, accepted_values}
 use Rattle.audit_model.specs.Places.{placed_steps}
-use Rattle.audit_model.specs.Situation.{Situation, empty_situation, live_at}
+use Rattle.audit_model.specs.Situation.{Situation, empty_situation, connection_in, with_connection, live_at, live_keys_at}
+use Rattle.audit_model.specs.Steps.{Task, is_right}
 use Rattle.audit_model.specs.Summary.{LeadsToSummary}
+use Rattle.audit_model.specs.declared.command.Command.TheVariants as says
 use Rattle.audit_model.specs.declared.config.Config.{Config}
+use Rattle.audit_model.specs.declared.event.Event.{Event}
 use Rattle.audit_model.specs.declared.event.Instant.{Instant}
 use Rattle.audit_model.specs.declared.transcript.Record.{Record}
+use Rattle.audit_model.specs.declared.transcript.Step.{Step}
 use Rattle.audit_model.specs.declared.transcript.Transcript.{Transcript}
 use Rattle.audit_laws.specs.Placing.{accepted_in, all_placed_in}
 use Rattle.audit_laws.specs.Leading.{LeadsTo, LeadsBy, is_parted}
 use Rattle.audit_laws.specs.Breaking.{first_break_from}
+use Rattle.audit_laws.specs.Orderly.{IsOrderly, is_asking}
 use Rattle.audit_laws.specs.Telling.{notes_of, none_with_size}
 
 -- a front of an obeying transcript obeys
@@ -80,3 +92,33 @@ LiveByAcceptance =
     (config : Config) (records : List Record) (s t : Situation) (key : List ℕ) (value : Value)
     → after_records config s records ≡ Some t → live_at config s.latest s.held key ≡ None → live_at config t.latest t.held key ≡ Some value
     → Contains (accepted_values (all_placed_in config s records)) value
+
+-- each situation that records lead to is orderly, and each one in between
+pub record OrderlyStays : Type 0 where
+  pub empty : (config : Config) (made : ℕ) → IsOrderly config (empty_situation made)
+  pub event : (config : Config) (e : Event) (s : Situation) → IsOrderly config s → IsOrderly config (after_event e s)
+  pub step : (config : Config) (s : Situation) (task : Option Task) (step : Step)
+      → IsOrderly config s → IsTrue (is_right config (placed_step_in config s task step))
+      → IsOrderly config (after_step config s task step (placed_step_in config s task step).effect)
+  pub records : (config : Config) (records : List Record) (s t : Situation) → IsOrderly config s → after_records config s records ≡ Some t → IsOrderly config t
+
+-- a step of `HAS` or `KEYS` changes nothing of the situation but its own connection, which may close
+abbrev pub AskingChangesNothing : Type 0
+AskingChangesNothing =
+    (config : Config) (s : Situation) (task : Option Task) (step : Step)
+    → IsOrderly config s → IsTrue (is_right config (placed_step_in config s task step)) → IsTrue (is_asking (placed_step_in config s task step).effect.action)
+    → after_step config s task step (placed_step_in config s task step).effect
+    ≡ option_map_or (λ c. with_connection false (connection_after task step (placed_step_in config s task step).effect c) s) (connection_in step.conn s) s
+
+-- the reply lists keys; each stands before the later ones in byte order; and they are those that have a live value
+pub record ListsLiveKeys (config : Config) (s : Situation) (reply_of_step : Option (List ℕ)) : Type 0 where
+  pub reply : reply_of_step ≡ Some (keys_listed (live_keys_at config s.latest s.held))
+  pub rising : IsStrictlySortedBy (slice_cmp nat_cmp) (live_keys_at config s.latest s.held)
+  pub live : (key : List ℕ) → list_any (λ k. same key k) (live_keys_at config s.latest s.held) ≡ is_some (live_at config s.latest s.held key)
+
+-- `KEYS` lists the live keys, each once, in byte order
+abbrev pub KeysAnswer : Type 0
+KeysAnswer =
+    (config : Config) (s : Situation) (task : Option Task) (step : Step)
+    → IsOrderly config s → IsTrue (is_right config (placed_step_in config s task step)) → (placed_step_in config s task step).effect.action ≡ Running says.Keys
+    → ListsLiveKeys config s step.reply

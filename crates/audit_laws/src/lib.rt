@@ -1,7 +1,7 @@
 //! Laws of the definitions of transcripts. Each function does nothing: its contract is the law.
 #![tactic(auto)]
 
-ghost use Rattle.audit_laws.specs.Laws.{FrontsObey, RecordsLead, StepsAgree, PlacesAgree, LeadsOn, LeadsOnBy, LedObeys, BreaksAgree, NothingToldSize, LiveByAcceptance};
+ghost use Rattle.audit_laws.specs.Laws.{FrontsObey, RecordsLead, StepsAgree, PlacesAgree, LeadsOn, LeadsOnBy, LedObeys, BreaksAgree, NothingToldSize, LiveByAcceptance, OrderlyStays, AskingChangesNothing, KeysAnswer};
 ghost use Rattle.audit_model.specs.Configs.{DeadlinesAgree};
 
 /// A front of an obeying transcript obeys.
@@ -57,4 +57,19 @@ pub fn nothing_told_size()
 /// What is not live becomes live only by a newly accepted value.
 pub fn live_by_acceptance()
     ensures { LiveByAcceptance }
+{}
+
+/// Each situation that records lead to is orderly: excess is marked, and no two values held have one key.
+pub fn orderly_stays()
+    ensures { OrderlyStays }
+{}
+
+/// A step of `HAS` or `KEYS` changes nothing of the situation but its own connection.
+pub fn asking_changes_nothing()
+    ensures { AskingChangesNothing }
+{}
+
+/// `KEYS` lists the live keys, each once, in byte order.
+pub fn keys_answer()
+    ensures { KeysAnswer }
 {}
