@@ -1,9 +1,12 @@
 -- The first record that breaks a rule is the same in the whole history and by situations.
-use Rattle.std.proofs.Common.{◌≡◌, refl, ap, ◌∙◌, sym, ℕ, zero, suc, ◌+◌, Bool, true, false, ◌&&◌, cond, List, [], ◌∷◌, ◌++◌, append_assoc, Option, Some, None, is_some, length, take, arith}
+use Rattle.std.proofs.Common.{◌≡◌, refl, ap, ◌∙◌, sym, ℕ, zero, suc, ◌+◌, Bool, true, false, ◌&&◌, cond, List, [], ◌∷◌, ◌++◌, append_assoc, Option, Some, None, is_some, length, take, arith, true≢false, subst, ◌<◌, ◌≤◌, nat_le}
+use Rattle.std.specs.Prelude.{IsTrue, ◌==◌, MatchOption}
+use Rattle.std.proofs.lemmas.Bool.{and_parts, and_from, leb-true, leb-false}
+use Rattle.std.proofs.lemmas.Bool.Decides.{nat_tests}
 use Rattle.std.specs.List.{list_all}
 use Rattle.std.specs.Option.{option_or, option_map_or, option_and_then}
 use Rattle.audit_model.specs.Belongs.{is_admitted, is_good, first_break_within}
-use Rattle.audit_model.specs.Follows.{after_record, after_records}
+use Rattle.audit_model.specs.Follows.{after_record, after_records, followed}
 use Rattle.audit_model.specs.History.{Value}
 use Rattle.audit_model.specs.Obeys.{accepted_values, agree_on_parts, is_right_record}
 use Rattle.audit_model.specs.Places.{placed_records, placed_steps}
@@ -13,11 +16,12 @@ use Rattle.audit_model.specs.declared.event.Instant.{Instant}
 use Rattle.audit_model.specs.declared.transcript.Record.{Record}
 use Rattle.audit_model.specs.declared.transcript.Transcript.{Transcript}
 use Rattle.audit_laws.specs.Placing.{accepted_in}
-use Rattle.audit_laws.specs.Breaking.{first_break_from}
-use Rattle.audit_laws.specs.Laws.{BreaksAgree}
+use Rattle.audit_laws.specs.Breaking.{first_break_from, IsFaultless, front_of, BreaksFirstAt}
+use Rattle.audit_laws.specs.Laws.{BreaksAgree, BreaksWhereUnfollowed, GoodIsFaultless, FirstBreakIsFirst}
+use Rattle.audit_laws.proofs.FrontLemmas.{parts_front}
 use Rattle.audit_laws.proofs.Following.{after_records-append}
 use Rattle.audit_laws.proofs.Journals.{accepted-more}
-use Rattle.audit_laws.proofs.TranscriptsAgree.{follow-good}
+use Rattle.audit_laws.proofs.TranscriptsAgree.{agrees, follow-good}
 
 -- ---- the first number that fails a test, among k numbers behind m
 
@@ -70,6 +74,17 @@ good-test config transcript =
     turned (list_all (is_right_record config) (placed_records config transcript)) (agree_on_parts (accepted_values (placed_steps config transcript))) (list_all (is_admitted config) (placed_records config transcript))
     ∙ ap (λ b. b && agree_on_parts (accepted_values (placed_steps config transcript)))
     (sym (list_all-and (is_admitted config) (is_right_record config) (placed_records config transcript)) ∙ sym (follow-good config transcript))
+
+pub good_is_faultless : GoodIsFaultless
+good_is_faultless config transcript =
+    let law = agrees config transcript in (
+      λ e.
+          let p = and_parts (is_some (after_records config (empty_situation transcript.made.nanos) transcript.records)) (agree_on_parts (accepted_values (placed_steps config transcript))) (sym (good-test config transcript) ∙ e) in
+          law.1 (p.1, p.0),
+      λ faultless.
+          let q = law.0 faultless in
+          good-test config transcript ∙ and_from (is_some (after_records config (empty_situation transcript.made.nanos) transcript.records)) (agree_on_parts (accepted_values (placed_steps config transcript))) q.1 q.0,
+    )
 
 take-front : (front : List Record) (entry : Record) (rest : List Record) → take (suc (length front)) (front ++ entry ∷ rest) ≡ front ++ entry ∷ []
 take-front [] entry rest = refl
@@ -156,7 +171,123 @@ module _ (config : Config) (made : Instant) (records : List Record) where
       go ih None k g = ap (λ b. cond b (first_from good_front (suc m) (length rest)) (Some (suc m))) g
       go ih (Some t) k g = ap (λ b. cond b (first_from good_front (suc m) (length rest)) (Some (suc m))) g ∙ split t (agree_on_parts (values ++ accepted_in config s entry)) (ih t k)
 
+  -- where each key has one part, the tests of parts pass
+  one_part : IsTrue (agree_on_parts (accepted_values (placed_steps config (of records))))
+      → (front rest : List Record) → records ≡ front ++ rest → (values : List Value) → accepted_values (placed_steps config (of front)) ≡ values → agree_on_parts values ≡ true
+  one_part parts front rest e values is =
+      ap agree_on_parts (sym is) ∙ parts_front config made.nanos front rest (subst (λ rs. IsTrue (agree_on_parts (accepted_values (placed_steps config (of rs))))) e parts)
+
+  never_zero : (n : ℕ) → (0 == suc n) ≡ false
+  never_zero n = grind (arith, nat_tests)
+
+  eq-suc : (a b : ℕ) → (suc a == suc b) ≡ (a == b)
+  eq-suc a b = grind (arith, nat_tests)
+
+  moved : (a b : ℕ) → suc a + b ≡ a + suc b
+  moved a b = omega arith
+
+  unfollowed-same : IsTrue (agree_on_parts (accepted_values (placed_steps config (of records))))
+      → (rest front : List Record) (m : ℕ) (s : Situation) (values : List Value) → records ≡ front ++ rest → Stood front m s values
+      → first_break_from config s values m rest ≡ cond (followed config s rest == length rest) None (Some (suc (m + followed config s rest)))
+  unfollowed-same parts [] front m s values e stood = refl
+  unfollowed-same parts (entry ∷ rest) front m s values e stood =
+      go (after_record config s entry) refl
+      (λ t k. unfollowed-same parts rest (front ++ entry ∷ []) (suc m) t (values ++ accepted_in config s entry) (e ∙ sym (append_assoc front (entry ∷ []) rest)) (stood-longer front m s values stood entry t k))
+    where
+      go : (o : Option Situation) → after_record config s entry ≡ o
+          → ((t : Situation) → after_record config s entry ≡ Some t
+          → first_break_from config t (values ++ accepted_in config s entry) (suc m) rest ≡ cond (followed config t rest == length rest) None (Some (suc (suc m + followed config t rest))))
+          → option_map_or (λ t. cond (agree_on_parts (values ++ accepted_in config s entry)) (first_break_from config t (values ++ accepted_in config s entry) (suc m) rest) (Some (suc m))) o (Some (suc m))
+          ≡ cond (option_map_or (λ t. suc (followed config t rest)) o 0 == suc (length rest)) None (Some (suc (m + option_map_or (λ t. suc (followed config t rest)) o 0)))
+      go None k ih = ap (λ n. Some (suc n)) (omega arith) ∙ sym (ap (λ b. cond b None (Some (suc (m + 0)))) (never_zero (length rest)))
+      go (Some t) k ih =
+          ap (λ b. cond b (first_break_from config t (values ++ accepted_in config s entry) (suc m) rest) (Some (suc m)))
+          (one_part parts (front ++ entry ∷ []) rest (e ∙ sym (append_assoc front (entry ∷ []) rest)) (values ++ accepted_in config s entry) (stood-longer front m s values stood entry t k).accepted)
+          ∙ ih t k
+          ∙ ap (λ n. cond (followed config t rest == length rest) None (Some (suc n))) (moved m (followed config t rest))
+          ∙ ap (λ b. cond b None (Some (suc (m + suc (followed config t rest))))) (sym (eq-suc (followed config t rest) (length rest)))
+
 pub breaks_agree : BreaksAgree
 breaks_agree config transcript =
     within-from config transcript.made transcript.records (length transcript.records)
     ∙ from-same config transcript.made transcript.records transcript.records [] 0 (empty_situation transcript.made.nanos) [] refl (record { number = refl; leads = refl; accepted = refl })
+
+no_zero : (n : ℕ) → 0 + n ≡ n
+no_zero n = omega arith
+
+pub breaks_where_unfollowed : BreaksWhereUnfollowed
+breaks_where_unfollowed config transcript parts =
+    breaks_agree config transcript
+    ∙ unfollowed-same config transcript.made transcript.records parts transcript.records [] 0 (empty_situation transcript.made.nanos) [] refl (record { number = refl; leads = refl; accepted = refl })
+    ∙ ap (λ n. cond (followed config (empty_situation transcript.made.nanos) transcript.records == length transcript.records) None (Some (suc n))) (no_zero (followed config (empty_situation transcript.made.nanos) transcript.records))
+
+-- ---- the first break is the first
+
+record First (p : ℕ → Bool) (m k n : ℕ) : Type 0 where
+  above : m < n
+  within : n ≤ m + k
+  fails : p n ≡ false
+  before : (j : ℕ) → m < j → j < n → p j ≡ true
+
+-- all numbers pass, or the first one that fails is found
+abbrev Finds : (ℕ → Bool) → ℕ → ℕ → Option ℕ → Type 0
+Finds p m k None = (j : ℕ) → m < j → j ≤ m + k → p j ≡ true
+Finds p m k (Some n) = First p m k n
+
+next-one : (p : ℕ → Bool) (m : ℕ) (j : ℕ) → p (suc m) ≡ true → m < j → (suc m < j → p j ≡ true) → p j ≡ true
+next-one p m j here above later = go (nat_le j (suc m)) refl
+  where
+    go : (b : Bool) → nat_le j (suc m) ≡ b → p j ≡ true
+    go true e = let low = leb-true j (suc m) e in let is : j ≡ suc m = omega arith in ap p is ∙ here
+    go false e = later (leb-false j (suc m) e)
+
+finds-from : (p : ℕ → Bool) (k m : ℕ) → Finds p m k (first_from p m k)
+finds-from p zero m = λ j above within. absurd (omega arith)
+finds-from p (suc k) m = go (p (suc m)) refl (first_from p (suc m) k) (finds-from p k (suc m))
+  where
+    go : (b : Bool) → p (suc m) ≡ b → (o : Option ℕ) → Finds p (suc m) k o → Finds p m (suc k) (cond b o (Some (suc m)))
+    go true e None f = λ j above within. next-one p m j e above (λ l. f j l (omega arith))
+    go true e (Some n) f =
+        let low = f.above in
+        let high = f.within in
+        record { above = omega arith; within = omega arith; fails = f.fails; before = λ j above below. next-one p m j e above (λ l. f.before j l below) }
+    go false e o f = record { above = omega arith; within = omega arith; fails = e; before = λ j above below. absurd (omega arith) }
+
+take-all : {X : Type 0} (xs : List X) → take (length xs) xs ≡ xs
+take-all [] = refl
+take-all (x ∷ xs) = ap (λ ys. x ∷ ys) (take-all xs)
+
+module _ (config : Config) (transcript : Transcript) where
+  abbrev test : ℕ → Bool
+  test n = good_front config transcript.made transcript.records n
+
+  nothing : test 0 ≡ true
+  nothing = refl
+
+  all-pass : ((j : ℕ) → 0 < j → j ≤ 0 + length transcript.records → test j ≡ true) → test (length transcript.records) ≡ true
+  all-pass all = from (length transcript.records) refl
+    where
+      from : (n : ℕ) → length transcript.records ≡ n → test (length transcript.records) ≡ true
+      from zero e = ap test e ∙ nothing
+      from (suc n) e = all (length transcript.records) (omega arith) (omega arith)
+
+  earlier-pass : (n : ℕ) → ((j : ℕ) → 0 < j → j < n → test j ≡ true) → (j : ℕ) → j < n → test j ≡ true
+  earlier-pass n all zero below = nothing
+  earlier-pass n all (suc j) below = all (suc j) (omega arith) below
+
+  found-first : (o : Option ℕ) → Finds test 0 (length transcript.records) o → MatchOption o (IsFaultless config transcript) (BreaksFirstAt config transcript)
+  found-first None f =
+      subst (λ rs. IsFaultless config (record transcript { records = rs })) (take-all transcript.records)
+      ((good_is_faultless config (front_of (length transcript.records) transcript)).0 (all-pass f))
+  found-first (Some n) f =
+      record {
+        above = f.above;
+        within = subst (λ m. n ≤ m) (no_zero (length transcript.records)) f.within;
+        faulty = λ good. true≢false (sym ((good_is_faultless config (front_of n transcript)).1 good) ∙ f.fails);
+        before = λ m below. (good_is_faultless config (front_of m transcript)).0 (earlier-pass n f.before m below);
+      }
+
+pub first_break_is_first : FirstBreakIsFirst
+first_break_is_first config transcript =
+    subst (λ o. MatchOption o (IsFaultless config transcript) (BreaksFirstAt config transcript)) (sym (within-from config transcript.made transcript.records (length transcript.records)))
+    (found-first config transcript (first_from (test config transcript) 0 (length transcript.records)) (finds-from (test config transcript) (length transcript.records) 0))

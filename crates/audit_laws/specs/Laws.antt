@@ -1,17 +1,17 @@
 -- Laws of the definitions.
-use Rattle.std.specs.Prelude.{◌≡◌, ℕ, false, List, Option, [], ◌∷◌, ◌++◌, Some, None, IsTrue, is_some, Contains}
+use Rattle.std.specs.Prelude.{◌≡◌, ◌↔◌, ◌==◌, ℕ, suc, false, if◌then◌else◌, MatchOption, length, List, Option, [], ◌∷◌, ◌++◌, Some, None, IsTrue, is_some, Contains}
 use Rattle.std.specs.List.{list_all, list_any}
 use Rattle.std.specs.List.Sorted.{IsStrictlySortedBy}
 use Rattle.std.specs.Option.{option_map_or}
 use Rattle.std.specs.Ordering.{nat_cmp}
 use Rattle.std.specs.Cmp.Lexicographic.{slice_cmp}
-use Rattle.audit_model.specs.Belongs.{IsAdmitted, first_break}
-use Rattle.audit_model.specs.Follows.{AgreesWithHistory, Follows, after_event, placed_step_in, after_records}
+use Rattle.audit_model.specs.Belongs.{IsAdmitted, is_good, first_break}
+use Rattle.audit_model.specs.Follows.{AgreesWithHistory, Follows, after_event, placed_step_in, after_records, followed}
 use Rattle.audit_model.specs.History.{Value, Running}
 use Rattle.audit_model.specs.Replies.{keys_listed}
 use Rattle.audit_model.specs.Bytewise.{same}
 use Rattle.audit_model.specs.Changes.{connection_after, after_step}
-use Rattle.audit_model.specs.Obeys.{Obeys, accepted_values}
+use Rattle.audit_model.specs.Obeys.{Obeys, accepted_values, agree_on_parts}
 use Rattle.audit_model.specs.Places.{placed_steps}
 use Rattle.audit_model.specs.Situation.{Situation, empty_situation, connection_in, with_connection, live_at, live_keys_at}
 use Rattle.audit_model.specs.Steps.{Task, is_right}
@@ -25,7 +25,7 @@ use Rattle.audit_model.specs.declared.transcript.Step.{Step}
 use Rattle.audit_model.specs.declared.transcript.Transcript.{Transcript}
 use Rattle.audit_laws.specs.Placing.{accepted_in, all_placed_in}
 use Rattle.audit_laws.specs.Leading.{LeadsTo, LeadsBy, is_parted}
-use Rattle.audit_laws.specs.Breaking.{first_break_from}
+use Rattle.audit_laws.specs.Breaking.{first_break_from, IsFaultless, BreaksFirstAt}
 use Rattle.audit_laws.specs.Orderly.{IsOrderly, is_asking}
 use Rattle.audit_laws.specs.Telling.{notes_of, none_with_size}
 
@@ -78,6 +78,22 @@ abbrev pub BreaksAgree : Type 0
 BreaksAgree =
     (config : Config) (transcript : Transcript)
     → first_break config transcript ≡ first_break_from config (empty_situation transcript.made.nanos) [] 0 transcript.records
+
+-- where each key has one part, it is the first that does not follow
+abbrev pub BreaksWhereUnfollowed : Type 0
+BreaksWhereUnfollowed =
+    (config : Config) (transcript : Transcript) → IsTrue (agree_on_parts (accepted_values (placed_steps config transcript)))
+    → let n = followed config (empty_situation transcript.made.nanos) transcript.records in
+    first_break config transcript ≡ (if n == length transcript.records then None else Some (suc n))
+
+-- the test of a good transcript says that it is faultless
+abbrev pub GoodIsFaultless : Type 0
+GoodIsFaultless = (config : Config) (transcript : Transcript) → IsTrue (is_good config transcript) ↔ IsFaultless config transcript
+
+-- there is no first break exactly where the transcript is faultless; else it ends the shortest front that has a fault
+abbrev pub FirstBreakIsFirst : Type 0
+FirstBreakIsFirst =
+    (config : Config) (transcript : Transcript) → MatchOption (first_break config transcript) (IsFaultless config transcript) (BreaksFirstAt config transcript)
 
 -- with no capacity an obeying transcript tells nothing `Size`
 abbrev pub NothingToldSize : Type 0

@@ -1,7 +1,7 @@
 //! Laws of the definitions of transcripts. Each function does nothing: its contract is the law.
 #![tactic(auto)]
 
-ghost use Rattle.audit_laws.specs.Laws.{FrontsObey, RecordsLead, StepsAgree, PlacesAgree, LeadsOn, LeadsOnBy, LedObeys, BreaksAgree, NothingToldSize, LiveByAcceptance, OrderlyStays, AskingChangesNothing, KeysAnswer};
+ghost use Rattle.audit_laws.specs.Laws.{FrontsObey, RecordsLead, StepsAgree, PlacesAgree, LeadsOn, LeadsOnBy, LedObeys, BreaksAgree, BreaksWhereUnfollowed, GoodIsFaultless, FirstBreakIsFirst, NothingToldSize, LiveByAcceptance, OrderlyStays, AskingChangesNothing, KeysAnswer};
 ghost use Rattle.audit_model.specs.Configs.{DeadlinesAgree};
 
 /// A front of an obeying transcript obeys.
@@ -47,6 +47,21 @@ pub fn led_obeys()
 /// The first record of which the front is not good is the first that does not follow, or with which a key has two parts.
 pub fn breaks_agree()
     ensures { BreaksAgree }
+{}
+
+/// Where each key has one part, that is the first record that does not follow.
+pub fn breaks_where_unfollowed()
+    ensures { BreaksWhereUnfollowed }
+{}
+
+/// The test of a good transcript says that it obeys and that none of its events is refused.
+pub fn good_is_faultless()
+    ensures { GoodIsFaultless }
+{}
+
+/// The first break ends the shortest front that has a fault, and there is none where the transcript has none.
+pub fn first_break_is_first()
+    ensures { FirstBreakIsFirst }
 {}
 
 /// With no capacity an obeying transcript tells nothing `Size`.
