@@ -1,8 +1,10 @@
 -- A step of `HAS` or `KEYS` changes nothing but its own connection, and what `KEYS` answers.
-use Rattle.std.proofs.Common.{◌≡◌, refl, ap, ◌∙◌, sym, subst, ℕ, Bool, true, false, true≢false, not, ◌&&◌, ◌||◌, cond, List, [], ◌∷◌, ◌++◌, map, Option, Some, None}
+use Rattle.std.proofs.Common.{◌≡◌, refl, ap, ◌∙◌, sym, subst, ℕ, Bool, true, false, true≢false, not, ◌&&◌, ◌||◌, cond, List, [], ◌∷◌, map, Option, Some, None}
 use Rattle.std.specs.Prelude.{IsTrue, codes}
 use Rattle.std.specs.List.{list_all}
 use Rattle.std.specs.Option.{option_map, option_map_or, option_eq}
+use Rattle.std.proofs.Math.Bool.{or-false}
+use Rattle.std.proofs.lemmas.List.{append-nil, map-id}
 use Rattle.audit_model.specs.Bytewise.{same, is_empty, text_line}
 use Rattle.audit_model.specs.Changes.{held_after, all_held_after, connection_after, join_load, with_connection_after, after_step}
 use Rattle.audit_model.specs.Commands.{Deed, Nothing, deed_of, drops, quits}
@@ -21,7 +23,6 @@ use Rattle.audit_laws.specs.Orderly.{IsOrderly, is_asking}
 use Rattle.audit_laws.specs.Laws.{AskingChangesNothing, KeysAnswer}
 use Rattle.audit_laws.proofs.Told.{each-more, each_passing, map-same}
 use Rattle.audit_laws.proofs.Changes.{is_of_conn, of_conn-connection}
-use Rattle.audit_laws.proofs.HeldStep.{map-id}
 use Rattle.audit_laws.proofs.PlacedStepsAgree.{parts-of}
 use Rattle.audit_laws.proofs.Rightly.{line-due}
 use Rattle.audit_laws.proofs.KeysListed.{keys-rise, keys-live}
@@ -32,14 +33,6 @@ use Rattle.audit_laws.proofs.StaysOrderly.{held-pairs}
 abbrev no_deed : Deed
 no_deed = record { uses = None; value = None; deletes = None; covers = Nothing; syncs = false }
 
-no_more : {X : Type 0} (xs : List X) → xs ++ [] ≡ xs
-no_more [] = refl
-no_more (x ∷ xs) = ap (λ ys. x ∷ ys) (no_more xs)
-
-or_false : (a : Bool) → (a || false) ≡ a
-or_false true = refl
-or_false false = refl
-
 marked_already : (o e : Bool) → (not o || e) ≡ true → (o || e) ≡ e
 marked_already true e h = sym h
 marked_already false e h = refl
@@ -47,14 +40,14 @@ marked_already false e h = refl
 idle-held : (config : Config) (now : ℕ) (held : List HeldValue) (values : List Value) (h : HeldValue) → (not (is_over config h.value.part values) || h.evictable) ≡ true
     → held_after config now held no_deed [] values h ≡ h
 idle-held config now held values h marked =
-    ap (λ b. record { value = h.value; last_use = h.last_use; covered = b; evictable = is_over config h.value.part values || h.evictable }) (or_false h.covered)
+    ap (λ b. record { value = h.value; last_use = h.last_use; covered = b; evictable = is_over config h.value.part values || h.evictable }) (or-false h.covered)
     ∙ ap (λ b. record h { evictable = b }) (marked_already (is_over config h.value.part values) h.evictable marked)
 
 -- the values held stay as they are
 pub all_held-idle : (config : Config) (now : ℕ) (held : List HeldValue) → IsTrue (list_all (λ h. not (is_over config h.value.part (map (λ k. k.value) held)) || h.evictable) held)
     → all_held_after config now held no_deed [] ≡ held
 all_held-idle config now held marked =
-    ap (λ hs. map (held_after config now held no_deed [] (map (λ h. h.value) hs)) hs) (no_more held)
+    ap (λ hs. map (held_after config now held no_deed [] (map (λ h. h.value) hs)) hs) (append-nil held)
     ∙ map-same (held_after config now held no_deed [] (map (λ h. h.value) held)) (λ h. h) held
     (each-more _ _ held (idle-held config now held (map (λ h. h.value) held)) (each_passing (λ h. not (is_over config h.value.part (map (λ k. k.value) held)) || h.evictable) held marked))
     ∙ map-id held
@@ -108,7 +101,7 @@ idle-step config s task step effect orderly lines idle silent =
     ap (λ d. with_connection_after task step effect (record s { held = all_held_after config s.latest s.held d effect.notes; dropped = s.dropped || drops effect })) idle.deed
     ∙ ap (λ ns. with_connection_after task step effect (record s { held = all_held_after config s.latest s.held no_deed ns; dropped = s.dropped || drops effect })) silent
     ∙ ap (λ hs. with_connection_after task step effect (record s { held = hs; dropped = s.dropped || drops effect })) (all_held-idle config s.latest s.held orderly.marked)
-    ∙ ap (λ b. with_connection_after task step effect (record s { dropped = b })) (ap (λ b. s.dropped || b) idle.drops_none ∙ or_false s.dropped)
+    ∙ ap (λ b. with_connection_after task step effect (record s { dropped = b })) (ap (λ b. s.dropped || b) idle.drops_none ∙ or-false s.dropped)
     ∙ of_conn-connection task step effect s lines
     ∙ ap (λ b. option_map_or (λ c. with_connection b (connection_after task step effect c) (join_load step.conn effect s)) (connection_in step.conn s) s) idle.stays
     ∙ ap (λ u. option_map_or (λ c. with_connection false (connection_after task step effect c) u) (connection_in step.conn s) s) (idle.joins step.conn s)
@@ -125,7 +118,7 @@ asking_changes_nothing config s task step orderly right asks =
 keys-reply : (config : Config) (seen : View) (held : List Value) (effect : Effect) → effect.action ≡ Running says.Keys → is_reply config seen effect held ≡ true → effect.reply ≡ Some (keys_listed seen.live_keys)
 keys-reply config seen held effect e r =
     line-due effect.reply (keys_listed seen.live_keys)
-    (sym (or_false _) ∙ sym (ap (λ a. option_eq same effect.reply (reply_of config seen held a) || (may_refuse seen a && option_eq same effect.reply (Some (text_line (codes "ERR id"))))) e) ∙ r)
+    (sym (or-false _) ∙ sym (ap (λ a. option_eq same effect.reply (reply_of config seen held a) || (may_refuse seen a && option_eq same effect.reply (Some (text_line (codes "ERR id"))))) e) ∙ r)
 
 pub keys_answer : KeysAnswer
 keys_answer config s task step orderly right keys =

@@ -1,15 +1,13 @@
 -- The first record that breaks a rule is the same in the whole history and by situations.
-use Rattle.std.proofs.Common.{◌≡◌, refl, ap, ◌∙◌, sym, ℕ, zero, suc, ◌+◌, Bool, true, false, ◌&&◌, cond, List, [], ◌∷◌, ◌++◌, append_assoc, Option, Some, None, is_some, length, take, arith, true≢false, subst, ◌<◌, ◌≤◌, nat_le}
+use Rattle.std.proofs.Common.{◌≡◌, refl, ap, ◌∙◌, sym, ℕ, zero, suc, ◌+◌, Bool, true, false, ◌&&◌, cond, List, [], ◌∷◌, ◌++◌, append_assoc, Option, Some, None, is_some, length, take, arith, true≢false, subst, ◌<◌, ◌≤◌, zero-add}
 use Rattle.std.specs.Prelude.{IsTrue, ◌==◌, MatchOption}
-use Rattle.std.proofs.lemmas.Bool.{and_parts, and_from, leb-true, leb-false}
 use Rattle.std.proofs.lemmas.Bool.Decides.{nat_tests}
-use Rattle.std.specs.List.{list_all}
 use Rattle.std.specs.Option.{option_or, option_map_or, option_and_then}
-use Rattle.audit_model.specs.Belongs.{is_admitted, is_good, first_break_within}
+use Rattle.audit_model.specs.Belongs.{is_good, first_break_within}
 use Rattle.audit_model.specs.Follows.{after_record, after_records, followed}
 use Rattle.audit_model.specs.History.{Value}
-use Rattle.audit_model.specs.Obeys.{accepted_values, agree_on_parts, is_right_record}
-use Rattle.audit_model.specs.Places.{placed_records, placed_steps}
+use Rattle.audit_model.specs.Obeys.{accepted_values, agree_on_parts}
+use Rattle.audit_model.specs.Places.{placed_steps}
 use Rattle.audit_model.specs.Situation.{Situation, empty_situation}
 use Rattle.audit_model.specs.declared.config.Config.{Config}
 use Rattle.audit_model.specs.declared.event.Instant.{Instant}
@@ -17,74 +15,14 @@ use Rattle.audit_model.specs.declared.transcript.Record.{Record}
 use Rattle.audit_model.specs.declared.transcript.Transcript.{Transcript}
 use Rattle.audit_laws.specs.Placing.{accepted_in}
 use Rattle.audit_laws.specs.Breaking.{first_break_from, IsFaultless, front_of, BreaksFirstAt}
-use Rattle.audit_laws.specs.Laws.{BreaksAgree, BreaksWhereUnfollowed, GoodIsFaultless, FirstBreakIsFirst}
-use Rattle.audit_laws.proofs.FrontLemmas.{parts_front}
+use Rattle.audit_laws.specs.Laws.{BreaksAgree, BreaksWhereUnfollowed, FirstBreakIsFirst}
+use Rattle.audit_laws.proofs.Fronts.{parts_front}
 use Rattle.audit_laws.proofs.Following.{after_records-append}
 use Rattle.audit_laws.proofs.Journals.{accepted-more}
-use Rattle.audit_laws.proofs.TranscriptsAgree.{agrees, follow-good}
+use Rattle.audit_laws.proofs.FirstFailing.{first_from, later-sum, first_from-last, Finds, finds-from}
+use Rattle.audit_laws.proofs.Faultless.{good-test, good_is_faultless}
 
--- ---- the first number that fails a test, among k numbers behind m
-
-abbrev pub first_from : (ℕ → Bool) → ℕ → ℕ → Option ℕ
-first_from p m zero = None
-first_from p m (suc k) = cond (p (suc m)) (first_from p (suc m) k) (Some (suc m))
-
-abbrev pub later : ℕ → ℕ → ℕ
-later m zero = m
-later m (suc k) = later (suc m) k
-
-later-sum : (m k : ℕ) → later m k ≡ m + k
-later-sum m zero = omega arith
-later-sum m (suc k) = later-sum (suc m) k ∙ omega arith
-
--- the last number apart
-first_from-last : (p : ℕ → Bool) (m k : ℕ) → first_from p m (suc k) ≡ option_or (first_from p m k) (cond (p (suc (later m k))) None (Some (suc (later m k))))
-first_from-last p m zero = refl
-first_from-last p m (suc k) = go (p (suc m)) (first_from-last p (suc m) k)
-  where
-    go : (b : Bool) → first_from p (suc m) (suc k) ≡ option_or (first_from p (suc m) k) (cond (p (suc (later (suc m) k))) None (Some (suc (later (suc m) k))))
-        → cond b (first_from p (suc m) (suc k)) (Some (suc m)) ≡ option_or (cond b (first_from p (suc m) k) (Some (suc m))) (cond (p (suc (later (suc m) k))) None (Some (suc (later (suc m) k))))
-    go true e = e
-    go false e = refl
-
--- ---- what is good
-
-list_all-and : {X : Type 0} (p q : X → Bool) (xs : List X) → list_all (λ x. p x && q x) xs ≡ (list_all p xs && list_all q xs)
-list_all-and p q [] = refl
-list_all-and p q (x ∷ xs) = ap (λ b. (p x && q x) && b) (list_all-and p q xs) ∙ mixed (p x) (q x) (list_all p xs) (list_all q xs)
-  where
-    mixed : (a b c d : Bool) → ((a && b) && (c && d)) ≡ ((a && c) && (b && d))
-    mixed false b c d = refl
-    mixed true true c d = refl
-    mixed true false true d = refl
-    mixed true false false d = refl
-
-turned : (r g a : Bool) → ((r && g) && a) ≡ ((a && r) && g)
-turned true true true = refl
-turned true true false = refl
-turned true false true = refl
-turned true false false = refl
-turned false g true = refl
-turned false g false = refl
-
--- a transcript is good exactly where its records follow and each key has one part
-good-test : (config : Config) (transcript : Transcript)
-    → is_good config transcript ≡ (is_some (after_records config (empty_situation transcript.made.nanos) transcript.records) && agree_on_parts (accepted_values (placed_steps config transcript)))
-good-test config transcript =
-    turned (list_all (is_right_record config) (placed_records config transcript)) (agree_on_parts (accepted_values (placed_steps config transcript))) (list_all (is_admitted config) (placed_records config transcript))
-    ∙ ap (λ b. b && agree_on_parts (accepted_values (placed_steps config transcript)))
-    (sym (list_all-and (is_admitted config) (is_right_record config) (placed_records config transcript)) ∙ sym (follow-good config transcript))
-
-pub good_is_faultless : GoodIsFaultless
-good_is_faultless config transcript =
-    let law = agrees config transcript in (
-      λ e.
-          let p = and_parts (is_some (after_records config (empty_situation transcript.made.nanos) transcript.records)) (agree_on_parts (accepted_values (placed_steps config transcript))) (sym (good-test config transcript) ∙ e) in
-          law.1 (p.1, p.0),
-      λ faultless.
-          let q = law.0 faultless in
-          good-test config transcript ∙ and_from (is_some (after_records config (empty_situation transcript.made.nanos) transcript.records)) (agree_on_parts (accepted_values (placed_steps config transcript))) q.1 q.0,
-    )
+-- ---- fronts
 
 take-front : (front : List Record) (entry : Record) (rest : List Record) → take (suc (length front)) (front ++ entry ∷ rest) ≡ front ++ entry ∷ []
 take-front [] entry rest = refl
@@ -212,46 +150,13 @@ breaks_agree config transcript =
     within-from config transcript.made transcript.records (length transcript.records)
     ∙ from-same config transcript.made transcript.records transcript.records [] 0 (empty_situation transcript.made.nanos) [] refl (record { number = refl; leads = refl; accepted = refl })
 
-no_zero : (n : ℕ) → 0 + n ≡ n
-no_zero n = omega arith
-
 pub breaks_where_unfollowed : BreaksWhereUnfollowed
 breaks_where_unfollowed config transcript parts =
     breaks_agree config transcript
     ∙ unfollowed-same config transcript.made transcript.records parts transcript.records [] 0 (empty_situation transcript.made.nanos) [] refl (record { number = refl; leads = refl; accepted = refl })
-    ∙ ap (λ n. cond (followed config (empty_situation transcript.made.nanos) transcript.records == length transcript.records) None (Some (suc n))) (no_zero (followed config (empty_situation transcript.made.nanos) transcript.records))
+    ∙ ap (λ n. cond (followed config (empty_situation transcript.made.nanos) transcript.records == length transcript.records) None (Some (suc n))) (zero-add (followed config (empty_situation transcript.made.nanos) transcript.records))
 
 -- ---- the first break is the first
-
-record First (p : ℕ → Bool) (m k n : ℕ) : Type 0 where
-  above : m < n
-  within : n ≤ m + k
-  fails : p n ≡ false
-  before : (j : ℕ) → m < j → j < n → p j ≡ true
-
--- all numbers pass, or the first one that fails is found
-abbrev Finds : (ℕ → Bool) → ℕ → ℕ → Option ℕ → Type 0
-Finds p m k None = (j : ℕ) → m < j → j ≤ m + k → p j ≡ true
-Finds p m k (Some n) = First p m k n
-
-next-one : (p : ℕ → Bool) (m : ℕ) (j : ℕ) → p (suc m) ≡ true → m < j → (suc m < j → p j ≡ true) → p j ≡ true
-next-one p m j here above later = go (nat_le j (suc m)) refl
-  where
-    go : (b : Bool) → nat_le j (suc m) ≡ b → p j ≡ true
-    go true e = let low = leb-true j (suc m) e in let is : j ≡ suc m = omega arith in ap p is ∙ here
-    go false e = later (leb-false j (suc m) e)
-
-finds-from : (p : ℕ → Bool) (k m : ℕ) → Finds p m k (first_from p m k)
-finds-from p zero m = λ j above within. absurd (omega arith)
-finds-from p (suc k) m = go (p (suc m)) refl (first_from p (suc m) k) (finds-from p k (suc m))
-  where
-    go : (b : Bool) → p (suc m) ≡ b → (o : Option ℕ) → Finds p (suc m) k o → Finds p m (suc k) (cond b o (Some (suc m)))
-    go true e None f = λ j above within. next-one p m j e above (λ l. f j l (omega arith))
-    go true e (Some n) f =
-        let low = f.above in
-        let high = f.within in
-        record { above = omega arith; within = omega arith; fails = f.fails; before = λ j above below. next-one p m j e above (λ l. f.before j l below) }
-    go false e o f = record { above = omega arith; within = omega arith; fails = e; before = λ j above below. absurd (omega arith) }
 
 take-all : {X : Type 0} (xs : List X) → take (length xs) xs ≡ xs
 take-all [] = refl
@@ -282,7 +187,7 @@ module _ (config : Config) (transcript : Transcript) where
   found-first (Some n) f =
       record {
         above = f.above;
-        within = subst (λ m. n ≤ m) (no_zero (length transcript.records)) f.within;
+        within = subst (λ m. n ≤ m) (zero-add (length transcript.records)) f.within;
         faulty = λ good. true≢false (sym ((good_is_faultless config (front_of n transcript)).1 good) ∙ f.fails);
         before = λ m below. (good_is_faultless config (front_of m transcript)).0 (earlier-pass n f.before m below);
       }

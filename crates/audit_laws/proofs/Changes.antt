@@ -3,7 +3,7 @@ use Rattle.std.proofs.Common.{◌≡◌, refl, ap, ◌∙◌, sym, ℕ, suc, Boo
 use Rattle.std.specs.Prelude.{IsTrue, ◌==◌}
 use Rattle.std.specs.List.{filter}
 use Rattle.std.specs.Option.{option_map_or}
-use Rattle.std.proofs.Math.Bool.{or_comm}
+use Rattle.std.proofs.Math.Bool.{or_comm, or-false}
 use Rattle.std.proofs.lemmas.Simd.{map-map}
 use Rattle.audit_laws.proofs.ConnectionSteps.{put_connection}
 use Rattle.audit_model.specs.Changes.{all_held_after, connection_after, join_load, with_connection_after, after_step}
@@ -166,11 +166,7 @@ module _ (config : Config) (made : ℕ) (past : History) (task : Option Task) (s
   opens =
       let is : IsOpen (facts c past) = open-parts (facts c past) fits.is_open in
       open-by_connection c (facts c then') is.opened is.closed
-      ∙ ap (λ b. not (b || is_overlong l)) (ap (λ x. x.quit) (facts-own c effect past) ∙ ap (λ b. quits effect || b) is.quit ∙ or_false (quits effect))
-    where
-      or_false : (a : Bool) → (a || false) ≡ a
-      or_false true = refl
-      or_false false = refl
+      ∙ ap (λ b. not (b || is_overlong l)) (ap (λ x. x.quit) (facts-own c effect past) ∙ ap (λ b. quits effect || b) is.quit ∙ or-false (quits effect))
 
   with_connection_after-step : with_connection_after task step effect t ≡ record j { connections = connections_by (λ d. facts d then') (opened_conns past); pending = map (pending_by (λ d. open_in (facts d then')) waiters) sents }
   with_connection_after-step =

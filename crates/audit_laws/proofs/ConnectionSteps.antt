@@ -1,5 +1,5 @@
 -- What a change of one connection does to all connections.
-use Rattle.std.proofs.Common.{◌≡◌, refl, ap, ◌∙◌, sym, ℕ, zero, suc, ◌+◌, Bool, true, false, true≢false, not, ◌&&◌, ◌||◌, cond, List, [], ◌∷◌, map, Option, Some, None, is_some, is_none, arith}
+use Rattle.std.proofs.Common.{◌≡◌, refl, ap, ◌∙◌, sym, ℕ, zero, suc, ◌+◌, Bool, true, false, true≢false, not, ◌&&◌, ◌||◌, cond, List, [], ◌∷◌, map, Option, Some, None, is_some, is_none, arith, zero-add}
 use Rattle.std.proofs.lemmas.Bool.Decides.{nat_tests}
 use Rattle.std.specs.Prelude.{◌==◌, unwrap_or}
 use Rattle.std.specs.List.{filter}
@@ -117,9 +117,6 @@ behind-one (suc n) bytes = behind-one n (unwrap_or (cut_at 10 bytes).1 [])
 one_more : (n : ℕ) → 1 + n ≡ suc n
 one_more n = omega arith
 
-no_more : (n : ℕ) → 0 + n ≡ n
-no_more n = omega arith
-
 module _ (c : ℕ) (line : List ℕ) (bytes : List ℕ) (n : ℕ) (before : ℕ) where
   abbrev stands_by : (held none : Bool) → List ℕ → Standing
   stands_by held none l = cond held (Held l) (cond (none && not held) (Waiting l) Ready)
@@ -139,11 +136,11 @@ module _ (c : ℕ) (line : List ℕ) (bytes : List ℕ) (n : ℕ) (before : ℕ)
   connection-then (Some reply) false unread h u l =
       ap (λ bs. record { number = c; unread = bs; standing = Ready; waited = 0 }) (ap (λ m. behind_lines m bytes) (one_more n) ∙ behind-one n bytes ∙ sym u)
   connection-then None true unread h u l =
-      ap (λ m. record { number = c; unread = behind_lines 1 (behind_lines m bytes); standing = Held (unwrap_or (first_line (behind_lines m bytes)) []); waited = 0 + before }) (no_more n)
+      ap (λ m. record { number = c; unread = behind_lines 1 (behind_lines m bytes); standing = Held (unwrap_or (first_line (behind_lines m bytes)) []); waited = 0 + before }) (zero-add n)
       ∙ ap (λ bs. record { number = c; unread = bs; standing = Held (unwrap_or (first_line (behind_lines n bytes)) []); waited = 0 + before }) (sym u)
       ∙ ap (λ o. record { number = c; unread = unread; standing = Held (unwrap_or o []); waited = 0 + before }) l
   connection-then None false unread h u l =
-      ap (λ m. record { number = c; unread = behind_lines 1 (behind_lines m bytes); standing = Waiting (unwrap_or (first_line (behind_lines m bytes)) []); waited = 1 + before }) (no_more n)
+      ap (λ m. record { number = c; unread = behind_lines 1 (behind_lines m bytes); standing = Waiting (unwrap_or (first_line (behind_lines m bytes)) []); waited = 1 + before }) (zero-add n)
       ∙ ap (λ bs. record { number = c; unread = bs; standing = Waiting (unwrap_or (first_line (behind_lines n bytes)) []); waited = 1 + before }) (sym u)
       ∙ ap (λ o. record { number = c; unread = unread; standing = Waiting (unwrap_or o []); waited = 1 + before }) l
 

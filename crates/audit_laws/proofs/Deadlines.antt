@@ -3,7 +3,7 @@ use Rattle.std.proofs.Common.{◌≡◌, refl, sym, ℕ, Bool, true, false, true
 use Rattle.std.specs.Prelude.{IsTrue}
 use Rattle.audit_model.specs.Values.{earlier_of}
 use Rattle.audit_model.specs.Configs.{DeadlinesAgree}
-use Rattle.audit_laws.proofs.FrontLemmas.{right_of_and}
+use Rattle.audit_laws.proofs.Fronts.{right_of_and}
 use Rattle.std.specs.Option.{option_map}
 
 by_cases : (own : Bool) (live idle dead : Option ℕ) (f g : ℕ → ℕ)

@@ -5,8 +5,9 @@ use Rattle.std.specs.Bool.{MatchBool}
 use Rattle.std.specs.List.{list_all, list_any}
 use Rattle.std.specs.Option.{option_map, option_to_list}
 use Rattle.std.proofs.lemmas.Bool.{and_parts, not-true, or_parts}
-use Rattle.std.proofs.lemmas.List.{map-append}
+use Rattle.std.proofs.lemmas.List.{map-append, map-id}
 use Rattle.std.proofs.lemmas.Simd.{map-map}
+use Rattle.std.proofs.Math.Bool.{or-true}
 use Rattle.audit_model.specs.Bytewise.{same}
 use Rattle.audit_model.specs.Changes.{newly_held, left_held, held_after, all_held_after}
 use Rattle.audit_model.specs.Commands.{Deed, deed_of, deletes, covers}
@@ -21,7 +22,7 @@ use Rattle.audit_model.specs.declared.config.Config.{Config}
 use Rattle.audit_model.specs.declared.transcript.Note.{Note}
 use Rattle.audit_laws.proofs.Told.{Each, each-append, each-map, each_of_map, each-more, each-both, each_passing, map-same, each-untold, untold-map}
 use Rattle.audit_laws.proofs.StepReads.{Reads}
-use Rattle.audit_laws.proofs.HeldStep.{Stands, same-refl, map-id, old-held, new-held, old-stands, new-stands}
+use Rattle.audit_laws.proofs.HeldStep.{Stands, same-refl, old-held, new-held, old-stands, new-stands}
 
 -- a value that was held, or that the step accepts
 pub record Tagged : Type 0 where
@@ -64,11 +65,7 @@ as_list (Some v) = refl
 listed : (vs : List Value) → Each (λ v. list_any (λ w. same v.key w.key) vs ≡ true) vs
 listed [] = tt
 listed (v ∷ vs) =
-    (ap (λ b. b || list_any (λ w. same v.key w.key) vs) (same-refl v.key), each-more _ _ vs (λ w e. ap (λ b. same w.key v.key || b) e ∙ or_true (same w.key v.key)) (listed vs))
-  where
-    or_true : (a : Bool) → (a || true) ≡ true
-    or_true true = refl
-    or_true false = refl
+    (ap (λ b. b || list_any (λ w. same v.key w.key) vs) (same-refl v.key), each-more _ _ vs (λ w e. ap (λ b. same w.key v.key || b) e ∙ or-true (same w.key v.key)) (listed vs))
 
 pub none_told : (past : History) → Each (λ v. is_told v.key past ≡ false) (held_values past)
 none_told past = each-more _ _ (held_values past) (λ v e. ap not e) (listed (held_values past))

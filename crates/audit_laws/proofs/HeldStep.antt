@@ -3,8 +3,8 @@ use Rattle.std.proofs.Common.{◌≡◌, refl, ap, ◌∙◌, sym, ℕ, Bool, tr
 use Rattle.std.specs.Prelude.{is_some}
 use Rattle.std.specs.List.{find, list_any}
 use Rattle.std.specs.Option.{option_map, option_to_list}
-use Rattle.std.proofs.Math.Bool.{or_comm}
-use Rattle.std.proofs.lemmas.List.{map-append}
+use Rattle.std.proofs.Math.Bool.{or_comm, and-true, and-false}
+use Rattle.std.proofs.lemmas.List.{map-append, map-id}
 use Rattle.std.proofs.lemmas.Simd.{map-map}
 use Rattle.std.proofs.lemmas.Slice.Eq.{bytes_eq-Decides}
 use Rattle.audit_model.specs.Bytewise.{same}
@@ -30,10 +30,6 @@ same-refl key = (bytes_eq-Decides key key).1 refl
 
 -- ---- small facts on tests
 
-and_true : (a : Bool) → (a && true) ≡ a
-and_true true = refl
-and_true false = refl
-
 is_some-cond : (b : Bool) (v : Value) → is_some (cond b (Some v) None) ≡ b
 is_some-cond true v = refl
 is_some-cond false v = refl
@@ -41,10 +37,6 @@ is_some-cond false v = refl
 cond_same : {X : Type 0} (b : Bool) (x : X) → cond b x x ≡ x
 cond_same true x = refl
 cond_same false x = refl
-
-and_false : (a : Bool) → (a && false) ≡ false
-and_false true = refl
-and_false false = refl
 
 anew : (s t w : Bool) → (not (s || t) && w) ≡ (not false && not s && not t && w)
 anew true t w = refl
@@ -62,14 +54,6 @@ find-map f p (x ∷ xs) = found_in f (p (f x)) x (find p (map f xs)) (find (λ y
 pub list_any-same : {X : Type 0} (p q : X → Bool) (xs : List X) → ((x : X) → p x ≡ q x) → list_any p xs ≡ list_any q xs
 list_any-same p q [] e = refl
 list_any-same p q (x ∷ xs) e = ap (λ b. b || list_any p xs) (e x) ∙ ap (λ b. q x || b) (list_any-same p q xs e)
-
-pub map-id : {X : Type 0} (xs : List X) → map (λ x. x) xs ≡ xs
-map-id [] = refl
-map-id (x ∷ xs) = ap (λ ys. x ∷ ys) (map-id xs)
-
-or_true : (a : Bool) → (a || true) ≡ true
-or_true true = refl
-or_true false = refl
 
 -- ---- what a step tells `Size`
 
@@ -114,7 +98,7 @@ module _ (config : Config) (made : ℕ) (past : History) (h : Happening) (effect
       lives-now =
           ap (λ d. not d && not (is_covered key past) && not (is_told key past) && not (has_come (deadline config v used) now)) stands.kept
           ∙ ap (λ t. true && not (is_covered key past) && not t && not (has_come (deadline config v used) now)) there
-          ∙ ap (λ b. b && not (has_come (deadline config v used) now)) (and_true (not (is_covered key past)))
+          ∙ ap (λ b. b && not (has_come (deadline config v used) now)) (and-true (not (is_covered key past)))
 
       old-use : last_use config key (h ∷ past) ≡ cond (looks_up key effect && is_live_at config now (held_from config past v)) now used
       old-use =
@@ -173,7 +157,7 @@ module _ (config : Config) (made : ℕ) (past : History) (h : Happening) (effect
           ∙ ap (λ b. record { value = v; last_use = last_use config key (h ∷ past); covered = b; evictable = is_over config v.part held || (not (syncs effect || tells_size v.part (map (λ c. c.value) (candidates_of config candidates (deed_of effect))) effect.notes) && false) })
           (uncovered ∙ sym (ap (λ b. cond b false (is_step_that (covers key) h || is_covered key past)) accepted))
           ∙ ap (λ b. record { value = v; last_use = last_use config key (h ∷ past); covered = is_covered key (h ∷ past); evictable = b })
-          (ap (λ b. is_over config v.part held || b) (and_false (not (syncs effect || tells_size v.part (map (λ c. c.value) (candidates_of config candidates (deed_of effect))) effect.notes)))
+          (ap (λ b. is_over config v.part held || b) (and-false (not (syncs effect || tells_size v.part (map (λ c. c.value) (candidates_of config candidates (deed_of effect))) effect.notes)))
           ∙ ap (λ vs. is_over config v.part vs || false) e
           ∙ sym (ap (λ b. is_over config v.part (held_values (h ∷ past)) || (not b && not (is_step_that syncs h) && not (step_tells_size v.part h past) && was_over config key v.part past)) accepted))
 

@@ -22,6 +22,7 @@ use Rattle.audit_laws.proofs.Changes.{IsOpen, open-parts}
 use Rattle.std.proofs.lemmas.Bool.{false_from_ne_true}
 use Rattle.std.specs.List.{find}
 use Rattle.std.specs.Option.{option_map}
+use Rattle.std.proofs.Math.Bool.{or-true}
 use Rattle.audit_laws.proofs.Connections.{eqb-self}
 use Rattle.audit_laws.proofs.PendingLoads.{each-any}
 use Rattle.audit_laws.proofs.Leaving.{NotJoined, Distinct, is_in, of_each, away-ran, away-settled}
@@ -271,11 +272,7 @@ give_up_awaits past (c ∷ cs) (p, h) = (p, (tt, give_up_awaits past cs h))
 
 in_itself : (cs : List ℕ) → Each (λ c. is_in c cs ≡ true) cs
 in_itself [] = tt
-in_itself (c ∷ cs) = (ap (λ b. b || is_in c cs) (eqb-self c), each-more _ _ cs (λ d e. ap (λ b. (c == d) || b) e ∙ or_true (c == d)) (in_itself cs))
-  where
-    or_true : (a : Bool) → (a || true) ≡ true
-    or_true true = refl
-    or_true false = refl
+in_itself (c ∷ cs) = (ap (λ b. b || is_in c cs) (eqb-self c), each-more _ _ cs (λ d e. ap (λ b. (c == d) || b) e ∙ or-true (c == d)) (in_itself cs))
 
 module _ (load moment : ℕ) (past : History) (keys : Distinct (loads_under_way past)) where
   abbrev key : Option (List ℕ)

@@ -6,6 +6,7 @@ use Rattle.std.specs.Option.{option_and_then, option_map_or}
 use Rattle.std.proofs.lemmas.Bool.{and_parts, and_from, eqb-true, eq-eqb}
 use Rattle.std.proofs.lemmas.List.Elements.{filter_map-append}
 use Rattle.std.proofs.lemmas.List.Folds.{list_all-append}
+use Rattle.std.proofs.lemmas.List.{append-nil}
 use Rattle.audit_model.specs.Bytewise.{same}
 use Rattle.audit_model.specs.Follows.{after_record, after_records, Follows}
 use Rattle.audit_model.specs.History.{Value}
@@ -58,10 +59,6 @@ all_placed_in-append config (x ∷ xs) ys s t e = go (λ u. all_placed_in-append
     go ih None k = absurd (true≢false (sym (ap is_some k)))
     go ih (Some u) k = ap (λ ps. placed_in config s x ++ ps) (ih u k) ∙ sym (append_assoc (placed_in config s x) (all_placed_in config u xs) (all_placed_in config t ys))
 
-no_more : {X : Type 0} (xs : List X) → xs ++ [] ≡ xs
-no_more [] = refl
-no_more (x ∷ xs) = ap (λ ys. x ∷ ys) (no_more xs)
-
 -- ---- one record more
 
 pub leads-more : LeadsOn
@@ -84,7 +81,7 @@ module _ (config : Config) (made : Instant) (records : List Record) (added : Rec
       places_agree config longer (ap is_some (leads-more config made records added s t leads follows))
       ∙ all_placed_in-append config records (added ∷ []) start s leads
       ∙ ap (λ ps. ps ++ all_placed_in config s (added ∷ [])) (sym (places_agree config (record { made = made; records = records }) (ap is_some leads)))
-      ∙ ap (λ ps. placed_steps config (record { made = made; records = records }) ++ ps) (ap (λ o. placed_in config s added ++ option_map_or (λ u. all_placed_in config u []) o []) follows ∙ no_more (placed_in config s added))
+      ∙ ap (λ ps. placed_steps config (record { made = made; records = records }) ++ ps) (ap (λ o. placed_in config s added ++ option_map_or (λ u. all_placed_in config u []) o []) follows ∙ append-nil (placed_in config s added))
 
   -- the values that the longer transcript accepts
   pub accepted-more : accepted_values (placed_steps config longer) ≡ accepted_values (placed_steps config (record { made = made; records = records })) ++ accepted_in config s added

@@ -1,5 +1,4 @@
 pub mod Fronts
-pub mod FrontLemmas
 pub mod Following
 pub mod Deadlines
 pub mod Told
@@ -23,6 +22,8 @@ pub mod WalkAgrees
 pub mod RecordsAgree
 pub mod TranscriptsAgree
 pub mod Journals
+pub mod FirstFailing
+pub mod Faultless
 pub mod BreaksAgree
 pub mod NoSize
 pub mod Kept

@@ -1,5 +1,5 @@
 -- Lines that were read stay read when more bytes come.
-use Rattle.std.proofs.Common.{◌≡◌, refl, ap, ◌∙◌, sym, ℕ, zero, suc, ◌+◌, Bool, true, false, true≢false, not, ◌&&◌, ◌||◌, cond, List, [], ◌∷◌, ◌++◌, Option, Some, None, is_some, is_none, arith}
+use Rattle.std.proofs.Common.{◌≡◌, refl, ap, ◌∙◌, sym, ℕ, zero, suc, ◌+◌, Bool, true, false, true≢false, not, ◌&&◌, ◌||◌, cond, List, [], ◌∷◌, ◌++◌, Option, Some, None, is_some, is_none, arith, zero-add}
 use Rattle.std.specs.Prelude.{◌==◌, unwrap_or}
 use Rattle.std.proofs.lemmas.Bool.{and_parts, and_from}
 use Rattle.audit_laws.proofs.Connections.{last_is}
@@ -102,10 +102,7 @@ came bytes line e = go (is_some (cut_at 10 bytes).1) (ap is_some e)
     go false e = e
 
 lines_now : (reply : Option (List ℕ)) (n : ℕ) (bytes : List ℕ) → has_lines n bytes ≡ true → is_some (cut_at 10 (behind_lines n bytes)).1 ≡ true → has_lines (cond (is_some reply) 1 0 + n) bytes ≡ true
-lines_now None n bytes e f = ap (λ m. has_lines m bytes) (no_more n) ∙ e
-  where
-    no_more : (n : ℕ) → 0 + n ≡ n
-    no_more n = omega arith
+lines_now None n bytes e f = ap (λ m. has_lines m bytes) (zero-add n) ∙ e
 lines_now (Some reply) n bytes e f = ap (λ m. has_lines m bytes) (one_more n) ∙ has-one n bytes e f
   where
     one_more : (n : ℕ) → 1 + n ≡ suc n
@@ -119,11 +116,8 @@ complete-ran c effect past line silent e h =
       read = go effect.reply (is_held effect) silent;
     }
   where
-    no_more : (n : ℕ) → 0 + n ≡ n
-    no_more n = omega arith
-
     go : (reply : Option (List ℕ)) (held : Bool) → (held ≡ true → is_none reply ≡ true) → (held || (is_none reply && not held)) ≡ true
         → is_some (cut_at 10 (behind_lines (cond (is_some reply) 1 0 + (facts c past).replies) (facts c past).bytes)).1 ≡ true
-    go None held s f = ap (λ m. is_some (cut_at 10 (behind_lines m (facts c past).bytes)).1) (no_more (facts c past).replies) ∙ came (unanswered c past) line e
+    go None held s f = ap (λ m. is_some (cut_at 10 (behind_lines m (facts c past).bytes)).1) (zero-add (facts c past).replies) ∙ came (unanswered c past) line e
     go (Some reply) true s f = absurd (true≢false (sym (s refl)))
     go (Some reply) false s f = absurd (true≢false (sym f))

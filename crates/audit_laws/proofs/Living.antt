@@ -5,6 +5,7 @@ use Rattle.std.specs.Option.{option_map, option_map_or, option_and_then, option_
 use Rattle.std.proofs.lemmas.Bool.{and_parts, not-true, or_parts}
 use Rattle.std.proofs.lemmas.Bool.Decides.{nat_tests}
 use Rattle.std.proofs.lemmas.List.Elements.{All-contains_itself, All-head, All-tail, filter_map-append}
+use Rattle.std.proofs.Math.Bool.{and-false}
 use Rattle.audit_model.specs.Bytewise.{same, is_empty}
 use Rattle.audit_model.specs.Changes.{newly_held, use_after, held_after, left_held, all_held_after, after_step}
 use Rattle.audit_model.specs.Commands.{Deed, deed_of, is_this, covers_key}
@@ -23,11 +24,8 @@ use Rattle.audit_model.specs.declared.transcript.Step.{Step}
 use Rattle.audit_laws.specs.Placing.{placed_steps_in, placed_in, all_placed_in}
 use Rattle.audit_laws.specs.Laws.{LiveByAcceptance}
 use Rattle.audit_laws.proofs.Told.{Each, each-append, each-map, each-more, each-untold}
+use Rattle.audit_laws.proofs.Following.{passed}
 use Rattle.audit_laws.proofs.Kept.{held-stepped, latest-stepped, event-ages}
-
-and_false : (a : Bool) → (a && false) ≡ false
-and_false true = refl
-and_false false = refl
 
 -- ---- what a search finds
 
@@ -74,7 +72,7 @@ live-before : (config : Config) (now : ℕ) (held : List HeldValue) (deed : Deed
 live-before config now held deed notes values h e = go (is_live_at config now h) refl
   where
     unused : is_live_at config now h ≡ false → use_after config now deed h ≡ h.last_use
-    unused k = ap (λ b. cond (is_this h.value.key deed.uses && b) now h.last_use) k ∙ ap (λ b. cond b now h.last_use) (and_false (is_this h.value.key deed.uses))
+    unused k = ap (λ b. cond (is_this h.value.key deed.uses && b) now h.last_use) k ∙ ap (λ b. cond b now h.last_use) (and-false (is_this h.value.key deed.uses))
 
     go : (b : Bool) → is_live_at config now h ≡ b → b ≡ true
     go true k = refl
@@ -146,19 +144,11 @@ module _ (config : Config) (key : List ℕ) (Counts : Value → Type 0) where
       let next = after_step config s placed.task step placed.effect in
       let later = accepted_values (placed_steps_in config next (left_after now_due) steps) in
       let split = first-counts placed.effect.value later (subst (Each Counts) (as_append placed.effect.value later) counts) in
-      lives-steps steps next t (left_after now_due) (passed (is_right config placed) (after_steps config next (left_after now_due) steps) e) split.1 (lives-step s placed lives split.0)
-    where
-      passed : (b : Bool) (o : Option Situation) → cond b o None ≡ Some t → o ≡ Some t
-      passed true o k = k
-      passed false o k = absurd (true≢false (sym (ap is_some k)))
+      lives-steps steps next t (left_after now_due) (passed (is_right config placed) (after_steps config next (left_after now_due) steps) t e).rest split.1 (lives-step s placed lives split.0)
 
   lives-record : (entry : Record) (s t : Situation) → after_record config s entry ≡ Some t → Each Counts (accepted_values (placed_in config s entry)) → Lives s → Lives t
   lives-record entry s t e counts lives =
-      lives-steps (steps_of entry) (after_event entry.event s) t (tasks_in s entry.event) (passed _ (after_steps config (after_event entry.event s) (tasks_in s entry.event) (steps_of entry)) e) counts (lives-event entry.event s lives)
-    where
-      passed : (b : Bool) (o : Option Situation) → cond b o None ≡ Some t → o ≡ Some t
-      passed true o k = k
-      passed false o k = absurd (true≢false (sym (ap is_some k)))
+      lives-steps (steps_of entry) (after_event entry.event s) t (tasks_in s entry.event) (passed _ (after_steps config (after_event entry.event s) (tasks_in s entry.event) (steps_of entry)) t e).rest counts (lives-event entry.event s lives)
 
   each-parts : {X : Type 0} (P : X → Type 0) (xs ys : List X) → Each P (xs ++ ys) → Each P xs × Each P ys
   each-parts P [] ys h = (tt, h)

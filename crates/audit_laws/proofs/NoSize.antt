@@ -5,6 +5,7 @@ use Rattle.std.specs.List.{list_all, find, flat_map}
 use Rattle.std.specs.Option.{option_map, option_to_list, IfSome}
 use Rattle.std.proofs.lemmas.Bool.{and_parts, and_from}
 use Rattle.std.proofs.lemmas.List.Folds.{list_all-append}
+use Rattle.std.proofs.Math.Bool.{and-false}
 use Rattle.audit_model.specs.Bytewise.{same, is_empty}
 use Rattle.audit_model.specs.Commands.{Deed, deed_of, syncs, is_step_that}
 use Rattle.audit_model.specs.History.{History, Value}
@@ -29,10 +30,6 @@ use Rattle.audit_laws.specs.Laws.{NothingToldSize}
 use Rattle.audit_laws.proofs.Told.{Each, each-append, each-map, each-without_key}
 use Rattle.audit_laws.proofs.TranscriptsAgree.{all-flat}
 
-and_false : (a : Bool) → (a && false) ≡ false
-and_false true = refl
-and_false false = refl
-
 -- ---- no part is ever over its share
 
 pub not_over : (config : Config) → config.capacity ≡ None → (part : ℕ) (values : List Value) → is_over config part values ≡ false
@@ -45,7 +42,7 @@ never_was_over config e key part (h ∷ past) =
     (not_over config e part (held_values (h ∷ past))) (never_was_over config e key part past)
   where
     neither : (o a w : Bool) → o ≡ false → w ≡ false → (o || (a && w)) ≡ false
-    neither o a w p q = ap (λ b. b || (a && w)) p ∙ ap (λ b. a && b) q ∙ and_false a
+    neither o a w p q = ap (λ b. b || (a && w)) p ∙ ap (λ b. a && b) q ∙ and-false a
 
 abbrev Calm : Candidate → Type 0
 Calm c = c.evictable ≡ false
@@ -82,7 +79,7 @@ module _ (config : Config) (unlimited : config.capacity ≡ None) (held : List C
   size-untrue c calm =
       ap (λ b. b || is_true_cause config held deed (record c { evictable = false }) Size) calm
       ∙ ap (λ b. is_some deed.value && b) (not_over config unlimited c.value.part _)
-      ∙ and_false (is_some deed.value)
+      ∙ and-false (is_some deed.value)
 
   abbrev judged : Note → RemovalCause → Candidate → Bool
   judged note cause c = if is_told_first deed c then same_cause cause (first_cause config held deed c) else is_true_cause config held deed c cause
@@ -139,7 +136,7 @@ module _ (config : Config) (unlimited : config.capacity ≡ None) (made : ℕ) w
 
   no_own : (own : List Note) (b : Bool) → (b && is_empty own) ≡ true → none_with_size own ≡ true
   no_own [] b e = refl
-  no_own (note ∷ notes) b e = absurd (true≢false (sym e ∙ and_false b))
+  no_own (note ∷ notes) b e = absurd (true≢false (sym e ∙ and-false b))
 
   record-other : (entry : Record) (e : Event) → has_right_own_value (record entry { event = e }) ≡ true
       → list_all (λ step. none_with_size step.notices) (steps_of (record entry { event = e })) ≡ true → none_with_size (notes_of entry) ≡ true

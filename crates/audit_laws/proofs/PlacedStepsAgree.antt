@@ -1,8 +1,8 @@
 -- A step in its turn: the place of the step is the same in the history and in the situation, and a right step leads on.
-use Rattle.std.proofs.Common.{◌≡◌, refl, ap, ◌∙◌, sym, subst, ℕ, Bool, true, false, true≢false, not, ◌&&◌, ◌||◌, cond, List, [], ◌∷◌, map, Option, Some, None, is_some}
+use Rattle.std.proofs.Common.{◌≡◌, refl, ap, ◌∙◌, sym, subst, ℕ, Bool, true, false, true≢false, ◌&&◌, ◌||◌, cond, List, [], ◌∷◌, map, Option, Some, None, is_some}
 use Rattle.std.specs.Prelude.{unwrap_or}
 use Rattle.std.specs.Option.{option_map, option_map_or}
-use Rattle.std.proofs.lemmas.Bool.{and_parts, eqb-true}
+use Rattle.std.proofs.lemmas.Bool.{and_parts, eqb-true, not-true}
 use Rattle.audit_model.specs.Bytewise.{cut_at}
 use Rattle.audit_model.specs.Changes.{left_held, connection_after, after_step}
 use Rattle.audit_model.specs.Commands.{deed_of, covers}
@@ -74,17 +74,13 @@ task-open conn past (RunAgain c) tasks h r o e = subst (λ x. is_open x past ≡
 task-open conn past (RunHeld c) tasks h r o e = subst (λ x. is_open x past ≡ true) (eqb-true c conn e) h.awaits.0.0
 task-open conn past (RunLines c) tasks h r o e = subst (λ x. is_open x past ≡ true) (eqb-true c conn e) (runs_open c past r)
 
-not_true : (b : Bool) → not b ≡ true → b ≡ false
-not_true true e = absurd (true≢false (sym e))
-not_true false e = refl
-
 read_ready : (conn : ℕ) (past : History) → may_run conn past ≡ true → behind_lines 1 (unread_in (facts conn past)) ≡ behind_lines 1 (unanswered conn past)
 read_ready conn past e =
     let p = and_parts _ _ e in
     let q = and_parts _ _ p.0 in
     let w = and_parts (is_open conn past) _ q.0 in
-    ap (λ b. behind_lines 1 (cond (b || waits conn past) (behind_lines 1 (unanswered conn past)) (unanswered conn past))) (not_true (holds conn past) q.1)
-    ∙ ap (λ b. behind_lines 1 (cond b (behind_lines 1 (unanswered conn past)) (unanswered conn past))) (not_true (waits conn past) w.1)
+    ap (λ b. behind_lines 1 (cond (b || waits conn past) (behind_lines 1 (unanswered conn past)) (unanswered conn past))) (not-true (holds conn past) q.1)
+    ∙ ap (λ b. behind_lines 1 (cond b (behind_lines 1 (unanswered conn past)) (unanswered conn past))) (not-true (waits conn past) w.1)
 
 or_true : (a b : Bool) → b ≡ true → (a || b) ≡ true
 or_true true b e = refl
@@ -114,7 +110,7 @@ task-away conn past (RunAgain c) tasks h r o e = subst (NotJoined past) (eqb-tru
 task-away conn past (RunHeld c) tasks h r o e = idle-away conn past (holds_idle conn past (subst (λ x. holds x past ≡ true) (eqb-true c conn e) h.awaits.0.1))
 task-away conn past (RunLines c) tasks h r o e =
     let m = subst (λ x. may_run x past ≡ true) (eqb-true c conn e) r in
-    idle-away conn past (not_true (waits conn past) (and_parts (is_open conn past) _ (and_parts _ _ (and_parts _ _ m).0).0).1)
+    idle-away conn past (not-true (waits conn past) (and_parts (is_open conn past) _ (and_parts _ _ (and_parts _ _ m).0).0).1)
 
 line_of_conn : (task : Task) (conn : ℕ) (past : History) → is_of_conn (Some task) ≡ true → line_due (Some task) conn past ≡ first_line (unanswered conn past)
 line_of_conn (Store key outcome) conn past o = absurd (true≢false (sym o))

@@ -6,6 +6,7 @@ use Rattle.std.specs.Option.{option_map_or, option_or}
 use Rattle.std.proofs.lemmas.Bool.{and_parts, leb-true, ne_eqb, eqb-true}
 use Rattle.std.proofs.lemmas.List.{map-append}
 use Rattle.std.proofs.lemmas.List.Elements.{filter-append}
+use Rattle.std.proofs.Math.Bool.{and-false}
 use Rattle.audit_model.specs.Belongs.{refusal_where, refusal_of_conn, refusal_of_load, refusal_of, known_from}
 use Rattle.audit_model.specs.Follows.{without_load, after_event}
 use Rattle.audit_model.specs.History.{History, Opened, Closed, Fed, Settled}
@@ -114,12 +115,8 @@ is-admitted config past (event.GiveUp load moment) a n = load-admitted load past
 
 -- ---- the situation after an event
 
-and_never : (a : Bool) → (a && false) ≡ false
-and_never true = refl
-and_never false = refl
-
 pub closed-now : (c : ℕ) (past : History) → open_in (facts c (Closed c ∷ past)) ≡ false
-closed-now c past = ap (λ b. (facts c past).opened && is_none (closing_in (record (facts c past) { closed = b || (facts c past).closed }))) (eqb-self c) ∙ and_never (facts c past).opened
+closed-now c past = ap (λ b. (facts c past).opened && is_none (closing_in (record (facts c past) { closed = b || (facts c past).closed }))) (eqb-self c) ∙ and-false (facts c past).opened
 
 opened-facts : (c : ℕ) (past : History) → facts c past ≡ no_facts → facts c (Opened c ∷ past) ≡ record no_facts { opened = true }
 opened-facts c past e = ap (λ b. record (facts c past) { opened = b || (facts c past).opened }) (eqb-self c) ∙ ap {A = Facts} {B = Facts} (λ f. record f { opened = true }) e

@@ -23,6 +23,7 @@ use Rattle.audit_model.specs.declared.transcript.Step.{Step}
 use Rattle.audit_laws.specs.Orderly.{IsOrderly}
 use Rattle.audit_laws.specs.Laws.{OrderlyStays}
 use Rattle.audit_laws.proofs.Told.{Each, each-append, each-map, each_of_map, each-more, each_passing, each-untold, untold-map}
+use Rattle.audit_laws.proofs.PendingLoads.{each-any}
 use Rattle.audit_laws.proofs.Pairs.{Pairs, Differ, pairs-append, pairs-map, pairs-untold, pairs-joined, pairs-distinct, distinct-pairs}
 use Rattle.audit_laws.proofs.HeldAll.{none_succeeded}
 use Rattle.audit_laws.proofs.PlacedStepsAgree.{parts-of}
@@ -114,15 +115,11 @@ module _ (config : Config) (now : ℕ) (held : List HeldValue) (deed : Deed) (no
   before-new None c old = tt
   before-new (Some v) c old = ((old, λ e. absurd (true≢false e)), tt)
 
-  each-always : {X : Type 0} (P : X → Type 0) (xs : List X) → ((x : X) → P x) → Each P xs
-  each-always P [] f = tt
-  each-always P (x ∷ xs) f = (f x, each-always P xs f)
-
   all-apart : Pairs (λ g h. Differ g.value.key h.value.key) held → Pairs Apart all
   all-apart h =
       pairs-append Apart olds (option_to_list (option_map (newcomer config) deed.value)) (pairs-map Apart (candidate_at config now) held (olds-apart held h)) (one-new deed.value)
       (each-map (λ c. Each (Apart c) (option_to_list (option_map (newcomer config) deed.value))) (candidate_at config now) held
-      (each-always _ held (λ h. before-new deed.value (candidate_at config now h) refl)))
+      (each-any held (λ h. before-new deed.value (candidate_at config now h) refl)))
 
   new-fresh : (o : Option Value) → deed.value ≡ o → Each Fresh (option_to_list (option_map (newcomer config) o))
   new-fresh None e = tt
@@ -130,7 +127,7 @@ module _ (config : Config) (now : ℕ) (held : List HeldValue) (deed : Deed) (no
 
   all-fresh : Each Fresh all
   all-fresh =
-      each-append Fresh olds (option_to_list (option_map (newcomer config) deed.value)) (each-map Fresh (candidate_at config now) held (each-always _ held (λ h e. absurd (true≢false (sym e))))) (new-fresh deed.value refl)
+      each-append Fresh olds (option_to_list (option_map (newcomer config) deed.value)) (each-map Fresh (candidate_at config now) held (each-any held (λ h e. absurd (true≢false (sym e))))) (new-fresh deed.value refl)
 
   differ-left : (c d : Candidate) → Apart c d → IsTrue (not (is_succeeded deed c)) → Fresh d → Differ c.value.key d.value.key
   differ-left c d apart spared fresh = go d.new refl

@@ -6,6 +6,8 @@ use Rattle.std.specs.Option.{option_map, option_and_then}
 use Rattle.std.proofs.Math.Path.{fun_ext}
 use Rattle.std.proofs.lemmas.Simd.{map-map}
 use Rattle.std.proofs.lemmas.Slice.Eq.{bytes_eq-Decides}
+use Rattle.std.proofs.Math.Bool.{and-true, and-false}
+use Rattle.std.proofs.lemmas.Iterator.Adapters.{option_map_id}
 use Rattle.audit_model.specs.Bytewise.{same}
 use Rattle.audit_model.specs.History.{Value, History, latest_moment}
 use Rattle.audit_model.specs.Loads.{loads_under_way, load_of_key, key_of_load, next_load}
@@ -24,10 +26,6 @@ same-true a b e = (bytes_eq-Decides a b).0 e
 pub option_map-both : {X Y Z : Type 0} (g : Y → Z) (f : X → Y) (o : Option X) → option_map g (option_map f o) ≡ option_map (λ x. g (f x)) o
 option_map-both g f None = refl
 option_map-both g f (Some x) = refl
-
-option_map-id : {X : Type 0} (o : Option X) → option_map (λ x. x) o ≡ o
-option_map-id None = refl
-option_map-id (Some x) = refl
 
 -- what a test of one key finds among values of which the key's one is known
 module _ (key : List ℕ) (A : Option Value) (test : Value → Bool) where
@@ -62,16 +60,8 @@ pick : (D C B : Bool) (X : Value → Bool) (A : Option Value) → (B ≡ true �
     → option_and_then (λ w. cond (not D && not C && not (not B) && not (X w)) (Some w) None) A ≡ cond B (option_and_then (λ w. cond (not C && not (X w)) (Some w) None) A) None
 pick D C true X None f = refl
 pick D C false X None f = refl
-pick D C true X (Some w) f = ap (λ d. cond (not d && not C && true && not (X w)) (Some w) None) (f refl) ∙ ap (λ b. cond (b && not (X w)) (Some w) None) (and_true (not C))
-  where
-    and_true : (a : Bool) → (a && true) ≡ a
-    and_true true = refl
-    and_true false = refl
-pick D C false X (Some w) f = ap (λ b. cond (b && not (X w)) (Some w) None) (and_false (not D && not C))
-  where
-    and_false : (a : Bool) → (a && false) ≡ false
-    and_false true = refl
-    and_false false = refl
+pick D C true X (Some w) f = ap (λ d. cond (not d && not C && true && not (X w)) (Some w) None) (f refl) ∙ ap (λ b. cond (b && not (X w)) (Some w) None) (and-true (not C))
+pick D C false X (Some w) f = ap (λ b. cond (b && not (X w)) (Some w) None) (and-false (not D && not C))
 
 module _ (config : Config) (made : ℕ) (past : History) (stand : Each (Stands past) (held_values past)) where
   abbrev now : ℕ
@@ -114,7 +104,7 @@ module _ (config : Config) (made : ℕ) (past : History) (stand : Each (Stands p
       ∙ sym (find-found key (last_accepted key past) (live_by key) (held_values past) (fits key))
       ∙ sym (ap (option_map (λ k. k.value)) (find-map (held_from config past) (λ k. same key k.value.key && is_live_at config now k) (held_values past))
       ∙ option_map-both (λ k. k.value) (held_from config past) (find (λ w. same key w.key && is_live_at config now (held_from config past w)) (held_values past))
-      ∙ option_map-id (find (λ w. same key w.key && is_live_at config now (held_from config past w)) (held_values past))
+      ∙ option_map_id (find (λ w. same key w.key && is_live_at config now (held_from config past w)) (held_values past))
       ∙ ap (λ p. find p (held_values past)) (fun_ext (by_key key)))
 
   -- a value that is held is found under its key exactly where it is live
@@ -124,11 +114,7 @@ module _ (config : Config) (made : ℕ) (past : History) (stand : Each (Stands p
       ∙ ap (option_and_then (λ w. cond (not (is_deleted v.key past) && not (is_covered v.key past) && not (is_told v.key past) && not (dead_at v.key w)) (Some w) None)) st.last
       ∙ ap (λ d. cond (not d && not (is_covered v.key past) && not (is_told v.key past) && not (dead_at v.key v)) (Some v) None) st.kept
       ∙ ap (λ t. cond (true && not (is_covered v.key past) && not t && not (dead_at v.key v)) (Some v) None) there
-      ∙ ap (λ b. cond (b && not (dead_at v.key v)) (Some v) None) (and_true (not (is_covered v.key past)))
-    where
-      and_true : (a : Bool) → (a && true) ≡ a
-      and_true true = refl
-      and_true false = refl
+      ∙ ap (λ b. cond (b && not (dead_at v.key v)) (Some v) None) (and-true (not (is_covered v.key past)))
 
   keys-same : (vs : List Value) → Each (λ v. Stands past v × (is_told v.key past ≡ false)) vs
       → filter_map (λ v. option_map (λ w. w.key) (live_value config v.key past now)) vs ≡ map (λ k. k.value.key) (filter (is_live_at config now) (map (held_from config past) vs))

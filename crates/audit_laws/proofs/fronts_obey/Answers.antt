@@ -1,4 +1,4 @@
-use Rattle.audit_laws.proofs.FrontLemmas.{front_obeys}
+use Rattle.audit_laws.proofs.Fronts.{front_obeys}
 use Rattle.audit_laws.proofs.fronts_obey.Goals as goal
 
 pub returns : goal.returns
