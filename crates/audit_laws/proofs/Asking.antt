@@ -1,13 +1,12 @@
 -- A step of `HAS` or `KEYS` changes nothing but its own connection, and what `KEYS` answers.
 use Rattle.std.proofs.Common.{◌≡◌, refl, ap, ◌∙◌, sym, subst, ℕ, Bool, true, false, true≢false, not, ◌&&◌, ◌||◌, cond, List, [], ◌∷◌, map, Option, Some, None}
-use Rattle.std.specs.Prelude.{IsTrue, codes}
-use Rattle.std.specs.List.{list_all}
+use Rattle.std.specs.Prelude.{codes}
 use Rattle.std.specs.Option.{option_map, option_map_or, option_eq}
 use Rattle.std.proofs.Math.Bool.{or-false}
 use Rattle.std.proofs.lemmas.List.{append-nil, map-id}
 use Rattle.audit_model.specs.Bytewise.{same, is_empty, text_line}
 use Rattle.audit_model.specs.Changes.{held_after, all_held_after, connection_after, join_load, with_connection_after, after_step}
-use Rattle.audit_model.specs.Commands.{Deed, Nothing, deed_of, drops, quits}
+use Rattle.audit_model.specs.Commands.{deed_of, drops, quits}
 use Rattle.audit_model.specs.Follows.{placed_step_in}
 use Rattle.audit_model.specs.History.{Action, Effect, Running, Value}
 use Rattle.audit_model.specs.Notes.{is_over, is_silent}
@@ -19,8 +18,8 @@ use Rattle.audit_model.specs.declared.command.Command.TheVariants as says
 use Rattle.audit_model.specs.declared.config.Config.{Config}
 use Rattle.audit_model.specs.declared.transcript.Note.{Note}
 use Rattle.audit_model.specs.declared.transcript.Step.{Step}
-use Rattle.audit_laws.specs.Orderly.{IsOrderly, is_asking}
-use Rattle.audit_laws.specs.Laws.{AskingChangesNothing, KeysAnswer}
+use Rattle.audit_laws.specs.Orderly.{IsOrderly, idle_deed, is_asking}
+use Rattle.audit_laws.specs.Laws.{AskingChangesNothing, IdleKeeps, KeysAnswer}
 use Rattle.audit_laws.proofs.Told.{each-more, each_passing, map-same}
 use Rattle.audit_laws.proofs.Changes.{is_of_conn, of_conn-connection}
 use Rattle.audit_laws.proofs.PlacedStepsAgree.{parts-of}
@@ -30,32 +29,28 @@ use Rattle.audit_laws.proofs.StaysOrderly.{held-pairs}
 
 -- ---- a step that does nothing to values
 
-abbrev no_deed : Deed
-no_deed = record { uses = None; value = None; deletes = None; covers = Nothing; syncs = false }
-
 marked_already : (o e : Bool) → (not o || e) ≡ true → (o || e) ≡ e
 marked_already true e h = sym h
 marked_already false e h = refl
 
 idle-held : (config : Config) (now : ℕ) (held : List HeldValue) (values : List Value) (h : HeldValue) → (not (is_over config h.value.part values) || h.evictable) ≡ true
-    → held_after config now held no_deed [] values h ≡ h
+    → held_after config now held idle_deed [] values h ≡ h
 idle-held config now held values h marked =
     ap (λ b. record { value = h.value; last_use = h.last_use; covered = b; evictable = is_over config h.value.part values || h.evictable }) (or-false h.covered)
     ∙ ap (λ b. record h { evictable = b }) (marked_already (is_over config h.value.part values) h.evictable marked)
 
 -- the values held stay as they are
-pub all_held-idle : (config : Config) (now : ℕ) (held : List HeldValue) → IsTrue (list_all (λ h. not (is_over config h.value.part (map (λ k. k.value) held)) || h.evictable) held)
-    → all_held_after config now held no_deed [] ≡ held
-all_held-idle config now held marked =
-    ap (λ hs. map (held_after config now held no_deed [] (map (λ h. h.value) hs)) hs) (append-nil held)
-    ∙ map-same (held_after config now held no_deed [] (map (λ h. h.value) held)) (λ h. h) held
-    (each-more _ _ held (idle-held config now held (map (λ h. h.value) held)) (each_passing (λ h. not (is_over config h.value.part (map (λ k. k.value) held)) || h.evictable) held marked))
+pub idle_keeps : IdleKeeps
+idle_keeps config now held orderly =
+    ap (λ hs. map (held_after config now held idle_deed [] (map (λ h. h.value) hs)) hs) (append-nil held)
+    ∙ map-same (held_after config now held idle_deed [] (map (λ h. h.value) held)) (λ h. h) held
+    (each-more _ _ held (idle-held config now held (map (λ h. h.value) held)) (each_passing (λ h. not (is_over config h.value.part (map (λ k. k.value) held)) || h.evictable) held orderly.marked))
     ∙ map-id held
 
 -- ---- what asking does
 
 record Idle (effect : Effect) : Type 0 where
-  deed : deed_of effect ≡ no_deed
+  deed : deed_of effect ≡ idle_deed
   drops_none : drops effect ≡ false
   stays : quits effect ≡ false
   joins : (conn : ℕ) (s : Situation) → join_load conn effect s ≡ s
@@ -95,12 +90,12 @@ asks_lines config waited (Some (RunHeld conn)) step e = refl
 asks_lines config waited (Some (RunLines conn)) step e = refl
 asks_lines config waited None step e = refl
 
-idle-step : (config : Config) (s : Situation) (task : Option Task) (step : Step) (effect : Effect) → IsOrderly config s → is_of_conn task ≡ true → Idle effect → effect.notes ≡ []
+idle-step : (config : Config) (s : Situation) (task : Option Task) (step : Step) (effect : Effect) → IsOrderly config s.held → is_of_conn task ≡ true → Idle effect → effect.notes ≡ []
     → after_step config s task step effect ≡ option_map_or (λ c. with_connection false (connection_after task step effect c) s) (connection_in step.conn s) s
 idle-step config s task step effect orderly lines idle silent =
     ap (λ d. with_connection_after task step effect (record s { held = all_held_after config s.latest s.held d effect.notes; dropped = s.dropped || drops effect })) idle.deed
-    ∙ ap (λ ns. with_connection_after task step effect (record s { held = all_held_after config s.latest s.held no_deed ns; dropped = s.dropped || drops effect })) silent
-    ∙ ap (λ hs. with_connection_after task step effect (record s { held = hs; dropped = s.dropped || drops effect })) (all_held-idle config s.latest s.held orderly.marked)
+    ∙ ap (λ ns. with_connection_after task step effect (record s { held = all_held_after config s.latest s.held idle_deed ns; dropped = s.dropped || drops effect })) silent
+    ∙ ap (λ hs. with_connection_after task step effect (record s { held = hs; dropped = s.dropped || drops effect })) (idle_keeps config s.latest s.held orderly)
     ∙ ap (λ b. with_connection_after task step effect (record s { dropped = b })) (ap (λ b. s.dropped || b) idle.drops_none ∙ or-false s.dropped)
     ∙ of_conn-connection task step effect s lines
     ∙ ap (λ b. option_map_or (λ c. with_connection b (connection_after task step effect c) (join_load step.conn effect s)) (connection_in step.conn s) s) idle.stays
@@ -125,6 +120,6 @@ keys_answer config s task step orderly right keys =
     let placed = placed_step_in config s task step in
     record {
       reply = keys-reply config (view_in config s) placed.held placed.effect keys (parts-of config placed right).reply;
-      rising = keys-rise config s.latest s.held (held-pairs config s orderly);
+      rising = keys-rise config s.latest s.held (held-pairs config s.held orderly);
       live = keys-live config s.latest s.held;
     }

@@ -12,7 +12,7 @@ use Rattle.audit_model.specs.Commands.{Deed, deed_of, is_this}
 use Rattle.audit_model.specs.Follows.{after_event, placed_step_in}
 use Rattle.audit_model.specs.History.{Value}
 use Rattle.audit_model.specs.Notes.{is_over, newcomer, candidates_of, is_rewritten, is_succeeded, are_true_notes}
-use Rattle.audit_model.specs.Situation.{Situation, HeldValue, candidate_at, empty_situation}
+use Rattle.audit_model.specs.Situation.{Situation, HeldValue, candidate_at}
 use Rattle.audit_model.specs.Steps.{Task, is_right}
 use Rattle.audit_model.specs.Values.{is_value_of, untold}
 use Rattle.audit_model.specs.View.{Candidate}
@@ -35,9 +35,6 @@ Marked config held = IsTrue (list_all (λ h. not (is_over config h.value.part (m
 
 abbrev Distinct : List HeldValue → Type 0
 Distinct held = IsDistinct same (map (λ h. h.value.key) held)
-
-orderly-of : (config : Config) (s : Situation) (held : List HeldValue) → s.held ≡ held → Marked config held → Distinct held → IsOrderly config s
-orderly-of config s held e m d = record { marked = subst (Marked config) (sym e) m; distinct = subst Distinct (sym e) d }
 
 -- ---- excess is marked
 
@@ -153,31 +150,36 @@ pub pairs-of_keys : (hs : List HeldValue) → Pairs Differ (map (λ h. h.value.k
 pairs-of_keys [] h = tt
 pairs-of_keys (g ∷ gs) (e, h) = (each_of_map (Differ g.value.key) (λ (k : HeldValue). k.value.key) gs e, pairs-of_keys gs h)
 
-pub held-pairs : (config : Config) (s : Situation) → IsOrderly config s → Pairs (λ g h. Differ g.value.key h.value.key) s.held
-held-pairs config s o = pairs-of_keys s.held (pairs-distinct (map (λ h. h.value.key) s.held) o.distinct)
+pub held-pairs : (config : Config) (held : List HeldValue) → IsOrderly config held → Pairs (λ g h. Differ g.value.key h.value.key) held
+held-pairs config held o = pairs-of_keys held (pairs-distinct (map (λ h. h.value.key) held) o.distinct)
 
--- ---- events, steps and records
+-- ---- deeds, events, steps and records
 
-pub orderly-event : (config : Config) (e : Event) (s : Situation) → IsOrderly config s → IsOrderly config (after_event e s)
-orderly-event config e s o = orderly-of config (after_event e s) s.held (event-ages e s).held o.marked o.distinct
+orderly-deed : (config : Config) (now : ℕ) (held : List HeldValue) (deed : Deed) (notes : List Note)
+    → IsOrderly config held → IsTrue (are_true_notes config (map (candidate_at config now) held) deed (candidates_of config (map (candidate_at config now) held) deed) notes)
+    → IsOrderly config (all_held_after config now held deed notes)
+orderly-deed config now held deed notes o told =
+    record { marked = marked-after config now held deed notes; distinct = distinct-after config now held deed notes (held-pairs config held o) told }
 
-pub orderly-step : (config : Config) (s : Situation) (task : Option Task) (step : Step) → IsOrderly config s → is_right config (placed_step_in config s task step) ≡ true
-    → IsOrderly config (after_step config s task step (placed_step_in config s task step).effect)
+orderly-event : (config : Config) (e : Event) (s : Situation) → IsOrderly config s.held → IsOrderly config (after_event e s).held
+orderly-event config e s o = subst (IsOrderly config) (sym (event-ages e s).held) o
+
+orderly-step : (config : Config) (s : Situation) (task : Option Task) (step : Step) → IsOrderly config s.held → is_right config (placed_step_in config s task step) ≡ true
+    → IsOrderly config (after_step config s task step (placed_step_in config s task step).effect).held
 orderly-step config s task step o right =
     let placed = placed_step_in config s task step in
-    let deed = deed_of placed.effect in
-    orderly-of config (after_step config s task step placed.effect) (all_held_after config s.latest s.held deed placed.effect.notes) (held-stepped config s task step placed.effect)
-    (marked-after config s.latest s.held deed placed.effect.notes)
-    (distinct-after config s.latest s.held deed placed.effect.notes (held-pairs config s o) (parts-of config placed right).told)
+    subst (IsOrderly config) (sym (held-stepped config s task step placed.effect))
+    (orderly-deed config s.latest s.held (deed_of placed.effect) placed.effect.notes o (parts-of config placed right).told)
 
-orderly-empty : (config : Config) (made : ℕ) → IsOrderly config (empty_situation made)
-orderly-empty config made = record { marked = refl; distinct = distinct-pairs [] tt }
+orderly-empty : (config : Config) → IsOrderly config []
+orderly-empty config = record { marked = refl; distinct = distinct-pairs [] tt }
 
 pub orderly_stays : OrderlyStays
 orderly_stays =
     record {
       empty = orderly-empty;
+      deed = orderly-deed;
       event = orderly-event;
       step = orderly-step;
-      records = λ config records s t o e. records-keep config (IsOrderly config) (orderly-event config) (orderly-step config) records s t e o;
+      records = λ config records s t o e. records-keep config (λ u. IsOrderly config u.held) (orderly-event config) (orderly-step config) records s t e o;
     }

@@ -1,5 +1,5 @@
 -- Laws of the definitions.
-use Rattle.std.specs.Prelude.{◌≡◌, ◌↔◌, ◌==◌, ℕ, suc, false, if◌then◌else◌, MatchOption, length, List, Option, [], ◌∷◌, ◌++◌, Some, None, IsTrue, is_some, Contains}
+use Rattle.std.specs.Prelude.{◌≡◌, ◌↔◌, ◌==◌, ℕ, suc, false, if◌then◌else◌, MatchOption, length, map, List, Option, [], ◌∷◌, ◌++◌, Some, None, IsTrue, is_some, Contains}
 use Rattle.std.specs.List.{list_all, list_any}
 use Rattle.std.specs.List.Sorted.{IsStrictlySortedBy}
 use Rattle.std.specs.Option.{option_map_or}
@@ -10,23 +10,26 @@ use Rattle.audit_model.specs.Follows.{AgreesWithHistory, Follows, after_event, p
 use Rattle.audit_model.specs.History.{Value, Running}
 use Rattle.audit_model.specs.Replies.{keys_listed}
 use Rattle.audit_model.specs.Bytewise.{same}
-use Rattle.audit_model.specs.Changes.{connection_after, after_step}
+use Rattle.audit_model.specs.Changes.{all_held_after, connection_after, after_step}
+use Rattle.audit_model.specs.Commands.{Deed}
+use Rattle.audit_model.specs.Notes.{candidates_of, are_true_notes}
 use Rattle.audit_model.specs.Obeys.{Obeys, accepted_values, agree_on_parts}
 use Rattle.audit_model.specs.Places.{placed_steps}
-use Rattle.audit_model.specs.Situation.{Situation, empty_situation, connection_in, with_connection, live_at, live_keys_at}
+use Rattle.audit_model.specs.Situation.{Situation, HeldValue, empty_situation, connection_in, with_connection, live_at, live_keys_at, candidate_at}
 use Rattle.audit_model.specs.Steps.{Task, is_right}
 use Rattle.audit_model.specs.Summary.{LeadsToSummary}
 use Rattle.audit_model.specs.declared.command.Command.TheVariants as says
 use Rattle.audit_model.specs.declared.config.Config.{Config}
 use Rattle.audit_model.specs.declared.event.Event.{Event}
 use Rattle.audit_model.specs.declared.event.Instant.{Instant}
+use Rattle.audit_model.specs.declared.transcript.Note.{Note}
 use Rattle.audit_model.specs.declared.transcript.Record.{Record}
 use Rattle.audit_model.specs.declared.transcript.Step.{Step}
 use Rattle.audit_model.specs.declared.transcript.Transcript.{Transcript}
 use Rattle.audit_laws.specs.Placing.{accepted_in, all_placed_in}
 use Rattle.audit_laws.specs.Leading.{LeadsTo, LeadsBy, is_parted}
 use Rattle.audit_laws.specs.Breaking.{first_break_from, IsFaultless, BreaksFirstAt}
-use Rattle.audit_laws.specs.Orderly.{IsOrderly, is_asking}
+use Rattle.audit_laws.specs.Orderly.{IsOrderly, idle_deed, is_asking}
 use Rattle.audit_laws.specs.Telling.{notes_of, none_with_size}
 
 -- a front of an obeying transcript obeys
@@ -109,20 +112,29 @@ LiveByAcceptance =
     → after_records config s records ≡ Some t → live_at config s.latest s.held key ≡ None → live_at config t.latest t.held key ≡ Some value
     → Contains (accepted_values (all_placed_in config s records)) value
 
--- each situation that records lead to is orderly, and each one in between
+-- the values held are orderly at the start, after each deed with true notes, and so in each situation that records lead to and in between
 pub record OrderlyStays : Type 0 where
-  pub empty : (config : Config) (made : ℕ) → IsOrderly config (empty_situation made)
-  pub event : (config : Config) (e : Event) (s : Situation) → IsOrderly config s → IsOrderly config (after_event e s)
+  pub empty : (config : Config) → IsOrderly config []
+  pub deed : (config : Config) (now : ℕ) (held : List HeldValue) (deed : Deed) (notes : List Note)
+      → IsOrderly config held
+      → IsTrue (are_true_notes config (map (candidate_at config now) held) deed (candidates_of config (map (candidate_at config now) held) deed) notes)
+      → IsOrderly config (all_held_after config now held deed notes)
+  pub event : (config : Config) (e : Event) (s : Situation) → IsOrderly config s.held → IsOrderly config (after_event e s).held
   pub step : (config : Config) (s : Situation) (task : Option Task) (step : Step)
-      → IsOrderly config s → IsTrue (is_right config (placed_step_in config s task step))
-      → IsOrderly config (after_step config s task step (placed_step_in config s task step).effect)
-  pub records : (config : Config) (records : List Record) (s t : Situation) → IsOrderly config s → after_records config s records ≡ Some t → IsOrderly config t
+      → IsOrderly config s.held → IsTrue (is_right config (placed_step_in config s task step))
+      → IsOrderly config (after_step config s task step (placed_step_in config s task step).effect).held
+  pub records : (config : Config) (records : List Record) (s t : Situation)
+      → IsOrderly config s.held → after_records config s records ≡ Some t → IsOrderly config t.held
+
+-- what does nothing to values leaves orderly ones as they are
+abbrev pub IdleKeeps : Type 0
+IdleKeeps = (config : Config) (now : ℕ) (held : List HeldValue) → IsOrderly config held → all_held_after config now held idle_deed [] ≡ held
 
 -- a step of `HAS` or `KEYS` changes nothing of the situation but its own connection, which may close
 abbrev pub AskingChangesNothing : Type 0
 AskingChangesNothing =
     (config : Config) (s : Situation) (task : Option Task) (step : Step)
-    → IsOrderly config s → IsTrue (is_right config (placed_step_in config s task step)) → IsTrue (is_asking (placed_step_in config s task step).effect.action)
+    → IsOrderly config s.held → IsTrue (is_right config (placed_step_in config s task step)) → IsTrue (is_asking (placed_step_in config s task step).effect.action)
     → after_step config s task step (placed_step_in config s task step).effect
     ≡ option_map_or (λ c. with_connection false (connection_after task step (placed_step_in config s task step).effect c) s) (connection_in step.conn s) s
 
@@ -136,5 +148,5 @@ pub record ListsLiveKeys (config : Config) (s : Situation) (reply_of_step : Opti
 abbrev pub KeysAnswer : Type 0
 KeysAnswer =
     (config : Config) (s : Situation) (task : Option Task) (step : Step)
-    → IsOrderly config s → IsTrue (is_right config (placed_step_in config s task step)) → (placed_step_in config s task step).effect.action ≡ Running says.Keys
+    → IsOrderly config s.held → IsTrue (is_right config (placed_step_in config s task step)) → (placed_step_in config s task step).effect.action ≡ Running says.Keys
     → ListsLiveKeys config s step.reply

@@ -1,7 +1,7 @@
 //! Laws of the definitions of transcripts. Each function does nothing: its contract is the law.
 #![tactic(auto)]
 
-ghost use Rattle.audit_laws.specs.Laws.{FrontsObey, RecordsLead, StepsAgree, PlacesAgree, LeadsOn, LeadsOnBy, LedObeys, BreaksAgree, BreaksWhereUnfollowed, GoodIsFaultless, FirstBreakIsFirst, NothingToldSize, LiveByAcceptance, OrderlyStays, AskingChangesNothing, KeysAnswer};
+ghost use Rattle.audit_laws.specs.Laws.{FrontsObey, RecordsLead, StepsAgree, PlacesAgree, LeadsOn, LeadsOnBy, LedObeys, BreaksAgree, BreaksWhereUnfollowed, GoodIsFaultless, FirstBreakIsFirst, NothingToldSize, LiveByAcceptance, OrderlyStays, IdleKeeps, AskingChangesNothing, KeysAnswer};
 ghost use Rattle.audit_model.specs.Configs.{DeadlinesAgree};
 
 /// A front of an obeying transcript obeys.
@@ -74,9 +74,14 @@ pub fn live_by_acceptance()
     ensures { LiveByAcceptance }
 {}
 
-/// Each situation that records lead to is orderly: excess is marked, and no two values held have one key.
+/// The values held stay orderly: a part's excess is marked at its values, and no two values have one key.
 pub fn orderly_stays()
     ensures { OrderlyStays }
+{}
+
+/// What does nothing to values leaves orderly ones as they are.
+pub fn idle_keeps()
+    ensures { IdleKeeps }
 {}
 
 /// A step of `HAS` or `KEYS` changes nothing of the situation but its own connection.
