@@ -19,7 +19,7 @@ use Rattle.audit_model.specs.declared.event.Instant.{Instant}
 use Rattle.audit_model.specs.declared.transcript.Record.{Record}
 use Rattle.audit_model.specs.declared.transcript.Transcript.{Transcript}
 use Rattle.audit_laws.specs.Placing.{placed_in, accepted_in, all_placed_in}
-use Rattle.audit_laws.specs.Leading.{LeadsTo, is_parted}
+use Rattle.audit_laws.specs.Leading.{LeadsTo, LeadsBy, is_parted}
 use Rattle.audit_laws.specs.Laws.{LeadsOn, LeadsOnBy, LedObeys, PlacesAgree}
 use Rattle.audit_laws.proofs.Following.{after_records-append}
 use Rattle.audit_laws.proofs.Views.{same-true}
@@ -86,6 +86,10 @@ module _ (config : Config) (made : Instant) (records : List Record) (added : Rec
   -- the values that the longer transcript accepts
   pub accepted-more : accepted_values (placed_steps config longer) ≡ accepted_values (placed_steps config (record { made = made; records = records })) ++ accepted_in config s added
   accepted-more = ap accepted_values placed-more ∙ filter_map-append (λ (placed : PlacedStep). placed.effect.value) (placed_steps config (record { made = made; records = records })) (placed_in config s added)
+
+-- no record yet
+pub leads_by-none : (config : Config) (part_of : List ℕ → ℕ) (made : Instant) → LeadsBy config part_of (record { made = made; records = [] }) (empty_situation made.nanos)
+leads_by-none config part_of made = record { leads = refl; parted = refl }
 
 pub leads_by-more : LeadsOnBy
 leads_by-more config part_of made records added s t l f p =

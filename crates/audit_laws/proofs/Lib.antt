@@ -32,3 +32,4 @@ pub mod Pairs
 pub mod KeysListed
 pub mod StaysOrderly
 pub mod Asking
+pub mod Stages

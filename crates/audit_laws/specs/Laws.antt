@@ -2,11 +2,11 @@
 use Rattle.std.specs.Prelude.{◌≡◌, ◌↔◌, ◌==◌, ℕ, suc, false, if◌then◌else◌, MatchOption, length, map, List, Option, [], ◌∷◌, ◌++◌, Some, None, IsTrue, is_some, Contains}
 use Rattle.std.specs.List.{list_all, list_any}
 use Rattle.std.specs.List.Sorted.{IsStrictlySortedBy}
-use Rattle.std.specs.Option.{option_map_or}
+use Rattle.std.specs.Option.{option_map_or, option_and_then}
 use Rattle.std.specs.Ordering.{nat_cmp}
 use Rattle.std.specs.Cmp.Lexicographic.{slice_cmp}
 use Rattle.audit_model.specs.Belongs.{IsAdmitted, is_good, first_break}
-use Rattle.audit_model.specs.Follows.{AgreesWithHistory, Follows, after_event, placed_step_in, after_records, followed}
+use Rattle.audit_model.specs.Follows.{AgreesWithHistory, Follows, after_event, placed_step_in, after_steps, after_records, followed}
 use Rattle.audit_model.specs.History.{Value, Running}
 use Rattle.audit_model.specs.Replies.{keys_listed}
 use Rattle.audit_model.specs.Bytewise.{same}
@@ -26,7 +26,7 @@ use Rattle.audit_model.specs.declared.transcript.Note.{Note}
 use Rattle.audit_model.specs.declared.transcript.Record.{Record}
 use Rattle.audit_model.specs.declared.transcript.Step.{Step}
 use Rattle.audit_model.specs.declared.transcript.Transcript.{Transcript}
-use Rattle.audit_laws.specs.Placing.{accepted_in, all_placed_in}
+use Rattle.audit_laws.specs.Placing.{placed_steps_in, accepted_in, all_placed_in, Stage, stage_after}
 use Rattle.audit_laws.specs.Leading.{LeadsTo, LeadsBy, is_parted}
 use Rattle.audit_laws.specs.Breaking.{first_break_from, IsFaultless, BreaksFirstAt}
 use Rattle.audit_laws.specs.Orderly.{IsOrderly, idle_deed, is_asking}
@@ -54,6 +54,17 @@ PlacesAgree =
     (config : Config) (transcript : Transcript)
     → IsTrue (is_some (after_records config (empty_situation transcript.made.nanos) transcript.records))
     → placed_steps config transcript ≡ all_placed_in config (empty_situation transcript.made.nanos) transcript.records
+
+-- steps may be taken one after the other: what follows some steps is what follows from the stage to which they lead
+pub record StepsInParts : Type 0 where
+  pub stages : (config : Config) (stage : Stage) (front rest : List Step)
+      → stage_after config stage (front ++ rest) ≡ option_and_then (λ reached. stage_after config reached rest) (stage_after config stage front)
+  pub records : (config : Config) (stage : Stage) (front rest : List Step)
+      → after_steps config stage.situation stage.left (front ++ rest)
+      ≡ option_and_then (λ reached. after_steps config reached.situation reached.left rest) (stage_after config stage front)
+  pub places : (config : Config) (stage reached : Stage) (front rest : List Step) → stage_after config stage front ≡ Some reached
+      → placed_steps_in config stage.situation stage.left (front ++ rest)
+      ≡ placed_steps_in config stage.situation stage.left front ++ placed_steps_in config reached.situation reached.left rest
 
 -- a transcript that leads to a situation leads on with a record that follows
 abbrev pub LeadsOn : Type 0

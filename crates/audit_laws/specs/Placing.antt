@@ -1,5 +1,5 @@
 -- Steps in their places, by situations alone.
-use Rattle.std.specs.Prelude.{List, [], ◌∷◌, ◌++◌}
+use Rattle.std.specs.Prelude.{List, [], ◌∷◌, ◌++◌, Option, Some, None, if◌then◌else◌}
 use Rattle.std.specs.Option.{option_map_or}
 use Rattle.audit_model.specs.Changes.{after_step}
 use Rattle.audit_model.specs.Follows.{tasks_in, after_event, placed_step_in, after_record}
@@ -7,7 +7,7 @@ use Rattle.audit_model.specs.History.{Value}
 use Rattle.audit_model.specs.Obeys.{accepted_values}
 use Rattle.audit_model.specs.Places.{due, first_due, left_after, steps_of}
 use Rattle.audit_model.specs.Situation.{Situation, may_run_in}
-use Rattle.audit_model.specs.Steps.{Task, PlacedStep}
+use Rattle.audit_model.specs.Steps.{Task, PlacedStep, is_right}
 use Rattle.audit_model.specs.declared.config.Config.{Config}
 use Rattle.audit_model.specs.declared.transcript.Record.{Record}
 use Rattle.audit_model.specs.declared.transcript.Step.{Step}
@@ -32,3 +32,17 @@ accepted_in config s entry = accepted_values (placed_in config s entry)
 abbrev pub all_placed_in : Config → Situation → List Record → List PlacedStep
 all_placed_in config s [] = []
 all_placed_in config s (entry ∷ entries) = placed_in config s entry ++ option_map_or (λ t. all_placed_in config t entries) (after_record config s entry) []
+
+-- where a record stands in the middle of its steps
+pub record Stage : Type 0 where
+  pub situation : Situation
+  pub left : List Task
+
+-- the stage after these steps, if they are as they should be; more may come behind them
+abbrev pub stage_after : Config → Stage → List Step → Option Stage
+stage_after config stage [] = Some stage
+stage_after config stage (step ∷ steps) =
+    let now_due = due (may_run_in stage.situation) stage.left in
+    let placed = placed_step_in config stage.situation (first_due now_due) step in
+    let rest = stage_after config (record { situation = after_step config stage.situation placed.task step placed.effect; left = left_after now_due }) steps in
+    if is_right config placed then rest else None

@@ -1,7 +1,7 @@
 //! Laws of the definitions of transcripts. Each function does nothing: its contract is the law.
 #![tactic(auto)]
 
-ghost use Rattle.audit_laws.specs.Laws.{FrontsObey, RecordsLead, StepsAgree, PlacesAgree, LeadsOn, LeadsOnBy, LedObeys, BreaksAgree, BreaksWhereUnfollowed, GoodIsFaultless, FirstBreakIsFirst, NothingToldSize, LiveByAcceptance, OrderlyStays, IdleKeeps, AskingChangesNothing, KeysAnswer};
+ghost use Rattle.audit_laws.specs.Laws.{FrontsObey, RecordsLead, StepsAgree, PlacesAgree, StepsInParts, LeadsOn, LeadsOnBy, LedObeys, BreaksAgree, BreaksWhereUnfollowed, GoodIsFaultless, FirstBreakIsFirst, NothingToldSize, LiveByAcceptance, OrderlyStays, IdleKeeps, AskingChangesNothing, KeysAnswer};
 ghost use Rattle.audit_model.specs.Configs.{DeadlinesAgree};
 
 /// A front of an obeying transcript obeys.
@@ -27,6 +27,11 @@ pub fn records_lead()
 /// Where records follow one another, each step has the same place in the whole history and in the situations.
 pub fn places_agree()
     ensures { PlacesAgree }
+{}
+
+/// Steps may be taken one after the other.
+pub fn steps_in_parts()
+    ensures { StepsInParts }
 {}
 
 /// A transcript that leads to a situation leads on with a record that follows.
