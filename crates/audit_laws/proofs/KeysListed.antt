@@ -1,0 +1,115 @@
+-- The live keys, each once, in byte order.
+use Rattle.std.proofs.Common.{◌≡◌, refl, ap, ◌∙◌, sym, ℕ, Bool, true, false, true≢false, ◌&&◌, ◌||◌, cond, List, [], ◌∷◌, map, Some, is_some}
+use Rattle.std.specs.List.{filter, find, list_any}
+use Rattle.std.specs.List.Sorted.{IsStrictlySortedBy}
+use Rattle.std.specs.Option.{option_map}
+use Rattle.std.specs.declared.cmp.Ordering.{Ordering}
+use Rattle.std.specs.declared.cmp.Ordering.TheVariants.{Less, Equal, Greater}
+use Rattle.std.specs.Ordering.{is_lt, is_eq, ordering_reverse, nat_cmp}
+use Rattle.std.specs.Cmp.Lexicographic.{slice_cmp}
+use Rattle.std.proofs.lemmas.Cmp.{nat_list_cmp_total}
+use Rattle.std.proofs.lemmas.Map.Text.{is_eq-slice_cmp}
+use Rattle.audit_model.specs.Bytewise.{same, is_before}
+use Rattle.audit_model.specs.Situation.{HeldValue, is_live_at, live_at, live_keys_at}
+use Rattle.audit_model.specs.Values.{put_sorted, sorted}
+use Rattle.audit_model.specs.declared.config.Config.{Config}
+use Rattle.audit_laws.proofs.Told.{Each}
+use Rattle.audit_laws.proofs.Pairs.{Pairs, Differ, pairs-map, pairs-filter, all_of_each}
+
+-- ---- byte order
+
+abbrev Before : List ℕ → List ℕ → Type 0
+Before a b = slice_cmp nat_cmp a b ≡ Less
+
+is_less : (o : Ordering) → is_lt o ≡ true → o ≡ Less
+is_less Less e = refl
+is_less Equal e = absurd (true≢false (sym e))
+is_less Greater e = absurd (true≢false (sym e))
+
+turned : (o p : Ordering) → p ≡ ordering_reverse o → is_lt o ≡ false → is_eq o ≡ false → p ≡ Less
+turned Less p r l e = absurd (true≢false l)
+turned Equal p r l e = absurd (true≢false e)
+turned Greater p r l e = r
+
+before-or : (a b : List ℕ) → is_before a b ≡ false → same a b ≡ false → Before b a
+before-or a b l e =
+    turned (slice_cmp nat_cmp a b) (slice_cmp nat_cmp b a) (nat_list_cmp_total.antisymm b a) l (is_eq-slice_cmp a b ∙ e)
+
+-- ---- a key put in its place
+
+each-put : (P : List ℕ → Type 0) (x : List ℕ) (ks : List (List ℕ)) → P x → Each P ks → Each P (put_sorted x ks)
+each-put P x [] p h = (p, tt)
+each-put P x (k ∷ ks) p (q, h) = go (is_before x k) (each-put P x ks p h)
+  where
+    go : (b : Bool) → Each P (put_sorted x ks) → Each P (cond b (x ∷ k ∷ ks) (k ∷ put_sorted x ks))
+    go true r = (p, (q, h))
+    go false r = (q, r)
+
+each-sorted : (P : List ℕ → Type 0) (ks : List (List ℕ)) → Each P ks → Each P (sorted ks)
+each-sorted P [] h = tt
+each-sorted P (k ∷ ks) (p, h) = each-put P k (sorted ks) p (each-sorted P ks h)
+
+behind : (x k : List ℕ) (ks : List (List ℕ)) → Before x k → Each (Before k) ks → Each (Before x) ks
+behind x k [] b h = tt
+behind x k (l ∷ ks) b (p, h) = (nat_list_cmp_total.trans x k l b p, behind x k ks b h)
+
+rising-put : (x : List ℕ) (ks : List (List ℕ)) → Pairs Before ks → Each (Differ x) ks → Pairs Before (put_sorted x ks)
+rising-put x [] h d = (tt, tt)
+rising-put x (k ∷ ks) (e, h) (n, d) = go (is_before x k) refl (rising-put x ks h d)
+  where
+    go : (b : Bool) → is_before x k ≡ b → Pairs Before (put_sorted x ks) → Pairs Before (cond b (x ∷ k ∷ ks) (k ∷ put_sorted x ks))
+    go true l r = let first = is_less (slice_cmp nat_cmp x k) l in ((first, behind x k ks first e), (e, h))
+    go false l r = (each-put (Before k) x ks (before-or x k l n) e, r)
+
+rising-sorted : (ks : List (List ℕ)) → Pairs Differ ks → Pairs Before (sorted ks)
+rising-sorted [] h = tt
+rising-sorted (k ∷ ks) (e, h) = rising-put k (sorted ks) (rising-sorted ks h) (each-sorted (Differ k) ks e)
+
+strictly : (ks : List (List ℕ)) → Pairs Before ks → IsStrictlySortedBy (slice_cmp nat_cmp) ks
+unfolding IsStrictlySortedBy
+strictly [] h = tt
+strictly (k ∷ ks) (e, h) = (all_of_each (Before k) ks e, strictly ks h)
+
+pub keys-rise : (config : Config) (now : ℕ) (held : List HeldValue) → Pairs (λ g h. Differ g.value.key h.value.key) held → IsStrictlySortedBy (slice_cmp nat_cmp) (live_keys_at config now held)
+keys-rise config now held h =
+    strictly (live_keys_at config now held)
+    (rising-sorted (map (λ k. k.value.key) (filter (is_live_at config now) held))
+    (pairs-map Differ (λ (k : HeldValue). k.value.key) (filter (is_live_at config now) held) (pairs-filter (λ g k. Differ g.value.key k.value.key) (is_live_at config now) held h)))
+
+-- ---- which keys are listed
+
+or_swap : (a b c : Bool) → (a || (b || c)) ≡ (b || (a || c))
+or_swap true true c = refl
+or_swap true false c = refl
+or_swap false b c = refl
+
+any-put : (p : List ℕ → Bool) (x : List ℕ) (ks : List (List ℕ)) → list_any p (put_sorted x ks) ≡ (p x || list_any p ks)
+any-put p x [] = refl
+any-put p x (k ∷ ks) = go (is_before x k) (any-put p x ks)
+  where
+    go : (b : Bool) → list_any p (put_sorted x ks) ≡ (p x || list_any p ks) → list_any p (cond b (x ∷ k ∷ ks) (k ∷ put_sorted x ks)) ≡ (p x || (p k || list_any p ks))
+    go true e = refl
+    go false e = ap (λ b. p k || b) e ∙ or_swap (p k) (p x) (list_any p ks)
+
+any-sorted : (p : List ℕ → Bool) (ks : List (List ℕ)) → list_any p (sorted ks) ≡ list_any p ks
+any-sorted p [] = refl
+any-sorted p (k ∷ ks) = any-put p k (sorted ks) ∙ ap (λ b. p k || b) (any-sorted p ks)
+
+listed-found : (key : List ℕ) (live : HeldValue → Bool) (held : List HeldValue)
+    → list_any (λ k. same key k) (map (λ h. h.value.key) (filter live held)) ≡ is_some (option_map (λ h. h.value) (find (λ h. same key h.value.key && live h) held))
+listed-found key live [] = refl
+listed-found key live (h ∷ hs) = go (live h) (same key h.value.key) refl (listed-found key live hs)
+  where
+    go : (l s : Bool) → same key h.value.key ≡ s
+        → list_any (λ k. same key k) (map (λ h. h.value.key) (filter live hs)) ≡ is_some (option_map (λ h. h.value) (find (λ h. same key h.value.key && live h) hs))
+        → list_any (λ k. same key k) (map (λ h. h.value.key) (cond l (h ∷ filter live hs) (filter live hs)))
+        ≡ is_some (option_map (λ h. h.value) (cond (s && l) (Some h) (find (λ h. same key h.value.key && live h) hs)))
+    go true true e ih = ap (λ b. b || list_any (λ k. same key k) (map (λ h. h.value.key) (filter live hs))) e
+    go true false e ih = ap (λ b. b || list_any (λ k. same key k) (map (λ h. h.value.key) (filter live hs))) e ∙ ih
+    go false true e ih = ih
+    go false false e ih = ih
+
+pub keys-live : (config : Config) (now : ℕ) (held : List HeldValue) (key : List ℕ)
+    → list_any (λ k. same key k) (live_keys_at config now held) ≡ is_some (live_at config now held key)
+keys-live config now held key =
+    any-sorted (λ k. same key k) (map (λ h. h.value.key) (filter (is_live_at config now) held)) ∙ listed-found key (is_live_at config now) held

@@ -1,0 +1,182 @@
+-- What is not live becomes live only by a newly accepted value.
+use Rattle.std.proofs.Common.{◌≡◌, refl, ap, ◌∙◌, sym, subst, ℕ, ◌≤◌, Bool, true, false, true≢false, not, ◌&&◌, ◌||◌, cond, List, [], ◌∷◌, ◌++◌, map, Option, Some, None, is_some, nat_le, arith}
+use Rattle.std.specs.List.{find, cons_option, All, Contains}
+use Rattle.std.specs.Option.{option_map, option_map_or, option_and_then, option_to_list}
+use Rattle.std.proofs.lemmas.Bool.{and_parts, not-true, or_parts}
+use Rattle.std.proofs.lemmas.Bool.Decides.{nat_tests}
+use Rattle.std.proofs.lemmas.List.Elements.{All-contains_itself, All-head, All-tail, filter_map-append}
+use Rattle.std.proofs.Math.Bool.{and-false}
+use Rattle.audit_model.specs.Bytewise.{same, is_empty}
+use Rattle.audit_model.specs.Changes.{newly_held, use_after, held_after, left_held, all_held_after, after_step}
+use Rattle.audit_model.specs.Commands.{Deed, deed_of, is_this, covers_key}
+use Rattle.audit_model.specs.Follows.{after_event, tasks_in, placed_step_in, after_steps, after_record, after_records}
+use Rattle.audit_model.specs.History.{Value}
+use Rattle.audit_model.specs.Obeys.{accepted_values}
+use Rattle.audit_model.specs.Places.{due, first_due, left_after, steps_of}
+use Rattle.audit_model.specs.Situation.{Situation, HeldValue, may_run_in, is_live_at}
+use Rattle.audit_model.specs.Steps.{Task, PlacedStep, is_right}
+use Rattle.audit_model.specs.Values.{deadline, has_come}
+use Rattle.audit_model.specs.declared.config.Config.{Config}
+use Rattle.audit_model.specs.declared.event.Event.{Event}
+use Rattle.audit_model.specs.declared.transcript.Note.{Note}
+use Rattle.audit_model.specs.declared.transcript.Record.{Record}
+use Rattle.audit_model.specs.declared.transcript.Step.{Step}
+use Rattle.audit_laws.specs.Placing.{placed_steps_in, placed_in, all_placed_in}
+use Rattle.audit_laws.specs.Laws.{LiveByAcceptance}
+use Rattle.audit_laws.proofs.Told.{Each, each-append, each-map, each-more, each-untold}
+use Rattle.audit_laws.proofs.Following.{passed}
+use Rattle.audit_laws.proofs.Kept.{held-stepped, latest-stepped, event-ages}
+
+-- ---- what a search finds
+
+found : {X Y : Type 0} (p : X → Bool) (f : X → Y) (Q : Y → Type 0) (xs : List X) → Each (λ x. p x ≡ true → Q (f x)) xs → (y : Y) → option_map f (find p xs) ≡ Some y → Q y
+found p f Q [] h y e = absurd (true≢false (sym (ap is_some e)))
+found p f Q (x ∷ xs) (q, h) y e = go (p x) q (found p f Q xs h y) e
+  where
+    go : (b : Bool) → (b ≡ true → Q (f x)) → (option_map f (find p xs) ≡ Some y → Q y) → option_map f (cond b (Some x) (find p xs)) ≡ Some y → Q y
+    go true k rest e = let is : f x ≡ y = cc in subst Q is (k refl)
+    go false k rest e = rest e
+
+missed : {X Y : Type 0} (p : X → Bool) (f : X → Y) (Q : Y → Type 0) (xs : List X) → option_map f (find p xs) ≡ None → Each (λ x. p x ≡ true → Q (f x)) xs
+missed p f Q [] e = tt
+missed p f Q (x ∷ xs) e = (first (p x) e, missed p f Q xs (rest (p x) e))
+  where
+    first : (b : Bool) → option_map f (cond b (Some x) (find p xs)) ≡ None → b ≡ true → Q (f x)
+    first true e k = absurd (true≢false (ap is_some e))
+    first false e k = absurd (true≢false (sym k))
+
+    rest : (b : Bool) → option_map f (cond b (Some x) (find p xs)) ≡ None → option_map f (find p xs) ≡ None
+    rest true e = absurd (true≢false (ap is_some e))
+    rest false e = e
+
+-- ---- deadlines come, and stay
+
+come-later : (d : Option ℕ) (now later : ℕ) → now ≤ later → not (has_come d later) ≡ true → not (has_come d now) ≡ true
+come-later None now later h e = refl
+come-later (Some moment) now later h e = before moment now later h e
+  where
+    before : (moment now later : ℕ) → now ≤ later → not (nat_le moment later) ≡ true → not (nat_le moment now) ≡ true
+    before moment now later h e = grind (arith, nat_tests)
+
+live-earlier : (config : Config) (now later : ℕ) (h : HeldValue) → now ≤ later → is_live_at config later h ≡ true → is_live_at config now h ≡ true
+live-earlier config now later h le e =
+    let p = and_parts (not h.covered) (not (has_come (deadline config h.value h.last_use) later)) e in
+    and_both (not h.covered) (not (has_come (deadline config h.value h.last_use) now)) p.0 (come-later (deadline config h.value h.last_use) now later le p.1)
+  where
+    and_both : (a b : Bool) → a ≡ true → b ≡ true → (a && b) ≡ true
+    and_both a b p q = ap (λ x. x && b) p ∙ q
+
+-- what a step leaves live was live
+live-before : (config : Config) (now : ℕ) (held : List HeldValue) (deed : Deed) (notes : List Note) (values : List Value) (h : HeldValue)
+    → is_live_at config now (held_after config now held deed notes values h) ≡ true → is_live_at config now h ≡ true
+live-before config now held deed notes values h e = go (is_live_at config now h) refl
+  where
+    unused : is_live_at config now h ≡ false → use_after config now deed h ≡ h.last_use
+    unused k = ap (λ b. cond (is_this h.value.key deed.uses && b) now h.last_use) k ∙ ap (λ b. cond b now h.last_use) (and-false (is_this h.value.key deed.uses))
+
+    go : (b : Bool) → is_live_at config now h ≡ b → b ≡ true
+    go true k = refl
+    go false k =
+        let p = and_parts (not (h.covered || covers_key h.value.key deed.covers)) (not (has_come (deadline config h.value (use_after config now deed h)) now)) e in
+        let uncovered = or_parts h.covered (covers_key h.value.key deed.covers) (not-true _ p.0) in
+        sym k
+        ∙ ap (λ b. not b && not (has_come (deadline config h.value h.last_use) now)) uncovered.0
+        ∙ ap (λ u. not (has_come (deadline config h.value u) now)) (sym (unused k))
+        ∙ p.1
+
+-- ---- each live value of the key is one of those that count
+
+module _ (config : Config) (key : List ℕ) (Counts : Value → Type 0) where
+  abbrev Stays : ℕ → HeldValue → Type 0
+  Stays now h = (same key h.value.key && is_live_at config now h) ≡ true → Counts h.value
+
+  abbrev Lives : Situation → Type 0
+  Lives s = Each (Stays s.latest) s.held
+
+  both : (a b : Bool) → a ≡ true → b ≡ true → (a && b) ≡ true
+  both a b p q = ap (λ x. x && b) p ∙ q
+
+  lives-later : (now later : ℕ) (held : List HeldValue) → now ≤ later → Each (Stays now) held → Each (Stays later) held
+  lives-later now later held le =
+      each-more (Stays now) (Stays later) held
+      (λ h stays e. let p = and_parts (same key h.value.key) (is_live_at config later h) e in stays (both (same key h.value.key) (is_live_at config now h) p.0 (live-earlier config now later h le p.1)))
+
+  lives-event : (e : Event) (s : Situation) → Lives s → Lives (after_event e s)
+  lives-event e s lives =
+      let ages = event-ages e s in
+      subst (Each (Stays (after_event e s).latest)) (sym ages.held) (lives-later s.latest (after_event e s).latest s.held ages.latest lives)
+
+  new-stays : (now : ℕ) (o : Option Value) → Each Counts (option_to_list o) → Each (Stays now) (option_to_list (option_map newly_held o))
+  new-stays now None counts = tt
+  new-stays now (Some v) counts = ((λ e. counts.0), tt)
+
+  lives-deed : (now : ℕ) (held : List HeldValue) (deed : Deed) (notes : List Note) → Each (Stays now) held → Each Counts (option_to_list deed.value) → Each (Stays now) (all_held_after config now held deed notes)
+  lives-deed now held deed notes stays counts =
+      let left = left_held held deed notes in
+      let values = map (λ (h : HeldValue). h.value) left in
+      each-map (Stays now) (held_after config now held deed notes values) left
+      (each-more (Stays now) (λ h. Stays now (held_after config now held deed notes values h)) left
+      (λ h was e. let p = and_parts (same key h.value.key) (is_live_at config now (held_after config now held deed notes values h)) e in was (both (same key h.value.key) (is_live_at config now h) p.0 (live-before config now held deed notes values h p.1)))
+      (each-untold (Stays now) (λ h. h.value.key) notes (held ++ option_to_list (option_map newly_held deed.value)) (each-append (Stays now) held _ stays (new-stays now deed.value counts))))
+
+  lives-step : (s : Situation) (placed : PlacedStep) → Lives s → Each Counts (option_to_list placed.effect.value) → Lives (after_step config s placed.task placed.step placed.effect)
+  lives-step s placed lives counts =
+      subst (λ now. Each (Stays now) (after_step config s placed.task placed.step placed.effect).held) (sym (latest-stepped config s placed.task placed.step placed.effect))
+      (subst (Each (Stays s.latest)) (sym (held-stepped config s placed.task placed.step placed.effect)) (lives-deed s.latest s.held (deed_of placed.effect) placed.effect.notes lives counts))
+
+  first-counts : (o : Option Value) (vs : List Value) → Each Counts (option_to_list o ++ vs) → Each Counts (option_to_list o) × Each Counts vs
+  first-counts None vs counts = (tt, counts)
+  first-counts (Some v) vs counts = ((counts.0, tt), counts.1)
+
+  as_append : (o : Option Value) (vs : List Value) → cons_option o vs ≡ option_to_list o ++ vs
+  as_append None vs = refl
+  as_append (Some v) vs = refl
+
+  lives-steps : (steps : List Step) (s t : Situation) (tasks : List Task) → after_steps config s tasks steps ≡ Some t → Each Counts (accepted_values (placed_steps_in config s tasks steps)) → Lives s → Lives t
+  lives-steps [] s t tasks e counts lives = go (is_empty (due (may_run_in s) tasks)) e
+    where
+      go : (b : Bool) → cond b (Some s) None ≡ Some t → Lives t
+      go true k = let is : s ≡ t = cc in subst Lives is lives
+      go false k = absurd (true≢false (sym (ap is_some k)))
+  lives-steps (step ∷ steps) s t tasks e counts lives =
+      let now_due = due (may_run_in s) tasks in
+      let placed = placed_step_in config s (first_due now_due) step in
+      let next = after_step config s placed.task step placed.effect in
+      let later = accepted_values (placed_steps_in config next (left_after now_due) steps) in
+      let split = first-counts placed.effect.value later (subst (Each Counts) (as_append placed.effect.value later) counts) in
+      lives-steps steps next t (left_after now_due) (passed (is_right config placed) (after_steps config next (left_after now_due) steps) t e).rest split.1 (lives-step s placed lives split.0)
+
+  lives-record : (entry : Record) (s t : Situation) → after_record config s entry ≡ Some t → Each Counts (accepted_values (placed_in config s entry)) → Lives s → Lives t
+  lives-record entry s t e counts lives =
+      lives-steps (steps_of entry) (after_event entry.event s) t (tasks_in s entry.event) (passed _ (after_steps config (after_event entry.event s) (tasks_in s entry.event) (steps_of entry)) t e).rest counts (lives-event entry.event s lives)
+
+  each-parts : {X : Type 0} (P : X → Type 0) (xs ys : List X) → Each P (xs ++ ys) → Each P xs × Each P ys
+  each-parts P [] ys h = (tt, h)
+  each-parts P (x ∷ xs) ys (p, h) = let both = each-parts P xs ys h in ((p, both.0), both.1)
+
+  lives-records : (entries : List Record) (s t : Situation) → after_records config s entries ≡ Some t → Each Counts (accepted_values (all_placed_in config s entries)) → Lives s → Lives t
+  lives-records [] s t e counts lives = let is : s ≡ t = cc in subst Lives is lives
+  lives-records (entry ∷ entries) s t e counts lives =
+      go (after_record config s entry) refl e
+      (subst (Each Counts) (filter_map-append (λ (placed : PlacedStep). placed.effect.value) (placed_in config s entry) (option_map_or (λ u. all_placed_in config u entries) (after_record config s entry) [])) counts)
+      (λ u. lives-records entries u t)
+    where
+      go : (o : Option Situation) → after_record config s entry ≡ o → option_and_then (λ u. after_records config u entries) o ≡ Some t
+          → Each Counts (accepted_values (placed_in config s entry) ++ accepted_values (option_map_or (λ u. all_placed_in config u entries) o []))
+          → ((u : Situation) → after_records config u entries ≡ Some t → Each Counts (accepted_values (all_placed_in config u entries)) → Lives u → Lives t) → Lives t
+      go None k e c ih = absurd (true≢false (sym (ap is_some e)))
+      go (Some u) k e c ih =
+          let parts = each-parts Counts (accepted_values (placed_in config s entry)) (accepted_values (all_placed_in config u entries)) c in
+          ih u e parts.1 (lives-record entry s u k parts.0 lives)
+
+each-all : {X : Type 0} (P : X → Type 0) (xs : List X) → All P xs → Each P xs
+each-all P [] h = tt
+each-all P (x ∷ xs) h = (All-head P x xs h, each-all P xs (All-tail P x xs h))
+
+pub live_by_acceptance : LiveByAcceptance
+live_by_acceptance config records s t key value e none live =
+    let accepted = accepted_values (all_placed_in config s records) in
+    found (λ h. same key h.value.key && is_live_at config t.latest h) (λ h. h.value) (Contains accepted) t.held
+    (lives-records config key (Contains accepted) records s t e (each-all (Contains accepted) accepted (All-contains_itself accepted))
+    (missed (λ h. same key h.value.key && is_live_at config s.latest h) (λ h. h.value) (Contains accepted) s.held none))
+    value live

@@ -1,0 +1,163 @@
+-- Laws of the definitions.
+use Rattle.std.specs.Prelude.{◌≡◌, ◌↔◌, ◌==◌, ℕ, suc, false, if◌then◌else◌, MatchOption, length, map, List, Option, [], ◌∷◌, ◌++◌, Some, None, IsTrue, is_some, Contains}
+use Rattle.std.specs.List.{list_all, list_any}
+use Rattle.std.specs.List.Sorted.{IsStrictlySortedBy}
+use Rattle.std.specs.Option.{option_map_or, option_and_then}
+use Rattle.std.specs.Ordering.{nat_cmp}
+use Rattle.std.specs.Cmp.Lexicographic.{slice_cmp}
+use Rattle.audit_model.specs.Belongs.{IsAdmitted, is_good, first_break}
+use Rattle.audit_model.specs.Follows.{AgreesWithHistory, Follows, after_event, placed_step_in, after_steps, after_records, followed}
+use Rattle.audit_model.specs.History.{Value, Running}
+use Rattle.audit_model.specs.Replies.{keys_listed}
+use Rattle.audit_model.specs.Bytewise.{same}
+use Rattle.audit_model.specs.Changes.{all_held_after, connection_after, after_step}
+use Rattle.audit_model.specs.Commands.{Deed}
+use Rattle.audit_model.specs.Notes.{candidates_of, are_true_notes}
+use Rattle.audit_model.specs.Obeys.{Obeys, accepted_values, agree_on_parts}
+use Rattle.audit_model.specs.Places.{placed_steps}
+use Rattle.audit_model.specs.Situation.{Situation, HeldValue, empty_situation, connection_in, with_connection, live_at, live_keys_at, candidate_at}
+use Rattle.audit_model.specs.Steps.{Task, is_right}
+use Rattle.audit_model.specs.Summary.{LeadsToSummary}
+use Rattle.audit_model.specs.declared.command.Command.TheVariants as says
+use Rattle.audit_model.specs.declared.config.Config.{Config}
+use Rattle.audit_model.specs.declared.event.Event.{Event}
+use Rattle.audit_model.specs.declared.event.Instant.{Instant}
+use Rattle.audit_model.specs.declared.transcript.Note.{Note}
+use Rattle.audit_model.specs.declared.transcript.Record.{Record}
+use Rattle.audit_model.specs.declared.transcript.Step.{Step}
+use Rattle.audit_model.specs.declared.transcript.Transcript.{Transcript}
+use Rattle.audit_laws.specs.Placing.{placed_steps_in, accepted_in, all_placed_in, Stage, stage_after}
+use Rattle.audit_laws.specs.Leading.{LeadsTo, LeadsBy, is_parted}
+use Rattle.audit_laws.specs.Breaking.{first_break_from, IsFaultless, BreaksFirstAt}
+use Rattle.audit_laws.specs.Orderly.{IsOrderly, idle_deed, is_asking}
+use Rattle.audit_laws.specs.Telling.{notes_of, none_with_size}
+
+-- a front of an obeying transcript obeys
+abbrev pub FrontsObey : Type 0
+FrontsObey =
+    (config : Config) (made : Instant) (front rest : List Record)
+    → Obeys config (record { made = made; records = front ++ rest }) → Obeys config (record { made = made; records = front })
+
+-- the step-by-step relation and the whole-history definition agree
+abbrev pub StepsAgree : Type 0
+StepsAgree = (config : Config) (transcript : Transcript) → AgreesWithHistory config transcript
+
+-- records that follow one another lead to the situation that their whole history leaves
+abbrev pub RecordsLead : Type 0
+RecordsLead =
+    (config : Config) (made : ℕ) (records : List Record)
+    → IsTrue (is_some (after_records config (empty_situation made) records)) → LeadsToSummary config made records
+
+-- where records follow one another, each step has the same place in the whole history and in the situations
+abbrev pub PlacesAgree : Type 0
+PlacesAgree =
+    (config : Config) (transcript : Transcript)
+    → IsTrue (is_some (after_records config (empty_situation transcript.made.nanos) transcript.records))
+    → placed_steps config transcript ≡ all_placed_in config (empty_situation transcript.made.nanos) transcript.records
+
+-- steps may be taken one after the other: what follows some steps is what follows from the stage to which they lead
+pub record StepsInParts : Type 0 where
+  pub stages : (config : Config) (stage : Stage) (front rest : List Step)
+      → stage_after config stage (front ++ rest) ≡ option_and_then (λ reached. stage_after config reached rest) (stage_after config stage front)
+  pub records : (config : Config) (stage : Stage) (front rest : List Step)
+      → after_steps config stage.situation stage.left (front ++ rest)
+      ≡ option_and_then (λ reached. after_steps config reached.situation reached.left rest) (stage_after config stage front)
+  pub places : (config : Config) (stage reached : Stage) (front rest : List Step) → stage_after config stage front ≡ Some reached
+      → placed_steps_in config stage.situation stage.left (front ++ rest)
+      ≡ placed_steps_in config stage.situation stage.left front ++ placed_steps_in config reached.situation reached.left rest
+
+-- a transcript that leads to a situation leads on with a record that follows
+abbrev pub LeadsOn : Type 0
+LeadsOn =
+    (config : Config) (made : Instant) (records : List Record) (added : Record) (s t : Situation)
+    → LeadsTo config (record { made = made; records = records }) s → Follows config s added t
+    → LeadsTo config (record { made = made; records = records ++ added ∷ [] }) t
+
+-- the same with the parts of keys: each value that the record accepts has its key's part
+abbrev pub LeadsOnBy : Type 0
+LeadsOnBy =
+    (config : Config) (part_of : List ℕ → ℕ) (made : Instant) (records : List Record) (added : Record) (s t : Situation)
+    → LeadsBy config part_of (record { made = made; records = records }) s → Follows config s added t
+    → IsTrue (list_all (is_parted part_of) (accepted_in config s added))
+    → LeadsBy config part_of (record { made = made; records = records ++ added ∷ [] }) t
+
+-- such a transcript obeys, and none of its events is refused
+abbrev pub LedObeys : Type 0
+LedObeys =
+    (config : Config) (part_of : List ℕ → ℕ) (transcript : Transcript) (s : Situation)
+    → LeadsBy config part_of transcript s → Obeys config transcript × IsAdmitted config transcript
+
+-- the first record of which the front is not good is the first that does not follow, or with which a key has two parts
+abbrev pub BreaksAgree : Type 0
+BreaksAgree =
+    (config : Config) (transcript : Transcript)
+    → first_break config transcript ≡ first_break_from config (empty_situation transcript.made.nanos) [] 0 transcript.records
+
+-- where each key has one part, it is the first that does not follow
+abbrev pub BreaksWhereUnfollowed : Type 0
+BreaksWhereUnfollowed =
+    (config : Config) (transcript : Transcript) → IsTrue (agree_on_parts (accepted_values (placed_steps config transcript)))
+    → let n = followed config (empty_situation transcript.made.nanos) transcript.records in
+    first_break config transcript ≡ (if n == length transcript.records then None else Some (suc n))
+
+-- the test of a good transcript says that it is faultless
+abbrev pub GoodIsFaultless : Type 0
+GoodIsFaultless = (config : Config) (transcript : Transcript) → IsTrue (is_good config transcript) ↔ IsFaultless config transcript
+
+-- there is no first break exactly where the transcript is faultless; else it ends the shortest front that has a fault
+abbrev pub FirstBreakIsFirst : Type 0
+FirstBreakIsFirst =
+    (config : Config) (transcript : Transcript) → MatchOption (first_break config transcript) (IsFaultless config transcript) (BreaksFirstAt config transcript)
+
+-- with no capacity an obeying transcript tells nothing `Size`
+abbrev pub NothingToldSize : Type 0
+NothingToldSize =
+    (config : Config) (transcript : Transcript) → config.capacity ≡ None → Obeys config transcript
+    → IsTrue (list_all (λ entry. none_with_size (notes_of entry)) transcript.records)
+
+-- what is not live becomes live only by a newly accepted value: where records lead from one situation to another and a key has no live
+-- value in the first, its live value in the second is one that those records accept
+abbrev pub LiveByAcceptance : Type 0
+LiveByAcceptance =
+    (config : Config) (records : List Record) (s t : Situation) (key : List ℕ) (value : Value)
+    → after_records config s records ≡ Some t → live_at config s.latest s.held key ≡ None → live_at config t.latest t.held key ≡ Some value
+    → Contains (accepted_values (all_placed_in config s records)) value
+
+-- the values held are orderly at the start, after each deed with true notes, and so in each situation that records lead to and in between
+pub record OrderlyStays : Type 0 where
+  pub empty : (config : Config) → IsOrderly config []
+  pub deed : (config : Config) (now : ℕ) (held : List HeldValue) (deed : Deed) (notes : List Note)
+      → IsOrderly config held
+      → IsTrue (are_true_notes config (map (candidate_at config now) held) deed (candidates_of config (map (candidate_at config now) held) deed) notes)
+      → IsOrderly config (all_held_after config now held deed notes)
+  pub event : (config : Config) (e : Event) (s : Situation) → IsOrderly config s.held → IsOrderly config (after_event e s).held
+  pub step : (config : Config) (s : Situation) (task : Option Task) (step : Step)
+      → IsOrderly config s.held → IsTrue (is_right config (placed_step_in config s task step))
+      → IsOrderly config (after_step config s task step (placed_step_in config s task step).effect).held
+  pub records : (config : Config) (records : List Record) (s t : Situation)
+      → IsOrderly config s.held → after_records config s records ≡ Some t → IsOrderly config t.held
+
+-- what does nothing to values leaves orderly ones as they are
+abbrev pub IdleKeeps : Type 0
+IdleKeeps = (config : Config) (now : ℕ) (held : List HeldValue) → IsOrderly config held → all_held_after config now held idle_deed [] ≡ held
+
+-- a step of `HAS` or `KEYS` changes nothing of the situation but its own connection, which may close
+abbrev pub AskingChangesNothing : Type 0
+AskingChangesNothing =
+    (config : Config) (s : Situation) (task : Option Task) (step : Step)
+    → IsOrderly config s.held → IsTrue (is_right config (placed_step_in config s task step)) → IsTrue (is_asking (placed_step_in config s task step).effect.action)
+    → after_step config s task step (placed_step_in config s task step).effect
+    ≡ option_map_or (λ c. with_connection false (connection_after task step (placed_step_in config s task step).effect c) s) (connection_in step.conn s) s
+
+-- the reply lists keys; each stands before the later ones in byte order; and they are those that have a live value
+pub record ListsLiveKeys (config : Config) (s : Situation) (reply_of_step : Option (List ℕ)) : Type 0 where
+  pub reply : reply_of_step ≡ Some (keys_listed (live_keys_at config s.latest s.held))
+  pub rising : IsStrictlySortedBy (slice_cmp nat_cmp) (live_keys_at config s.latest s.held)
+  pub live : (key : List ℕ) → list_any (λ k. same key k) (live_keys_at config s.latest s.held) ≡ is_some (live_at config s.latest s.held key)
+
+-- `KEYS` lists the live keys, each once, in byte order
+abbrev pub KeysAnswer : Type 0
+KeysAnswer =
+    (config : Config) (s : Situation) (task : Option Task) (step : Step)
+    → IsOrderly config s.held → IsTrue (is_right config (placed_step_in config s task step)) → (placed_step_in config s task step).effect.action ≡ Running says.Keys
+    → ListsLiveKeys config s step.reply

@@ -1,0 +1,38 @@
+//! Worked rows: transcripts that obey the definitions, and transcripts that break a rule at a known record, each as a computed check.
+#![tactic(auto)]
+
+ghost use Rattle.audit_tests.specs.Lines.{GoodLines, BrokenLines};
+ghost use Rattle.audit_tests.specs.Connections.{GoodConnections, BrokenConnections};
+ghost use Rattle.audit_tests.specs.Values.{GoodValues, BrokenValues};
+ghost use Rattle.audit_tests.specs.Sizes.{GoodSizes, BrokenSizes};
+ghost use Rattle.audit_tests.specs.Deadlines.{GoodDeadlines, BrokenDeadlines};
+
+/// Which bytes make which line, and which fault is told.
+pub fn rows_of_lines()
+    ensures good { GoodLines }
+    ensures broken { BrokenLines }
+{}
+
+/// Connections open, close and run their own lines; a command is held back where memory is wanting.
+pub fn rows_of_connections()
+    ensures good { GoodConnections }
+    ensures broken { BrokenConnections }
+{}
+
+/// A value is shown while it lives, and told once with a true cause.
+pub fn rows_of_values()
+    ensures good { GoodValues }
+    ensures broken { BrokenValues }
+{}
+
+/// Who is told `Size` where there is a capacity.
+pub fn rows_of_sizes()
+    ensures good { GoodSizes }
+    ensures broken { BrokenSizes }
+{}
+
+/// When a value dies.
+pub fn rows_of_deadlines()
+    ensures good { GoodDeadlines }
+    ensures broken { BrokenDeadlines }
+{}
