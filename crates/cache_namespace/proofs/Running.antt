@@ -20,7 +20,7 @@ use Rattle.audit_model.specs.declared.transcript.Step.{Step}
 use Rattle.cache_lines.specs.Next.{IsLine}
 use Rattle.cache_lines.proofs.Lines.{IsLine-first_line, IsLine-behind_lines, IsLine-not_long}
 use Rattle.cache_steps.specs.Right.{step_saying, placed_by, held_when_run}
-use Rattle.cache_namespace.specs.Gathered.{Gathered, gather, reply_in}
+use Rattle.cache_namespace.specs.Gathered.{Gathered, IsFresh, gather, reply_in}
 use Rattle.cache_namespace.specs.Lines.{Runs, IsThere, set_in, ready, placed_in}
 use Rattle.cache_namespace.specs.Ran.{RanOne, RanLines}
 use Rattle.cache_namespace.proofs.Placing.{found-there}
@@ -115,3 +115,11 @@ pub ran-kept : (config : Config) (base : Situation) (number : ℕ) (held : List 
     → RanLines config base number held bytes rest Stands old new
 ran-kept config base number held bytes rest Stood Stands old middle new r stays same =
     record { steps = r.steps; left = r.left; stands = stays r.left r.stands; runs = r.runs; none_held = r.none_held; gathered = same ∙ r.gathered }
+
+-- what is gathered stays fresh
+pub fresh-gather : (g : Gathered) (steps : List Step) → IsFresh g → IsFresh (gather g steps)
+fresh-gather g steps fresh = go g.kept fresh
+  where
+    go : (kept : Option (List Step)) → IsFresh (record g { kept = kept }) → IsFresh (gather (record g { kept = kept }) steps)
+    go None f = tt
+    go (Some before) f = f
