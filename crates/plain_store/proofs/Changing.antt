@@ -12,7 +12,7 @@ use Rattle.std.specs.Map.{lookup, remove_entry, set_value}
 use Rattle.std.proofs.lemmas.Map.Text.{is_eq-slice_cmp}
 use Rattle.audit_model.specs.Bytewise.{same}
 use Rattle.plain_store.specs.declared.table.Entry.{Entry}
-use Rattle.plain_store.specs.Pairs.{bytes_at, number_of, Rewrites}
+use Rattle.plain_store.specs.Pairs.{Pair, bytes_at, number_of, Rewrites}
 use Rattle.plain_store.specs.Entries.{pairs_of}
 use Rattle.plain_store.proofs.Keys.{equal_from_same, same_along, not_both}
 
@@ -144,3 +144,11 @@ rewrites-remove_entry es new k older l e gone n = record {
       let here : number_of (bytes_at (pairs_of es) k) ≡ 1 = ap number_of (sym (found_as es k (Some older) l)) in
       omega (arith, length-pairs_of new, length-pairs_of es)
   }
+
+-- a key that has no bytes loses none
+pub rewrites_nothing : (pairs : List Pair) (k : List ℕ) → bytes_at pairs k ≡ None → Rewrites pairs pairs k None
+rewrites_nothing pairs k absent = record { found = λ q. go q (same q k) refl; number = ap (λ o. length pairs + number_of o) absent }
+  where
+    go : (q : List ℕ) (b : Bool) → same q k ≡ b → bytes_at pairs q ≡ cond b None (bytes_at pairs q)
+    go q true is = ap (bytes_at pairs) (equal_from_same q k is) ∙ absent
+    go q false is = refl

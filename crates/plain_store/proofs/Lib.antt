@@ -1,2 +1,4 @@
 pub mod Keys
 pub mod Changing
+pub mod Held
+pub mod Plainness

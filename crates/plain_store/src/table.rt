@@ -1,5 +1,5 @@
 //! The map from keys to what is held for them.
-ghost use Rattle.std.specs.Prelude.{◌≡◌, [], length, Some, None, IfOk, IfErr, IfSome, OnOk, OnErr, OnSome, IfNone};
+ghost use Rattle.std.specs.Prelude.{◌≡◌, [], length, Some, None, IfOk, IfErr, IfSome, OnOk, OnErr};
 ghost use Rattle.std.specs.Option.{option_map};
 ghost use Rattle.plain_store.specs.Pairs.{bytes_at, Rewrites};
 
@@ -84,12 +84,9 @@ impl Table {
     pub fn remove(&mut self, key: &[u8]) -> Option<(Vec<u8>, Vec<u8>)>
         ensures found { option_map (λ e. e.1.items) result ≡ bytes_at self.old key.now }
         ensures is_key { IfSome result (λ e. e.0.items ≡ key.now) }
-        ensures some { OnSome result (Rewrites self.old self.new key.now None) }
-        ensures unchanged { IfNone result (self.new ≡ self.old) }
+        ensures rewritten { Rewrites self.old self.new key.now None }
     {
-        match self.entries.remove_entry(key) {
-            Some((key, Entry { bytes })) => Some((key, bytes)),
-            None => None,
-        }
+        let (key, entry) = self.entries.remove_entry(key)?;
+        Some((key, entry.bytes))
     }
 }

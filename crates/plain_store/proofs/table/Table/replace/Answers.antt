@@ -1,6 +1,7 @@
 use Rattle.std.proofs.Common.{None, Some, ap, sym, ◌∙◌, subst}
 use Rattle.plain_store.specs.Pairs.{bytes_at, Rewrites}
 use Rattle.plain_store.specs.Entries.{pairs_of}
+use Rattle.plain_store.specs.declared.table.Entry.{Entry}
 use Rattle.plain_store.proofs.Changing.{found_as, rewrites-set_value}
 use Rattle.plain_store.proofs.table.Table.replace.Goals as goal
 use Rattle.plain_store.proofs.table.Table.replace.Goals.{in-Some, in-None}
@@ -18,7 +19,7 @@ pub returns-clause-ok : goal.returns-clause-ok
 returns-clause-ok c =
     elim c.match-get_mut.branch [
       in-Some w ↦
-        let put = record { bytes = w.replace.new.dest } in
+        let put : Entry = record { bytes = w.replace.new.dest } in
         let wrote = c.get_mut.follows.holds put in
         let is = rewrites-set_value c.self.inside.entries.entries (c.get_mut.follows.lender put).entries c.args.key.now w.in-Some.entry.now put w.in-Some.ensures.value wrote.0 wrote.2 in
         rw (w.result-is, w.self-inside-is)
