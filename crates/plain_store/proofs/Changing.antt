@@ -50,14 +50,14 @@ lookup_is (e ∷ es) q =
     ∙ ap (cond (same q e.0.items) (Some e.1.bytes.items)) (lookup_is es q)
 
 pub found-insert_entry : (es : Entries) (k : Vec ℕ Global) (v : Entry) (q : List ℕ)
-  → bytes_at (pairs_of (insert_entry (λ a b. slice_cmp nat_cmp a.items b.items) es k v)) q ≡ cond (same q k.items) (Some v.bytes.items) (bytes_at (pairs_of es) q)
+    → bytes_at (pairs_of (insert_entry (λ a b. slice_cmp nat_cmp a.items b.items) es k v)) q ≡ cond (same q k.items) (Some v.bytes.items) (bytes_at (pairs_of es) q)
 found-insert_entry [] k v q = refl
 found-insert_entry (e ∷ es) k v q =
     go (at k.items e.0) (is_eq-slice_cmp k.items e.0.items) (insert_entry (λ a b. slice_cmp nat_cmp a.items b.items) es k v) (found-insert_entry es k v q)
   where
     go : (o : Ordering) → is_eq o ≡ same k.items e.0.items → (rest : Entries) → bytes_at (pairs_of rest) q ≡ cond (same q k.items) (Some v.bytes.items) (bytes_at (pairs_of es) q)
-      → bytes_at (pairs_of (match_ordering o ((k, v) ∷ e ∷ es) ((e.0, v) ∷ es) (e ∷ rest))) q
-      ≡ cond (same q k.items) (Some v.bytes.items) (cond (same q e.0.items) (Some e.1.bytes.items) (bytes_at (pairs_of es) q))
+        → bytes_at (pairs_of (match_ordering o ((k, v) ∷ e ∷ es) ((e.0, v) ∷ es) (e ∷ rest))) q
+        ≡ cond (same q k.items) (Some v.bytes.items) (cond (same q e.0.items) (Some e.1.bytes.items) (bytes_at (pairs_of es) q))
     go Less is rest h = refl
     go Equal is rest h =
         ap (λ b. cond b (Some v.bytes.items) (bytes_at (pairs_of es) q)) (same_along q k.items e.0.items (sym is))
@@ -68,15 +68,15 @@ found-insert_entry (e ∷ es) k v q =
         ∙ in_turn (same q k.items) (same q e.0.items) (Some v.bytes.items) (Some e.1.bytes.items) (bytes_at (pairs_of es) q) (not_both q k.items e.0.items (sym is))
 
 pub found-set_value : (es : Entries) (k : List ℕ) (v : Entry) (q : List ℕ) → is_some (bytes_at (pairs_of es) k) ≡ true
-  → bytes_at (pairs_of (set_value (is_at (at k)) es v)) q ≡ cond (same q k) (Some v.bytes.items) (bytes_at (pairs_of es) q)
+    → bytes_at (pairs_of (set_value (is_at (at k)) es v)) q ≡ cond (same q k) (Some v.bytes.items) (bytes_at (pairs_of es) q)
 found-set_value [] k v q there = absurd (false≢true there)
 found-set_value (e ∷ es) k v q there =
     go (is_at (at k) e.0) (is_eq-slice_cmp k e.0.items) (set_value (is_at (at k)) es v)
-      (λ (h : is_some (bytes_at (pairs_of es) k) ≡ true). found-set_value es k v q h)
+    (λ (h : is_some (bytes_at (pairs_of es) k) ≡ true). found-set_value es k v q h)
   where
     go : (o : Bool) → o ≡ same k e.0.items → (rest : Entries)
-      → (is_some (bytes_at (pairs_of es) k) ≡ true → bytes_at (pairs_of rest) q ≡ cond (same q k) (Some v.bytes.items) (bytes_at (pairs_of es) q))
-      → bytes_at (pairs_of (cond o ((e.0, v) ∷ es) (e ∷ rest))) q ≡ cond (same q k) (Some v.bytes.items) (cond (same q e.0.items) (Some e.1.bytes.items) (bytes_at (pairs_of es) q))
+        → (is_some (bytes_at (pairs_of es) k) ≡ true → bytes_at (pairs_of rest) q ≡ cond (same q k) (Some v.bytes.items) (bytes_at (pairs_of es) q))
+        → bytes_at (pairs_of (cond o ((e.0, v) ∷ es) (e ∷ rest))) q ≡ cond (same q k) (Some v.bytes.items) (cond (same q e.0.items) (Some e.1.bytes.items) (bytes_at (pairs_of es) q))
     go true is rest h =
         ap (λ b. cond b (Some v.bytes.items) (bytes_at (pairs_of es) q)) (same_along q k e.0.items (sym is))
         ∙ again (same q k) (Some v.bytes.items) (Some e.1.bytes.items) (bytes_at (pairs_of es) q)
@@ -91,7 +91,7 @@ found-remove_entry (e ∷ es) k q other =
     go (is_at (at k) e.0) (is_eq-slice_cmp k e.0.items) (remove_entry (is_at (at k)) es) (found-remove_entry es k q other)
   where
     go : (o : Bool) → o ≡ same k e.0.items → (rest : Entries) → bytes_at (pairs_of rest) q ≡ bytes_at (pairs_of es) q
-      → bytes_at (pairs_of (cond o es (e ∷ rest))) q ≡ cond (same q e.0.items) (Some e.1.bytes.items) (bytes_at (pairs_of es) q)
+        → bytes_at (pairs_of (cond o es (e ∷ rest))) q ≡ cond (same q e.0.items) (Some e.1.bytes.items) (bytes_at (pairs_of es) q)
     go true is rest h = ap (λ b. cond b (Some e.1.bytes.items) (bytes_at (pairs_of es) q)) (sym (same_along q k e.0.items (sym is) ∙ other))
     go false is rest h = ap (cond (same q e.0.items) (Some e.1.bytes.items)) h
 
@@ -106,14 +106,14 @@ pub found_as : (es : Entries) (k : List ℕ) (o : Option Entry) → o ≡ lookup
 found_as es k o e = ap bytes_in e ∙ lookup_is es k
 
 pub rewrites-set_value : (es new : Entries) (k : List ℕ) (older v : Entry) → Some older ≡ lookup (is_at (at k)) es → new ≡ set_value (is_at (at k)) es v → length new ≡ length es
-  → Rewrites (pairs_of es) (pairs_of new) k (Some v.bytes.items)
+    → Rewrites (pairs_of es) (pairs_of new) k (Some v.bytes.items)
 rewrites-set_value es new k older v l e n =
     let there : bytes_at (pairs_of es) k ≡ Some older.bytes.items = sym (found_as es k (Some older) l) in
     record {
       found = λ q. ap (λ r. bytes_at (pairs_of r) q) e ∙ found-set_value es k v q (ap is_some there);
       number =
-        let here : number_of (bytes_at (pairs_of es) k) ≡ 1 = ap number_of there in
-        omega (arith, length-pairs_of new, length-pairs_of es)
+          let here : number_of (bytes_at (pairs_of es) k) ≡ 1 = ap number_of there in
+          omega (arith, length-pairs_of new, length-pairs_of es);
     }
 
 number_and : (o : Option Entry) (m n : ℕ) → n ≡ m + (if is_some o then 0 else 1) → n + number_of (bytes_in o) ≡ m + 1
@@ -121,29 +121,29 @@ number_and None m n h = omega arith
 number_and (Some e) m n h = omega arith
 
 pub rewrites-insert_entry : (es new : Entries) (k : Vec ℕ Global) (v : Entry) (old : Option Entry) → old ≡ lookup (is_at (at k.items)) es
-  → new ≡ insert_entry (λ a b. slice_cmp nat_cmp a.items b.items) es k v → length new ≡ length es + (if is_some old then 0 else 1)
-  → Rewrites (pairs_of es) (pairs_of new) k.items (Some v.bytes.items)
+    → new ≡ insert_entry (λ a b. slice_cmp nat_cmp a.items b.items) es k v → length new ≡ length es + (if is_some old then 0 else 1)
+    → Rewrites (pairs_of es) (pairs_of new) k.items (Some v.bytes.items)
 rewrites-insert_entry es new k v old l e n = record {
-    found = λ q. ap (λ r. bytes_at (pairs_of r) q) e ∙ found-insert_entry es k v q;
-    number =
+  found = λ q. ap (λ r. bytes_at (pairs_of r) q) e ∙ found-insert_entry es k v q;
+  number =
       let here : number_of (bytes_at (pairs_of es) k.items) ≡ number_of (bytes_in old) = ap number_of (sym (found_as es k.items old l)) in
       let total : length new + number_of (bytes_in old) ≡ length es + 1 = number_and old (length es) (length new) n in
-      omega (arith, length-pairs_of new, length-pairs_of es)
-  }
+      omega (arith, length-pairs_of new, length-pairs_of es);
+}
 
 none_here : (es new : Entries) (k q : List ℕ) → new ≡ remove_entry (is_at (at k)) es → None ≡ lookup (is_at (at k)) new
-  → (b : Bool) → same q k ≡ b → bytes_at (pairs_of new) q ≡ cond b None (bytes_at (pairs_of es) q)
+    → (b : Bool) → same q k ≡ b → bytes_at (pairs_of new) q ≡ cond b None (bytes_at (pairs_of es) q)
 none_here es new k q e gone true is = ap (bytes_at (pairs_of new)) (equal_from_same q k is) ∙ sym (found_as new k None gone)
 none_here es new k q e gone false is = ap (λ r. bytes_at (pairs_of r) q) e ∙ found-remove_entry es k q is
 
 pub rewrites-remove_entry : (es new : Entries) (k : List ℕ) (older : Entry) → Some older ≡ lookup (is_at (at k)) es → new ≡ remove_entry (is_at (at k)) es
-  → None ≡ lookup (is_at (at k)) new → length new + 1 ≡ length es → Rewrites (pairs_of es) (pairs_of new) k None
+    → None ≡ lookup (is_at (at k)) new → length new + 1 ≡ length es → Rewrites (pairs_of es) (pairs_of new) k None
 rewrites-remove_entry es new k older l e gone n = record {
-    found = λ q. none_here es new k q e gone (same q k) refl;
-    number =
+  found = λ q. none_here es new k q e gone (same q k) refl;
+  number =
       let here : number_of (bytes_at (pairs_of es) k) ≡ 1 = ap number_of (sym (found_as es k (Some older) l)) in
-      omega (arith, length-pairs_of new, length-pairs_of es)
-  }
+      omega (arith, length-pairs_of new, length-pairs_of es);
+}
 
 -- a key that has no bytes loses none
 pub rewrites_nothing : (pairs : List Pair) (k : List ℕ) → bytes_at pairs k ≡ None → Rewrites pairs pairs k None

@@ -1,16 +1,15 @@
 -- Values held: without those of a key, with one more, and each changed.
-use Rattle.std.proofs.Common.{◌≡◌, ℕ, suc, ◌+◌, Bool, cond, true, false, not, ◌&&◌, ◌||◌, ◌==◌, List, [], ◌∷◌, ◌++◌, map, length, Option, option_map, Some, None, is_none, refl, sym, ap, ◌∙◌, subst, arith}
+use Rattle.std.proofs.Common.{◌≡◌, ℕ, ◌+◌, Bool, cond, true, false, not, ◌&&◌, List, [], ◌∷◌, ◌++◌, length, Option, option_map, Some, None, refl, sym, ap, ◌∙◌, subst, arith}
 use Rattle.std.specs.List.{list_all, find, sum_by, fold}
-use Rattle.std.proofs.lemmas.Bool.{false≢true, not-true, not_from_false, and_parts, and_from, eqb-true}
-use Rattle.std.proofs.lemmas.List.{length-append}
-use Rattle.std.proofs.lemmas.List.Folds.{list_all-append, list_all-map}
+use Rattle.std.proofs.lemmas.Bool.{not-true, not_from_false, and_parts, and_from}
+use Rattle.std.proofs.lemmas.List.Folds.{list_all-append}
 use Rattle.std.proofs.lemmas.Option.{none-some}
 use Rattle.audit_model.specs.Bytewise.{same}
 use Rattle.audit_model.specs.Situation.{HeldValue}
 use Rattle.audit_model.specs.Values.{without_key}
 use Rattle.plain_store.specs.Standing.{is_absent, are_apart, bytes_held, is_plainly_held}
 use Rattle.plain_store.specs.Laws.{plainly_from}
-use Rattle.plain_store.proofs.Keys.{equal_from_same, same_from_equal, same_along, same-flip_false, not_both}
+use Rattle.plain_store.proofs.Keys.{equal_from_same, same_along, same-flip_false, not_both}
 
 abbrev pub key_of : HeldValue → List ℕ
 key_of h = h.value.key
@@ -25,7 +24,7 @@ absent_from_none key [] e = refl
 absent_from_none key (h ∷ held) e = go (same key h.value.key) (absent_from_none key held) e
   where
     go : (b : Bool) → (bytes_held held key ≡ None → is_absent key held ≡ true)
-      → option_map (λ (g : HeldValue). g.value.bytes) (cond b (Some h) (find (λ g. same key g.value.key) held)) ≡ None → (not b && is_absent key held) ≡ true
+        → option_map (λ (g : HeldValue). g.value.bytes) (cond b (Some h) (find (λ g. same key g.value.key) held)) ≡ None → (not b && is_absent key held) ≡ true
     go true next e = absurd (none-some h.value.bytes (sym e))
     go false next e = next e
 
@@ -52,14 +51,14 @@ first_from_some key bytes (h ∷ held) p e =
     go (same key h.value.key) refl (λ (e : bytes_held held key ≡ Some bytes). first_from_some key bytes held (and_parts (is_plainly_held h) (list_all is_plainly_held held) p).1 e) e
   where
     go : (b : Bool) → same key h.value.key ≡ b → (bytes_held held key ≡ Some bytes → IsFirst key bytes held)
-      → option_map (λ (g : HeldValue). g.value.bytes) (cond b (Some h) (find (λ g. same key g.value.key) held)) ≡ Some bytes → IsFirst key bytes (h ∷ held)
+        → option_map (λ (g : HeldValue). g.value.bytes) (cond b (Some h) (find (λ g. same key g.value.key) held)) ≡ Some bytes → IsFirst key bytes (h ∷ held)
     go true is next e = record {
-        first = h;
-        found = ap (λ b. cond b (Some h) (find (λ (g : HeldValue). same key g.value.key) held)) is;
-        is_key = is;
-        bytes_are = cc;
-        plainly = (and_parts (is_plainly_held h) (list_all is_plainly_held held) p).0
-      }
+      first = h;
+      found = ap (λ b. cond b (Some h) (find (λ (g : HeldValue). same key g.value.key) held)) is;
+      is_key = is;
+      bytes_are = cc;
+      plainly = (and_parts (is_plainly_held h) (list_all is_plainly_held held) p).0;
+    }
     go false is next e =
         let f = next e in
         record {
@@ -67,7 +66,7 @@ first_from_some key bytes (h ∷ held) p e =
           found = ap (λ b. cond b (Some h) (find (λ (g : HeldValue). same key g.value.key) held)) is ∙ f.found;
           is_key = f.is_key;
           bytes_are = f.bytes_are;
-          plainly = f.plainly
+          plainly = f.plainly;
         }
 
 -- ---- without the key
@@ -105,14 +104,14 @@ found-without_other key q [] other = refl
 found-without_other key q (h ∷ held) other = go (same key h.value.key) refl (found-without_other key q held other)
   where
     go : (b : Bool) → same key h.value.key ≡ b → bytes_held (without key held) q ≡ bytes_held held q
-      → bytes_held (cond b held (h ∷ without key held)) q ≡ bytes_held (h ∷ held) q
+        → bytes_held (cond b held (h ∷ without key held)) q ≡ bytes_held (h ∷ held) q
     go true is next =
         ap (λ b. option_map (λ (g : HeldValue). g.value.bytes) (cond b (Some h) (find (λ g. same q g.value.key) held))) (sym (same_along q key h.value.key is ∙ other))
     go false is next = step (same q h.value.key) next
       where
         step : (b : Bool) → bytes_held (without key held) q ≡ bytes_held held q
-          → option_map (λ (g : HeldValue). g.value.bytes) (cond b (Some h) (find (λ g. same q g.value.key) (without key held)))
-          ≡ option_map (λ (g : HeldValue). g.value.bytes) (cond b (Some h) (find (λ g. same q g.value.key) held))
+            → option_map (λ (g : HeldValue). g.value.bytes) (cond b (Some h) (find (λ g. same q g.value.key) (without key held)))
+            ≡ option_map (λ (g : HeldValue). g.value.bytes) (cond b (Some h) (find (λ g. same q g.value.key) held))
         step true next = refl
         step false next = next
 
@@ -128,21 +127,21 @@ length-without key bytes [] e = absurd (none-some bytes e)
 length-without key bytes (h ∷ held) e = go (same key h.value.key) (λ (e : bytes_held held key ≡ Some bytes). length-without key bytes held e) e
   where
     go : (b : Bool) → (bytes_held held key ≡ Some bytes → length (without key held) + 1 ≡ length held)
-      → option_map (λ (g : HeldValue). g.value.bytes) (cond b (Some h) (find (λ g. same key g.value.key) held)) ≡ Some bytes
-      → length (cond b held (h ∷ without key held)) + 1 ≡ length (h ∷ held)
+        → option_map (λ (g : HeldValue). g.value.bytes) (cond b (Some h) (find (λ g. same key g.value.key) held)) ≡ Some bytes
+        → length (cond b held (h ∷ without key held)) + 1 ≡ length (h ∷ held)
     go true next e = omega arith
     go false next e = let n = next e in omega arith
 
 -- ---- with one more
 
 pub without_key-append : {A : Type 0} (of : A → List ℕ) (key : List ℕ) (xs ys : List A) (x : A) → find (λ y. same key (of y)) xs ≡ Some x
-  → without_key of key (xs ++ ys) ≡ without_key of key xs ++ ys
+    → without_key of key (xs ++ ys) ≡ without_key of key xs ++ ys
 without_key-append of key [] ys x e = absurd (none-some x e)
 without_key-append of key (z ∷ xs) ys x e = go (same key (of z)) (λ (e : find (λ y. same key (of y)) xs ≡ Some x). without_key-append of key xs ys x e) e
   where
     go : (b : Bool) → (find (λ y. same key (of y)) xs ≡ Some x → without_key of key (xs ++ ys) ≡ without_key of key xs ++ ys)
-      → cond b (Some z) (find (λ y. same key (of y)) xs) ≡ Some x
-      → cond b (xs ++ ys) (z ∷ without_key of key (xs ++ ys)) ≡ cond b xs (z ∷ without_key of key xs) ++ ys
+        → cond b (Some z) (find (λ y. same key (of y)) xs) ≡ Some x
+        → cond b (xs ++ ys) (z ∷ without_key of key (xs ++ ys)) ≡ cond b xs (z ∷ without_key of key xs) ++ ys
     go true next e = refl
     go false next e = ap (λ zs. z ∷ zs) (next e)
 
@@ -153,32 +152,32 @@ apart-append (h ∷ held) n a absent =
     let others = and_parts (not (same n.value.key h.value.key)) (is_absent n.value.key held) absent in
     let other : same h.value.key n.value.key ≡ false = same-flip_false n.value.key h.value.key (not-true (same n.value.key h.value.key) others.0) in
     and_from _ _
-      (list_all-append (λ (g : HeldValue). not (same h.value.key g.value.key)) held (n ∷ [])
-       ∙ and_from _ _ parts.0 (and_from _ _ (not_from_false (same h.value.key n.value.key) other) refl))
-      (apart-append held n parts.1 others.1)
+    (list_all-append (λ (g : HeldValue). not (same h.value.key g.value.key)) held (n ∷ [])
+    ∙ and_from _ _ parts.0 (and_from _ _ (not_from_false (same h.value.key n.value.key) other) refl))
+    (apart-append held n parts.1 others.1)
 
 -- of two tests of which one holds, either may come first
 in_turn : (b c : Bool) (x y : HeldValue) (o : Option HeldValue) (r : Option (List ℕ)) → (b ≡ true → c ≡ true → ⊥)
-  → option_map (λ (g : HeldValue). g.value.bytes) o ≡ cond b (Some x.value.bytes) r
-  → option_map (λ (g : HeldValue). g.value.bytes) (cond c (Some y) o) ≡ cond b (Some x.value.bytes) (cond c (Some y.value.bytes) r)
+    → option_map (λ (g : HeldValue). g.value.bytes) o ≡ cond b (Some x.value.bytes) r
+    → option_map (λ (g : HeldValue). g.value.bytes) (cond c (Some y) o) ≡ cond b (Some x.value.bytes) (cond c (Some y.value.bytes) r)
 in_turn true true x y o r h e = absurd (h refl refl)
 in_turn true false x y o r h e = e
 in_turn false true x y o r h e = refl
 in_turn false false x y o r h e = e
 
 bytes_of-cond : (b : Bool) (h : HeldValue) (o : Option HeldValue)
-  → option_map (λ (g : HeldValue). g.value.bytes) (cond b (Some h) o) ≡ cond b (Some h.value.bytes) (option_map (λ (g : HeldValue). g.value.bytes) o)
+    → option_map (λ (g : HeldValue). g.value.bytes) (cond b (Some h) o) ≡ cond b (Some h.value.bytes) (option_map (λ (g : HeldValue). g.value.bytes) o)
 bytes_of-cond true h o = refl
 bytes_of-cond false h o = refl
 
 pub found-append : (held : List HeldValue) (n : HeldValue) (q : List ℕ) → is_absent n.value.key held ≡ true
-  → bytes_held (held ++ n ∷ []) q ≡ cond (same q n.value.key) (Some n.value.bytes) (bytes_held held q)
+    → bytes_held (held ++ n ∷ []) q ≡ cond (same q n.value.key) (Some n.value.bytes) (bytes_held held q)
 found-append [] n q absent = bytes_of-cond (same q n.value.key) n None
 found-append (h ∷ held) n q absent =
     let others = and_parts (not (same n.value.key h.value.key)) (is_absent n.value.key held) absent in
     in_turn (same q n.value.key) (same q h.value.key) n h (find (λ g. same q g.value.key) (held ++ n ∷ [])) (bytes_held held q)
-      (not_both q n.value.key h.value.key (not-true (same n.value.key h.value.key) others.0))
-      (found-append held n q others.1)
+    (not_both q n.value.key h.value.key (not-true (same n.value.key h.value.key) others.0))
+    (found-append held n q others.1)
     ∙ ap (cond (same q n.value.key) (Some n.value.bytes)) (sym (bytes_of-cond (same q h.value.key) h (find (λ g. same q g.value.key) held)))
 
 -- ---- their weight

@@ -31,50 +31,50 @@ none_unless true o h = h refl
 none_unless false o h = refl
 
 pub is_without : (cause : RemovalCause) (key : List ℕ) (older : Option (List ℕ)) (pairs : List Pair) (held : List HeldValue)
-  → bytes_at pairs key ≡ older → Stands pairs held → IsWithout key pairs held (left_of cause key older held)
+    → bytes_at pairs key ≡ older → Stands pairs held → IsWithout key pairs held (left_of cause key older held)
 is_without cause key None pairs held e s = record {
-    apart = s.apart;
-    absent = absent_from_none key held (s.found key ∙ e);
-    found = λ q. s.found q ∙ none_unless (same q key) (bytes_at pairs q) (λ is. ap (bytes_at pairs) (equal_from_same q key is) ∙ e);
-    number =
+  apart = s.apart;
+  absent = absent_from_none key held (s.found key ∙ e);
+  found = λ q. s.found q ∙ none_unless (same q key) (bytes_at pairs q) (λ is. ap (bytes_at pairs) (equal_from_same q key is) ∙ e);
+  number =
       let none : number_of (bytes_at pairs key) ≡ 0 = ap number_of e in
       let number : length held ≡ length pairs = s.number in
       omega arith;
-    plainly = s.plainly
-  }
+  plainly = s.plainly;
+}
 is_without cause key (Some bytes) pairs held e s = record {
-    apart = apart-without key held s.apart;
-    absent = absent-without key held s.apart;
-    found = λ q. found-without key q held s.apart ∙ ap (cond (same q key) None) (s.found q);
-    number =
+  apart = apart-without key held s.apart;
+  absent = absent-without key held s.apart;
+  found = λ q. found-without key q held s.apart ∙ ap (cond (same q key) None) (s.found q);
+  number =
       let one : number_of (bytes_at pairs key) ≡ 1 = ap number_of e in
       let number : length held ≡ length pairs = s.number in
       let less : length (without key held) + 1 ≡ length held = length-without key bytes held (s.found key ∙ e) in
       omega arith;
-    plainly = all-without_key is_plainly_held key_of key held s.plainly
-  }
+  plainly = all-without_key is_plainly_held key_of key held s.plainly;
+}
 
 -- ---- a key that goes
 
 pub stands_without : (cause : RemovalCause) (key : List ℕ) (older : Option (List ℕ)) (pairs new : List Pair) (held : List HeldValue)
-  → bytes_at pairs key ≡ older → Rewrites pairs new key None → Stands pairs held → Stands new (left_of cause key older held)
+    → bytes_at pairs key ≡ older → Rewrites pairs new key None → Stands pairs held → Stands new (left_of cause key older held)
 stands_without cause key older pairs new held e r s =
     let w = is_without cause key older pairs held e s in
     record {
       apart = w.apart;
       found = λ q. w.found q ∙ sym (r.found q);
       number =
-        let left : length (left_of cause key older held) + number_of (bytes_at pairs key) ≡ length pairs = w.number in
-        let now : length new + number_of (bytes_at pairs key) ≡ length pairs + 0 = r.number in
-        omega arith;
-      plainly = w.plainly
+          let left : length (left_of cause key older held) + number_of (bytes_at pairs key) ≡ length pairs = w.number in
+          let now : length new + number_of (bytes_at pairs key) ≡ length pairs + 0 = r.number in
+          omega arith;
+      plainly = w.plainly;
     }
 
 -- ---- a key that is written
 
 -- the newcomer comes behind the values that are left
 pub left_of-append : (cause : RemovalCause) (older : Option (List ℕ)) (pairs : List Pair) (held : List HeldValue) (n : HeldValue)
-  → bytes_at pairs n.value.key ≡ older → Stands pairs held → left_of cause n.value.key older (held ++ n ∷ []) ≡ left_of cause n.value.key older held ++ n ∷ []
+    → bytes_at pairs n.value.key ≡ older → Stands pairs held → left_of cause n.value.key older (held ++ n ∷ []) ≡ left_of cause n.value.key older held ++ n ∷ []
 left_of-append cause None pairs held n e s = refl
 left_of-append cause (Some bytes) pairs held n e s =
     let first = first_from_some n.value.key bytes held s.plainly (s.found n.value.key ∙ e) in
@@ -85,23 +85,23 @@ again true x y z = refl
 again false x y z = refl
 
 pub stands_with : (cause : RemovalCause) (older : Option (List ℕ)) (pairs new : List Pair) (held : List HeldValue) (n : HeldValue)
-  → bytes_at pairs n.value.key ≡ older → Rewrites pairs new n.value.key (Some n.value.bytes) → is_plainly_held n ≡ true
-  → Stands pairs held → Stands new (left_of cause n.value.key older (held ++ n ∷ []))
+    → bytes_at pairs n.value.key ≡ older → Rewrites pairs new n.value.key (Some n.value.bytes) → is_plainly_held n ≡ true
+    → Stands pairs held → Stands new (left_of cause n.value.key older (held ++ n ∷ []))
 stands_with cause older pairs new held n e r l s =
     let key = n.value.key in
     let left = left_of cause key older held in
     let w = is_without cause key older pairs held e s in
     subst (Stands new) (sym (left_of-append cause older pairs held n e s))
-      (record {
-         apart = apart-append left n w.apart w.absent;
-         found = λ q.
-           found-append left n q w.absent
-           ∙ ap (cond (same q key) (Some n.value.bytes)) (w.found q)
-           ∙ again (same q key) (Some n.value.bytes) None (bytes_at pairs q)
-           ∙ sym (r.found q);
-         number =
-           let rest : length left + number_of (bytes_at pairs key) ≡ length pairs = w.number in
-           let now : length new + number_of (bytes_at pairs key) ≡ length pairs + 1 = r.number in
-           omega (arith, length-append left (n ∷ []));
-         plainly = list_all-append is_plainly_held left (n ∷ []) ∙ and_from _ _ w.plainly (and_from _ _ l refl)
-       })
+    (record {
+      apart = apart-append left n w.apart w.absent;
+      found = λ q.
+          found-append left n q w.absent
+          ∙ ap (cond (same q key) (Some n.value.bytes)) (w.found q)
+          ∙ again (same q key) (Some n.value.bytes) None (bytes_at pairs q)
+          ∙ sym (r.found q);
+      number =
+          let rest : length left + number_of (bytes_at pairs key) ≡ length pairs = w.number in
+          let now : length new + number_of (bytes_at pairs key) ≡ length pairs + 1 = r.number in
+          omega (arith, length-append left (n ∷ []));
+      plainly = list_all-append is_plainly_held left (n ∷ []) ∙ and_from _ _ w.plainly (and_from _ _ l refl);
+    })

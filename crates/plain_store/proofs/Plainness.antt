@@ -1,15 +1,13 @@
 -- What the plain configuration rules out.
-use Rattle.std.proofs.Common.{◌≡◌, ℕ, ◌<◌, Bool, true, false, not, ◌&&◌, ◌||◌, ◌==◌, List, Option, Some, None, is_none, IsTrue, refl, sym, ap, ◌∙◌, subst, [], ◌∷◌, cond}
+use Rattle.std.proofs.Common.{◌≡◌, ℕ, Bool, true, false, not, ◌&&◌, List, Option, Some, None, refl, sym, ap, ◌∙◌, subst, [], ◌∷◌, cond}
 use Rattle.std.specs.List.{find, list_all}
 use Rattle.std.specs.Option.{option_map}
-use Rattle.std.proofs.lemmas.Bool.{false≢true, not-true, and_parts, and_from, eqb-true}
+use Rattle.std.proofs.lemmas.Bool.{and_parts, and_from}
 use Rattle.audit_model.specs.Bytewise.{same}
-use Rattle.audit_model.specs.History.{Value, part_count, weight_of}
+use Rattle.audit_model.specs.History.{Value, weight_of}
 use Rattle.audit_model.specs.Notes.{is_over, is_within}
 use Rattle.audit_model.specs.Situation.{HeldValue, is_dead_at, is_live_at, live_at}
 use Rattle.audit_model.specs.declared.config.Config.{Config}
-use Rattle.audit_model.specs.declared.config.Weight.{Weight}
-use Rattle.audit_model.specs.declared.config.Weight.TheVariants.{One, Bytes}
 use Rattle.cache_store.specs.Promises.{Finds}
 use Rattle.plain_store.specs.Standing.{bytes_held, is_plainly_held}
 use Rattle.plain_store.specs.Writing.{Writes}
@@ -34,7 +32,7 @@ always_live : (config : Config) → IsPlain config → (now : ℕ) (h : HeldValu
 always_live config p now h l = and_from _ _ (ap not l.covered) (ap not (never_dead config p now h l))
 
 find-live : (config : Config) → IsPlain config → (now : ℕ) (key : List ℕ) (held : List HeldValue) → list_all is_plainly_held held ≡ true
-  → find (λ h. same key h.value.key && is_live_at config now h) held ≡ find (λ h. same key h.value.key) held
+    → find (λ h. same key h.value.key && is_live_at config now h) held ≡ find (λ h. same key h.value.key) held
 find-live config p now key [] all = refl
 find-live config p now key (h ∷ held) all =
     let parts = and_parts (is_plainly_held h) (list_all is_plainly_held held) all in
@@ -47,13 +45,13 @@ find-live config p now key (h ∷ held) all =
     and-true false = refl
 
 finds_from : (o : Option HeldValue) (is_found : Bool) (old new : List ℕ) → Writes (option_map (λ h. h.value.bytes) o) is_found old new
-  → Finds (option_map (λ h. h.value) o) is_found old new
+    → Finds (option_map (λ h. h.value) o) is_found old new
 finds_from None is_found old new w = w
 finds_from (Some h) is_found old new w = w
 
 -- what is written of the key's bytes is what a look-up finds
 pub finds_live : (config : Config) → IsPlain config → (now : ℕ) (key : List ℕ) (held : List HeldValue) (is_found : Bool) (old new : List ℕ)
-  → list_all is_plainly_held held ≡ true → Writes (bytes_held held key) is_found old new → Finds (live_at config now held key) is_found old new
+    → list_all is_plainly_held held ≡ true → Writes (bytes_held held key) is_found old new → Finds (live_at config now held key) is_found old new
 finds_live config p now key held is_found old new all w =
     subst (λ o. Finds (option_map (λ (h : HeldValue). h.value) o) is_found old new) (sym (find-live config p now key held all))
-      (finds_from (find (λ h. same key h.value.key) held) is_found old new w)
+    (finds_from (find (λ h. same key h.value.key) held) is_found old new w)

@@ -1,5 +1,5 @@
 -- What holds of each plain store: its values have a part, and a step that does nothing to values leaves them.
-use Rattle.std.specs.Prelude.{◌≡◌, ℕ, suc, ◌<◌, Bool, true, false, cond, not, ◌&&◌, ◌||◌, ◌==◌, List, [], ◌∷◌, ◌++◌, map, length, Option, Some, None, option_map, is_none, IsTrue, refl}
+use Rattle.std.specs.Prelude.{◌≡◌, ℕ, suc, ◌<◌, Bool, true, false, cond, not, ◌&&◌, ◌==◌, List, [], ◌∷◌, map, length, Option, Some, None, option_map, is_none, IsTrue, refl}
 use Rattle.std.specs.List.{list_all, find}
 use Rattle.std.proofs.Common.{sym, ap, ◌∙◌, subst, lit<}
 use Rattle.std.proofs.lemmas.Bool.{false≢true, not-true, and_parts, and_from, and_right, or_from, eqb-true}
@@ -16,7 +16,7 @@ use Rattle.audit_model.specs.declared.config.Weight.{Weight}
 use Rattle.audit_model.specs.declared.config.Weight.TheVariants.{One, Bytes}
 use Rattle.audit_model.specs.declared.transcript.Note.{Note}
 use Rattle.cache_store.specs.Promises.{no_deed}
-use Rattle.plain_store.specs.Pairs.{Pair, bytes_at}
+use Rattle.plain_store.specs.Pairs.{Pair}
 use Rattle.plain_store.specs.Plain.{is_plain, is_one}
 use Rattle.plain_store.specs.Standing.{is_absent, are_apart, bytes_held, is_plainly_held, Stands}
 
@@ -52,7 +52,7 @@ plain_from config e =
       weight = one_from_test config.weight with_parts.1;
       live_ms = none_from_test config.live_ms with_weight.1;
       idle_ms = none_from_test config.idle_ms with_live.1;
-      own_deadlines = not-true config.own_deadlines with_idle.1
+      own_deadlines = not-true config.own_deadlines with_idle.1;
     }
 
 -- the first part is one
@@ -84,16 +84,16 @@ plainly_from h e =
       weight = eqb-true h.value.weight 1 with_part.1;
       own_deadline = none_from_test h.value.own_deadline with_weight.1;
       covered = not-true h.covered with_deadline.1;
-      evictable = not-true h.evictable with_covered.1
+      evictable = not-true h.evictable with_covered.1;
     }
 
 pub is_plainly_from : (h : HeldValue) → Plainly h → is_plainly_held h ≡ true
 is_plainly_from h l =
     and_from _ _
-      (and_from _ _
-        (and_from _ _ (and_from _ _ l.part (ap (λ w. w == 1) l.weight)) (ap (λ (o : Option ℕ). is_none o) l.own_deadline))
-        (ap not l.covered))
-      (ap not l.evictable)
+    (and_from _ _
+    (and_from _ _ (and_from _ _ l.part (ap (λ w. w == 1) l.weight)) (ap (λ (o : Option ℕ). is_none o) l.own_deadline))
+    (ap not l.covered))
+    (ap not l.evictable)
 
 -- ---- a step that covers nothing
 
@@ -103,12 +103,12 @@ module _ (config : Config) (p : IsPlain config) (now : ℕ) (held : List HeldVal
 
   plainly-after : (h : HeldValue) → Plainly h → Plainly (after h)
   plainly-after h l = record {
-      part = l.part;
-      weight = l.weight;
-      own_deadline = l.own_deadline;
-      covered = or_from h.covered (covers_key h.value.key deed.covers) l.covered (ap (covers_key h.value.key) e);
-      evictable = or_from (is_over config h.value.part values) _ (never_over config p h.value.part values) (and_right _ h.evictable l.evictable)
-    }
+    part = l.part;
+    weight = l.weight;
+    own_deadline = l.own_deadline;
+    covered = or_from h.covered (covers_key h.value.key deed.covers) l.covered (ap (covers_key h.value.key) e);
+    evictable = or_from (is_over config h.value.part values) _ (never_over config p h.value.part values) (and_right _ h.evictable l.evictable);
+  }
 
   all-after : (left : List HeldValue) → list_all is_plainly_held left ≡ true → list_all is_plainly_held (map after left) ≡ true
   all-after [] all = refl
@@ -128,8 +128,8 @@ module _ (config : Config) (p : IsPlain config) (now : ℕ) (held : List HeldVal
   found-after (h ∷ left) key = go (same key h.value.key) (found-after left key)
     where
       go : (b : Bool) → bytes_held (map after left) key ≡ bytes_held left key
-        → option_map (λ (g : HeldValue). g.value.bytes) (cond b (Some (after h)) (find (λ g. same key g.value.key) (map after left)))
-        ≡ option_map (λ (g : HeldValue). g.value.bytes) (cond b (Some h) (find (λ g. same key g.value.key) left))
+          → option_map (λ (g : HeldValue). g.value.bytes) (cond b (Some (after h)) (find (λ g. same key g.value.key) (map after left)))
+          ≡ option_map (λ (g : HeldValue). g.value.bytes) (cond b (Some h) (find (λ g. same key g.value.key) left))
       go true next = refl
       go false next = next
 
@@ -140,21 +140,21 @@ module _ (config : Config) (p : IsPlain config) (now : ℕ) (held : List HeldVal
   -- it changes nothing that pairs stand for
   pub stands_after : (pairs : List Pair) (left : List HeldValue) → Stands pairs left → Stands pairs (map after left)
   stands_after pairs left s = record {
-      apart = apart-after left ∙ s.apart;
-      found = λ key. found-after left key ∙ s.found key;
-      number = length-after left ∙ s.number;
-      plainly = all-after left s.plainly
-    }
+    apart = apart-after left ∙ s.apart;
+    found = λ key. found-after left key ∙ s.found key;
+    number = length-after left ∙ s.number;
+    plainly = all-after left s.plainly;
+  }
 
 -- what such a step leaves stands for the pairs, where the values that it did not tell do
 pub stands_left : (config : Config) → IsPlain config → (now : ℕ) (held : List HeldValue) (deed : Deed) → deed.covers ≡ Nothing → (notes : List Note) (pairs : List Pair)
-  → Stands pairs (left_held held deed notes) → Stands pairs (all_held_after config now held deed notes)
+    → Stands pairs (left_held held deed notes) → Stands pairs (all_held_after config now held deed notes)
 stands_left config p now held deed e notes pairs s =
     let left = left_held held deed notes in
     stands_after config p now held deed e notes (map (λ (h : HeldValue). h.value) left) pairs left s
 
 -- a step that does nothing to values leaves those that are held
 pub stands_idle : (config : Config) → IsTrue (is_plain config) → (now : ℕ) (pairs : List Pair) (held : List HeldValue)
-  → Stands pairs held → Stands pairs (all_held_after config now held no_deed [])
+    → Stands pairs held → Stands pairs (all_held_after config now held no_deed [])
 stands_idle config e now pairs held s =
     stands_left config (plain_from config e) now held no_deed refl [] pairs (subst (Stands pairs) (sym (append-nil held)) s)

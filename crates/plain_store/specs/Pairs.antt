@@ -1,5 +1,5 @@
 -- Keys with their bytes, read as a map.
-use Rattle.std.specs.Prelude.{◌≡◌, ℕ, ◌+◌, Bool, List, length, Option, is_some, if◌then◌else◌}
+use Rattle.std.specs.Prelude.{◌≡◌, ℕ, ◌+◌, List, length, Option, is_some, if◌then◌else◌}
 use Rattle.std.specs.Map.{lookup}
 use Rattle.audit_model.specs.Bytewise.{same}
 

@@ -10,7 +10,7 @@ returns-clause-answer c = λ held stands.
     let store = c.args.self.now in
     let key = c.args.key.now in
     finds_live store.config (plain_from store.config store.plain) c.args.now key held c.in_ok-is_found.is_found c.args.found.now.items c.write_found.new.found.items stands.plainly
-      (subst (λ bytes. Writes bytes c.in_ok-is_found.is_found c.args.found.now.items c.write_found.new.found.items) (sym (stands.found key)) c.in_ok-is_found.ensures.ok)
+    (subst (λ bytes. Writes bytes c.in_ok-is_found.is_found c.args.found.now.items c.write_found.new.found.items) (sym (stands.found key)) c.in_ok-is_found.ensures.ok)
 
 pub returns-clause-done : goal.returns-clause-done
 returns-clause-done c = λ held stands.

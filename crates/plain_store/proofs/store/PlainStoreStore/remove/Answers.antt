@@ -10,4 +10,4 @@ returns-clause-done c = λ held stands.
     let store = c.args.self.now in
     let key = c.args.key.now in
     deleted store.config store.plain c.args.now key store.table c.take.new.table held store.notes.items c.take.new.notes.items c.take.ensures.rewritten
-      (c.take.ensures.told ∙ ap (λ notes. notes ++ notes_of Explicit key (bytes_at store.table key)) c.in_ok-reserve.ensures.items) stands
+    (c.take.ensures.told ∙ ap (λ notes. notes ++ notes_of Explicit key (bytes_at store.table key)) c.in_ok-reserve.ensures.items) stands

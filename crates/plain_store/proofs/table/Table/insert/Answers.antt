@@ -10,4 +10,4 @@ returns-clause-ok c =
     let new = c.insert.new.self.entries in
     let ensured = c.in_ok-insert.ensures in
     subst (λ pairs. Rewrites pairs (pairs_of new) c.args.key.items (Some c.args.bytes.items)) c.self.view_is
-      (rewrites-insert_entry old new c.args.key (record { bytes = c.args.bytes }) c.in_ok-insert.field-0 ensured.old ensured.entries ensured.len)
+    (rewrites-insert_entry old new c.args.key (record { bytes = c.args.bytes }) c.in_ok-insert.field-0 ensured.old ensured.entries ensured.len)

@@ -8,7 +8,7 @@ use Rattle.plain_store.proofs.table.Table.remove.Goals as goal
 pub returns-in_err-key-clause-found : goal.returns-in_err-key-clause-found
 returns-in_err-key-clause-found c =
     rw c.from_residual.ensures
-      (found_as c.self.inside.entries.entries c.args.key.now None c.in_err-key.ensures.value ∙ ap (λ pairs. bytes_at pairs c.args.key.now) c.self.view_is)
+    (found_as c.self.inside.entries.entries c.args.key.now None c.in_err-key.ensures.value ∙ ap (λ pairs. bytes_at pairs c.args.key.now) c.self.view_is)
 
 pub returns-clause-found : goal.returns-clause-found
 returns-clause-found c =
@@ -23,11 +23,11 @@ returns-in_err-key-clause-rewritten c =
     let new = c.remove_entry.new.self.entries in
     let absent = sym (found_as old c.args.key.now None c.in_err-key.ensures.value) in
     subst (λ pairs. Rewrites pairs (pairs_of new) c.args.key.now None) c.self.view_is
-      (subst (λ entries. Rewrites (pairs_of old) (pairs_of entries) c.args.key.now None) (sym c.in_err-key.ensures.unchanged) (rewrites_nothing (pairs_of old) c.args.key.now absent))
+    (subst (λ entries. Rewrites (pairs_of old) (pairs_of entries) c.args.key.now None) (sym c.in_err-key.ensures.unchanged) (rewrites_nothing (pairs_of old) c.args.key.now absent))
 
 pub returns-clause-rewritten : goal.returns-clause-rewritten
 returns-clause-rewritten c =
     let ensured = c.in_ok-key.ensures in
     let new = c.remove_entry.new.self.entries in
     subst (λ pairs. Rewrites pairs (pairs_of new) c.args.key.now None) c.self.view_is
-      (rewrites-remove_entry c.self.inside.entries.entries new c.args.key.now c.in_ok-key.entry ensured.value ensured.entries (sym ensured.updates.1) ensured.len)
+    (rewrites-remove_entry c.self.inside.entries.entries new c.args.key.now c.in_ok-key.entry ensured.value ensured.entries (sym ensured.updates.1) ensured.len)
