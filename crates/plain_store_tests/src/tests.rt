@@ -159,7 +159,6 @@ fn let_go(
 {
     if store.remove(key, 5).is_err() {
         assert!(rt; has(alloc, store, key, older)?);
-        assert!(rt; store.next_notice().is_none());
         store.remove(key, 5)?;
     }
     Ok(())
@@ -183,6 +182,44 @@ fn a_refused_call_changes_nothing(rt: HostRuntime) -> Result<(), Fail> {
     assert_eq!(rt; found.as_slice(), b"two".as_slice());
     let_go(&rt, rt.alloc(), &mut store, b"key", b"two")?;
     assert!(rt; tells(store.next_notice(), RemovalCause::Explicit, b"key", b"two"));
+    assert_eq!(rt; store.len(), 0);
+    Ok(())
+}
+
+// accepts a value, at the second try where memory is refused
+fn accept_at_last(store: &mut PlainStore, key: &[u8], bytes: &[u8]) -> Result<(), AllocError>
+    requires in_time { (frame_of store.old).latest ≤ 5 }
+    requires accepts { IsTrue (accepts_values (frame_of store.old).config.capacity) }
+    requires short { length bytes.now ≤ 8192 }
+    ensures { OnOk result (frame_of store.new ≡ record (frame_of store.old) { latest = 5 }) }
+{
+    if store.accept(key, bytes, None, false, 5).is_err() {
+        store.accept(key, bytes, None, false, 5)?;
+    }
+    Ok(())
+}
+
+// the later removals need more room for notes
+#[test]
+fn a_refused_removal_changes_nothing(rt: HostRuntime) -> Result<(), Fail> {
+    let mut store = PlainStore::new(rt.alloc(), PLAIN, 5);
+    for number in 0..8u8 {
+        accept_at_last(&mut store, &[number], b"one")?;
+    }
+    for number in 0..8u8 {
+        let_go(&rt, rt.alloc(), &mut store, &[number], b"one")?;
+    }
+    for number in 0..8u8 {
+        assert!(rt;
+            tells(
+                store.next_notice(),
+                RemovalCause::Explicit,
+                &[number],
+                b"one"
+            )
+        );
+    }
+    assert!(rt; store.next_notice().is_none());
     assert_eq!(rt; store.len(), 0);
     Ok(())
 }
