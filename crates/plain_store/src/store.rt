@@ -1,5 +1,5 @@
 //! The plain store.
-ghost use Rattle.std.specs.Prelude.{◌≡◌, ℕ, ◌<◌, ◌++◌, ◌∷◌, [], false, List, length, option_map, Some, None, IsTrue, IfOk, IfSome, OnOk, OnErr, ◌≤◌, true, vec_len, vec_capacity};
+ghost use Rattle.std.specs.Prelude.{◌≡◌, ◌<◌, ◌≤◌, ◌++◌, [], true, false, vec_len, vec_capacity, IsTrue, IfOk, OnOk, OnErr, Some, None};
 ghost use Rattle.std.specs.VecDeque.{deque_len, deque_capacity};
 ghost use Rattle.audit_model.specs.declared.transcript.RemovalCause.TheVariants.{Replaced, Explicit};
 ghost use Rattle.plain_store.specs.Plain.{is_plain};
