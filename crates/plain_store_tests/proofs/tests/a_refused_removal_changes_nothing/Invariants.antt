@@ -1,4 +1,4 @@
-use Rattle.std.proofs.Common.{◌≡◌, ◌≤◌, IsTrue}
+use Rattle.std.proofs.Common.{◌≤◌, IsTrue}
 use Rattle.audit_model.specs.History.{accepts_values}
 use Rattle.plain_store_tests.proofs.tests.a_refused_removal_changes_nothing.Given as goal
 
