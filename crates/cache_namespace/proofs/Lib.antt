@@ -4,3 +4,4 @@ pub mod Placing
 pub mod Recording
 pub mod Running
 pub mod Stepping
+pub mod Table
