@@ -1,6 +1,7 @@
 pub mod Draining
 pub mod FeedSteps
 pub mod Placing
+pub mod Putting
 pub mod Recording
 pub mod Running
 pub mod Stepping

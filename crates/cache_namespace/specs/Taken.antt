@@ -47,7 +47,7 @@ abbrev pub text_at : List Connection → ℕ → List ℕ
 text_at connections index = option_map_or (λ c. c.output.items) (slice_get connections index) []
 
 -- what a namespace knows of its store
-pub record IsSound (config : Config) (frame : Frame) (latest : ℕ) : Type 0 where
-  pub config : frame.config ≡ config
+pub record IsSound (wanted : Config) (frame : Frame) (latest : ℕ) : Type 0 where
+  pub config : frame.config ≡ wanted
   pub in_time : frame.latest ≤ latest
   pub moment : latest < 2 ^ 63
