@@ -1,5 +1,6 @@
 pub mod Draining
 pub mod FeedSteps
+pub mod Following
 pub mod Placing
 pub mod Putting
 pub mod Recording
