@@ -5,7 +5,7 @@ use Rattle.std.specs.List.{find}
 use Rattle.std.specs.Option.{option_map_or, option_or}
 use Rattle.std.proofs.lemmas.Bool.{and_from, eq-eqb, lt-ltb, le-leb, leb-true}
 use Rattle.std.proofs.lemmas.List.{length-set}
-use Rattle.audit_model.specs.Belongs.{refusal_where, refusal_of}
+use Rattle.audit_model.specs.Belongs.{refusal_where, refusal_of, refusal_of_conn}
 use Rattle.audit_model.specs.Follows.{Follows, after_record, after_steps, after_event, known_in, tasks_in}
 use Rattle.audit_model.specs.Places.{tasks_to_feed}
 use Rattle.audit_model.specs.Situation as model
@@ -18,7 +18,7 @@ use Rattle.cache_namespace.specs.Gathered.{Gathered}
 use Rattle.cache_namespace.specs.Lines.{set_in, ready}
 use Rattle.cache_namespace.specs.Ran.{standing_with, with_piece}
 use Rattle.cache_namespace.specs.Shown.{shown, is_listed, is_open_with, open_from, situation, put_in}
-use Rattle.cache_namespace.specs.Taken.{FeedsConnection, Takes, record_of, fed}
+use Rattle.cache_namespace.specs.Taken.{FeedsConnection, Takes, record_of, fed, known}
 use Rattle.cache_namespace.specs.Whole.{is_long_line}
 use Rattle.cache_namespace.specs.declared.connection.Connection.{Connection}
 use Rattle.cache_namespace.proofs.Running.{gather-none}
@@ -88,15 +88,15 @@ follows-feed config latest m i moment old new cs dropped x piece is_held Stands 
       left = f.left;
       stands = f.stands;
       follows =
-        ap (λ a. if is_none (option_or (option_or (refusal_where (not a) error.NoConnection) (refusal_where (not ((known_in s).is_open m)) error.Closed)) (refusal_where (nat_le (2 ^ 63) moment) error.Moment)) && true && true then rest else None) known.0
-        ∙ ap (λ a. if is_none (option_or (refusal_where (not a) error.Closed) (refusal_where (nat_le (2 ^ 63) moment) error.Moment)) && true && true then rest else None) known.1
-        ∙ ap (λ a. if is_none (refusal_where a error.Moment) && true && true then rest else None) (leb-above (2 ^ 63) moment low)
-        ∙ ap (λ o. after_steps config (option_map_or (λ c. with_connection false (record c { unread = c.unread ++ piece }) (situation (max moment latest) cs dropped x)) o (situation (max moment latest) cs dropped x))
-            (tasks_to_feed m (option_map_or (λ (c : model.Connection). is_holding c.standing) o false)) f.steps) found
-        ∙ ap (λ b. after_steps config (set_in (situation (max moment latest) cs dropped x) x (with_piece piece (shown m old))) (tasks_to_feed m b) f.steps) (holding-shown m old)
-        ∙ f.after ∙ ap Some (put-situation (max moment latest) m i old new cs dropped x f.left e lt at listed);
+          ap (λ a. if is_none (option_or (option_or (refusal_where (not a) error.NoConnection) (refusal_where (not ((known_in s).is_open m)) error.Closed)) (refusal_where (nat_le (2 ^ 63) moment) error.Moment)) && true && true then rest else None) known.0
+          ∙ ap (λ a. if is_none (option_or (refusal_where (not a) error.Closed) (refusal_where (nat_le (2 ^ 63) moment) error.Moment)) && true && true then rest else None) known.1
+          ∙ ap (λ a. if is_none (refusal_where a error.Moment) && true && true then rest else None) (leb-above (2 ^ 63) moment low)
+          ∙ ap (λ o. after_steps config (option_map_or (λ c. with_connection false (record c { unread = c.unread ++ piece }) (situation (max moment latest) cs dropped x)) o (situation (max moment latest) cs dropped x))
+          (tasks_to_feed m (option_map_or (λ (c : model.Connection). is_holding c.standing) o false)) f.steps) found
+          ∙ ap (λ b. after_steps config (set_in (situation (max moment latest) cs dropped x) x (with_piece piece (shown m old))) (tasks_to_feed m b) f.steps) (holding-shown m old)
+          ∙ f.after ∙ ap Some (put-situation (max moment latest) m i old new cs dropped x f.left e lt at listed);
       ends = f.ends;
-      gathered = f.gathered
+      gathered = f.gathered;
     }
 
 -- a connection is listed exactly where it is not closed
@@ -123,13 +123,13 @@ follows-open config latest m new cs dropped x Stands was e is_open free empty st
       left = x;
       stands = stands;
       follows =
-        ap (λ b. if b && true then Some (record (situation latest cs dropped x) { opened = suc (length cs); connections = open_from 1 cs ++ ready m [] ∷ [] }) else None) (eq-eqb m (suc (length cs)) e)
-        ∙ ap (λ ks. Some (record (situation latest cs dropped x) { opened = suc (length cs); connections = ks }))
+          ap (λ b. if b && true then Some (record (situation latest cs dropped x) { opened = suc (length cs); connections = open_from 1 cs ++ ready m [] ∷ [] }) else None) (eq-eqb m (suc (length cs)) e)
+          ∙ ap (λ ks. Some (record (situation latest cs dropped x) { opened = suc (length cs); connections = ks }))
           (sym (opened-last 1 cs new (listed-open (1 + length cs) new ∙ ap is_none is_open) ∙ ap (λ k. open_from 1 cs ++ shown k new ∷ []) n_is
-                ∙ ap (λ b. open_from 1 cs ++ standing_with m b new.unread.bytes ∷ []) free ∙ ap (λ bs. open_from 1 cs ++ ready m bs ∷ []) empty))
-        ∙ ap (λ n. Some (record (situation latest cs dropped x) { opened = n; connections = open_from 1 (cs ++ new ∷ []) })) (let l = length-append cs (new ∷ []) in omega arith);
+          ∙ ap (λ b. open_from 1 cs ++ standing_with m b new.unread.bytes ∷ []) free ∙ ap (λ bs. open_from 1 cs ++ ready m bs ∷ []) empty))
+          ∙ ap (λ n. Some (record (situation latest cs dropped x) { opened = n; connections = open_from 1 (cs ++ new ∷ []) })) (let l = length-append cs (new ∷ []) in omega arith);
       ends = refl;
-      gathered = sym (gather-none was)
+      gathered = sym (gather-none was);
     }
 
 -- a closing's record follows
@@ -145,10 +145,19 @@ follows-close config latest m i old new cs dropped x by Stands was e lt at is_op
       left = x;
       stands = stands;
       follows =
-        ap (λ a. if is_none (option_or (refusal_where (not a) error.NoConnection) (refusal_where (not ((known_in s).is_open m)) error.Closed)) && true && true then rest else None) known.0
-        ∙ ap (λ a. if is_none (refusal_where (not a) error.Closed) && true && true then rest else None) known.1
-        ∙ ap (λ ks. Some (record s { connections = ks })) (dropped-at m 1 i new cs (omega arith) lt (listed-open m new ∙ ap is_none closed))
-        ∙ ap (λ n. Some (record s { opened = n; connections = open_from 1 (slice_set cs i new) })) (sym (length-set cs i new));
+          ap (λ a. if is_none (option_or (refusal_where (not a) error.NoConnection) (refusal_where (not ((known_in s).is_open m)) error.Closed)) && true && true then rest else None) known.0
+          ∙ ap (λ a. if is_none (refusal_where (not a) error.Closed) && true && true then rest else None) known.1
+          ∙ ap (λ ks. Some (record s { connections = ks })) (dropped-at m 1 i new cs (omega arith) lt (listed-open m new ∙ ap is_none closed))
+          ∙ ap (λ n. Some (record s { opened = n; connections = open_from 1 (slice_set cs i new) })) (sym (length-set cs i new));
       ends = refl;
-      gathered = sym (gather-none was)
+      gathered = sym (gather-none was);
     }
+
+-- a closed connection is refused as such
+pub refused-closed : (m i : ℕ) (c : Connection) (cs : List Connection) → m ≡ suc i → i < length cs → get_or cs i c ≡ c → is_none c.closing ≡ false
+    → refusal_of_conn (known cs) m ≡ Some error.Closed
+refused-closed m i c cs e lt at closed =
+    let found : find (λ (k : model.Connection). k.number == m) (open_from 1 cs) ≡ None =
+    found-at m 1 i c cs (omega arith) lt at ∙ ap (λ b. if b then Some (shown m c) else None) (listed-open m c ∙ closed) in
+    ap (λ a. option_or (refusal_where (not a) error.NoConnection) (refusal_where (not ((known cs).is_open m)) error.Closed)) (and_from (nat_lt 0 m) (nat_le m (length cs)) (lt-ltb 0 m (omega arith)) (le-leb m (length cs) (omega arith)))
+    ∙ ap (λ o. refusal_where (not (is_some o)) error.Closed) found

@@ -1,6 +1,7 @@
 pub mod Draining
 pub mod FeedSteps
 pub mod Following
+pub mod Places
 pub mod Placing
 pub mod Putting
 pub mod Recording

@@ -19,7 +19,7 @@ pub put-open : (base : Situation) (left : List HeldValue) (number : ℕ) (closin
 put-open base left number closing held rest is_open fits =
     let gone = without_connection number (record base { held = left }) in
     sym (ap (λ o. if is_none o && not (is_overlong (standing_with number held rest)) then set_in base left (standing_with number held rest) else gone) is_open
-         ∙ ap (λ x. if not x then set_in base left (standing_with number held rest) else gone) fits)
+    ∙ ap (λ x. if not x then set_in base left (standing_with number held rest) else gone) fits)
 
 -- a connection that is closed for too long a line
 pub put-long : (base : Situation) (left : List HeldValue) (number : ℕ) (by : Closing) (held : Bool) (bytes rest : List ℕ)

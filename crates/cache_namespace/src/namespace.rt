@@ -1,20 +1,23 @@
 //! One namespace: its connections over its store.
-ghost use Rattle.std.specs.Prelude.{◌≡◌, ◌≢◌, ◌<◌, ◌≤◌, ◌^◌, ◌+◌, ◌++◌, ◌∷◌, [], None, Some, ℕ, Bool, true, false, List, IfOk, OnOk, OnErr, IsErrOf, length, slice_set, IfSome};
+ghost use Rattle.std.specs.Prelude.{◌≡◌, ◌≢◌, ◌<◌, ◌≤◌, ◌^◌, ◌+◌, ◌++◌, ◌∷◌, [], None, Some, ℕ, Bool, true, false, List, IfOk, OnOk, OnErr, IsErrOf, length, slice_set, IfSome, IfErr, is_none};
+ghost use Rattle.cache_namespace.specs.declared.connection.Connection.{Connection as Open};
 ghost use Rattle.std.specs.List.{slice_get};
 ghost use Rattle.audit_model.specs.Situation.{Situation, HeldValue};
 ghost use Rattle.cache_store.specs.Promises.{IsUnchanged};
 ghost use Rattle.cache_steps.specs.Right.{KeepsFrame};
-ghost use Rattle.cache_namespace.specs.Gathered.{IsFresh};
+ghost use Rattle.cache_namespace.specs.Gathered.{Gathered, IsFresh};
 ghost use Rattle.cache_namespace.specs.Kept.{IsReadyToHold, gathered};
 ghost use Rattle.cache_namespace.specs.Lines.{IsThere};
 ghost use Rattle.cache_namespace.specs.Shown.{situation};
-ghost use Rattle.cache_namespace.specs.Taken.{FeedsConnection, Takes, fed, text_at, IsSound};
+ghost use Rattle.audit_model.specs.Belongs.{refusal_of, refusal_of_conn};
+ghost use Rattle.audit_model.specs.declared.event.Event.TheVariants as event;
+ghost use Rattle.cache_namespace.specs.Taken.{FeedsConnection, Takes, fed, known, holds_at, RefusedFor, text_at, closing_at, ReplacedAt, SameConnections, LooksSame, IsSound};
 
 use crate::connection::{Connection, new_connection};
 use crate::feeding::{FeedError, feed_lines};
 use crate::kept::Kept;
 use crate::lines::Stop;
-use audit_model::{Closing, Config};
+use audit_model::{Closing, Config, ServiceError};
 use cache_store::Store;
 use std::alloc::{AllocError, Global};
 
@@ -38,7 +41,7 @@ fn feed_connection<S: Store>(
     ensures ran { IfOk result (λ is_held. (base : Situation) (values : List HeldValue) → base.latest ≡ now → IsThere number base → S.stands store.old values → FeedsConnection config.now base number values connection.old piece.now connection.new is_held (S.stands store.new) (gathered connection.old.output.items kept.old (S.untaken store.old)) (gathered connection.new.output.items kept.new (S.untaken store.new))) }
     ensures frame { KeepsFrame (S.frame store.old) (S.frame store.new) now }
     ensures fresh { IsFresh (gathered connection.new.output.items kept.new (S.untaken store.new)) }
-    ensures connection { OnErr result ((connection.new.unread.bytes ≡ connection.old.unread.bytes) × (connection.new.held ≡ connection.old.held) × (connection.new.closing ≡ None)) }
+    ensures same { OnErr result (LooksSame connection.old connection.new) }
     ensures unchanged { OnErr result (IsUnchanged (S.stands store.old) (S.stands store.new) (S.frame store.old) (S.frame store.new) (S.untaken store.old) (S.untaken store.new)) }
     ensures ungathered { OnErr result (gathered connection.new.output.items kept.new (S.untaken store.new) ≡ gathered connection.old.output.items kept.old (S.untaken store.old)) }
     ensures again { IsErrOf result FeedError.HeldAgain → connection.old.held ≡ true }
@@ -71,5 +74,89 @@ fn feed_connection<S: Store>(
             Ok(true)
         }
         Err(error) => Err(error),
+    }
+}
+
+/// Takes a piece of the bytes of the connection at a place. An `Err` changes nothing.
+fn feed_at<S: Store>(
+    store: &mut S,
+    alloc: Global,
+    config: &Config,
+    now: u64,
+    number: u64,
+    connections: &mut [Connection],
+    index: usize,
+    piece: &[u8],
+    kept: &mut Option<Kept>,
+) -> Result<bool, FeedError>
+    requires config { (S.frame store.old).config ≡ config.now }
+    requires in_time { (S.frame store.old).latest ≤ now }
+    requires moment { now < 2 ^ 63 }
+    requires fresh { IsFresh (gathered (text_at connections.old index) kept.old (S.untaken store.old)) }
+    requires ready { IsReadyToHold kept.old }
+    requires inside { index < length connections.old }
+    requires open { closing_at connections.old index ≡ None }
+    ensures ran { IfOk result (λ is_held. (p : ReplacedAt connections.old connections.new index) × ((base : Situation) (values : List HeldValue) → base.latest ≡ now → IsThere number base → S.stands store.old values → FeedsConnection config.now base number values p.was piece.now p.is is_held (S.stands store.new) (gathered (text_at connections.old index) kept.old (S.untaken store.old)) (gathered (text_at connections.new index) kept.new (S.untaken store.new)))) }
+    ensures frame { KeepsFrame (S.frame store.old) (S.frame store.new) now }
+    ensures fresh { IsFresh (gathered (text_at connections.new index) kept.new (S.untaken store.new)) }
+    ensures same { OnErr result ((p : ReplacedAt connections.old connections.new index) × LooksSame p.was p.is) }
+    ensures unchanged { OnErr result (IsUnchanged (S.stands store.old) (S.stands store.new) (S.frame store.old) (S.frame store.new) (S.untaken store.old) (S.untaken store.new)) }
+    ensures ungathered { OnErr result (gathered (text_at connections.new index) kept.new (S.untaken store.new) ≡ gathered (text_at connections.old index) kept.old (S.untaken store.old)) }
+    ensures again { IsErrOf result FeedError.HeldAgain → (c : Open) → slice_get connections.old index ≡ Some c → c.held ≡ true }
+{
+    let connection = &mut connections[index];
+    match feed_connection(store, alloc, config, now, number, connection, piece, kept) {
+        Ok(is_held) => Ok(is_held),
+        Err(error) => Err(error),
+    }
+}
+
+/// Whether the connection is open.
+fn is_open(connection: &Connection) -> bool
+    ensures { result ≡ is_none connection.now.closing }
+{
+    connection.closing.is_none()
+}
+
+/// The place of an open connection.
+fn find_open(connections: &[Connection], number: u64) -> Result<usize, ServiceError>
+    ensures place { IfOk result (λ index. (number ≡ index + 1) × (index < length connections.now)) }
+    ensures open { IfOk result (λ index. (c : Open) → slice_get connections.now index ≡ Some c → c.closing ≡ None) }
+    ensures refused { IfErr result (λ e. refusal_of_conn (known connections.now) number ≡ Some e) }
+{
+    if number == 0 || number > connections.len() as u64 {
+        return Err(ServiceError::NoConnection);
+    }
+    let index = (number - 1) as usize;
+    let connection = &connections[index];
+    if is_open(connection) {
+        Ok(index)
+    } else {
+        Err(ServiceError::Closed)
+    }
+}
+
+/// A namespace: its store, and its connections in the order in which they were opened.
+#[derive(Drop)]
+pub struct Namespace<S: Drop> {
+    pub store: S,
+    pub config: Config,
+    pub latest: u64,
+    pub connections: Vec<Connection>,
+}
+
+impl<S: Store> Namespace<S> {
+    /// Opens a connection, and answers its number. An `Err` changes nothing.
+    pub fn open(&mut self, alloc: Global) -> Result<u64, AllocError>
+        requires sound { IsSound self.old.config (S.frame self.old.store) self.old.latest }
+        ensures number { IfOk result (λ number. number ≡ length self.old.connections.items + 1) }
+        ensures ran { IfOk result (λ number. (values : List HeldValue) (was : Gathered) → S.stands self.old.store values → Takes self.old.config (situation self.old.latest self.old.connections.items (S.frame self.old.store).dropped values) (event.Open number) false (S.stands self.new.store) (situation self.new.latest self.new.connections.items (S.frame self.new.store).dropped) was was) }
+        ensures rest { self.new ≡ record self.old { connections = self.new.connections } }
+        ensures connections { OnOk result ((c : Open) × (c.output.items ≡ []) × (c.closing ≡ None) × (self.new.connections.items ≡ self.old.connections.items ++ c ∷ [])) }
+        ensures err { OnErr result (self.new.connections.items ≡ self.old.connections.items) }
+    {
+        let connection = new_connection(alloc);
+        self.connections.push(connection)?;
+        Ok(self.connections.len() as u64)
     }
 }
