@@ -18,7 +18,7 @@ use Rattle.cache_namespace.specs.Gathered.{Gathered}
 use Rattle.cache_namespace.specs.Lines.{set_in, ready}
 use Rattle.cache_namespace.specs.Ran.{standing_with, with_piece}
 use Rattle.cache_namespace.specs.Shown.{shown, is_listed, is_open_with, open_from, situation, put_in}
-use Rattle.cache_namespace.specs.Taken.{FeedsConnection, Takes, record_of, fed, known}
+use Rattle.cache_namespace.specs.Taken.{FeedsConnection, Takes, record_of, fed, known, holds_at}
 use Rattle.cache_namespace.specs.Whole.{is_long_line}
 use Rattle.cache_namespace.specs.declared.connection.Connection.{Connection}
 use Rattle.cache_namespace.proofs.Running.{gather-none}
@@ -161,3 +161,31 @@ refused-closed m i c cs e lt at closed =
     found-at m 1 i c cs (omega arith) lt at ∙ ap (λ b. if b then Some (shown m c) else None) (listed-open m c ∙ closed) in
     ap (λ a. option_or (refusal_where (not a) error.NoConnection) (refusal_where (not ((known cs).is_open m)) error.Closed)) (and_from (nat_lt 0 m) (nat_le m (length cs)) (lt-ltb 0 m (omega arith)) (le-leb m (length cs) (omega arith)))
     ∙ ap (λ o. refusal_where (not (is_some o)) error.Closed) found
+
+-- ---- refusals
+
+known-none : (m i : ℕ) (c : Connection) (cs : List Connection) → m ≡ suc i → i < length cs → get_or cs i c ≡ c → c.closing ≡ None
+    → refusal_of_conn (known cs) m ≡ None
+known-none m i c cs e lt at is_open =
+    let k = known-open 0 m i c cs false [] e lt at (listed-open m c ∙ ap is_none is_open) in
+    ap (λ a. option_or (refusal_where (not a) error.NoConnection) (refusal_where (not ((known cs).is_open m)) error.Closed)) k.0
+    ∙ ap (λ a. refusal_where (not a) error.Closed) k.1
+
+-- an event that is taken, memory aside
+pub admitted : (config : Config) (m i moment : ℕ) (c : Connection) (cs : List Connection) (piece : List ℕ) → m ≡ suc i → i < length cs → get_or cs i c ≡ c → c.closing ≡ None → moment < 2 ^ 63
+    → refusal_of config (known cs) (fed m piece moment) ≡ None
+admitted config m i moment c cs piece e lt at is_open low =
+    ap (λ o. option_or o (refusal_where (nat_le (2 ^ 63) moment) error.Moment)) (known-none m i c cs e lt at is_open)
+    ∙ ap (λ a. refusal_where a error.Moment) (leb-above (2 ^ 63) moment low)
+
+-- a moment that is too late
+pub refused-late : (config : Config) (m i moment : ℕ) (c : Connection) (cs : List Connection) (piece : List ℕ) → m ≡ suc i → i < length cs → get_or cs i c ≡ c → c.closing ≡ None → 2 ^ 63 ≤ moment
+    → refusal_of config (known cs) (fed m piece moment) ≡ Some error.Moment
+refused-late config m i moment c cs piece e lt at is_open high =
+    ap (λ o. option_or o (refusal_where (nat_le (2 ^ 63) moment) error.Moment)) (known-none m i c cs e lt at is_open)
+    ∙ ap (λ a. refusal_where a error.Moment) (le-leb (2 ^ 63) moment high)
+
+-- whether a command is held back
+pub holds-is : (m i : ℕ) (c : Connection) (cs : List Connection) → m ≡ suc i → i < length cs → get_or cs i c ≡ c → c.closing ≡ None → holds_at cs m ≡ c.held
+holds-is m i c cs e lt at is_open =
+    ap (λ o. option_map_or (λ (k : model.Connection). is_holding k.standing) o false) (found-open m i c cs e lt at (listed-open m c ∙ ap is_none is_open)) ∙ holding-shown m c

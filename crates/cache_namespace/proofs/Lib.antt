@@ -1,5 +1,6 @@
 pub mod Draining
 pub mod FeedSteps
+pub mod FeedTaken
 pub mod Following
 pub mod Places
 pub mod Placing

@@ -1,7 +1,7 @@
 -- What an event does to a namespace.
 use Rattle.std.specs.Prelude.{◌≡◌, ℕ, ◌≤◌, ◌<◌, ◌^◌, Bool, true, false, List, [], Option, Some, None, MatchOption, ◌⊎◌, slice_set}
 use Rattle.std.specs.List.{slice_get}
-use Rattle.std.specs.Option.{option_map_or, option_and_then}
+use Rattle.std.specs.Option.{option_map_or}
 use Rattle.audit_model.specs.Belongs.{Known, refusal_of}
 use Rattle.audit_model.specs.Follows.{Follows, after_steps, known_in}
 use Rattle.audit_model.specs.Places.{tasks_to_feed}
@@ -71,7 +71,7 @@ holds_at connections number = is_holding_in (situation 0 connections false []) n
 
 -- why the connection at a place is closed, if it is
 abbrev pub closing_at : List Connection → ℕ → Option Closing
-closing_at connections index = option_and_then (λ c. c.closing) (slice_get connections index)
+closing_at connections index = option_map_or (λ c. c.closing) (slice_get connections index) None
 
 -- one connection was put in the place of another
 pub record ReplacedAt (old new : List Connection) (index : ℕ) : Type 0 where
