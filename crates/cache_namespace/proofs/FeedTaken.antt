@@ -1,10 +1,12 @@
 -- A feed of a namespace, from what happens at the connection's place.
-use Rattle.std.proofs.Common.{◌≡◌, ℕ, zero, suc, ◌∷◌, ◌≤◌, ◌+◌, ◌-◌, ◌<◌, ◌^◌, max, Bool, true, List, [], Option, Some, None, length, refl, sym, ap, ◌∙◌, subst, arith, get_or, inl, inr}
+use Rattle.std.proofs.Common.{◌≡◌, ℕ, zero, suc, ◌∷◌, ◌≤◌, ◌+◌, ◌-◌, ◌<◌, ◌^◌, max, Bool, true, false, List, [], Option, Some, None, length, refl, sym, ap, ◌∙◌, subst, arith, get_or, inl, inr}
 use Rattle.std.specs.Prelude.{is_some, is_none, MatchOption, ◌⊎◌}
 use Rattle.std.specs.List.{slice_get}
 use Rattle.std.proofs.lemmas.Option.{get_or_from_slice_get}
 use Rattle.audit_model.specs.Situation.{Situation, HeldValue}
 use Rattle.audit_model.specs.declared.config.Config.{Config}
+use Rattle.audit_model.specs.declared.command.Closing.TheVariants as by
+use Rattle.audit_model.specs.declared.event.Event.TheVariants as event
 use Rattle.audit_model.specs.declared.input.ServiceError.{ServiceError}
 use Rattle.audit_model.specs.declared.input.ServiceError.TheVariants as error
 use Rattle.audit_model.specs.declared.transcript.Note.{Note}
@@ -15,7 +17,7 @@ use Rattle.cache_namespace.specs.Shown.{situation, is_listed}
 use Rattle.cache_namespace.specs.Taken.{FeedsConnection, Takes, fed, text_at, ReplacedAt, RefusedFor, holds_at}
 use Rattle.cache_namespace.specs.declared.connection.Connection.{Connection}
 use Rattle.cache_namespace.specs.declared.kept.Kept.{Kept}
-use Rattle.cache_namespace.proofs.Following.{follows-feed, found-open, listed-open, refused-late, admitted, holds-is}
+use Rattle.cache_namespace.proofs.Following.{follows-feed, found-open, listed-open, follows-close, refused-late, admitted, holds-is}
 
 pub taken-feed : (config : Config) (latest now m i k moment : ℕ) (old new : List Connection) (dropped dropping : Bool) (values : List HeldValue) (piece : List ℕ) (is_held : Bool) (Stood Stands : List HeldValue → Type 0)
     (kept_old kept_new : Option Kept) (waiting_old waiting_new : List Note)
@@ -50,7 +52,7 @@ late-is config cs m i moment piece held e lt is_open high = go (slice_get cs i) 
     go None at = absurd (not-none cs i lt at)
     go (Some c) at =
         subst (λ o. MatchOption o ((error.Moment ≡ error.OutOfMemory) ⊎ ((error.Moment ≡ error.HeldAgain) × (held ≡ true))) (λ refused. error.Moment ≡ refused))
-          (sym (refused-late config m i moment c cs piece (omega arith) lt (get_or_from_slice_get cs i c c at) (is_open c at) high)) refl
+        (sym (refused-late config m i moment c cs piece (omega arith) lt (get_or_from_slice_get cs i c c at) (is_open c at) high)) refl
 
 -- memory was wanted
 pub memory-is : (config : Config) (cs : List Connection) (m i moment : ℕ) (piece : List ℕ) (why : ServiceError) → m ≡ i + 1 → i < length cs → ((c : Connection) → slice_get cs i ≡ Some c → c.closing ≡ None) → moment < 2 ^ 63
@@ -67,4 +69,11 @@ memory-is config cs m i moment piece why e lt is_open low cause = go (slice_get 
     go (Some c) at =
         let place = get_or_from_slice_get cs i c c at in
         subst (λ o. MatchOption o ((why ≡ error.OutOfMemory) ⊎ ((why ≡ error.HeldAgain) × (holds_at cs m ≡ true))) (λ refused. why ≡ refused))
-          (sym (admitted config m i moment c cs piece (omega arith) lt place (is_open c at) low)) (held c (holds-is m i c cs (omega arith) lt place (is_open c at)) (cause c at))
+        (sym (admitted config m i moment c cs piece (omega arith) lt place (is_open c at) low)) (held c (holds-is m i c cs (omega arith) lt place (is_open c at)) (cause c at))
+
+pub taken-close : (config : Config) (latest m i : ℕ) (old new : List Connection) (dropped : Bool) (values : List HeldValue) (Stands : List HeldValue → Type 0) (was : Gathered)
+    → m ≡ i + 1 → i < length old → ((c : Connection) → slice_get old i ≡ Some c → c.closing ≡ None) → (p : ReplacedAt old new i) → p.is.closing ≡ Some by.Asked → Stands values
+    → Takes config (situation latest old dropped values) (event.Close m) false Stands (situation latest new dropped) was was
+taken-close config latest m i old new dropped values Stands was e lt is_open p closed stands =
+    subst (λ cs. Takes config (situation latest old dropped values) (event.Close m) false Stands (situation latest cs dropped) was was) (sym p.set)
+    (follows-close config latest m i p.was p.is old dropped values by.Asked Stands was (omega arith) lt (get_or_from_slice_get old i p.was p.was p.at) (is_open p.was p.at) closed stands)

@@ -1,12 +1,12 @@
 -- Events of a namespace, as records that follow.
-use Rattle.std.proofs.Common.{◌≡◌, ℕ, suc, ◌+◌, ◌<◌, ◌≤◌, ◌^◌, max, Bool, true, false, not, ◌&&◌, ◌||◌, ◌==◌, List, [], ◌∷◌, ◌++◌, length, map, Option, Some, None, if◌then◌else◌, refl, sym, ap, ◌∙◌, subst, arith, get_or, length-append, nat_lt, nat_le}
+use Rattle.std.proofs.Common.{◌≡◌, ℕ, suc, ◌+◌, ◌<◌, ◌≤◌, ◌^◌, max, Bool, true, false, not, ◌&&◌, ◌||◌, ◌==◌, List, [], ◌∷◌, ◌++◌, length, map, Option, Some, None, if◌then◌else◌, refl, sym, ap, ◌∙◌, arith, get_or, length-append, nat_lt, nat_le}
 use Rattle.std.specs.Prelude.{is_some, is_none, slice_set, IsTrue}
 use Rattle.std.specs.List.{find}
 use Rattle.std.specs.Option.{option_map_or, option_or}
 use Rattle.std.proofs.lemmas.Bool.{and_from, eq-eqb, lt-ltb, le-leb, leb-true}
 use Rattle.std.proofs.lemmas.List.{length-set}
 use Rattle.audit_model.specs.Belongs.{refusal_where, refusal_of, refusal_of_conn}
-use Rattle.audit_model.specs.Follows.{Follows, after_record, after_steps, after_event, known_in, tasks_in}
+use Rattle.audit_model.specs.Follows.{after_steps, after_event, known_in, tasks_in}
 use Rattle.audit_model.specs.Places.{tasks_to_feed}
 use Rattle.audit_model.specs.Situation as model
 use Rattle.audit_model.specs.Situation.{Situation, HeldValue, Ready, Held, connection_in, with_connection, without_connection, without_number, without_waiting, is_holding, is_overlong}
@@ -18,7 +18,7 @@ use Rattle.cache_namespace.specs.Gathered.{Gathered}
 use Rattle.cache_namespace.specs.Lines.{set_in, ready}
 use Rattle.cache_namespace.specs.Ran.{standing_with, with_piece}
 use Rattle.cache_namespace.specs.Shown.{shown, is_listed, is_open_with, open_from, situation, put_in}
-use Rattle.cache_namespace.specs.Taken.{FeedsConnection, Takes, record_of, fed, known, holds_at}
+use Rattle.cache_namespace.specs.Taken.{FeedsConnection, Takes, fed, known, holds_at}
 use Rattle.cache_namespace.specs.Whole.{is_long_line}
 use Rattle.cache_namespace.specs.declared.connection.Connection.{Connection}
 use Rattle.cache_namespace.proofs.Running.{gather-none}

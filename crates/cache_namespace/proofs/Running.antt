@@ -1,6 +1,6 @@
 -- A connection's lines run, one after another.
-use Rattle.std.proofs.Common.{◌≡◌, ℕ, ◌+◌, Bool, true, false, not, ◌&&◌, ◌||◌, ◌==◌, List, [], ◌∷◌, ◌++◌, map, take, drop, Option, Some, None, if◌then◌else◌, refl, sym, ap, ◌∙◌, subst, append_assoc}
-use Rattle.std.specs.Prelude.{is_some, IsTrue, unwrap_or}
+use Rattle.std.proofs.Common.{◌≡◌, ℕ, ◌+◌, Bool, true, false, not, ◌&&◌, ◌||◌, List, [], ◌∷◌, ◌++◌, take, drop, Option, Some, None, refl, sym, ap, ◌∙◌, subst, append_assoc}
+use Rattle.std.specs.Prelude.{is_some}
 use Rattle.std.specs.List.{flat_map}
 use Rattle.std.specs.Option.{option_map_or}
 use Rattle.std.proofs.lemmas.List.{append-nil}
@@ -11,11 +11,10 @@ use Rattle.std.specs.List.{list_all}
 use Rattle.audit_model.specs.Changes.{after_step}
 use Rattle.audit_model.specs.Follows.{line_in, placed_step_in}
 use Rattle.audit_model.specs.Grammar.{reading}
-use Rattle.audit_model.specs.Situation.{Situation, Connection, HeldValue, Ready, is_ready, connection_in, may_run_in, is_overlong}
+use Rattle.audit_model.specs.Situation.{Situation, HeldValue, is_ready, connection_in, may_run_in, is_overlong}
 use Rattle.audit_model.specs.Steps.{RunLines, action_by, is_right}
-use Rattle.audit_model.specs.Stream.{first_line, behind_lines, without_return}
+use Rattle.audit_model.specs.Stream.{first_line, without_return}
 use Rattle.audit_model.specs.declared.config.Config.{Config}
-use Rattle.audit_model.specs.declared.transcript.Note.{Note}
 use Rattle.audit_model.specs.declared.transcript.Step.{Step}
 use Rattle.cache_lines.specs.Next.{IsLine}
 use Rattle.cache_lines.proofs.Lines.{IsLine-first_line, IsLine-behind_lines, IsLine-not_long}

@@ -1,11 +1,10 @@
 -- The connections of a namespace, as the definitions list them.
-use Rattle.std.proofs.Common.{◌≡◌, ℕ, zero, suc, ◌+◌, ◌<◌, Bool, true, false, not, ◌&&◌, ◌==◌, List, [], ◌∷◌, ◌++◌, length, map, cond, Option, Some, None, if◌then◌else◌, refl, sym, ap, ◌∙◌, subst, arith, get_or}
-use Rattle.std.specs.Prelude.{is_some, slice_set}
-use Rattle.std.specs.List.{find, filter}
+use Rattle.std.proofs.Common.{◌≡◌, ℕ, zero, suc, ◌+◌, ◌<◌, Bool, true, false, not, ◌==◌, List, [], ◌∷◌, ◌++◌, length, map, cond, Option, Some, None, if◌then◌else◌, refl, sym, ap, ◌∙◌, arith, get_or}
+use Rattle.std.specs.Prelude.{slice_set}
+use Rattle.std.specs.List.{find}
 use Rattle.std.proofs.lemmas.Bool.{eq-eqb, eqb-true}
 use Rattle.audit_model.specs.Situation as model
 use Rattle.audit_model.specs.Situation.{without_number}
-use Rattle.cache_namespace.specs.Ran.{standing_with}
 use Rattle.cache_namespace.specs.Shown.{shown, is_listed, open_from}
 use Rattle.cache_namespace.specs.declared.connection.Connection.{Connection}
 

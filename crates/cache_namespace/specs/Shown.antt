@@ -1,5 +1,5 @@
 -- The situation that a namespace's connections stand for.
-use Rattle.std.specs.Prelude.{◌≡◌, ℕ, suc, Bool, true, false, not, ◌&&◌, List, [], ◌∷◌, ◌++◌, length, Option, Some, None, if◌then◌else◌, is_none}
+use Rattle.std.specs.Prelude.{ℕ, suc, Bool, not, ◌&&◌, List, [], ◌∷◌, length, Option, if◌then◌else◌, is_none}
 use Rattle.audit_model.specs.Situation as model
 use Rattle.audit_model.specs.Situation.{Situation, HeldValue, is_overlong, without_connection}
 use Rattle.audit_model.specs.declared.command.Closing.{Closing}

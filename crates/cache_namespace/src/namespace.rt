@@ -1,5 +1,5 @@
 //! One namespace: its connections over its store.
-ghost use Rattle.std.specs.Prelude.{◌-◌, ◌≡◌, ◌≢◌, ◌<◌, ◌≤◌, ◌^◌, ◌+◌, ◌++◌, ◌∷◌, [], None, Some, ℕ, Bool, true, false, List, IfOk, OnOk, OnErr, IsErrOf, length, slice_set, IfSome, IfErr, is_none};
+ghost use Rattle.std.specs.Prelude.{◌-◌, ◌≡◌, ◌≢◌, ◌<◌, ◌≤◌, ◌^◌, ◌+◌, ◌++◌, ◌∷◌, [], None, Some, ℕ, Bool, true, false, List, IfOk, OnOk, OnErr, IsErrOf, length, slice_set, IfSome, IfErr, IsErr, is_none, ◌↔◌};
 ghost use Rattle.cache_namespace.specs.declared.connection.Connection.{Connection as Open};
 ghost use Rattle.std.specs.List.{slice_get};
 ghost use Rattle.audit_model.specs.Situation.{Situation, HeldValue};
@@ -20,6 +20,7 @@ use crate::lines::Stop;
 use audit_model::{Closing, Config, ServiceError};
 use cache_store::Store;
 use std::alloc::{AllocError, Global};
+use std::mem;
 
 /// The latest moment that may be handed in.
 const MAX_MOMENT: u64 = (1 << 63) - 1;
@@ -215,4 +216,103 @@ impl<S: Store> Namespace<S> {
             Err(FeedError::HeldAgain) => Err(ServiceError::HeldAgain),
         }
     }
+
+    /// Closes a connection, and drops what came and was not used.
+    pub fn close(&mut self, number: u64) -> Result<(), ServiceError>
+        requires sound { IsSound self.old.config (S.frame self.old.store) self.old.latest }
+        ensures ran { OnOk result ((values : List HeldValue) (was : Gathered) → S.stands self.old.store values → Takes self.old.config (situation self.old.latest self.old.connections.items (S.frame self.old.store).dropped values) (event.Close number) false (S.stands self.new.store) (situation self.new.latest self.new.connections.items (S.frame self.new.store).dropped) was was) }
+        ensures texts { (place : ℕ) → text_at self.new.connections.items place ≡ text_at self.old.connections.items place }
+        ensures others { (place : ℕ) → place ≢ number - 1 → slice_get self.new.connections.items place ≡ slice_get self.old.connections.items place }
+        ensures closed { OnOk result (closing_at self.new.connections.items (number - 1) ≡ Some Closing.Asked) }
+        ensures rest { self.new ≡ record self.old { connections = self.new.connections } }
+        ensures refused { IfErr result (λ e. refusal_of self.old.config (known self.old.connections.items) (event.Close number) ≡ Some e) }
+        ensures err { OnErr result (self.new ≡ self.old) }
+    {
+        let index = match find_open(&self.connections, number) {
+            Ok(index) => index,
+            Err(error) => return Err(error),
+        };
+        close_at(&mut self.connections, index);
+        Ok(())
+    }
+
+    /// The reply bytes of a connection since the last taking, moved out.
+    pub fn take_output(&mut self, alloc: Global, number: u64) -> Result<Vec<u8>, ServiceError>
+        ensures text { IfOk result (λ text. text.items ≡ text_at self.old.connections.items (number - 1)) }
+        ensures taken { OnOk result (text_at self.new.connections.items (number - 1) ≡ []) }
+        ensures others { (place : ℕ) → place ≢ number - 1 → slice_get self.new.connections.items place ≡ slice_get self.old.connections.items place }
+        ensures closings { (place : ℕ) → closing_at self.new.connections.items place ≡ closing_at self.old.connections.items place }
+        ensures situation { (latest : ℕ) (dropped : Bool) (values : List HeldValue) → situation latest self.new.connections.items dropped values ≡ situation latest self.old.connections.items dropped values }
+        ensures rest { self.new ≡ record self.old { connections = self.new.connections } }
+        ensures refused { IsErr result ↔ (((known self.old.connections.items).was_opened number) ≡ false) }
+        ensures error { IfErr result (λ e. e ≡ ServiceError.NoConnection) }
+        ensures err { OnErr result (self.new ≡ self.old) }
+    {
+        let index = match find_opened(&self.connections, number) {
+            Ok(index) => index,
+            Err(error) => return Err(error),
+        };
+        Ok(take_at(&mut self.connections, alloc, index))
+    }
+
+    /// Why a connection is closed, if it is.
+    pub fn closed(&self, number: u64) -> Result<Option<Closing>, ServiceError>
+        ensures closing { IfOk result (λ closing. closing ≡ closing_at self.now.connections.items (number - 1)) }
+        ensures refused { IsErr result ↔ (((known self.now.connections.items).was_opened number) ≡ false) }
+        ensures error { IfErr result (λ e. e ≡ ServiceError.NoConnection) }
+    {
+        let index = match find_opened(&self.connections, number) {
+            Ok(index) => index,
+            Err(error) => return Err(error),
+        };
+        Ok(closing_of(&self.connections, index))
+    }
+}
+
+/// The place of a connection that was opened.
+fn find_opened(connections: &[Connection], number: u64) -> Result<usize, ServiceError>
+    ensures place { IfOk result (λ index. (number ≡ index + 1) × (index < length connections.now)) }
+    ensures refused { IsErr result ↔ (((known connections.now).was_opened number) ≡ false) }
+    ensures error { IfErr result (λ e. e ≡ ServiceError.NoConnection) }
+{
+    if number == 0 || number > connections.len() as u64 {
+        return Err(ServiceError::NoConnection);
+    }
+    Ok((number - 1) as usize)
+}
+
+/// Why the connection at a place is closed, if it is.
+fn closing_of(connections: &[Connection], index: usize) -> Option<Closing>
+    requires { index < length connections.now }
+    ensures { result ≡ closing_at connections.now index }
+{
+    let connection = &connections[index];
+    connection.closing
+}
+
+/// Closes the connection at a place.
+fn close_at(connections: &mut Vec<Connection>, index: usize)
+    requires { index < length connections.old.items }
+    ensures { (p : ReplacedAt connections.old.items connections.new.items index) × (p.is.closing ≡ Some Closing.Asked) × (p.is.output.items ≡ p.was.output.items) }
+{
+    let connection = &mut connections[index];
+    close_connection(connection);
+}
+
+fn close_connection(connection: &mut Connection)
+    ensures closing { connection.new.closing ≡ Some Closing.Asked }
+    ensures output { connection.new.output.items ≡ connection.old.output.items }
+{
+    connection.closing = Some(Closing::Asked);
+    connection.held = false;
+    connection.unread.clear();
+}
+
+/// Moves out the replies of the connection at a place.
+fn take_at(connections: &mut Vec<Connection>, alloc: Global, index: usize) -> Vec<u8>
+    requires { index < length connections.old.items }
+    ensures replaced { (p : ReplacedAt connections.old.items connections.new.items index) × (p.is.unread.bytes ≡ p.was.unread.bytes) × (p.is.held ≡ p.was.held) × (p.is.closing ≡ p.was.closing) × (p.is.output.items ≡ []) × (result.items ≡ p.was.output.items) }
+{
+    let connection = &mut connections[index];
+    mem::replace(&mut connection.output, Vec::new(alloc))
 }

@@ -1,5 +1,4 @@
-use Rattle.std.proofs.Common.{◌≡◌, ◌++◌, Bool, List, ℕ, ap, sym, subst, ◌∙◌, refl}
-use Rattle.audit_model.specs.Situation.{HeldValue}
+use Rattle.std.proofs.Common.{◌++◌, sym, subst}
 use Rattle.audit_model.specs.Stream.{behind_lines}
 use Rattle.cache_namespace.specs.Kept.{gathered}
 use Rattle.cache_namespace.specs.Lines.{set_in, holding}

@@ -1,5 +1,4 @@
-use Rattle.std.proofs.Common.{◌≡◌, ◌++◌, ◌||◌, false, ◌∷◌, List, [], ap, sym, subst, ◌∙◌, refl}
-use Rattle.audit_model.specs.Situation.{HeldValue}
+use Rattle.std.proofs.Common.{◌≡◌, ◌++◌, ◌||◌, false, ◌∷◌, [], ap, sym, subst, ◌∙◌}
 use Rattle.audit_model.specs.Changes.{all_held_after}
 use Rattle.audit_model.specs.declared.config.Config.{Config}
 use Rattle.cache_store.specs.Promises.{Frame, no_deed}

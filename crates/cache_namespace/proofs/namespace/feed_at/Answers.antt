@@ -1,9 +1,6 @@
-use Rattle.std.proofs.Common.{◌≡◌, Some, List, ℕ, sym, ap, subst, ◌∙◌, arith, refl, get_or}
+use Rattle.std.proofs.Common.{◌≡◌, sym, ap, subst, ◌∙◌, refl}
 use Rattle.std.specs.Prelude.{slice_set}
-use Rattle.std.specs.List.{slice_get}
-use Rattle.std.proofs.lemmas.Option.{same_Some, slice_get-get_or}
-use Rattle.audit_model.specs.Situation.{HeldValue}
-use Rattle.cache_namespace.specs.Gathered.{IsFresh}
+use Rattle.std.proofs.lemmas.Option.{same_Some}
 use Rattle.cache_namespace.specs.Kept.{gathered}
 use Rattle.cache_namespace.specs.Taken.{FeedsConnection, text_at}
 use Rattle.cache_namespace.specs.declared.connection.Connection.{Connection}

@@ -1,4 +1,4 @@
-use Rattle.std.proofs.Common.{◌≡◌, ◌||◌, false, true, List, ap, sym, subst, ◌∙◌, refl}
+use Rattle.std.proofs.Common.{◌||◌, false, true, ap, refl}
 use Rattle.audit_model.specs.declared.command.Closing.TheVariants as by
 use Rattle.cache_lines.proofs.Lines.{long_from, IsPartial-not_long}
 use Rattle.cache_namespace.proofs.Putting.{put-open, put-long, feeds-to}

@@ -1,4 +1,4 @@
-use Rattle.std.proofs.Common.{◌≡◌, ◌++◌, ◌∷◌, [], false, List, sym, ap, subst, ◌∙◌, arith}
+use Rattle.std.proofs.Common.{false, List, sym, subst, arith}
 use Rattle.audit_model.specs.declared.event.Event.TheVariants as event
 use Rattle.cache_namespace.specs.Shown.{situation}
 use Rattle.cache_namespace.specs.Taken.{Takes}
