@@ -1,5 +1,5 @@
 -- A step of `HAS` or `KEYS` changes nothing but its own connection, and what `KEYS` answers.
-use Rattle.std.proofs.Common.{◌≡◌, refl, ap, ◌∙◌, sym, subst, ℕ, Bool, true, false, true≢false, not, ◌&&◌, ◌||◌, cond, List, [], ◌∷◌, map, Option, Some, None}
+use Rattle.std.proofs.Common.{◌≡◌, refl, ap, ◌∙◌, sym, subst, ℕ, Bool, true, false, true≢false, not, ◌&&◌, ◌||◌, List, [], ◌∷◌, map, Option, Some, None}
 use Rattle.std.specs.Prelude.{codes}
 use Rattle.std.specs.Option.{option_map, option_map_or, option_eq}
 use Rattle.std.proofs.Math.Bool.{or-false}
@@ -64,14 +64,13 @@ idle-by effect action e = absurd (true≢false (sym e))
 idle-of : (effect : Effect) → is_asking effect.action ≡ true → effect.value ≡ None → Idle effect
 idle-of effect asks none = subst (λ v. Idle (record effect { value = v })) (sym none) (idle-by effect effect.action asks)
 
-no_offer : (config : Config) (now : ℕ) (b : Bool) (part : Option ℕ) → value_from config now (cond b None None) part ≡ None
-no_offer config now b None = refl
-no_offer config now true (Some part) = refl
-no_offer config now false (Some part) = refl
+no_offer : (config : Config) (now : ℕ) (part : Option ℕ) → value_from config now None part ≡ None
+no_offer config now None = refl
+no_offer config now (Some part) = refl
 
 no_value : (config : Config) (seen : View) (action : Action) (part : Option ℕ) → is_asking action ≡ true → value_from config seen.now (offer_of config seen action) part ≡ None
-no_value config seen (Running (says.Has key)) part e = no_offer config seen.now _ part
-no_value config seen (Running says.Keys) part e = no_offer config seen.now _ part
+no_value config seen (Running (says.Has key)) part e = no_offer config seen.now part
+no_value config seen (Running says.Keys) part e = no_offer config seen.now part
 no_value config seen (Running command) part e = absurd (true≢false (sym e))
 no_value config seen action part e = absurd (true≢false (sym e))
 

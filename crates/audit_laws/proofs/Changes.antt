@@ -13,7 +13,7 @@ use Rattle.audit_model.specs.Loads.{Sent, key_loaded, loads_sent, loads_under_wa
 use Rattle.audit_model.specs.Notes.{candidates_of, are_true_notes}
 use Rattle.audit_model.specs.Places.{step_happens}
 use Rattle.audit_model.specs.Seen.{has_dropped, view_of}
-use Rattle.audit_model.specs.Situation.{Connection, Situation, connection_in, is_overlong, without_waiting, without_connection, with_connection}
+use Rattle.audit_model.specs.Situation.{Connection, Situation, connection_in, is_overlong, without_waiting, without_number, without_connection, with_connection}
 use Rattle.audit_model.specs.Steps.{Task, Store, Deliver, RunAgain, RunHeld, RunLines}
 use Rattle.audit_model.specs.Stream.{is_held, is_waiting, behind_lines, unanswered, first_line, is_open}
 use Rattle.audit_model.specs.Summary.{opened_conns, connection_from, situation_of}
@@ -77,7 +77,8 @@ module _ (c : ℕ) (f g : ℕ → Facts) (others : (d : ℕ) → (c == d) ≡ fa
       → open_in (g c) ≡ not (q || is_overlong own) → with_connection q own j ≡ changed j
   with_connection-changed q j e u o = go (q || is_overlong own) o
     where
-      go : (b : Bool) → open_in (g c) ≡ not b → cond b (without_connection c j) (record j { connections = put_connection own j.connections }) ≡ changed j
+      go : (b : Bool) → open_in (g c) ≡ not b
+          → record j { connections = cond b (without_number c j.connections) (put_connection own j.connections); pending = cond b (map (without_waiting c) j.pending) j.pending } ≡ changed j
       go true o = close-changed j e u o
       go false o = stay-changed j e u o
 

@@ -1,13 +1,12 @@
 -- What changes of connections and loads, and events, leave of a situation.
-use Rattle.std.proofs.Common.{◌≡◌, refl, ◌∙◌, sym, subst, ℕ, ◌≤◌, Bool, true, false, ◌||◌, cond, List, ◌++◌, map, Option, Some, None, max, arith}
-use Rattle.std.specs.Prelude.{◌==◌}
+use Rattle.std.proofs.Common.{◌≡◌, refl, ◌∙◌, sym, subst, ℕ, ◌≤◌, Bool, true, false, ◌||◌, List, ◌++◌, Option, Some, None, max, arith}
 use Rattle.std.specs.Option.{option_map_or}
 use Rattle.audit_model.specs.Changes.{all_held_after, connection_after, join_by, join_load, with_connection_after, after_step}
 use Rattle.audit_model.specs.Commands.{deed_of, drops, quits}
 use Rattle.audit_model.specs.Follows.{after_event}
 use Rattle.audit_model.specs.History.{Effect}
 use Rattle.audit_model.specs.Loads.{key_loaded}
-use Rattle.audit_model.specs.Situation.{Situation, Connection, is_overlong, connection_in, without_connection, with_connection}
+use Rattle.audit_model.specs.Situation.{Situation, Connection, connection_in, with_connection}
 use Rattle.audit_model.specs.Steps.{Task, Store, Deliver, RunAgain, RunHeld, RunLines}
 use Rattle.audit_model.specs.Stream.{is_waiting}
 use Rattle.audit_model.specs.declared.config.Config.{Config}
@@ -26,12 +25,8 @@ keeps-all s = record { held = refl; latest = refl }
 pub keeps-on : (s t u : Situation) → Keeps s t → Keeps t u → Keeps s u
 keeps-on s t u a b = record { held = b.held ∙ a.held; latest = b.latest ∙ a.latest }
 
-with_connection-keeps : (quits : Bool) (c : Connection) (s : Situation) → Keeps s (with_connection quits c s)
-with_connection-keeps quits c s = go (quits || is_overlong c)
-  where
-    go : (b : Bool) → Keeps s (cond b (without_connection c.number s) (record s { connections = map (λ d. cond (d.number == c.number) c d) s.connections }))
-    go true = record { held = refl; latest = refl }
-    go false = record { held = refl; latest = refl }
+with_connection-keeps : (closes : Bool) (c : Connection) (s : Situation) → Keeps s (with_connection closes c s)
+with_connection-keeps closes c s = record { held = refl; latest = refl }
 
 join_by-keeps : (conn : ℕ) (waits : Bool) (key : Option (List ℕ)) (load : Option ℕ) (s : Situation) → Keeps s (join_by conn waits key load s)
 join_by-keeps conn waits None load s = record { held = refl; latest = refl }

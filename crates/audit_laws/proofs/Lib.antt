@@ -33,3 +33,4 @@ pub mod KeysListed
 pub mod StaysOrderly
 pub mod Asking
 pub mod Stages
+pub mod Belonging

@@ -34,7 +34,8 @@ module _ (config : Config) (made : ℕ) (past : History) (h : Sound past) where
   abbrev s : Situation
   s = situation_of config made past
 
-  known-same : known_in s ≡ known_from past
+  -- an event is refused alike in the situation and in the history
+  pub known-same : known_in s ≡ known_from past
   known-same =
       ap (λ f. record { was_opened = f; is_open = λ conn. is_some (connection_in conn s); is_under_way = λ load. is_some (key_in load s) }) (fun_ext (λ c. sym (h.opened c)))
       ∙ ap (λ f. record { was_opened = λ conn. was_opened conn past; is_open = f; is_under_way = λ load. is_some (key_in load s) }) (fun_ext (λ c. sym (open-same config made past c)))

@@ -6,7 +6,7 @@ use Rattle.std.specs.Option.{option_map, option_map_or, option_eq}
 use Rattle.std.proofs.lemmas.Bool.{eqb-true}
 use Rattle.audit_model.specs.Bytewise.{same}
 use Rattle.audit_model.specs.Commands.{covers}
-use Rattle.audit_model.specs.History.{Value, Action, Effect, History, accepts_values, Running, Holding}
+use Rattle.audit_model.specs.History.{Value, Action, Effect, History, Running, Holding}
 use Rattle.audit_model.specs.Loads.{key_loaded, loads_sent, is_settled, loads_under_way, load_of_key}
 use Rattle.audit_model.specs.Replies.{value_reply, is_reply, load_sent_by, offer_of, value_from, Offer}
 use Rattle.audit_model.specs.Stream.{is_held, is_waiting}
@@ -29,15 +29,14 @@ pub held-silent : (config : Config) (seen : View) (held : List Value) (effect : 
 held-silent config seen held effect r e = held_by config seen held effect effect.action effect.reply e r
 
 -- a step that covers values accepts none
-no_value : (config : Config) (now : ℕ) (b : Bool) (part : Option ℕ) (v : Value) (P : Type 0) → value_from config now (cond b None None) part ≡ Some v → P
-no_value config now b None v P e = absurd (true≢false (sym (ap is_some e)))
-no_value config now true (Some part) v P e = absurd (true≢false (sym (ap is_some e)))
-no_value config now false (Some part) v P e = absurd (true≢false (sym (ap is_some e)))
+no_value : (config : Config) (now : ℕ) (part : Option ℕ) (v : Value) (P : Type 0) → value_from config now None part ≡ Some v → P
+no_value config now None v P e = absurd (true≢false (sym (ap is_some e)))
+no_value config now (Some part) v P e = absurd (true≢false (sym (ap is_some e)))
 
 uncovering_by : (config : Config) (seen : View) (part : Option ℕ) (effect : Effect) (action : Action) (v : Value)
     → value_from config seen.now (offer_of config seen action) part ≡ Some v → covers v.key (record effect { action = action }) ≡ false
-uncovering_by config seen part effect (Running says.Clear) v e = no_value config seen.now (accepts_values config.capacity) part v _ e
-uncovering_by config seen part effect (Running (says.DropIf prefix)) v e = no_value config seen.now (accepts_values config.capacity) part v _ e
+uncovering_by config seen part effect (Running says.Clear) v e = no_value config seen.now part v _ e
+uncovering_by config seen part effect (Running (says.DropIf prefix)) v e = no_value config seen.now part v _ e
 uncovering_by config seen part effect (Running command) v e = refl
 uncovering_by config seen part effect action v e = refl
 

@@ -5,7 +5,8 @@ use Rattle.std.specs.List.Sorted.{IsStrictlySortedBy}
 use Rattle.std.specs.Option.{option_map_or, option_and_then}
 use Rattle.std.specs.Ordering.{nat_cmp}
 use Rattle.std.specs.Cmp.Lexicographic.{slice_cmp}
-use Rattle.audit_model.specs.Belongs.{IsAdmitted, is_good, first_break}
+use Rattle.audit_model.specs.Belongs.{IsAdmitted, is_good, first_break, event_in, Belongs}
+use Rattle.audit_model.specs.BelongsIn.{BelongsIn}
 use Rattle.audit_model.specs.Follows.{AgreesWithHistory, Follows, after_event, placed_step_in, after_steps, after_records, followed}
 use Rattle.audit_model.specs.History.{Value, Running}
 use Rattle.audit_model.specs.Replies.{keys_listed}
@@ -22,6 +23,7 @@ use Rattle.audit_model.specs.declared.command.Command.TheVariants as says
 use Rattle.audit_model.specs.declared.config.Config.{Config}
 use Rattle.audit_model.specs.declared.event.Event.{Event}
 use Rattle.audit_model.specs.declared.event.Instant.{Instant}
+use Rattle.audit_model.specs.declared.input.Input.{Input}
 use Rattle.audit_model.specs.declared.transcript.Note.{Note}
 use Rattle.audit_model.specs.declared.transcript.Record.{Record}
 use Rattle.audit_model.specs.declared.transcript.Step.{Step}
@@ -161,3 +163,23 @@ KeysAnswer =
     (config : Config) (s : Situation) (task : Option Task) (step : Step)
     → IsOrderly config s.held → IsTrue (is_right config (placed_step_in config s task step)) → (placed_step_in config s task step).effect.action ≡ Running says.Keys
     → ListsLiveKeys config s step.reply
+
+-- records that belong to inputs from situation to situation lead to the last one, and a transcript of them belongs to the inputs
+pub record BelongsStepByStep : Type 0 where
+  pub leads : (config : Config) (namespace : ℕ) (inputs : List Input) (records : List Record) (s last : Situation)
+      → BelongsIn config namespace s inputs records last → after_records config s records ≡ Some last
+  pub belongs : (config : Config) (namespace : ℕ) (made : Instant) (inputs : List Input) (records : List Record) (last : Situation)
+      → BelongsIn config namespace (empty_situation made.nanos) inputs records last
+      → LeadsTo config (record { made = made; records = records }) last × Belongs config namespace (record { made = made; records = records }) inputs
+
+-- records that belong to inputs belong to one more: with no record of it, or with one that is its event's and follows
+pub record BelongsOn : Type 0 where
+  pub none : (config : Config) (namespace : ℕ) (s : Situation) → BelongsIn config namespace s [] [] s
+  pub left_out : (config : Config) (namespace : ℕ) (inputs : List Input) (i : Input) (records : List Record) (s last : Situation)
+      → BelongsIn config namespace s inputs records last → BelongsIn config namespace s (inputs ++ i ∷ []) records last
+  pub taken : (config : Config) (namespace : ℕ) (inputs : List Input) (i : Input) (records : List Record) (entry : Record) (s last next : Situation)
+      → BelongsIn config namespace s inputs records last → event_in namespace last.opened i ≡ Some entry.event → Follows config last entry next
+      → BelongsIn config namespace s (inputs ++ i ∷ []) (records ++ entry ∷ []) next
+  pub in_parts : (config : Config) (namespace : ℕ) (inputs later : List Input) (records more : List Record) (s t u : Situation)
+      → BelongsIn config namespace s inputs records t → BelongsIn config namespace t later more u
+      → BelongsIn config namespace s (inputs ++ later) (records ++ more) u

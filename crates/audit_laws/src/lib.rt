@@ -1,7 +1,7 @@
 //! Laws of the definitions of transcripts. Each function does nothing: its contract is the law.
 #![tactic(auto)]
 
-ghost use Rattle.audit_laws.specs.Laws.{FrontsObey, RecordsLead, StepsAgree, PlacesAgree, StepsInParts, LeadsOn, LeadsOnBy, LedObeys, BreaksAgree, BreaksWhereUnfollowed, GoodIsFaultless, FirstBreakIsFirst, NothingToldSize, LiveByAcceptance, OrderlyStays, IdleKeeps, AskingChangesNothing, KeysAnswer};
+ghost use Rattle.audit_laws.specs.Laws.{FrontsObey, RecordsLead, StepsAgree, PlacesAgree, StepsInParts, LeadsOn, LeadsOnBy, LedObeys, BreaksAgree, BreaksWhereUnfollowed, GoodIsFaultless, FirstBreakIsFirst, NothingToldSize, LiveByAcceptance, OrderlyStays, IdleKeeps, AskingChangesNothing, KeysAnswer, BelongsStepByStep, BelongsOn};
 ghost use Rattle.audit_model.specs.Configs.{DeadlinesAgree};
 
 /// A front of an obeying transcript obeys.
@@ -97,4 +97,14 @@ pub fn asking_changes_nothing()
 /// `KEYS` lists the live keys, each once, in byte order.
 pub fn keys_answer()
     ensures { KeysAnswer }
+{}
+
+/// Records that belong to inputs from situation to situation lead to the last one, and their transcript belongs to the inputs.
+pub fn belongs_step_by_step()
+    ensures { BelongsStepByStep }
+{}
+
+/// Records that belong to inputs belong to one more, which is left out or has a record that follows.
+pub fn belongs_on()
+    ensures { BelongsOn }
 {}

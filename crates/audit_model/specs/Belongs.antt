@@ -97,13 +97,13 @@ first_break_within config transcript (suc n) =
 abbrev pub first_break : Config → Transcript → Option ℕ
 first_break config transcript = first_break_within config transcript (length transcript.records)
 
--- the event that an input is in its namespace
-abbrev pub event_in : ℕ → History → Input → Option Event
-event_in namespace past (input.Open n) = if n == namespace then Some (event.Open (suc (opened_count past))) else None
-event_in namespace past (input.Close conn) = if conn.namespace == namespace then Some (event.Close conn.number) else None
-event_in namespace past (input.Feed conn piece moment) = if conn.namespace == namespace then Some (event.Feed conn.number piece moment) else None
-event_in namespace past (input.Answer load outcome moment) = if load.namespace == namespace then Some (event.Answer load.number outcome moment) else None
-event_in namespace past (input.GiveUp load moment) = if load.namespace == namespace then Some (event.GiveUp load.number moment) else None
+-- the event that an input is in its namespace, where so many connections were opened before
+abbrev pub event_in : ℕ → ℕ → Input → Option Event
+event_in namespace opened (input.Open n) = if n == namespace then Some (event.Open (suc opened)) else None
+event_in namespace opened (input.Close conn) = if conn.namespace == namespace then Some (event.Close conn.number) else None
+event_in namespace opened (input.Feed conn piece moment) = if conn.namespace == namespace then Some (event.Feed conn.number piece moment) else None
+event_in namespace opened (input.Answer load outcome moment) = if load.namespace == namespace then Some (event.Answer load.number outcome moment) else None
+event_in namespace opened (input.GiveUp load moment) = if load.namespace == namespace then Some (event.GiveUp load.number moment) else None
 
 -- the next record is the event's, or the event was left out for want of memory
 abbrev pub TakenOrNot : Config → ℕ → History → Event → List Record → (History → List Record → Type 0) → Type 0
@@ -115,7 +115,7 @@ TakenOrNot config made past happened (entry ∷ entries) Rest =
 abbrev pub BelongsFrom : Config → ℕ → ℕ → History → List Input → List Record → Type 0
 BelongsFrom config namespace made past [] entries = entries ≡ []
 BelongsFrom config namespace made past (i ∷ inputs) entries =
-    MatchOption (event_in namespace past i) (BelongsFrom config namespace made past inputs entries)
+    MatchOption (event_in namespace (opened_count past) i) (BelongsFrom config namespace made past inputs entries)
     (λ happened. MatchOption (refusal_of config (known_from past) happened)
     (TakenOrNot config made past happened entries (λ after rest. BelongsFrom config namespace made after inputs rest))
     (λ refused. BelongsFrom config namespace made past inputs entries))

@@ -19,3 +19,4 @@ pub mod Changes
 pub mod Follows
 pub mod Configs
 pub mod Summary
+pub mod BelongsIn

@@ -28,7 +28,7 @@ use Rattle.cache_namespace.proofs.Stepping.{right-in-turn, after-line}
 
 -- ---- what is gathered
 
-gather-none : (g : Gathered) → gather g [] ≡ g
+pub gather-none : (g : Gathered) → gather g [] ≡ g
 gather-none g = go g.kept
   where
     go : (kept : Option (List Step)) → gather (record g { kept = kept }) [] ≡ record g { kept = kept }

@@ -5,6 +5,7 @@ mod connection;
 mod feeding;
 mod kept;
 mod lines;
+mod namespace;
 
 pub use connection::{Connection, new_connection};
 pub use feeding::{FeedError, feed_lines};

@@ -1,5 +1,5 @@
 -- What contracts see of a plain store.
-use Rattle.std.specs.Prelude.{false, List}
+use Rattle.std.specs.Prelude.{ℕ, false, List, length}
 use Rattle.audit_model.specs.Situation.{HeldValue}
 use Rattle.audit_model.specs.declared.transcript.Note.{Note}
 use Rattle.cache_store.specs.Promises.{Frame}
@@ -13,6 +13,10 @@ frame_of store = record { config = store.config; part_of = λ key. 0; dropped = 
 -- these values are held
 abbrev pub Holds : PlainStore → List HeldValue → Type 0
 Holds store held = Stands store.table held
+
+-- how many values are held
+abbrev pub count_in : PlainStore → ℕ
+count_in store = length store.table
 
 -- the notes that were told and not taken
 abbrev pub untaken_in : PlainStore → List Note

@@ -109,11 +109,13 @@ fn take(table: &mut Table, notes: &mut VecDeque<Note>, key: &[u8])
 }
 
 impl Store for PlainStore {
-    ghost use Rattle.plain_store.specs.Seen.{frame_of, Holds, untaken_in};
+    ghost use Rattle.plain_store.specs.Seen.{frame_of, Holds, count_in, untaken_in};
 
     ghost frame = { frame_of };
 
     ghost stands = { Holds };
+
+    ghost count = { count_in };
 
     ghost untaken = { untaken_in };
 
@@ -164,6 +166,8 @@ impl Store for PlainStore {
     }
 
     ghost use Rattle.plain_store.specs.Laws.{has_a_part, stands_idle};
+
+    ghost counted = { λ s held h. h.number };
 
     ghost parted = { λ s key. has_a_part s.config s.plain };
 

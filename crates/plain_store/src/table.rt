@@ -1,5 +1,5 @@
 //! The map from keys to what is held for them.
-ghost use Rattle.std.specs.Prelude.{◌≡◌, [], length, Some, None, IfOk, IfErr, IfSome, OnOk, OnErr};
+ghost use Rattle.std.specs.Prelude.{◌≡◌, ◌<◌, ◌^◌, [], length, Some, None, IfOk, IfErr, IfSome, OnOk, OnErr};
 ghost use Rattle.std.specs.Option.{option_map};
 ghost use Rattle.plain_store.specs.Pairs.{bytes_at, Rewrites};
 
@@ -42,7 +42,8 @@ impl Table {
 
     /// How many keys there are.
     pub fn len(&self) -> usize
-        ensures { result ≡ length self.now }
+        ensures number { result ≡ length self.now }
+        ensures small { result < 2 ^ 63 }
     {
         self.entries.len()
     }
