@@ -1,0 +1,4 @@
+//! A cache that is served by lines: namespaces, connections, loads.
+#![tactic(auto)]
+
+mod space;
