@@ -1,2 +1,3 @@
 pub mod Spaces
 pub mod Moves
+pub mod Serves

@@ -27,6 +27,7 @@ impl Space {
     ghost use Rattle.cache_namespace.specs.Taken.{RefusedFor, fed, holds_at, known};
     ghost use Rattle.cache_namespace.specs.declared.connection.Connection.{Connection};
     ghost use Rattle.cache_service.specs.Moves.{Moves};
+    ghost use Rattle.cache_service.specs.Serves.{Serves, Takes, SameSpace};
     ghost use Rattle.cache_service.specs.Spaces.{Stands, config_of, connections_of, notices_of, output_of, closing_of, gathered_in};
 
     /// A namespace without connections and values.
@@ -79,11 +80,10 @@ impl Space {
     /// Opens a connection, and answers its number.
     pub fn open(&mut self, alloc: Global) -> Result<u64, AllocError>
         ensures number { IfOk result (λ number. number ≡ length (connections_of self.old) + 1) }
+        ensures takes { IfOk result (λ number. Takes self.old self.new number (event.Open number) false) }
         ensures moves { IfOk result (λ number. (s : Situation) (was : Gathered) → Stands self.old s → Moves (config_of self.old) s (event.Open number) false (Stands self.new) was was) }
-        ensures connections { OnOk result ((c : Connection) × (c.output.items ≡ []) × (c.closing ≡ None) × (connections_of self.new ≡ connections_of self.old ++ c ∷ [])) }
-        ensures config { config_of self.new ≡ config_of self.old }
         ensures notices { notices_of self.new ≡ notices_of self.old }
-        ensures err { OnErr result (((s : Situation) → Stands self.old s → Stands self.new s) × (connections_of self.new ≡ connections_of self.old)) }
+        ensures same { OnErr result (SameSpace self.old self.new) }
     {
         match self.inner.open(alloc) {
             Ok(number) => Ok(number),
@@ -93,11 +93,9 @@ impl Space {
 
     /// Closes a connection.
     pub fn close(&mut self, number: u64) -> Result<(), ServiceError>
+        ensures takes { OnOk result (Takes self.old self.new number (event.Close number) false) }
         ensures moves { OnOk result ((s : Situation) (was : Gathered) → Stands self.old s → Moves (config_of self.old) s (event.Close number) false (Stands self.new) was was) }
-        ensures outputs { (n : ℕ) → output_of self.new n ≡ output_of self.old n }
-        ensures others { (place : ℕ) → place ≢ number - 1 → slice_get (connections_of self.new) place ≡ slice_get (connections_of self.old) place }
         ensures closed { OnOk result (closing_of self.new number ≡ Some Closing.Asked) }
-        ensures config { config_of self.new ≡ config_of self.old }
         ensures notices { notices_of self.new ≡ notices_of self.old }
         ensures refused { IfErr result (λ e. refusal_of (config_of self.old) (known (connections_of self.old)) (event.Close number) ≡ Some e) }
         ensures err { OnErr result (self.new ≡ self.old) }
@@ -146,5 +144,24 @@ impl Space {
         ensures config { config_of self.new ≡ config_of self.old }
     {
         self.inner.store.next_notice()
+    }
+
+    /// Takes a piece of a connection's bytes; no record is made of it.
+    pub fn serve(
+        &mut self,
+        alloc: Global,
+        number: u64,
+        piece: &[u8],
+        moment: u64,
+    ) -> Result<bool, ServiceError>
+        ensures takes { IfOk result (λ is_held. Takes self.old self.new number (fed number piece.now moment) is_held) }
+        ensures refused { IfErr result (RefusedFor (config_of self.old) (connections_of self.old) (fed number piece.now moment) (holds_at (connections_of self.old) number)) }
+        ensures same { OnErr result (SameSpace self.old self.new) }
+    {
+        let mut kept = None;
+        match self.feed(alloc, number, piece, moment, &mut kept) {
+            Ok(is_held) => Ok(is_held),
+            Err(error) => Err(error),
+        }
     }
 }

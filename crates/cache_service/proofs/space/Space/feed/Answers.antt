@@ -14,4 +14,4 @@ returns-in-Err-clause-stands c = λ s stands.
     let old = c.args.self.now.inner in
     let new = c.feed.new.self in
     stands-on old.store new.store old.latest new.latest old.connections.items new.connections.items s stands c.in-Err.ensures.unchanged.stands
-      (λ values. ap (λ n. situation n new.connections.items false values) c.in-Err.ensures.latest ∙ c.in-Err.ensures.same.situation old.latest false values)
+    (λ values. ap (λ n. situation n new.connections.items false values) c.in-Err.ensures.latest ∙ c.in-Err.ensures.same.situation old.latest false values)
