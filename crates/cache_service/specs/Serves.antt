@@ -1,5 +1,5 @@
 -- What a call of a service does to its namespaces.
-use Rattle.std.specs.Prelude.{◌≡◌, ◌≢◌, ℕ, ◌-◌, ◌≤◌, ◌^◌, Bool, true, false, List, ◌++◌, Option, IsTrue, MatchOption}
+use Rattle.std.specs.Prelude.{◌≡◌, ◌≢◌, ℕ, ◌-◌, ◌≤◌, ◌^◌, Bool, true, false, List, [], ◌++◌, Option, IsNone, IsTrue, MatchOption}
 use Rattle.std.specs.List.{flat_map, slice_get}
 use Rattle.audit_model.specs.Follows.{Follows}
 use Rattle.audit_model.specs.Situation.{Situation}
@@ -7,7 +7,11 @@ use Rattle.audit_model.specs.declared.event.Event.{Event}
 use Rattle.audit_model.specs.declared.transcript.Step.{Step}
 use Rattle.cache_namespace.specs.Gathered.{reply_in}
 use Rattle.cache_namespace.specs.Ran.{ends_held}
-use Rattle.cache_namespace.specs.Taken.{record_of}
+use Rattle.std.specs.Option.{option_to_list}
+use Rattle.audit_model.specs.declared.input.ServiceError.{ServiceError}
+use Rattle.audit_model.specs.declared.input.ServiceError.TheVariants as error
+use Rattle.audit_model.specs.declared.transcript.Note.{Note}
+use Rattle.cache_namespace.specs.Taken.{record_of, known}
 use Rattle.cache_service.specs.Spaces.{Stands, config_of, connections_of, notices_of, output_of, closing_of}
 use Rattle.cache_service.specs.declared.space.Space.{Space}
 
@@ -34,3 +38,26 @@ pub record SameSpace (was is : Space) : Type 0 where
   pub outputs : (number : ℕ) → output_of is number ≡ output_of was number
   pub closings : (number : ℕ) → closing_of is number ≡ closing_of was number
   pub notices : notices_of is ≡ notices_of was
+
+-- The replies of a connection are moved out, and nothing else changes.
+pub record TakesOutput (was is : Space) (number : ℕ) (text : List ℕ) : Type 0 where
+  pub stands : (s : Situation) → Stands was s → Stands is s
+  pub taken : text ≡ output_of was number
+  pub none : output_of is number ≡ []
+  pub others : (place : ℕ) → place ≢ number - 1 → slice_get (connections_of is) place ≡ slice_get (connections_of was) place
+  pub closings : (n : ℕ) → closing_of is n ≡ closing_of was n
+  pub config : config_of is ≡ config_of was
+  pub notices : notices_of is ≡ notices_of was
+
+-- The oldest note is taken, if there is one, and nothing else changes.
+pub record TakesNotice (was is : Space) (note : Option Note) : Type 0 where
+  pub stands : (s : Situation) → Stands was s → Stands is s
+  pub taken : notices_of was ≡ option_to_list note ++ notices_of is
+  pub none : IsNone note → notices_of was ≡ []
+  pub connections : connections_of is ≡ connections_of was
+  pub config : config_of is ≡ config_of was
+
+-- the connection was never opened
+pub record IsUnknown (space : Space) (number : ℕ) (e : ServiceError) : Type 0 where
+  pub unknown : (known (connections_of space)).was_opened number ≡ false
+  pub error : e ≡ error.NoConnection

@@ -1,4 +1,7 @@
 //! A cache that is served by lines: namespaces, connections, loads.
 #![tactic(auto)]
 
+mod service;
 mod space;
+
+pub use service::{AnswerError, Fed, Service};
