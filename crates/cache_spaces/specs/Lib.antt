@@ -2,3 +2,5 @@ pub mod Spaces
 pub mod Moves
 pub mod Serves
 pub mod Services
+pub mod Recorded
+pub mod Played

@@ -1,6 +1,7 @@
 //! A cache that is served by lines: namespaces, connections, loads.
 #![tactic(auto)]
 
+mod recording;
 mod service;
 mod space;
 

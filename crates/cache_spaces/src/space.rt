@@ -82,6 +82,7 @@ impl Space {
         ensures number { IfOk result (λ number. number ≡ length (connections_of self.old) + 1) }
         ensures takes { IfOk result (λ number. Takes self.old self.new number (event.Open number) false) }
         ensures moves { IfOk result (λ number. (s : Situation) (was : Gathered) → Stands self.old s → Moves (config_of self.old) s (event.Open number) false (Stands self.new) was was) }
+        ensures outputs { OnOk result ((n : ℕ) → output_of self.new n ≡ output_of self.old n) }
         ensures notices { notices_of self.new ≡ notices_of self.old }
         ensures same { OnErr result (SameSpace self.old self.new) }
     {
@@ -96,6 +97,7 @@ impl Space {
         ensures takes { OnOk result (Takes self.old self.new number (event.Close number) false) }
         ensures moves { OnOk result ((s : Situation) (was : Gathered) → Stands self.old s → Moves (config_of self.old) s (event.Close number) false (Stands self.new) was was) }
         ensures closed { OnOk result (closing_of self.new number ≡ Some Closing.Asked) }
+        ensures outputs { OnOk result ((n : ℕ) → output_of self.new n ≡ output_of self.old n) }
         ensures notices { notices_of self.new ≡ notices_of self.old }
         ensures refused { IfErr result (λ e. refusal_of (config_of self.old) (known (connections_of self.old)) (event.Close number) ≡ Some e) }
         ensures err { OnErr result (self.new ≡ self.old) }
