@@ -10,6 +10,10 @@ use Rattle.audit_model.specs.declared.input.Input.TheVariants as input
 use Rattle.audit_model.specs.declared.input.ServiceError.{ServiceError}
 use Rattle.audit_model.specs.declared.input.ServiceError.TheVariants as error
 use Rattle.audit_model.specs.declared.transcript.Record.{Record}
+use Rattle.audit_model.specs.declared.transcript.Transcript.{Transcript}
+use Rattle.audit_model.specs.declared.event.Instant.{Instant}
+use Rattle.std.specs.List.{slice_get}
+use Rattle.cache_spaces.specs.Moves.{At}
 use Rattle.cache_namespace.specs.Taken.{known}
 use Rattle.cache_spaces.specs.Serves.{SameSpace}
 use Rattle.cache_spaces.specs.Spaces.{Stands, config_of, connections_of, notices_of, output_of}
@@ -63,3 +67,16 @@ pub record RefusedInput (i : Input) (e : ServiceError) (was : Space) : Type 0 wh
 -- nothing was recorded, and the space is the same
 abbrev pub Stays : List Record → List Record → Space → Space → Type 0
 Stays before after was is = (after ≡ before) × SameSpace was is
+
+-- the input's record was added to its namespace's transcript
+abbrev pub RecordsAt : Input → List Transcript → List Transcript → List Space → List Space → Type 0
+RecordsAt i before after old new =
+    At old new (namespace_of i) (λ was is. At before after (namespace_of i) (λ t u. (u.made ≡ t.made) × RecordsInput i t.records u.records was is))
+
+-- in each namespace the records hold all replies and notes
+abbrev pub AreQuiet : List Space → Type 0
+AreQuiet spaces = (namespace : ℕ) (space : Space) → slice_get spaces namespace ≡ Some space → IsQuiet space
+
+-- transcripts that begin at that moment, without records
+abbrev pub AreEmpty : Instant → List Transcript → Type 0
+AreEmpty made transcripts = (namespace : ℕ) (transcript : Transcript) → slice_get transcripts namespace ≡ Some transcript → transcript ≡ record { made = made; records = [] }

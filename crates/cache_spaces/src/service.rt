@@ -21,7 +21,7 @@ use std::alloc::{AllocError, Global};
 #[derive(Drop)]
 pub struct Service {
     alloc: Global,
-    spaces: Vec<Space>,
+    pub(crate) spaces: Vec<Space>,
 }
 
 /// What a feed did.

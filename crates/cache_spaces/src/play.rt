@@ -1,0 +1,96 @@
+//! Inputs, played from a service just made.
+ghost use Rattle.std.specs.Prelude.{◌≡◌, ◌≤◌, ◌<◌, ◌^◌, ◌↔◌, ◌⊎◌, ◌∷◌, [], false, IfOk, IfErr, OnOk, OnErr, IsErrOf, length, map};
+ghost use Rattle.cache_spaces.specs.Played.{ArePlayed, HavePlayed};
+ghost use Rattle.cache_spaces.specs.Recorded.{AreEmpty, AreQuiet, RecordsAt, RefusedInput, namespace_of};
+ghost use Rattle.cache_spaces.specs.Services.{are_taken, Refuses};
+
+use crate::recording::record_input;
+use crate::service::Service;
+use crate::space::Space;
+use audit_model::{Config, Input, Instant, Seq, ServiceError, Transcript};
+use std::alloc::{AllocError, Global};
+
+/// The transcripts of the inputs, one a configuration, in their order.
+///
+/// An input that a service would refuse, for memory too, stands in none, and play goes on. Fails only as `Service::new` does.
+pub fn play(
+    alloc: Global,
+    configs: &[Config],
+    moment: Instant,
+    inputs: &[Input],
+) -> Result<Vec<Transcript>, ServiceError>
+    ensures played { IfOk result (λ transcripts. ArePlayed configs.now moment inputs.now transcripts.items) }
+    ensures moment { IsErrOf result ServiceError.Moment ↔ (2 ^ 63 ≤ moment.nanos) }
+    ensures config { IsErrOf result ServiceError.Config ↔ ((moment.nanos < 2 ^ 63) × (are_taken configs.now ≡ false)) }
+    ensures memory { IfErr result (λ e. (e ≡ ServiceError.Moment) ⊎ (e ≡ ServiceError.Config) ⊎ (e ≡ ServiceError.OutOfMemory)) }
+{
+    let mut service = match Service::new(alloc, configs, moment) {
+        Ok(service) => service,
+        Err(error) => return Err(error),
+    };
+    let Ok(mut transcripts) = empty_transcripts(alloc, configs.len(), moment) else {
+        return Err(ServiceError::OutOfMemory);
+    };
+    for input in inputs {
+        let _ = step(&mut service.spaces, alloc, &mut transcripts, input);
+    }
+    Ok(transcripts)
+}
+
+/// So many transcripts without records.
+fn empty_transcripts(
+    alloc: Global,
+    count: usize,
+    made: Instant,
+) -> Result<Vec<Transcript>, AllocError>
+    ensures count { IfOk result (λ transcripts. length transcripts.items ≡ count) }
+    ensures empty { IfOk result (λ transcripts. AreEmpty made transcripts.items) }
+{
+    let mut transcripts = Vec::with_capacity(alloc, count)?;
+    for _ in 0..count {
+        transcripts.push(Transcript {
+            made,
+            records: Seq::new(alloc),
+        })?;
+    }
+    Ok(transcripts)
+}
+
+/// Takes an input in its namespace, and adds its record to that namespace's transcript. An `Err` leaves all as it was.
+pub fn step(
+    spaces: &mut Vec<Space>,
+    alloc: Global,
+    transcripts: &mut Vec<Transcript>,
+    input: &Input,
+) -> Result<(), ServiceError>
+    requires quiet { AreQuiet spaces.old.items }
+    requires count { length transcripts.old.items ≡ length spaces.old.items }
+    ensures ok { OnOk result (RecordsAt input.now transcripts.old.items transcripts.new.items spaces.old.items spaces.new.items) }
+    ensures refused { IfErr result (λ e. Refuses spaces.old.items spaces.new.items (namespace_of input.now) e (RefusedInput input.now e)) }
+    ensures err { OnErr result (transcripts.new.items ≡ transcripts.old.items) }
+{
+    let namespace = namespace_of(input);
+    if namespace >= spaces.len() as u64 {
+        return Err(ServiceError::NoNamespace);
+    }
+    let index = namespace as usize;
+    let space = &mut spaces[index];
+    let transcript = &mut transcripts[index];
+    match record_input(space, alloc, transcript, input) {
+        Ok(()) => Ok(()),
+        Err(error) => Err(error),
+    }
+}
+
+/// The namespace that an input names.
+fn namespace_of(input: &Input) -> u64
+    ensures { result ≡ namespace_of input.now }
+{
+    match input {
+        Input::Open { namespace } => *namespace,
+        Input::Close { conn } => conn.namespace,
+        Input::Feed { conn, .. } => conn.namespace,
+        Input::Answer { load, .. } => load.namespace,
+        Input::GiveUp { load, .. } => load.namespace,
+    }
+}
