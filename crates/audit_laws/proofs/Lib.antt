@@ -34,3 +34,6 @@ pub mod StaysOrderly
 pub mod Asking
 pub mod Stages
 pub mod Belonging
+pub mod FedMore
+pub mod FedSteps
+pub mod FedTwice
