@@ -1,17 +1,16 @@
 -- A connection with more bytes behind the unread ones.
-use Rattle.std.proofs.Common.{◌≡◌, refl, ap, ◌∙◌, sym, subst, ℕ, suc, ◌≤◌, Bool, true, false, true≢false, not, ◌&&◌, ◌||◌, cond, List, [], ◌∷◌, ◌++◌, map, length, Option, Some, None, is_some, nat_lt, max, arith}
+use Rattle.std.proofs.Common.{◌≡◌, refl, ap, ◌∙◌, sym, ℕ, ◌≤◌, Bool, true, false, true≢false, not, ◌&&◌, ◌||◌, cond, List, [], ◌∷◌, ◌++◌, map, length, Option, Some, None, is_some, nat_lt, arith}
 use Rattle.std.specs.Prelude.{◌==◌}
-use Rattle.std.specs.List.{find, filter}
+use Rattle.std.specs.List.{find}
 use Rattle.std.specs.Option.{option_map_or}
-use Rattle.std.proofs.lemmas.Bool.{and_parts, eqb-true}
+use Rattle.std.proofs.lemmas.Bool.{eqb-true}
 use Rattle.std.proofs.lemmas.Bool.Decides.{nat_tests}
-use Rattle.std.proofs.Math.Bool.{or-false}
 use Rattle.std.proofs.Common.{length-append}
 use Rattle.audit_model.specs.Bytewise.{cut_at}
 use Rattle.audit_model.specs.Situation.{Situation, Connection, Standing, Ready, Held, Waiting, connection_in, may_run_in, is_ready, is_holding, is_holding_in, is_waiting_now, is_overlong, without_waiting, without_number, with_connection}
-use Rattle.audit_model.specs.Stream.{behind_lines, without_return, first_line}
+use Rattle.audit_model.specs.Stream.{without_return, first_line}
 use Rattle.audit_laws.proofs.Connections.{eqb-self}
-use Rattle.audit_laws.proofs.LinesRead.{cut-more, behind_first, first_line-more}
+use Rattle.audit_laws.proofs.LinesRead.{cut-more, first_line-more}
 
 -- what changes of a connection
 pub record Body : Type 0 where

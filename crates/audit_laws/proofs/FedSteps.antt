@@ -1,23 +1,23 @@
 -- A step of a connection, with more bytes behind the unread ones.
-use Rattle.std.proofs.Common.{◌≡◌, refl, ap, ◌∙◌, sym, subst, ℕ, suc, ◌+◌, Bool, true, false, true≢false, not, ◌&&◌, ◌||◌, cond, List, [], ◌∷◌, ◌++◌, map, Option, Some, None, is_some}
-use Rattle.std.specs.Prelude.{◌==◌, Ok, Err}
+use Rattle.std.proofs.Common.{◌≡◌, refl, ap, ◌∙◌, sym, ℕ, Bool, true, false, true≢false, ◌||◌, cond, List, [], ◌∷◌, ◌++◌, map, Option, Some, None, is_some}
+use Rattle.std.specs.Prelude.{Ok, Err}
 use Rattle.std.specs.Option.{option_map_or}
 use Rattle.std.proofs.lemmas.Bool.{eqb-true}
-use Rattle.audit_model.specs.Changes.{left_held, all_held_after, connection_after, join_by, join_load, with_connection_after, after_step}
+use Rattle.audit_model.specs.Changes.{left_held, all_held_after, connection_after, join_by, join_load, after_step}
 use Rattle.audit_model.specs.Commands.{deed_of, drops, quits}
 use Rattle.audit_model.specs.Follows.{line_in, placed_step_in, after_steps}
 use Rattle.audit_model.specs.Grammar.{Reading, reading}
 use Rattle.audit_model.specs.Bytewise.{is_empty}
 use Rattle.audit_model.specs.History.{Effect, Holding}
 use Rattle.audit_model.specs.Loads.{key_loaded}
-use Rattle.audit_model.specs.Places.{due, first_due, left_after, tasks_to_feed}
+use Rattle.audit_model.specs.Places.{first_due, left_after, tasks_to_feed}
 use Rattle.audit_model.specs.Situation.{Situation, Connection, Standing, Ready, Held, Waiting, connection_in, may_run_in, is_holding, with_connection, view_in}
-use Rattle.audit_model.specs.Steps.{Task, RunHeld, RunLines, PlacedStep, action_by, action_of_line, effect_in, is_in_turn, is_right}
-use Rattle.audit_model.specs.Stream.{is_held, is_waiting, behind_lines, first_line}
+use Rattle.audit_model.specs.Steps.{Task, RunHeld, RunLines, PlacedStep, action_by, action_of_line, effect_in, is_right}
+use Rattle.audit_model.specs.Stream.{is_held, is_waiting, behind_lines}
 use Rattle.audit_model.specs.declared.config.Config.{Config}
 use Rattle.audit_model.specs.declared.transcript.Step.{Step}
 use Rattle.audit_laws.specs.Placing.{placed_steps_in}
-use Rattle.audit_laws.proofs.FedMore.{Body, own, put, opened, sit, closes, runs, more, IsDue, sit-open, sit-opened, in-opened, in-sit, closes-due}
+use Rattle.audit_laws.proofs.FedMore.{Body, own, put, opened, sit, closes, more, IsDue, sit-open, sit-opened, in-opened, closes-due}
 use Rattle.audit_laws.proofs.LinesRead.{behind_first, first_line-more}
 use Rattle.audit_laws.proofs.PlacedStepsAgree.{parts-of}
 
@@ -121,7 +121,7 @@ module _ (config : Config) (conn : ℕ) where
     pub steps-from : (held q : Bool) (d : Body) → closes conn q d ≡ false → x.conn ≡ conn → Steps held q d
     steps-from held q d e o =
         let placed : placed_step_in config (sit conn q d u) (Some (task_of held)) x ≡ placed_at held u (line_at held d) x =
-            ap (λ s. placed_step_in config s (Some (task_of held)) x) (sit-open conn q d u e) ∙ placed-opened held d o in
+        ap (λ s. placed_step_in config s (Some (task_of held)) x) (sit-open conn q d u e) ∙ placed-opened held d o in
         record {
           placed = placed;
           after =

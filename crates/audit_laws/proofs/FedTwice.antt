@@ -1,29 +1,26 @@
 -- Two feeds of a connection at one moment, and the two in one.
-use Rattle.std.proofs.Common.{◌≡◌, refl, ap, ◌∙◌, sym, subst, ℕ, ◌≤◌, Bool, true, false, true≢false, not, ◌&&◌, ◌||◌, cond, List, [], ◌∷◌, ◌++◌, append_assoc, Option, Some, None, is_some, is_none, nat_lt, nat_le, max, arith, ◌⊎◌, inl, inr}
+use Rattle.std.proofs.Common.{◌≡◌, refl, ap, ◌∙◌, sym, subst, ℕ, Bool, true, false, true≢false, not, ◌&&◌, cond, List, [], ◌∷◌, ◌++◌, Some, None, is_some, max, ◌⊎◌, inl, inr}
 use Rattle.std.specs.Prelude.{◌==◌}
 use Rattle.std.specs.List.{find}
-use Rattle.std.specs.Option.{option_map_or, option_or}
-use Rattle.std.proofs.lemmas.Bool.{and_parts, and_from, eqb-true}
-use Rattle.audit_model.specs.Belongs.{refusal_where, refusal_of_moment, refusal_of}
-use Rattle.audit_model.specs.Follows.{Follows, after_event, after_steps, known_in, placed_step_in, tasks_in}
+use Rattle.std.specs.Option.{option_map_or}
+use Rattle.std.proofs.lemmas.Bool.{and_parts, and_from}
+use Rattle.audit_model.specs.Follows.{after_event, after_steps, placed_step_in, tasks_in}
 use Rattle.audit_model.specs.Commands.{quits}
 use Rattle.audit_model.specs.Changes.{after_step}
 use Rattle.audit_model.specs.Places.{tasks_to_feed}
-use Rattle.audit_model.specs.Situation.{Situation, Connection, Standing, Ready, Held, Waiting, connection_in, may_run_in, is_holding, is_holding_in, with_connection}
-use Rattle.audit_model.specs.Steps.{RunLines, PlacedStep, is_right}
+use Rattle.audit_model.specs.Situation.{Situation, Standing, Ready, Held, Waiting, connection_in, may_run_in, is_holding, with_connection}
+use Rattle.audit_model.specs.Steps.{RunLines, is_right}
 use Rattle.audit_model.specs.declared.config.Config.{Config}
 use Rattle.audit_model.specs.declared.event.Event.TheVariants as event
 use Rattle.audit_model.specs.declared.event.Instant.{Instant}
-use Rattle.audit_model.specs.declared.input.ServiceError.{ServiceError}
-use Rattle.audit_model.specs.declared.input.ServiceError.TheVariants as error
 use Rattle.audit_model.specs.declared.transcript.Step.{Step}
-use Rattle.audit_laws.specs.Cutting.{fed, none_held}
-use Rattle.audit_laws.specs.Placing.{placed_steps_in, placed_in}
+use Rattle.audit_laws.specs.Cutting.{none_held}
+use Rattle.audit_laws.specs.Placing.{placed_steps_in}
 use Rattle.audit_laws.proofs.Following.{Passed, passed}
-use Rattle.audit_laws.proofs.FedMore.{Body, own, closes, sit, opened, shut, sit-open, sit-shut, sit-opened, in-opened, in-sit, may-sit, holding-sit, runs, more, IsDue, closes-more, closes-due, runs-due, runs-more}
+use Rattle.audit_laws.proofs.FedMore.{Body, own, closes, sit, opened, sit-open, sit-shut, sit-opened, in-opened, in-sit, may-sit, holding-sit, runs, more, IsDue, closes-more, closes-due, runs-due, runs-more}
 use Rattle.audit_laws.proofs.FedSteps.{task_of, effect_at, apart, apart-alike, next, in-turn, BothStep, both-step, next-unheld, first-step, first-placed, none-due, at-end}
 
-some_same : {X : Type 0} (x y : X) → Some x ≡ Some y → x ≡ y
+pub some_same : {X : Type 0} (x y : X) → Some x ≡ Some y → x ≡ y
 some_same x y e = cc
 
 not-true : (b : Bool) → not b ≡ true → b ≡ false
@@ -179,14 +176,14 @@ module _ (config : Config) (conn : ℕ) (moment : Instant) (rest : List ℕ) whe
       let here = placed_step_in config (lesser q d u) (Some (task_of config conn held)) x in
       let there = placed_step_in config (greater q d u) (Some (task_of config conn held)) x in
       let on : Passed (is_right config there) (after_steps config (after_step config (greater q d u) (Some (task_of config conn held)) x there.effect) (RunLines conn ∷ []) steps) t =
-          passed _ _ t (sym (first-step config conn held (greater q d u) x steps may') ∙ e) in
+      passed _ _ t (sym (first-step config conn held (greater q d u) x steps may') ∙ e) in
       let both : BothStep config conn u g.there x rest held q d =
-          both-step config conn u g.there x rest held q d is_open is_due (in-turn config conn u g.there x held (greater q d u) on.test) in
+      both-step config conn u g.there x rest held q d is_open is_due (in-turn config conn u g.there x held (greater q d u) on.test) in
       let effect = effect_at config conn u x in
       let v = apart config conn x u in
       let later : InTwo false (quits effect) (next config conn held x effect d) v steps t =
-          ih (quits effect) (next config conn held x effect d) v (ground-apart x u g) refl
-          (ap (λ s. after_steps config s (RunLines conn ∷ []) steps) (sym both.greater) ∙ on.rest) in
+      ih (quits effect) (next config conn held x effect d) v (ground-apart x u g) refl
+      (ap (λ s. after_steps config s (RunLines conn ∷ []) steps) (sym both.greater) ∙ on.rest) in
       record {
         first = x ∷ later.first;
         second = later.second;
@@ -249,14 +246,14 @@ module _ (config : Config) (conn : ℕ) (moment : Instant) (rest : List ℕ) whe
       let here = placed_step_in config (lesser q d u) (Some (task_of config conn held)) x in
       let there = placed_step_in config (greater q d u) (Some (task_of config conn held)) x in
       let on : Passed (is_right config here) (after_steps config (after_step config (lesser q d u) (Some (task_of config conn held)) x here.effect) (RunLines conn ∷ []) first) middle =
-          passed _ _ middle (sym (first-step config conn held (lesser q d u) x first may) ∙ e) in
+      passed _ _ middle (sym (first-step config conn held (lesser q d u) x first may) ∙ e) in
       let both : BothStep config conn u g.there x rest held q d =
-          both-step config conn u g.there x rest held q d is_open is_due (in-turn config conn u g.there x held (lesser q d u) on.test) in
+      both-step config conn u g.there x rest held q d is_open is_due (in-turn config conn u g.there x held (lesser q d u) on.test) in
       let effect = effect_at config conn u x in
       let v = apart config conn x u in
       let later : InOne false (quits effect) (next config conn held x effect d) v first second middle t =
-          ih (quits effect) (next config conn held x effect d) v (ground-apart x u g) refl
-          (ap (λ s. after_steps config s (RunLines conn ∷ []) first) (sym both.fewer) ∙ on.rest) in
+      ih (quits effect) (next config conn held x effect d) v (ground-apart x u g) refl
+      (ap (λ s. after_steps config s (RunLines conn ∷ []) first) (sym both.fewer) ∙ on.rest) in
       record {
         leads =
             first-step config conn held (greater q d u) x (first ++ second) may'

@@ -37,3 +37,4 @@ pub mod Belonging
 pub mod FedMore
 pub mod FedSteps
 pub mod FedTwice
+pub mod Cuts

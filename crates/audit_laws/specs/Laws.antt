@@ -30,6 +30,7 @@ use Rattle.audit_model.specs.declared.transcript.Step.{Step}
 use Rattle.audit_model.specs.declared.transcript.Transcript.{Transcript}
 use Rattle.audit_laws.specs.Placing.{placed_steps_in, accepted_in, all_placed_in, Stage, stage_after}
 use Rattle.audit_laws.specs.Leading.{LeadsTo, LeadsBy, is_parted}
+use Rattle.audit_laws.specs.Cutting.{fed, none_held, LeadsInTwo, FollowsInTwo}
 use Rattle.audit_laws.specs.Breaking.{first_break_from, IsFaultless, BreaksFirstAt}
 use Rattle.audit_laws.specs.Orderly.{IsOrderly, idle_deed, is_asking}
 use Rattle.audit_laws.specs.Telling.{notes_of, none_with_size}
@@ -183,3 +184,11 @@ pub record BelongsOn : Type 0 where
   pub in_parts : (config : Config) (namespace : ℕ) (inputs later : List Input) (records more : List Record) (s t u : Situation)
       → BelongsIn config namespace s inputs records t → BelongsIn config namespace t later more u
       → BelongsIn config namespace s (inputs ++ later) (records ++ more) u
+
+-- where no command is held, a feed may be cut in two, and two feeds of a connection at one moment joined, with each step put where the byte
+-- that lets it run came; the second is left out where the first closes the connection
+pub record FeedsMayBeCut : Type 0 where
+  pub cut : (config : Config) (s t : Situation) (conn : ℕ) (moment : Instant) (front rest : List ℕ) (steps : List Step)
+      → IsTrue (none_held steps) → Follows config s (fed conn moment (front ++ rest) steps) t → FollowsInTwo config s conn moment front rest steps t
+  pub joined : (config : Config) (s t : Situation) (conn : ℕ) (moment : Instant) (front rest : List ℕ) (first second : List Step)
+      → IsTrue (none_held first) → LeadsInTwo config s conn moment front rest first second t → Follows config s (fed conn moment (front ++ rest) (first ++ second)) t
