@@ -38,3 +38,4 @@ pub mod FedMore
 pub mod FedSteps
 pub mod FedTwice
 pub mod Cuts
+pub mod CutTranscripts

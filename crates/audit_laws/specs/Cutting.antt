@@ -39,3 +39,10 @@ FaultlessInTwo config made before after conn moment front rest first second =
     ⊎ (IsFaultless config (record { made = made; records = before ++ fed conn moment front first ∷ after })
     × (is_open conn (history_after config made.nanos [] (before ++ fed conn moment front first ∷ [])) ≡ false)
     × (second ≡ []))
+
+-- the steps of a feed in two parts, with which the transcript stays faultless
+pub record FaultlessParts (config : Config) (made : Instant) (before after : List Record) (conn : ℕ) (moment : Instant) (front rest : List ℕ) (steps : List Step) : Type 0 where
+  pub first : List Step
+  pub second : List Step
+  pub in_parts : steps ≡ first ++ second
+  pub stays : FaultlessInTwo config made before after conn moment front rest first second

@@ -30,7 +30,7 @@ use Rattle.audit_model.specs.declared.transcript.Step.{Step}
 use Rattle.audit_model.specs.declared.transcript.Transcript.{Transcript}
 use Rattle.audit_laws.specs.Placing.{placed_steps_in, accepted_in, all_placed_in, Stage, stage_after}
 use Rattle.audit_laws.specs.Leading.{LeadsTo, LeadsBy, is_parted}
-use Rattle.audit_laws.specs.Cutting.{fed, none_held, LeadsInTwo, FollowsInTwo}
+use Rattle.audit_laws.specs.Cutting.{fed, none_held, LeadsInTwo, FollowsInTwo, FaultlessInTwo, FaultlessParts}
 use Rattle.audit_laws.specs.Breaking.{first_break_from, IsFaultless, BreaksFirstAt}
 use Rattle.audit_laws.specs.Orderly.{IsOrderly, idle_deed, is_asking}
 use Rattle.audit_laws.specs.Telling.{notes_of, none_with_size}
@@ -192,3 +192,12 @@ pub record FeedsMayBeCut : Type 0 where
       → IsTrue (none_held steps) → Follows config s (fed conn moment (front ++ rest) steps) t → FollowsInTwo config s conn moment front rest steps t
   pub joined : (config : Config) (s t : Situation) (conn : ℕ) (moment : Instant) (front rest : List ℕ) (first second : List Step)
       → IsTrue (none_held first) → LeadsInTwo config s conn moment front rest first second t → Follows config s (fed conn moment (front ++ rest) (first ++ second)) t
+
+-- so a transcript that obeys, and has no refused event, stays so where a feed of it is cut in two, and where two neighbouring feeds are joined
+pub record TranscriptsMayBeCut : Type 0 where
+  pub cut : (config : Config) (made : Instant) (before after : List Record) (conn : ℕ) (moment : Instant) (front rest : List ℕ) (steps : List Step)
+      → IsTrue (none_held steps) → IsFaultless config (record { made = made; records = before ++ fed conn moment (front ++ rest) steps ∷ after })
+      → FaultlessParts config made before after conn moment front rest steps
+  pub joined : (config : Config) (made : Instant) (before after : List Record) (conn : ℕ) (moment : Instant) (front rest : List ℕ) (first second : List Step)
+      → IsTrue (none_held first) → FaultlessInTwo config made before after conn moment front rest first second
+      → IsFaultless config (record { made = made; records = before ++ fed conn moment (front ++ rest) (first ++ second) ∷ after })

@@ -1,7 +1,7 @@
 //! Laws of the definitions of transcripts. Each function does nothing: its contract is the law.
 #![tactic(auto)]
 
-ghost use Rattle.audit_laws.specs.Laws.{FrontsObey, RecordsLead, StepsAgree, PlacesAgree, StepsInParts, LeadsOn, LeadsOnBy, LedObeys, BreaksAgree, BreaksWhereUnfollowed, GoodIsFaultless, FirstBreakIsFirst, NothingToldSize, LiveByAcceptance, OrderlyStays, IdleKeeps, AskingChangesNothing, KeysAnswer, BelongsStepByStep, BelongsOn, FeedsMayBeCut};
+ghost use Rattle.audit_laws.specs.Laws.{FrontsObey, RecordsLead, StepsAgree, PlacesAgree, StepsInParts, LeadsOn, LeadsOnBy, LedObeys, BreaksAgree, BreaksWhereUnfollowed, GoodIsFaultless, FirstBreakIsFirst, NothingToldSize, LiveByAcceptance, OrderlyStays, IdleKeeps, AskingChangesNothing, KeysAnswer, BelongsStepByStep, BelongsOn, FeedsMayBeCut, TranscriptsMayBeCut};
 ghost use Rattle.audit_model.specs.Configs.{DeadlinesAgree};
 
 /// A front of an obeying transcript obeys.
@@ -112,4 +112,9 @@ pub fn belongs_on()
 /// Where no command is held, a feed may be cut in two, and two feeds of a connection at one moment joined.
 pub fn feeds_may_be_cut()
     ensures { FeedsMayBeCut }
+{}
+
+/// So a transcript that obeys, and has no refused event, stays so where a feed is cut in two or two are joined.
+pub fn transcripts_may_be_cut()
+    ensures { TranscriptsMayBeCut }
 {}
