@@ -39,3 +39,4 @@ pub mod FedSteps
 pub mod FedTwice
 pub mod Cuts
 pub mod CutTranscripts
+pub mod Lasting
