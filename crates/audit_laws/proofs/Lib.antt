@@ -40,3 +40,5 @@ pub mod FedTwice
 pub mod Cuts
 pub mod CutTranscripts
 pub mod Lasting
+pub mod SameReplies
+pub mod Twins
