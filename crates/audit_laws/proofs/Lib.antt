@@ -42,3 +42,4 @@ pub mod CutTranscripts
 pub mod Lasting
 pub mod SameReplies
 pub mod Twins
+pub mod TwinRecords

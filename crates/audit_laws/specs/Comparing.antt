@@ -58,7 +58,9 @@ HappenAlike [] (y ∷ ys) = ⊥
 HappenAlike (x ∷ xs) [] = ⊥
 HappenAlike (x ∷ xs) (y ∷ ys) = HappensAlike x y × HappenAlike xs ys
 
+-- as many records, whose steps answer alike
 abbrev pub ReplyAlike : Config → List Record → List Record → Type 0
-ReplyAlike config [] ys = Unit {0}
-ReplyAlike config (x ∷ xs) [] = Unit {0}
+ReplyAlike config [] [] = Unit {0}
+ReplyAlike config [] (y ∷ ys) = ⊥
+ReplyAlike config (x ∷ xs) [] = ⊥
 ReplyAlike config (x ∷ xs) (y ∷ ys) = AnswerAlike config x.steps y.steps × ReplyAlike config xs ys

@@ -8,7 +8,7 @@ use Rattle.std.specs.Cmp.Lexicographic.{slice_cmp}
 use Rattle.audit_model.specs.Belongs.{IsAdmitted, is_good, first_break, event_in, Belongs}
 use Rattle.audit_model.specs.BelongsIn.{BelongsIn}
 use Rattle.audit_model.specs.Follows.{AgreesWithHistory, Follows, after_event, placed_step_in, after_steps, after_records, followed}
-use Rattle.audit_model.specs.History.{Value, Running}
+use Rattle.audit_model.specs.History.{Value, Running, accepts_values}
 use Rattle.audit_model.specs.Replies.{keys_listed}
 use Rattle.audit_model.specs.Bytewise.{same}
 use Rattle.audit_model.specs.Changes.{all_held_after, connection_after, after_step}
@@ -21,6 +21,7 @@ use Rattle.audit_model.specs.Steps.{Task, is_right}
 use Rattle.audit_model.specs.Summary.{LeadsToSummary}
 use Rattle.audit_model.specs.declared.command.Command.TheVariants as says
 use Rattle.audit_model.specs.declared.config.Config.{Config}
+use Rattle.audit_model.specs.declared.config.EvictionPolicy.{EvictionPolicy}
 use Rattle.audit_model.specs.declared.event.Event.{Event}
 use Rattle.audit_model.specs.declared.event.Instant.{Instant}
 use Rattle.audit_model.specs.declared.input.Input.{Input}
@@ -30,6 +31,7 @@ use Rattle.audit_model.specs.declared.transcript.Step.{Step}
 use Rattle.audit_model.specs.declared.transcript.Transcript.{Transcript}
 use Rattle.audit_laws.specs.Placing.{placed_steps_in, accepted_in, all_placed_in, Stage, stage_after}
 use Rattle.audit_laws.specs.Leading.{LeadsTo, LeadsBy, is_parted}
+use Rattle.audit_laws.specs.Comparing.{otherwise, HappenAlike, ReplyAlike}
 use Rattle.audit_laws.specs.Cutting.{fed, none_held, LeadsInTwo, FollowsInTwo, FaultlessInTwo, FaultlessParts}
 use Rattle.audit_laws.specs.Breaking.{first_break_from, IsFaultless, BreaksFirstAt}
 use Rattle.audit_laws.specs.Orderly.{IsOrderly, idle_deed, is_asking}
@@ -201,3 +203,13 @@ pub record TranscriptsMayBeCut : Type 0 where
   pub joined : (config : Config) (made : Instant) (before after : List Record) (conn : ℕ) (moment : Instant) (front rest : List ℕ) (first second : List Step)
       → IsTrue (none_held first) → FaultlessInTwo config made before after conn moment front rest first second
       → IsFaultless config (record { made = made; records = before ++ fed conn moment (front ++ rest) (first ++ second) ∷ after })
+
+-- two faultless transcripts of the same events, whose configurations differ at most in capacity, eviction policy and number of parts, and both
+-- accept values or neither does: where nothing is told `Size`, the same steps are held back and the same `DROPIF`s refused, both have the same
+-- steps with the same replies, but for those to `SYNC`
+abbrev pub RepliesByCommands : Type 0
+RepliesByCommands =
+    (config : Config) (capacity : Option ℕ) (policy : EvictionPolicy) (parts : ℕ) (made : Instant) (xs ys : List Record)
+    → accepts_values config.capacity ≡ accepts_values capacity
+    → IsFaultless config (record { made = made; records = xs }) → IsFaultless (otherwise config capacity policy parts) (record { made = made; records = ys })
+    → HappenAlike xs ys → ReplyAlike config xs ys
