@@ -161,6 +161,7 @@ pub record Both (config : Config) (s : Situation) (x y : Record) (t : Situation)
   pub front : Follows config s x middle
   pub back : Follows config middle y t
 
+-- two records that lead there
 pub both-follow : (config : Config) (s : Situation) (x y : Record) (t : Situation) → after_records config s (x ∷ y ∷ []) ≡ Some t → Both config s x y t
 both-follow config s x y t e = go (after_record config s x) refl e
   where
@@ -172,6 +173,7 @@ both-follow config s x y t e = go (after_record config s x) refl e
     go None k e = absurd (true≢false (sym (ap is_some e)))
     go (Some u) k e = record { middle = u; front = k; back = sym (last (after_record config u y)) ∙ e }
 
+-- and the other way round
 pub follow-both : (config : Config) (s middle t : Situation) (x y : Record) → Follows config s x middle → Follows config middle y t → after_records config s (x ∷ y ∷ []) ≡ Some t
 follow-both config s middle t x y f g =
     ap (option_and_then (λ u. after_records config u (y ∷ []))) f ∙ ap (option_and_then (λ u. Some u)) g
@@ -215,12 +217,14 @@ module _ (config : Config) (s t : Situation) (conn : ℕ) (moment : Instant) (fr
         places = one.places;
       })
 
+  -- two feeds that follow one another, in one
   pub joined-two : (first second : List Step) (middle : Situation) → none_held first ≡ true → Follows config s (fed conn moment front first) middle → Follows config middle (fed conn moment rest second) t
       → Joined first second middle
   joined-two first second middle none e k =
       let back : Fed config conn moment middle rest second t = fed-of config conn moment middle rest second t k in
       joined-by first second middle none (fed-of config conn moment s front first middle e) (inr (back.stands_open, back.leads))
 
+  -- a feed that closes the connection, with more bytes behind
   pub joined-one : (first : List Step) → none_held first ≡ true → Follows config s (fed conn moment front first) t → connection_in conn t ≡ None → Joined first [] t
   joined-one first none e k = joined-by first [] t none (fed-of config conn moment s front first t e) (inl (k, refl, refl))
 

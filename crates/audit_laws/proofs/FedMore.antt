@@ -31,6 +31,7 @@ pub cut-longer : (xs ys : List ℕ) → length (cut_at 10 xs).0 ≤ length (cut_
 cut-longer [] ys = omega arith
 cut-longer (b ∷ bs) ys = cut_length b (b == 10) bs (bs ++ ys) (cut_at 10 bs) (cut_at 10 (bs ++ ys)) (cut-longer bs ys)
 
+-- there is a first line where there is a line feed
 pub has_line : (xs : List ℕ) → is_some (first_line xs) ≡ is_some (cut_at 10 xs).1
 has_line xs = go (is_some (cut_at 10 xs).1)
   where
@@ -53,12 +54,15 @@ or_both false b false d f g e = g e
 -- ---- one connection among many
 
 module _ (conn : ℕ) where
+  -- the connection with this number
   abbrev pub own : Body → Connection
   own d = record { number = conn; unread = d.unread; standing = d.standing; waited = d.waited }
 
+  -- a connection that has the number
   pub own-is : (c : Connection) → (c.number == conn) ≡ true → c ≡ own (record { unread = c.unread; standing = c.standing; waited = c.waited })
   own-is c e = ap (λ n. record { number = n; unread = c.unread; standing = c.standing; waited = c.waited }) (eqb-true c.number conn e)
 
+  -- the connections with that one in its place
   abbrev pub put : Connection → List Connection → List Connection
   put e cs = map (λ c. cond (c.number == conn) e c) cs
 
@@ -67,6 +71,7 @@ module _ (conn : ℕ) where
   put_twice d e true c p = ap (λ b. cond b (own e) (own d)) (eqb-self conn)
   put_twice d e false c p = ap (λ b. cond b (own e) c) p
 
+  -- the last one counts
   pub put-put : (d e : Body) (cs : List Connection) → put (own e) (put (own d) cs) ≡ put (own e) cs
   put-put d e [] = refl
   put-put d e (c ∷ cs) = ap (λ x. x ∷ put (own e) (put (own d) cs)) (put_twice d e (c.number == conn) c refl) ∙ ap (λ xs. cond (c.number == conn) (own e) c ∷ xs) (put-put d e cs)
@@ -76,6 +81,7 @@ module _ (conn : ℕ) where
   out_twice d true c xs p = ap (λ b. cond (not b) (own d ∷ xs) xs) (eqb-self conn)
   out_twice d false c xs p = ap (λ b. cond (not b) (c ∷ xs) xs) p
 
+  -- and is taken out whatever it was
   pub without-put : (d : Body) (cs : List Connection) → without_number conn (put (own d) cs) ≡ without_number conn cs
   without-put d [] = refl
   without-put d (c ∷ cs) =
@@ -103,9 +109,11 @@ module _ (conn : ℕ) where
 
   -- ---- the situation with that connection as it now is
 
+  -- it closes after a `QUIT`, or where it must
   abbrev pub closes : Bool → Body → Bool
   closes q d = q || is_overlong (own d)
 
+  -- the situation with that connection, which may close
   abbrev pub sit : Bool → Body → Situation → Situation
   sit q d u = with_connection q (own d) u
 
@@ -124,9 +132,11 @@ module _ (conn : ℕ) where
   abbrev pub shut : Situation → Situation
   shut u = record u { connections = without_number conn u.connections; pending = map (without_waiting conn) u.pending }
 
+  -- where it does not close
   pub sit-open : (q : Bool) (d : Body) (u : Situation) → closes q d ≡ false → sit q d u ≡ opened d u
   sit-open q d u e = ap (λ b. where_closed b d u) e
 
+  -- where it closes
   pub sit-shut : (q : Bool) (d : Body) (u : Situation) → closes q d ≡ true → sit q d u ≡ shut u
   sit-shut q d u e = ap (λ b. where_closed b d u) e
 
@@ -136,12 +146,15 @@ module _ (conn : ℕ) where
       ap (λ xs. record u { connections = cond (closes q e) xs (put (own e) (put (own d) u.connections)); pending = cond (closes q e) (map (without_waiting conn) u.pending) u.pending }) (without-put d u.connections)
       ∙ ap (λ xs. record u { connections = cond (closes q e) (without_number conn u.connections) xs; pending = cond (closes q e) (map (without_waiting conn) u.pending) u.pending }) (put-put d e u.connections)
 
+  -- an open one is found
   pub in-opened : (d : Body) (u : Situation) → is_some (connection_in conn u) ≡ true → connection_in conn (opened d u) ≡ Some (own d)
   in-opened d u h = find-put d u.connections h
 
+  -- a closed one is not
   pub in-shut : (u : Situation) → connection_in conn (shut u) ≡ None
   in-shut u = find-without u.connections
 
+  -- it is found where it does not close
   pub in-sit : (q : Bool) (d : Body) (u : Situation) → is_some (connection_in conn u) ≡ true → connection_in conn (sit q d u) ≡ cond (closes q d) None (Some (own d))
   in-sit q d u h = go (closes q d)
     where
@@ -149,9 +162,11 @@ module _ (conn : ℕ) where
       go true = in-shut u
       go false = in-opened d u h
 
+  -- one of its lines may run
   abbrev pub runs : Body → Bool
   runs d = is_ready d.standing && is_some (first_line d.unread)
 
+  -- its line may run where it does not close and has one
   pub may-sit : (q : Bool) (d : Body) (u : Situation) → is_some (connection_in conn u) ≡ true → may_run_in (sit q d u) conn ≡ (not (closes q d) && runs d)
   may-sit q d u h = ap (λ o. option_map_or (λ c. is_ready c.standing && is_some (first_line c.unread)) o false) (in-sit q d u h) ∙ go (closes q d)
     where
@@ -159,6 +174,7 @@ module _ (conn : ℕ) where
       go true = refl
       go false = refl
 
+  -- it holds nothing back where its standing does not
   pub holding-sit : (q : Bool) (d : Body) (u : Situation) → is_some (connection_in conn u) ≡ true → is_holding d.standing ≡ false → is_holding_in (sit q d u) conn ≡ false
   holding-sit q d u h e = ap (λ o. option_map_or (λ c. is_holding c.standing) o false) (in-sit q d u h) ∙ go (closes q d)
     where
@@ -169,9 +185,11 @@ module _ (conn : ℕ) where
   -- ---- with more bytes
 
   module _ (rest : List ℕ) where
+    -- the same with these bytes behind
     abbrev pub more : Body → Body
     more d = record d { unread = d.unread ++ rest }
 
+    -- what is too long stays too long
     pub overlong-more : (d : Body) → is_overlong (own d) ≡ true → is_overlong (own (more d)) ≡ true
     overlong-more d e =
         or_both (is_ready d.standing && nat_lt 8192 (length (cut_at 10 d.unread).0)) (is_waiting_now d.standing && nat_lt 8192 (length d.unread)) _ _
@@ -185,6 +203,7 @@ module _ (conn : ℕ) where
         under true f g = f g
         under false f g = g
 
+    -- what closes still closes
     pub closes-more : (q : Bool) (d : Body) → closes q d ≡ true → closes q (more d) ≡ true
     closes-more true d e = refl
     closes-more false d e = overlong-more d e
@@ -204,9 +223,11 @@ module _ (conn : ℕ) where
     overlong-due-by false (Held line) unread waited h = absurd h
     overlong-due-by false (Waiting line) unread waited h = absurd h
 
+    -- where a line or a held one is due, it closes alike
     pub closes-due : (held q : Bool) (d : Body) → IsDue held d.standing d.unread → closes q (more d) ≡ closes q d
     closes-due held q d h = ap (λ b. q || b) (overlong-due-by held d.standing d.unread d.waited h)
 
+    -- a line that may run is due
     pub runs-due : (d : Body) → runs d ≡ true → IsDue false d.standing d.unread
     runs-due d e = go d.standing e
       where
@@ -215,6 +236,7 @@ module _ (conn : ℕ) where
         go (Held line) e = true≢false (sym e)
         go (Waiting line) e = true≢false (sym e)
 
+    -- and may run with more bytes behind
     pub runs-more : (d : Body) → runs d ≡ true → runs (more d) ≡ true
     runs-more d e = go d.standing e
       where

@@ -29,6 +29,7 @@ pub record Alike (s t : Situation) : Type 0 where
   pub opened : t.opened ≡ s.opened
   pub connections : t.connections ≡ s.connections
 
+-- one after the other
 pub alike-on : (s t u : Situation) → Alike s t → Alike t u → Alike s u
 alike-on s t u a b = record { latest = b.latest ∙ a.latest; opened = b.opened ∙ a.opened; connections = b.connections ∙ a.connections }
 
@@ -50,6 +51,7 @@ module _ (config : Config) (conn : ℕ) where
   abbrev pub task_of : Bool → Task
   task_of held = cond held (RunHeld conn) (RunLines conn)
 
+  -- what the step does
   abbrev pub effect_at : Situation → Step → Effect
   effect_at u x = effect_in config (view_in config u) (action_of_line config x) x
 
@@ -58,6 +60,7 @@ module _ (config : Config) (conn : ℕ) where
   apart x u =
       join_load conn (effect_at u x) (record u { held = all_held_after config u.latest u.held (deed_of (effect_at u x)) (effect_at u x).notes; dropped = u.dropped || drops (effect_at u x) })
 
+  -- a step leaves the moment, the count and the connections of the rest
   pub apart-alike : (x : Step) (u : Situation) → Alike u (apart x u)
   apart-alike x u =
       let e = effect_at u x in
@@ -118,6 +121,7 @@ module _ (config : Config) (conn : ℕ) where
       pub after : after_step config (sit conn q d u) (Some (task_of held)) x (placed_step_in config (sit conn q d u) (Some (task_of held)) x).effect
           ≡ sit conn (quits (effect_at u x)) (next held x (effect_at u x) d) (apart x u)
 
+    -- a step of an open connection, from the rest and the connection as it now is
     pub steps-from : (held q : Bool) (d : Body) → closes conn q d ≡ false → x.conn ≡ conn → Steps held q d
     steps-from held q d e o =
         let placed : placed_step_in config (sit conn q d u) (Some (task_of held)) x ≡ placed_at held u (line_at held d) x =
@@ -130,6 +134,7 @@ module _ (config : Config) (conn : ℕ) where
               ∙ after-opened held d o;
         }
 
+    -- a right step is of that connection
     pub in-turn : (held : Bool) (s : Situation) → is_right config (placed_step_in config s (Some (task_of held)) x) ≡ true → x.conn ≡ conn
     in-turn true s r = sym (eqb-true conn x.conn (parts-of config (placed_step_in config s (Some (RunHeld conn)) x) r).in_turn)
     in-turn false s r = sym (eqb-true conn x.conn (parts-of config (placed_step_in config s (Some (RunLines conn)) x) r).in_turn)
@@ -165,6 +170,7 @@ module _ (config : Config) (conn : ℕ) where
         pub greater : after_step config (sit conn q (more conn rest d) u) (Some (task_of held)) x (placed_step_in config (sit conn q (more conn rest d) u) (Some (task_of held)) x).effect
             ≡ sit conn (quits (effect_at u x)) (more conn rest (next held x (effect_at u x) d)) (apart x u)
 
+      -- the step is the same one with more bytes behind, and leaves them behind
       pub both-step : (held q : Bool) (d : Body) → closes conn q d ≡ false → IsDue conn rest held d.standing d.unread → x.conn ≡ conn → BothStep held q d
       both-step held q d e h o =
           let a : Steps held q d = steps-from held q d e o in
@@ -186,6 +192,7 @@ module _ (config : Config) (conn : ℕ) where
   stands-by false true line e = refl
   stands-by false false line e = refl
 
+  -- a step that is not held back leaves nothing held
   pub next-unheld : (held : Bool) (x : Step) (u : Situation) (d : Body) → x.held ≡ false → is_holding (next held x (effect_at u x) d).standing ≡ false
   next-unheld held x u d e = stands-by (is_held (effect_at u x)) (is_waiting (effect_at u x)) x.line (go x.held e)
     where
@@ -195,6 +202,7 @@ module _ (config : Config) (conn : ℕ) where
 
   -- ---- the first of the steps that a feed makes due
 
+  -- a first step, of the held line or of a line that may run
   pub first-step : (held : Bool) (s : Situation) (x : Step) (steps : List Step) → (held ≡ false → may_run_in s conn ≡ true)
       → after_steps config s (tasks_to_feed conn held) (x ∷ steps)
       ≡ cond (is_right config (placed_step_in config s (Some (task_of held)) x)) (after_steps config (after_step config s (Some (task_of held)) x (placed_step_in config s (Some (task_of held)) x).effect) (RunLines conn ∷ []) steps) None
@@ -204,6 +212,7 @@ module _ (config : Config) (conn : ℕ) where
       let placed = placed_step_in config s (first_due now_due) x in
       cond (is_right config placed) (after_steps config (after_step config s placed.task x placed.effect) (left_after now_due) steps) None) (f refl)
 
+  -- its place comes first
   pub first-placed : (held : Bool) (s : Situation) (x : Step) (steps : List Step) → (held ≡ false → may_run_in s conn ≡ true)
       → placed_steps_in config s (tasks_to_feed conn held) (x ∷ steps)
       ≡ placed_step_in config s (Some (task_of held)) x ∷ placed_steps_in config (after_step config s (Some (task_of held)) x (placed_step_in config s (Some (task_of held)) x).effect) (RunLines conn ∷ []) steps
@@ -220,6 +229,7 @@ module _ (config : Config) (conn : ℕ) where
       let placed = placed_step_in config s (first_due now_due) x in
       cond (is_right config placed) (after_steps config (after_step config s placed.task x placed.effect) (left_after now_due) steps) None) e
 
+  -- with no more steps, where no line may run
   pub at-end : (s : Situation) → after_steps config s (RunLines conn ∷ []) [] ≡ cond (may_run_in s conn) None (Some s)
   at-end s = go (may_run_in s conn)
     where

@@ -20,6 +20,7 @@ use Rattle.audit_laws.proofs.Following.{Passed, passed}
 use Rattle.audit_laws.proofs.FedMore.{Body, own, closes, sit, opened, sit-open, sit-shut, sit-opened, in-opened, in-sit, may-sit, holding-sit, runs, more, IsDue, closes-more, closes-due, runs-due, runs-more}
 use Rattle.audit_laws.proofs.FedSteps.{task_of, effect_at, apart, apart-alike, next, in-turn, BothStep, both-step, next-unheld, first-step, first-placed, none-due, at-end}
 
+-- what stands in two equal options
 pub some_same : {X : Type 0} (x y : X) → Some x ≡ Some y → x ≡ y
 some_same x y e = cc
 
@@ -70,6 +71,7 @@ module _ (config : Config) (conn : ℕ) (moment : Instant) (rest : List ℕ) whe
       ⊎ ((is_some (connection_in conn middle) ≡ true) × (after_steps config (then_fed middle) (tasks_in middle (event.Feed conn rest moment)) second ≡ Some t))
 
   module _ (u : Situation) (g : Ground u) (q : Bool) (d : Body) where
+    -- where a line may run, the connection is open and has one
     pub record Runs : Type 0 where
       pub is_open : closes conn q d ≡ false
       pub lines : runs conn d ≡ true
@@ -157,6 +159,7 @@ module _ (config : Config) (conn : ℕ) (moment : Instant) (rest : List ℕ) whe
 
   -- ---- from one to two
 
+  -- the steps in two parts: the first ones lead to where the first feed ends, and the others on from there
   pub record InTwo (held q : Bool) (d : Body) (u : Situation) (steps : List Step) (t : Situation) : Type 0 where
     pub first : List Step
     pub second : List Step
@@ -210,6 +213,7 @@ module _ (config : Config) (conn : ℕ) (moment : Instant) (rest : List ℕ) whe
         ends = ends-here u g q d unheld steps t e;
       }
 
+  -- the lines of a feed in two parts
   pub cut-lines : (steps : List Step) (q : Bool) (d : Body) (u : Situation) (t : Situation) → Ground u → is_holding d.standing ≡ false → none_held steps ≡ true
       → after_steps config (greater q d u) (RunLines conn ∷ []) steps ≡ Some t → InTwo false q d u steps t
   cut-lines [] q d u t g unheld none e = go (may_run_in (lesser q d u) conn) refl
@@ -231,6 +235,7 @@ module _ (config : Config) (conn : ℕ) (moment : Instant) (rest : List ℕ) whe
 
   -- ---- from two to one
 
+  -- the steps of both parts lead there in one, from the same places
   pub record InOne (held q : Bool) (d : Body) (u : Situation) (first second : List Step) (middle t : Situation) : Type 0 where
     pub leads : after_steps config (greater q d u) (tasks_to_feed conn held) (first ++ second) ≡ Some t
     pub places : placed_steps_in config (greater q d u) (tasks_to_feed conn held) (first ++ second)
@@ -268,6 +273,7 @@ module _ (config : Config) (conn : ℕ) (moment : Instant) (rest : List ℕ) whe
             ∙ sym (ap (λ ps. ps ++ placed_steps_in config (then_fed middle) (tasks_in middle (event.Feed conn rest moment)) second) (first-placed config conn held (lesser q d u) x first may));
       }
 
+  -- the lines of two feeds in one
   pub join-lines : (first : List Step) (q : Bool) (d : Body) (u : Situation) (second : List Step) (middle t : Situation) → Ground u → is_holding d.standing ≡ false → none_held first ≡ true
       → after_steps config (lesser q d u) (RunLines conn ∷ []) first ≡ Some middle → Ends middle second t → InOne false q d u first second middle t
   join-lines [] q d u second middle t g unheld none e ends = go (may_run_in (lesser q d u) conn) refl
@@ -299,6 +305,7 @@ module _ (config : Config) (conn : ℕ) (moment : Instant) (rest : List ℕ) whe
       (λ p c v k w o. join-lines first p c v second middle t k
       (ap (λ (y : Body). is_holding y.standing) w ∙ next-unheld config conn true x u d (not-true x.held (and_parts (not x.held) (none_held first) none).0)) (and_parts (not x.held) (none_held first) none).1 o ends)
 
+  -- and where a held command runs first
   pub cut-held : (steps : List Step) (d : Body) (u : Situation) (t : Situation) → Ground u → IsDue conn rest true d.standing d.unread → none_held steps ≡ true
       → after_steps config (greater false d u) (tasks_to_feed conn true) steps ≡ Some t → InTwo true false d u steps t
   cut-held [] d u t g is_due none e = absurd (true≢false (sym (ap is_some e)))

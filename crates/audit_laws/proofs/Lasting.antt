@@ -1,8 +1,8 @@
 -- What a deed leaves of a key's live value, where nothing is told `Size`: no part, share or note counts.
-use Rattle.std.proofs.Common.{◌≡◌, refl, ap, ◌∙◌, sym, subst, ℕ, ◌≤◌, Bool, true, false, true≢false, not, ◌&&◌, ◌||◌, cond, List, [], ◌∷◌, ◌++◌, map, Option, Some, None, is_some, nat_le, ◌⊎◌, inl, inr, arith}
+use Rattle.std.proofs.Common.{◌≡◌, refl, ap, ◌∙◌, sym, subst, ℕ, ◌≤◌, Bool, true, false, true≢false, not, ◌&&◌, ◌||◌, cond, List, [], ◌∷◌, ◌++◌, map, Option, Some, None, nat_le, ◌⊎◌, inl, inr, arith}
 use Rattle.std.specs.Prelude.{IsTrue}
-use Rattle.std.specs.List.{list_all, find, filter}
-use Rattle.std.specs.Option.{option_map, option_and_then, option_to_list}
+use Rattle.std.specs.List.{find, filter}
+use Rattle.std.specs.Option.{option_map, option_to_list}
 use Rattle.std.proofs.lemmas.Bool.{and_parts}
 use Rattle.std.proofs.lemmas.Bool.Decides.{nat_tests}
 use Rattle.std.proofs.lemmas.List.{map-append}
@@ -14,7 +14,7 @@ use Rattle.audit_model.specs.Changes.{newly_held, left_held, use_after, held_aft
 use Rattle.audit_model.specs.Commands.{Deed, is_this, covers_key}
 use Rattle.audit_model.specs.History.{Value}
 use Rattle.audit_model.specs.Notes.{same_cause, newcomer, candidates_of, is_rewritten, is_succeeded, is_true_cause, first_cause, is_told_first, is_true_note, first_of, are_true_notes}
-use Rattle.audit_model.specs.Situation.{HeldValue, is_dead_at, is_live_at, live_at, candidate_at}
+use Rattle.audit_model.specs.Situation.{HeldValue, is_dead_at, is_live_at, candidate_at}
 use Rattle.audit_model.specs.Values.{earlier_of, after_ms, deadline, has_come, is_value_of, without_key, untold}
 use Rattle.audit_model.specs.View.{Candidate}
 use Rattle.audit_model.specs.declared.config.Config.{Config}
@@ -23,25 +23,28 @@ use Rattle.audit_model.specs.declared.transcript.RemovalCause.{RemovalCause}
 use Rattle.audit_model.specs.declared.transcript.RemovalCause.TheVariants.{Expired, Explicit, Replaced, Size}
 use Rattle.audit_laws.specs.Telling.{none_with_size}
 use Rattle.audit_laws.proofs.HeldAll.{none_succeeded}
-use Rattle.audit_laws.proofs.HeldStep.{same-refl}
 use Rattle.audit_laws.proofs.Pairs.{Pairs, Differ}
 use Rattle.audit_laws.proofs.Told.{Each, each-more, each_of_map, each_passing, without_key-map, untold-map}
 use Rattle.audit_laws.proofs.Views.{same-true}
 
 -- ---- lists
 
+-- the first element
 abbrev pub first : {X : Type 0} → List X → Option X
 first [] = None
 first (x ∷ xs) = Some x
 
+-- those behind it
 abbrev pub behind : {X : Type 0} → List X → List X
 behind [] = []
 behind (x ∷ xs) = xs
 
+-- the first of a list that a function made
 pub first-map : {X Y : Type 0} (f : X → Y) (xs : List X) → first (map f xs) ≡ option_map f (first xs)
 first-map f [] = refl
 first-map f (x ∷ xs) = refl
 
+-- what is found first is first of those that pass
 pub find-first : {X : Type 0} (p : X → Bool) (xs : List X) → find p xs ≡ first (filter p xs)
 find-first p [] = refl
 find-first p (x ∷ xs) = go (p x) (find-first p xs)
@@ -50,6 +53,7 @@ find-first p (x ∷ xs) = go (p x) (find-first p xs)
     go true e = refl
     go false e = e
 
+-- those that pass of a list that a function made
 pub filter-mapped : {X Y : Type 0} (p : Y → Bool) (f : X → Y) (xs : List X) → filter p (map f xs) ≡ map f (filter (λ x. p (f x)) xs)
 filter-mapped p f [] = refl
 filter-mapped p f (x ∷ xs) = go (p (f x)) (filter-mapped p f xs)
@@ -101,9 +105,11 @@ pub record Living : Type 0 where
   pub own_deadline : Option ℕ
   pub last_use : ℕ
 
+-- what counts of a held value
 abbrev pub living_of : HeldValue → Living
 living_of h = record { bytes = h.value.bytes; accepted_at = h.value.accepted_at; own_deadline = h.value.own_deadline; last_use = h.last_use }
 
+-- its deadline
 abbrev pub ends_at : Config → Living → Option ℕ
 ends_at config l = earlier_of l.own_deadline (earlier_of (option_map (after_ms l.accepted_at) config.live_ms) (option_map (after_ms l.last_use) config.idle_ms))
 
@@ -111,10 +117,12 @@ ends_at config l = earlier_of l.own_deadline (earlier_of (option_map (after_ms l
 abbrev pub still : Config → ℕ → Living → Option Living
 still config now l = cond (has_come (ends_at config l) now) None (Some l)
 
+-- the same of what there may be
 abbrev pub still_some : Config → ℕ → Option Living → Option Living
 still_some config now None = None
 still_some config now (Some l) = still config now l
 
+-- what is live of a held value
 abbrev pub alive : Config → ℕ → Option HeldValue → Option Living
 alive config now None = None
 alive config now (Some h) = cond h.covered None (still config now (living_of h))
@@ -129,6 +137,7 @@ abbrev pub accepted_by : Config → ℕ → List ℕ → Option Value → Option
 accepted_by config now key None rest = rest
 accepted_by config now key (Some v) rest = cond (same key v.key) (still config now (living_of (newly_held v))) rest
 
+-- what is live of a key after a deed
 abbrev pub living_after : Config → ℕ → List ℕ → Deed → Option Living → Option Living
 living_after config now key deed before =
     accepted_by config now key deed.value (left_by config now (is_this key deed.deletes) (covers_key key deed.covers) (is_this key deed.uses) before)
@@ -137,6 +146,7 @@ living_after config now key deed before =
 abbrev pub IsFresh : ℕ → Deed → Type 0
 IsFresh now deed = (v : Value) → deed.value ≡ Some v → (covers_key v.key deed.covers ≡ false) × (is_this v.key deed.deletes ≡ false) × (v.accepted_at ≡ now)
 
+-- those held of a key
 abbrev pub of_key : List ℕ → List HeldValue → List HeldValue
 of_key key held = filter (λ h. same key h.value.key) held
 
@@ -144,6 +154,7 @@ of_key key held = filter (λ h. same key h.value.key) held
 abbrev pub lasting : Config → ℕ → List HeldValue → List ℕ → Option Living
 lasting config now held key = alive config now (first (of_key key held))
 
+-- at most one is held of a key
 pub one-of_key : (key : List ℕ) (held : List HeldValue) → Pairs (λ g h. Differ g.value.key h.value.key) held → AtMostOne (of_key key held)
 one-of_key key [] h = Nobody refl
 one-of_key key (g ∷ gs) (e, h) = go (same key g.value.key) refl (one-of_key key gs h)
@@ -164,6 +175,7 @@ come-on (Some moment) now later h e = after moment now later h e
     after : (moment now later : ℕ) → now ≤ later → nat_le moment now ≡ true → nat_le moment later ≡ true
     after moment now later h e = grind (arith, nat_tests)
 
+-- later the same is live, unless its deadline has come
 pub alive-later : (config : Config) (now later : ℕ) (o : Option HeldValue) → now ≤ later → alive config later o ≡ still_some config later (alive config now o)
 alive-later config now later None le = refl
 alive-later config now later (Some h) le = go h.covered (has_come (ends_at config (living_of h)) now) refl

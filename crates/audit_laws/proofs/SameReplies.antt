@@ -1,26 +1,23 @@
 -- What a step answers, where the same is live: with another capacity, eviction policy and number of parts.
-use Rattle.std.proofs.Common.{◌≡◌, refl, ap, ◌∙◌, sym, subst, ℕ, ◌+◌, ◌^◌, Bool, true, false, true≢false, not, ◌&&◌, ◌||◌, cond, List, [], ◌∷◌, ◌++◌, Option, Some, None, is_some, is_none, nat_lt, nat_le}
+use Rattle.std.proofs.Common.{◌≡◌, refl, ap, ◌∙◌, sym, ℕ, ◌+◌, ◌^◌, Bool, true, false, true≢false, not, ◌&&◌, ◌||◌, cond, List, [], ◌∷◌, Option, Some, None, is_some, nat_lt}
 use Rattle.std.specs.Prelude.{codes}
-use Rattle.std.specs.List.{find, filter}
+use Rattle.std.specs.List.{filter}
 use Rattle.std.specs.Option.{option_map, option_and_then, option_eq}
 use Rattle.std.specs.Fmt.{decimal}
-use Rattle.std.proofs.lemmas.Bool.{and_parts}
 use Rattle.std.proofs.Math.Bool.{or-false}
 use Rattle.audit_model.specs.Bytewise.{same, text_line}
-use Rattle.audit_model.specs.Changes.{newly_held}
-use Rattle.audit_model.specs.Commands.{Deed, deed_of, covers, key_deleted, is_this, is_sync}
+use Rattle.audit_model.specs.Commands.{deed_of, key_deleted, is_this, is_sync}
 use Rattle.audit_model.specs.Grammar.{number_in}
 use Rattle.audit_model.specs.History.{Effect, Action, Running, Faulting, Holding, Delivering, Abandoning, Storing, Value, accepts_values}
-use Rattle.audit_model.specs.Replies.{value_reply, value_or_none, yes_or_no, ok_or_off, sum_with, sum_or_error, keys_listed, reply_of, may_refuse, is_reply, load_sent_by, Offer, offered, taken_where, offer_of, value_with, value_from}
+use Rattle.audit_model.specs.Replies.{value_reply, value_or_none, yes_or_no, sum_with, sum_or_error, keys_listed, reply_of, may_refuse, is_reply, load_sent_by, Offer, offered, taken_where, offer_of, value_from}
 use Rattle.audit_model.specs.Situation.{HeldValue, is_live_at, live_at}
-use Rattle.audit_model.specs.Steps.{PlacedStep, has_right_acceptance}
 use Rattle.audit_model.specs.View.{View}
 use Rattle.audit_model.specs.declared.command.Command.TheVariants as says
 use Rattle.audit_model.specs.declared.config.Config.{Config}
 use Rattle.audit_model.specs.declared.config.EvictionPolicy.{EvictionPolicy}
 use Rattle.audit_model.specs.declared.event.Outcome.TheVariants as came
 use Rattle.audit_laws.specs.Comparing.{otherwise}
-use Rattle.audit_laws.proofs.Lasting.{Living, living_of, still, alive, of_key, lasting, accepted_by, IsFresh, AtMostOne, Nobody, Lone, one-of_key, first, find-first}
+use Rattle.audit_laws.proofs.Lasting.{Living, living_of, alive, of_key, lasting, accepted_by, IsFresh, AtMostOne, Nobody, Lone, one-of_key, first, find-first}
 use Rattle.audit_laws.proofs.Pairs.{Pairs, Differ}
 use Rattle.audit_laws.proofs.Rightly.{uncovering, dated, no_value}
 use Rattle.audit_laws.proofs.Views.{same-true}
@@ -36,9 +33,11 @@ filter-both p q (x ∷ xs) = go (p x) (filter-both p q xs)
     go true e = ap (λ ys. cond (q x) (x ∷ ys) ys) e
     go false e = e
 
+-- a value's bytes
 abbrev pub bytes_in : Option Value → Option (List ℕ)
 bytes_in o = option_map (λ v. v.bytes) o
 
+-- the bytes of what is live
 abbrev pub living_bytes : Option Living → Option (List ℕ)
 living_bytes o = option_map (λ l. l.bytes) o
 
@@ -48,6 +47,7 @@ one_live config now h true d = refl
 one_live config now h false true = refl
 one_live config now h false false = refl
 
+-- the live value has the bytes of what is live
 pub live-bytes : (config : Config) (now : ℕ) (held : List HeldValue) (key : List ℕ) → Pairs (λ g h. Differ g.value.key h.value.key) held
     → bytes_in (live_at config now held key) ≡ living_bytes (lasting config now held key)
 live-bytes config now held key distinct =
@@ -62,12 +62,14 @@ live-bytes config now held key distinct =
         ∙ one_live config now h h.covered _
         ∙ sym (ap (λ xs. living_bytes (alive config now (first xs))) n)
 
+-- there is a value where there are bytes
 pub some-bytes : (o : Option Value) → is_some o ≡ is_some (bytes_in o)
 some-bytes None = refl
 some-bytes (Some v) = refl
 
 -- ---- what two views have in common
 
+-- of each key the same bytes are live, and all else but what is held is the same
 pub record SeenAlike (a b : View) : Type 0 where
   pub live : (key : List ℕ) → bytes_in (a.live key) ≡ bytes_in (b.live key)
   pub live_keys : a.live_keys ≡ b.live_keys
@@ -83,6 +85,7 @@ abbrev value_or_none_in : Option (List ℕ) → List ℕ
 value_or_none_in None = text_line (codes "NONE")
 value_or_none_in (Some bytes) = value_reply bytes
 
+-- the reply of a `GET`
 pub value_or_none-same : (o p : Option Value) → bytes_in o ≡ bytes_in p → value_or_none o ≡ value_or_none p
 value_or_none-same o p k = by_bytes value_or_none value_or_none_in go o p k
   where
@@ -94,6 +97,7 @@ abbrev yes_or_no_in : Option (List ℕ) → List ℕ
 yes_or_no_in None = text_line (codes "NO")
 yes_or_no_in (Some bytes) = text_line (codes "YES")
 
+-- the reply of a `HAS`
 pub yes_or_no-same : (o p : Option Value) → bytes_in o ≡ bytes_in p → yes_or_no o ≡ yes_or_no p
 yes_or_no-same o p k = by_bytes yes_or_no yes_or_no_in go o p k
   where
@@ -101,6 +105,7 @@ yes_or_no-same o p k = by_bytes yes_or_no yes_or_no_in go o p k
     go None = refl
     go (Some v) = refl
 
+-- the reply of a `LOAD`
 pub loaded-same : (o p : Option Value) → bytes_in o ≡ bytes_in p → option_map (λ value. value_reply value.bytes) o ≡ option_map (λ value. value_reply value.bytes) p
 loaded-same o p k = by_bytes (option_map (λ value. value_reply value.bytes)) (option_map value_reply) go o p k
   where
@@ -112,6 +117,7 @@ abbrev sum_in : ℕ → Option (List ℕ) → Option ℕ
 sum_in number None = Some number
 sum_in number (Some bytes) = option_and_then (λ n. cond (nat_lt (n + number) (2 ^ 64)) (Some (n + number)) None) (number_in bytes)
 
+-- the sum of an `ADD`
 pub sum-same : (number : ℕ) (o p : Option Value) → bytes_in o ≡ bytes_in p → sum_with o number ≡ sum_with p number
 sum-same number o p k = by_bytes (λ o. sum_with o number) (sum_in number) go o p k
   where
@@ -120,11 +126,13 @@ sum-same number o p k = by_bytes (λ o. sum_with o number) (sum_in number) go o 
     go (Some v) = refl
 
 module _ (config : Config) (capacity : Option ℕ) (policy : EvictionPolicy) (parts : ℕ) (accepts : accepts_values config.capacity ≡ accepts_values capacity) where
+  -- the other configuration
   abbrev pub other : Config
   other = otherwise config capacity policy parts
 
   -- ---- replies, loads and offers
 
+  -- each reply but a `SYNC`'s is the same
   pub replies-same : (a b : View) (held more : List Value) (action : Action) → SeenAlike a b → is_sync action ≡ false → reply_of config a held action ≡ reply_of other b more action
   replies-same a b held more (Running (says.Set key ms value)) s e = ap (λ x. Some (cond x (text_line (codes "OK")) (text_line (codes "OFF")))) accepts
   replies-same a b held more (Running (says.Get key)) s e = ap Some (value_or_none-same (a.live key) (b.live key) (s.live key))
@@ -194,6 +202,7 @@ module _ (config : Config) (capacity : Option ℕ) (policy : EvictionPolicy) (pa
       (sym (ap (λ b. option_eq same x.reply (reply_of c a held x.action) || (b && option_eq same x.reply refusal)) (sync_unrefused a x.action e) ∙ or-false _) ∙ r))
       ∙ sync_says a held x.action e c
 
+  -- the same load is sent
   pub loads-same : (a b : View) (action : Action) → SeenAlike a b → load_sent_by a action ≡ load_sent_by b action
   loads-same a b (Running (says.Load key)) s =
       ap (λ x. cond (x || is_some (a.load_of_key key)) None (Some a.next_load)) (some-bytes (a.live key) ∙ ap is_some (s.live key) ∙ sym (some-bytes (b.live key)))
@@ -210,11 +219,13 @@ module _ (config : Config) (capacity : Option ℕ) (policy : EvictionPolicy) (pa
   offered-same a b (Running command) s = refl
   offered-same a b action s = refl
 
+  -- the same value is offered
   pub offers-same : (a b : View) (action : Action) → SeenAlike a b → offer_of config a action ≡ offer_of other b action
   offers-same a b action s = ap (λ x. taken_where x (offered a action)) accepts ∙ ap (taken_where (accepts_values capacity)) (offered-same a b action s)
 
   -- ---- what is accepted
 
+  -- of an accepted value the same is live, whatever its part
   pub living-accepted : (now : ℕ) (key : List ℕ) (offer : Option Offer) (p q : Option ℕ) (rest : Option Living) → is_some p ≡ is_some q
       → accepted_by config now key (value_from config now offer p) rest ≡ accepted_by config now key (value_from other now offer q) rest
   living-accepted now key offer None None rest e = refl
@@ -230,6 +241,7 @@ undeleted_by config seen part (Running (says.Del key)) v e = no_value config see
 undeleted_by config seen part (Running command) v e = refl
 undeleted_by config seen part action v e = refl
 
+-- a step's deed accepts its value now, and neither deletes nor covers it
 pub fresh-deed : (config : Config) (seen : View) (part : Option ℕ) (effect : Effect) → effect.value ≡ value_from config seen.now (offer_of config seen effect.action) part → IsFresh seen.now (deed_of effect)
 fresh-deed config seen part effect is v e =
     (uncovering config seen part effect v (sym is ∙ e), undeleted_by config seen part effect.action v (sym is ∙ e), dated config seen.now (offer_of config seen effect.action) part v (sym is ∙ e))

@@ -1,7 +1,6 @@
 -- Two transcripts of one list of events: the same replies, where nothing is told `Size` and the same commands are taken.
-use Rattle.std.proofs.Common.{◌≡◌, refl, ap, ◌∙◌, sym, subst, ℕ, Bool, true, false, true≢false, not, ◌&&◌, cond, List, [], ◌∷◌, ◌++◌, map, max, Option, Some, None, is_some, is_none}
-use Rattle.std.specs.Prelude.{if◌then◌else◌, ◌==◌}
-use Rattle.std.specs.List.{list_all, filter, flat_map}
+use Rattle.std.proofs.Common.{◌≡◌, refl, ap, ◌∙◌, sym, subst, ℕ, Bool, true, false, true≢false, ◌&&◌, cond, List, [], ◌∷◌, ◌++◌, map, max, Option, Some, None, is_some, is_none}
+use Rattle.std.specs.List.{list_all, flat_map}
 use Rattle.std.specs.Option.{option_map_or, option_and_then}
 use Rattle.std.proofs.lemmas.Bool.{and_parts, and_from}
 use Rattle.std.proofs.lemmas.List.Folds.{list_all-append}
@@ -12,8 +11,8 @@ use Rattle.audit_model.specs.Follows.{Follows, tasks_in, after_event, placed_ste
 use Rattle.audit_model.specs.History.{accepts_values}
 use Rattle.audit_model.specs.Obeys.{is_numbered, has_right_own_value}
 use Rattle.audit_model.specs.Places.{due, first_due, left_after, tasks_to_feed, steps_of}
-use Rattle.audit_model.specs.Situation.{Situation, Connection, HeldValue, connection_in, may_run_in, is_holding_in, with_connection, waiting_in, key_in, empty_situation}
-use Rattle.audit_model.specs.Steps.{Task, Store, Deliver, RunAgain, RunHeld, RunLines, PlacedStep, is_task_of, is_right}
+use Rattle.audit_model.specs.Situation.{Situation, Connection, HeldValue, connection_in, may_run_in, is_holding_in, with_connection, waiting_in, empty_situation}
+use Rattle.audit_model.specs.Steps.{Task, Store, Deliver, RunAgain, RunHeld, RunLines, is_task_of, is_right}
 use Rattle.audit_model.specs.declared.config.Config.{Config}
 use Rattle.audit_model.specs.declared.config.EvictionPolicy.{EvictionPolicy}
 use Rattle.audit_model.specs.declared.event.Event.{Event}
@@ -34,7 +33,7 @@ use Rattle.audit_laws.proofs.Lasting.{lasting, alive-later, still_some, first, o
 use Rattle.audit_laws.proofs.PlacedStepsAgree.{parts-of}
 use Rattle.audit_laws.proofs.StaysOrderly.{orderly_stays}
 use Rattle.audit_laws.proofs.TranscriptsAgree.{agrees}
-use Rattle.audit_laws.proofs.Twins.{second, with_held, Twin, gs-after, after-same, twin-after, answers-alike}
+use Rattle.audit_laws.proofs.Twins.{second, Twin, gs-after, after-same, twin-after, answers-alike}
 
 -- ---- tasks of connections
 
@@ -148,6 +147,7 @@ module _ (config : Config) (capacity : Option ℕ) (policy : EvictionPolicy) (pa
     pub is : u ≡ holding gs t
     pub twin : Twins t gs
 
+  -- steps answer alike, and end in two such situations
   pub record Walked (xs ys : List Step) (t u : Situation) : Type 0 where
     pub alike : AnswerAlike config xs ys
     pub ended : Ended t u
@@ -258,7 +258,7 @@ module _ (config : Config) (capacity : Option ℕ) (policy : EvictionPolicy) (pa
       let x : Step = record { conn = 0; line = []; held = false; reply = None; load = None; accepted = own; notices = notices } in
       let y : Step = record { conn = 0; line = []; held = false; reply = None; load = None; accepted = own_too; notices = notices_too } in
       let one : Stepped (after_event happened s) (tasks_in s happened) x y xs ys t u =
-          step-both (after_event happened s) gs (tasks_in s happened) x y xs ys t u (twin-event happened s gs twin) e f refl refl m m' in
+      step-both (after_event happened s) gs (tasks_in s happened) x y xs ys t u (twin-event happened s gs twin) e f refl refl m m' in
       walk-both xs ys one.next one.gs (map (λ conn. Deliver conn outcome) (waiting_in load s) ++ map RunLines (waiting_in load s)) t u one.twin
       (list_all-append (λ t. is_of_conn (Some t)) (map (λ conn. Deliver conn outcome) (waiting_in load s)) (map RunLines (waiting_in load s))
       ∙ and_from _ _ (of_conns-delivered outcome (waiting_in load s)) (of_conns-lines (waiting_in load s)))

@@ -1,13 +1,12 @@
 -- Two situations in which the same is live, with another capacity, eviction policy and number of parts: each step leads to two such again.
-use Rattle.std.proofs.Common.{◌≡◌, refl, ap, ◌∙◌, sym, subst, ℕ, Bool, true, false, true≢false, not, ◌&&◌, ◌||◌, cond, List, [], ◌∷◌, ◌++◌, map, Option, Some, None, is_some, nat_lt, nat_le}
-use Rattle.std.specs.Prelude.{◌==◌, nat_eq}
+use Rattle.std.proofs.Common.{◌≡◌, refl, ap, ◌∙◌, sym, ℕ, Bool, true, false, true≢false, not, ◌||◌, cond, List, Option, Some, None, is_some, nat_le}
+use Rattle.std.specs.Prelude.{nat_eq}
 use Rattle.std.specs.Option.{option_map, option_map_or, option_eq}
 use Rattle.std.proofs.lemmas.Bool.{and_parts, eqb-true}
-use Rattle.audit_model.specs.Bytewise.{same}
 use Rattle.audit_model.specs.Changes.{all_held_after, connection_after, join_by, join_load, with_connection_after, after_step}
-use Rattle.audit_model.specs.Commands.{Deed, Covering, Nothing, deed_of, key_used, key_deleted, covering_of, covers_key, is_this, is_sync, drops, quits}
+use Rattle.audit_model.specs.Commands.{Nothing, deed_of, key_used, key_deleted, covering_of, covers_key, is_this, is_sync, drops, quits}
 use Rattle.audit_model.specs.Follows.{line_in, placed_step_in}
-use Rattle.audit_model.specs.Grammar.{Reading, reading}
+use Rattle.audit_model.specs.Grammar.{reading}
 use Rattle.audit_model.specs.History.{Effect, Action, Running, Holding, Abandoning, accepts_values}
 use Rattle.audit_model.specs.Loads.{key_loaded}
 use Rattle.audit_model.specs.Replies.{offer_of, load_sent_by, value_from}
@@ -137,9 +136,11 @@ load-is (Some m) None e = absurd (true≢false (sym e))
 load-is (Some m) (Some n) e = ap (λ k. Some k) (eqb-true m n e)
 
 module _ (config : Config) (capacity : Option ℕ) (policy : EvictionPolicy) (parts : ℕ) (accepts : accepts_values config.capacity ≡ accepts_values capacity) where
+  -- the other configuration
   abbrev pub second : Config
   second = other config capacity policy parts accepts
 
+  -- the situation with other values held
   abbrev pub with_held : List HeldValue → Situation → Situation
   with_held gs s = record s { held = gs }
 
@@ -181,6 +182,7 @@ module _ (config : Config) (capacity : Option ℕ) (policy : EvictionPolicy) (pa
     seen : SeenAlike px.seen py.seen
     seen = twin-seen s gs twin
 
+    -- a task is of one connection
     pub conns-same : is_of_conn task ≡ true → x.conn ≡ y.conn
     conns-same o = conn-by task x.conn y.conn o of_x.in_turn of_y.in_turn
 
@@ -254,6 +256,7 @@ module _ (config : Config) (capacity : Option ℕ) (policy : EvictionPolicy) (pa
         go (Some (RunLines c)) = of_line x.held
         go None = of_line x.held
 
+    -- two right steps of one task answer alike
     pub answers-alike : is_of_conn task ≡ true → AnswersAlike config x y
     answers-alike o =
         record {
@@ -284,9 +287,11 @@ module _ (config : Config) (capacity : Option ℕ) (policy : EvictionPolicy) (pa
             ap (λ a. drops (record px.effect { action = a })) actions-same
             ∙ ap (λ r. drops (record px.effect { action = py.effect.action; reply = r })) (answers-same e)
 
+    -- the values held then in the other situation
     abbrev pub gs-after : List HeldValue
     gs-after = all_held_after second s.latest gs (deed_of py.effect) py.effect.notes
 
+    -- which differs in nothing else
     pub after-same : after_step second (with_held gs s) task y py.effect ≡ with_held gs-after (after_step config s task x px.effect)
     after-same =
         sym (connections-same x y px.effect py.effect (record s { held = gs-after; dropped = s.dropped || drops py.effect }) lines-same actions-same replied-same loads_sent-same task conns-same)
@@ -303,6 +308,7 @@ module _ (config : Config) (capacity : Option ℕ) (policy : EvictionPolicy) (pa
         rest : Option Living
         rest = left_by config s.latest (is_this key (key_deleted py.effect.action)) (covers_key key (covering_of py.effect)) (is_this key (key_used py.effect.action)) before
 
+    -- and in which the same is live
     pub twin-after : none_with_size x.notices ≡ true → none_with_size y.notices ≡ true → Twin (after_step config s task x px.effect) gs-after
     twin-after sizeless sizeless_too =
         let next = after_step config s task x px.effect in

@@ -1,5 +1,5 @@
 -- Two transcripts of one list of events.
-use Rattle.std.specs.Prelude.{◌≡◌, ℕ, Bool, true, false, List, [], ◌∷◌, ◌++◌, Option, Some, None, Ok, Err, is_some, codes}
+use Rattle.std.specs.Prelude.{◌≡◌, ℕ, Bool, true, false, List, [], ◌∷◌, Option, Some, is_some, codes}
 use Rattle.std.specs.Option.{option_eq}
 use Rattle.audit_model.specs.Bytewise.{same, text_line}
 use Rattle.audit_model.specs.Commands.{is_sync}
