@@ -21,20 +21,25 @@ use Rattle.audit_model.specs.declared.input.ServiceError.TheVariants as error
 use Rattle.audit_model.specs.declared.transcript.Record.{Record}
 use Rattle.audit_model.specs.declared.transcript.Transcript.{Transcript}
 
+-- that refusal, where it applies
 abbrev pub refusal_where : Bool → ServiceError → Option ServiceError
 refusal_where true error = Some error
 refusal_where false error = None
 
+-- a moment is at most 2 ^ 63 - 1 nanoseconds
 abbrev pub refusal_of_moment : Instant → Option ServiceError
 refusal_of_moment moment = refusal_where (nat_le (2 ^ 63) moment.nanos) error.Moment
 
+-- an outcome's bytes have no line end, and number at most 8192
 abbrev pub refusal_of_bytes : List ℕ → Option ServiceError
 refusal_of_bytes bytes = option_or (refusal_where (not (is_value bytes)) error.LineEnd) (refusal_where (nat_lt 8192 (length bytes)) error.TooLong)
 
+-- milliseconds are given only where there are own deadlines, and are at most 999,999,999,999
 abbrev pub refusal_of_ms : Config → Option ℕ → Option ServiceError
 refusal_of_ms config None = None
 refusal_of_ms config (Some ms) = refusal_where (not config.own_deadlines || nat_lt 999999999999 ms) error.Deadline
 
+-- the first refusal that applies to an outcome
 abbrev pub refusal_of_outcome : Config → Outcome → Option ServiceError
 refusal_of_outcome config (came.Value bytes ms) = option_or (refusal_of_bytes bytes) (refusal_of_ms config ms)
 refusal_of_outcome config came.None = None
@@ -46,10 +51,12 @@ pub record Known : Type 0 where
   pub is_open : ℕ → Bool
   pub is_under_way : ℕ → Bool
 
+-- the connection was opened, and is open
 abbrev pub refusal_of_conn : Known → ℕ → Option ServiceError
 refusal_of_conn known conn =
     option_or (refusal_where (not (known.was_opened conn)) error.NoConnection) (refusal_where (not (known.is_open conn)) error.Closed)
 
+-- the load is under way
 abbrev pub refusal_of_load : Known → ℕ → Option ServiceError
 refusal_of_load known load = refusal_where (not (known.is_under_way load)) error.NoLoad
 
@@ -62,10 +69,12 @@ refusal_of config known (event.Answer load outcome moment) =
     option_or (refusal_of_load known load) (option_or (refusal_of_moment moment) (refusal_of_outcome config outcome))
 refusal_of config known (event.GiveUp load moment) = option_or (refusal_of_load known load) (refusal_of_moment moment)
 
+-- what the history says of connections and loads
 abbrev pub known_from : History → Known
 known_from past =
     record { was_opened = λ conn. was_opened conn past; is_open = λ conn. is_open conn past; is_under_way = λ load. is_some (key_of_load load past) }
 
+-- the record's event is none that is refused
 abbrev pub is_admitted : Config → PlacedRecord → Bool
 is_admitted config placed = is_none (refusal_of config (known_from placed.before) placed.entry.event)
 
@@ -73,6 +82,7 @@ is_admitted config placed = is_none (refusal_of config (known_from placed.before
 abbrev pub IsAdmitted : Config → Transcript → Type 0
 IsAdmitted config transcript = IsTrue (list_all (is_admitted config) (placed_records config transcript))
 
+-- the transcript obeys, and no event of it is refused
 abbrev pub is_good : Config → Transcript → Bool
 is_good config transcript = is_obeying config transcript && list_all (is_admitted config) (placed_records config transcript)
 
@@ -83,6 +93,7 @@ first_break_within config transcript (suc n) =
     option_or (first_break_within config transcript n)
     (if is_good config (record transcript { records = take (suc n) transcript.records }) then None else Some (suc n))
 
+-- the number of the first record of which a front of the transcript is not good
 abbrev pub first_break : Config → Transcript → Option ℕ
 first_break config transcript = first_break_within config transcript (length transcript.records)
 
@@ -100,6 +111,7 @@ TakenOrNot config made past happened [] Rest = Rest past []
 TakenOrNot config made past happened (entry ∷ entries) Rest =
     ((entry.event ≡ happened) × Rest (placed_record config made past entry).walked.after entries) ⊎ Rest past (entry ∷ entries)
 
+-- after this history, these records are what is left of those inputs
 abbrev pub BelongsFrom : Config → ℕ → ℕ → History → List Input → List Record → Type 0
 BelongsFrom config namespace made past [] entries = entries ≡ []
 BelongsFrom config namespace made past (i ∷ inputs) entries =

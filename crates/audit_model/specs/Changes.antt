@@ -38,6 +38,7 @@ abbrev pub held_after : Config → ℕ → List HeldValue → Deed → List Note
 held_after config now held deed notes values h =
     record { value = h.value; last_use = use_after config now deed h; covered = h.covered || covers_key h.value.key deed.covers; evictable = is_evictable_after config now held deed notes values h }
 
+-- the values held after the step, each as the step leaves it
 abbrev pub all_held_after : Config → ℕ → List HeldValue → Deed → List Note → List HeldValue
 all_held_after config now held deed notes =
     let left = left_held held deed notes in
@@ -66,6 +67,7 @@ join_by conn waits (Some key) (Some number) s =
     record s { sent = suc s.sent; pending = record { number = number; key = key; waiting = conn ∷ [] } ∷ s.pending }
 join_by conn waits (Some key) None s = if waits then record s { pending = map (with_waiting conn key) s.pending } else s
 
+-- what a step does to the loads
 abbrev pub join_load : ℕ → Effect → Situation → Situation
 join_load conn effect s = join_by conn (is_waiting effect) (key_loaded effect.action) effect.load s
 
@@ -75,6 +77,7 @@ with_connection_after (Some (Store key outcome)) step effect s = s
 with_connection_after task step effect s =
     option_map_or (λ c. with_connection (quits effect) (connection_after task step effect c) (join_load step.conn effect s)) (connection_in step.conn s) s
 
+-- the situation after a step
 abbrev pub after_step : Config → Situation → Option Task → Step → Effect → Situation
 after_step config s task step effect =
     with_connection_after task step effect (record s { held = all_held_after config s.latest s.held (deed_of effect) effect.notes; dropped = s.dropped || drops effect })

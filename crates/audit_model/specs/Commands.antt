@@ -32,10 +32,12 @@ key_used (Running (says.Load key)) = Some key
 key_used (Running (says.Add key ms number)) = Some key
 key_used action = None
 
+-- a `DEL` deletes its key's value
 abbrev pub key_deleted : Action → Option (List ℕ)
 key_deleted (Running (says.Del key)) = Some key
 key_deleted action = None
 
+-- the reply is `OK`
 abbrev pub replies_ok : Effect → Bool
 replies_ok effect = option_map_or (λ reply. same reply (text_line (codes "OK"))) effect.reply false
 
@@ -48,28 +50,35 @@ covering_of effect = go effect.action
     go (Running (says.DropIf prefix)) = if replies_ok effect then Prefixed prefix else Nothing
     go action = Nothing
 
+-- it is a `SYNC`
 abbrev pub is_sync : Action → Bool
 is_sync (Running says.Sync) = true
 is_sync action = false
 
+-- what the step does to values
 abbrev pub deed_of : Effect → Deed
 deed_of effect =
     record { uses = key_used effect.action; value = effect.value; deletes = key_deleted effect.action; covers = covering_of effect; syncs = is_sync effect.action }
 
+-- the key is covered
 abbrev pub covers_key : List ℕ → Covering → Bool
 covers_key key Nothing = false
 covers_key key Everything = true
 covers_key key (Prefixed prefix) = starts_with nat_eq key prefix
 
+-- the step looks this key up
 abbrev pub looks_up : List ℕ → Effect → Bool
 looks_up key effect = is_this key (key_used effect.action)
 
+-- the step deletes this key's value
 abbrev pub deletes : List ℕ → Effect → Bool
 deletes key effect = is_this key (key_deleted effect.action)
 
+-- the step covers this key
 abbrev pub covers : List ℕ → Effect → Bool
 covers key effect = covers_key key (covering_of effect)
 
+-- the step runs all parts
 abbrev pub syncs : Effect → Bool
 syncs effect = is_sync effect.action
 
@@ -81,6 +90,7 @@ drops effect = go effect.action
     go (Running (says.DropIf prefix)) = replies_ok effect
     go action = false
 
+-- it is a `QUIT`
 abbrev pub quits : Effect → Bool
 quits effect = go effect.action
   where

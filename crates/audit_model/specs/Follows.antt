@@ -26,6 +26,7 @@ tasks_in s (event.Feed conn piece moment) = tasks_to_feed conn (is_holding_in s 
 tasks_in s (event.Answer load outcome moment) = tasks_to_answer (key_in load s) outcome (waiting_in load s)
 tasks_in s (event.GiveUp load moment) = tasks_to_give_up (waiting_in load s)
 
+-- a load is settled at that moment
 abbrev pub without_load : ℕ → ℕ → Situation → Situation
 without_load number moment s = record s { latest = max moment s.latest; pending = filter (λ load. not (load.number == number)) s.pending }
 
@@ -50,6 +51,7 @@ line_in task (Some connection) = go connection.standing
     go (Held line) = Some line
     go (Waiting line) = Some line
 
+-- the step in its place, by the situation before it
 abbrev pub placed_step_in : Config → Situation → Option Task → Step → PlacedStep
 placed_step_in config s task step =
     let seen = view_in config s in
@@ -66,6 +68,7 @@ after_steps config s tasks (step ∷ steps) =
     let rest = after_steps config (after_step config s placed.task step placed.effect) (left_after now_due) steps in
     if is_right config placed then rest else None
 
+-- what the situation says of connections and loads
 abbrev pub known_in : Situation → Known
 known_in s =
     record { was_opened = λ conn. nat_lt 0 conn && nat_le conn s.opened; is_open = λ conn. is_some (connection_in conn s); is_under_way = λ load. is_some (key_in load s) }
@@ -76,6 +79,7 @@ after_record config s entry =
     let rest = after_steps config (after_event entry.event s) (tasks_in s entry.event) (steps_of entry) in
     if is_none (refusal_of config (known_in s) entry.event) && is_numbered s.opened entry.event && has_right_own_value entry then rest else None
 
+-- the situation after these records, if they are as they should be
 abbrev pub after_records : Config → Situation → List Record → Option Situation
 after_records config s [] = Some s
 after_records config s (entry ∷ entries) = option_and_then (λ t. after_records config t entries) (after_record config s entry)
@@ -84,7 +88,8 @@ after_records config s (entry ∷ entries) = option_and_then (λ t. after_record
 abbrev pub Follows : Config → Situation → Record → Situation → Type 0
 Follows config s entry t = after_record config s entry ≡ Some t
 
--- a transcript without refused events obeys exactly where each key has one part and its records follow one another from the empty situation
+-- a transcript obeys, and none of its events is refused, exactly where each key has one part and its records follow one another from the
+-- empty situation
 abbrev pub AgreesWithHistory : Config → Transcript → Type 0
 AgreesWithHistory config transcript =
     (Obeys config transcript × IsAdmitted config transcript)

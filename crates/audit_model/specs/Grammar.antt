@@ -9,6 +9,7 @@ use Rattle.audit_model.specs.declared.command.Command.TheVariants as says
 use Rattle.audit_model.specs.declared.command.LineError.{LineError}
 use Rattle.audit_model.specs.declared.command.LineError.TheVariants as fault
 
+-- a byte that a key may have
 abbrev pub is_key_byte : ℕ → Bool
 is_key_byte b = nat_le 33 b && nat_le b 126
 
@@ -20,6 +21,7 @@ is_key word = nat_le 1 (length word) && nat_le (length word) 250 && list_all is_
 abbrev pub is_value : List ℕ → Bool
 is_value bytes = list_all (λ b. not (b == 10) && not (b == 13)) bytes
 
+-- a digit
 abbrev pub is_digit : ℕ → Bool
 is_digit b = nat_le 48 b && nat_le b 57
 
@@ -49,16 +51,20 @@ verb_in word =
     else (if same word (codes "DEL") then Some del
     else (if same word (codes "SYNC") then Some sync else None)))
 
+-- what reading a line comes to: a command, or a fault
 abbrev pub Reading : Type 0
 Reading = Result Command LineError
 
+-- the command, where its key is one
 abbrev pub with_key : List ℕ → Command → Reading
 with_key key command = if is_key key then Ok command else Err fault.Syntax
 
+-- a `SET` with the deadline that was read
 abbrev pub read_set : List ℕ → List ℕ → Option (Option ℕ) → Reading
 read_set key value None = Err fault.Deadline
 read_set key value (Some deadline) = Ok (says.Set key deadline value)
 
+-- an `ADD` with the deadline and the number that were read; the deadline is tested first
 abbrev pub read_add : List ℕ → Option (Option ℕ) → Option ℕ → Reading
 read_add key None number = Err fault.Deadline
 read_add key (Some deadline) None = Err fault.Number
@@ -85,6 +91,7 @@ words_behind verb None = []
 words_behind set (Some rest) = words_up_to 2 rest
 words_behind verb (Some rest) = words rest
 
+-- what stands behind the command's word, if that is one
 abbrev pub read_verb : Config → Option Verb → Option (List ℕ) → Reading
 read_verb config None rest = Err fault.Command
 read_verb config (Some verb) rest = read_words config verb (words_behind verb rest)

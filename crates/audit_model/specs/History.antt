@@ -46,6 +46,7 @@ pub data Happening : Type 0 where
   Stored : Effect → Happening
   Ran : (conn : ℕ) → Effect → Happening
 
+-- all that happened, newest first
 abbrev pub History : Type 0
 History = List Happening
 
@@ -80,10 +81,12 @@ part_count config = go (find (λ p. nat_le config.parts p) (1 ∷ 2 ∷ 4 ∷ 8 
 abbrev pub share : Config → ℕ → ℕ
 share config capacity = (capacity + (part_count config - 1)) / part_count config
 
+-- what a value of those bytes weighs
 abbrev pub weight_of : Weight → List ℕ → ℕ
 weight_of One bytes = 1
 weight_of Bytes bytes = length bytes
 
+-- the capacity is not 0
 abbrev pub accepts_values : Option ℕ → Bool
 accepts_values None = true
 accepts_values (Some zero) = false

@@ -17,6 +17,7 @@ abbrev pub key_loaded : Action → Option (List ℕ)
 key_loaded (Running (says.Load key)) = Some key
 key_loaded action = None
 
+-- the load that a `LOAD` of the key sent, if it sent one
 abbrev pub sent_by : Option (List ℕ) → Option ℕ → List Sent
 sent_by (Some key) (Some number) = record { number = number; key = key } ∷ []
 sent_by key number = []
@@ -33,6 +34,7 @@ is_settled number [] = false
 is_settled number (Settled load moment ∷ past) = (load == number) || is_settled number past
 is_settled number (h ∷ past) = is_settled number past
 
+-- the loads that were sent and not settled, newest first
 abbrev pub loads_under_way : History → List Sent
 loads_under_way past = filter (λ sent. not (is_settled sent.number past)) (loads_sent past)
 
@@ -44,6 +46,7 @@ load_of_key key past = option_map (λ sent. sent.number) (find (λ sent. same se
 abbrev pub key_of_load : ℕ → History → Option (List ℕ)
 key_of_load number past = option_map (λ sent. sent.key) (find (λ sent. sent.number == number) (loads_under_way past))
 
+-- the number of the next load, from 1
 abbrev pub next_load : History → ℕ
 next_load past = suc (length (loads_sent past))
 
@@ -52,6 +55,7 @@ abbrev pub is_key_of : List ℕ → Option (List ℕ) → Bool
 is_key_of key None = false
 is_key_of key (Some k) = same key k
 
+-- it is a `LOAD` of the key that waits
 abbrev pub waits_for : List ℕ → Effect → Bool
 waits_for key effect = is_waiting effect && is_key_of key (key_loaded effect.action)
 

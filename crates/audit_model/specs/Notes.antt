@@ -13,6 +13,7 @@ use Rattle.audit_model.specs.declared.transcript.Note.{Note}
 use Rattle.audit_model.specs.declared.transcript.RemovalCause.{RemovalCause}
 use Rattle.audit_model.specs.declared.transcript.RemovalCause.TheVariants.{Expired, Explicit, Replaced, Size}
 
+-- the two are the same cause
 abbrev pub same_cause : RemovalCause → RemovalCause → Bool
 same_cause Expired Expired = true
 same_cause Explicit Explicit = true
@@ -42,6 +43,7 @@ abbrev pub newcomer : Config → Value → Candidate
 newcomer config value =
     record { value = value; dead = has_come (deadline config value value.accepted_at) value.accepted_at; covered = false; evictable = false; new = true }
 
+-- the values that a step may tell: those held before it, oldest first, and the one that it accepts
 abbrev pub candidates_of : Config → List Candidate → Deed → List Candidate
 candidates_of config held deed = held ++ option_to_list (option_map (newcomer config) deed.value)
 
@@ -73,12 +75,14 @@ first_cause config held deed c =
 abbrev pub is_told_first : Deed → Candidate → Bool
 is_told_first deed c = is_succeeded deed c && is_none deed.uses
 
+-- the note has the value's bytes, and a cause that it may have
 abbrev pub is_true_note : Config → List Candidate → Deed → Note → Option Candidate → Bool
 is_true_note config held deed note None = false
 is_true_note config held deed note (Some c) =
     same note.value c.value.bytes
     && (if is_told_first deed c then same_cause note.cause (first_cause config held deed c) else is_true_cause config held deed c note.cause)
 
+-- the key's first value among these
 abbrev pub first_of : List ℕ → List Candidate → Option Candidate
 first_of key cs = find (λ c. same key c.value.key) cs
 

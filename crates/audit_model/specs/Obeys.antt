@@ -17,6 +17,7 @@ abbrev pub is_numbered : ℕ → Event → Bool
 is_numbered opened (event.Open conn) = conn == suc opened
 is_numbered opened other = true
 
+-- where it opens a connection, that has the next number
 abbrev pub has_right_number : PlacedRecord → Bool
 has_right_number placed = is_numbered (opened_count placed.before) placed.entry.event
 
@@ -61,6 +62,7 @@ pub record Obeys (config : Config) (transcript : Transcript) : Type 0 where
 abbrev pub is_right_record : Config → PlacedRecord → Bool
 is_right_record config placed = has_right_number placed && is_finished placed && has_right_own_value placed.entry && list_all (is_right config) placed.walked.placed_steps
 
+-- the transcript obeys, as one test
 abbrev pub is_obeying : Config → Transcript → Bool
 is_obeying config transcript =
     list_all (is_right_record config) (placed_records config transcript) && agree_on_parts (accepted_values (placed_steps config transcript))

@@ -36,6 +36,7 @@ tasks_of past (event.Answer load outcome moment) =
     tasks_to_answer (key_of_load load past) outcome (waiting_for (key_of_load load past) past)
 tasks_of past (event.GiveUp load moment) = tasks_to_give_up (waiting_for (key_of_load load past) past)
 
+-- the event, as the history keeps it
 abbrev pub happening_of : Event → Happening
 happening_of (event.Open conn) = Opened conn
 happening_of (event.Close conn) = Closed conn
@@ -49,6 +50,7 @@ due may [] = []
 due may (RunLines conn ∷ tasks) = if may conn then RunLines conn ∷ tasks else due may tasks
 due may (task ∷ tasks) = task ∷ tasks
 
+-- the task that is due now
 abbrev pub first_due : List Task → Option Task
 first_due [] = None
 first_due (task ∷ tasks) = Some task
@@ -59,6 +61,7 @@ left_after [] = []
 left_after (RunLines conn ∷ tasks) = RunLines conn ∷ tasks
 left_after (task ∷ tasks) = tasks
 
+-- the step, as the history keeps it
 abbrev pub step_happens : Option Task → Step → Effect → Happening
 step_happens (Some (Store key outcome)) step effect = Stored effect
 step_happens task step effect = Ran step.conn effect
@@ -68,6 +71,7 @@ abbrev pub line_due : Option Task → ℕ → History → Option (List ℕ)
 line_due (Some (Store key outcome)) conn past = Some []
 line_due task conn past = first_line (unanswered conn past)
 
+-- the step in its place, by the history before it
 abbrev pub placed_step : Config → ℕ → History → Option Task → Step → PlacedStep
 placed_step config made past task step =
     let seen = view_of config past (latest_moment made past) in
@@ -80,6 +84,7 @@ pub record Walk : Type 0 where
   pub left : List Task
   pub after : History
 
+-- the steps run one after another, each for the task that is due
 abbrev pub walk : Config → ℕ → History → List Task → List Step → Walk
 walk config made past tasks [] = record { placed_steps = []; left = due (λ conn. may_run conn past) tasks; after = past }
 walk config made past tasks (step ∷ steps) =
@@ -102,10 +107,12 @@ pub record PlacedRecord : Type 0 where
   pub entry : Record
   pub walked : Walk
 
+-- the record in its place: its event happens, then its steps run
 abbrev pub placed_record : Config → ℕ → History → Record → PlacedRecord
 placed_record config made past entry =
     record { before = past; entry = entry; walked = walk config made (happening_of entry.event ∷ past) (tasks_of past entry.event) (steps_of entry) }
 
+-- the records in their places, after that history
 abbrev pub placed_records_after : Config → ℕ → History → List Record → List PlacedRecord
 placed_records_after config made past [] = []
 placed_records_after config made past (entry ∷ entries) =

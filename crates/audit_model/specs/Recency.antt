@@ -5,6 +5,7 @@ use Rattle.audit_model.specs.Bytewise.{same}
 use Rattle.audit_model.specs.declared.command.Command.{Command}
 use Rattle.audit_model.specs.declared.command.Command.TheVariants as says
 
+-- the keys but for this one
 abbrev pub without : List ℕ → List (List ℕ) → List (List ℕ)
 without key keys = filter (λ k. not (same k key)) keys
 
@@ -15,5 +16,6 @@ recency_after n keys (says.Get key) = if list_any (λ k. same k key) keys then k
 recency_after n keys (says.Del key) = without key keys
 recency_after n keys command = keys
 
+-- the keys on the list after these commands, the one used last first
 abbrev pub recency : ℕ → List Command → List (List ℕ)
 recency n commands = fold (recency_after n) [] commands

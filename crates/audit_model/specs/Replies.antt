@@ -16,17 +16,21 @@ use Rattle.audit_model.specs.declared.command.LineError.TheVariants as fault
 use Rattle.audit_model.specs.declared.event.Outcome.{Outcome}
 use Rattle.audit_model.specs.declared.event.Outcome.TheVariants as came
 
+-- `VAL` and the bytes
 abbrev pub value_reply : List ℕ → List ℕ
 value_reply bytes = text_line (codes "VAL " ++ bytes)
 
+-- the value, or `NONE`
 abbrev pub value_or_none : Option Value → List ℕ
 value_or_none None = text_line (codes "NONE")
 value_or_none (Some value) = value_reply value.bytes
 
+-- `YES` where there is a live value
 abbrev pub yes_or_no : Option Value → List ℕ
 yes_or_no None = text_line (codes "NO")
 yes_or_no (Some value) = text_line (codes "YES")
 
+-- `OFF` where no value is accepted
 abbrev pub ok_or_off : Config → List ℕ
 ok_or_off config = if accepts_values config.capacity then text_line (codes "OK") else text_line (codes "OFF")
 
@@ -36,22 +40,27 @@ sum_with None number = Some number
 sum_with (Some value) number =
     option_and_then (λ n. if nat_lt (n + number) (2 ^ 64) then Some (n + number) else None) (number_in value.bytes)
 
+-- the sum as a value, or `ERR number`
 abbrev pub sum_or_error : Option ℕ → List ℕ
 sum_or_error None = text_line (codes "ERR number")
 sum_or_error (Some sum) = value_reply (decimal sum)
 
+-- how many keys there are, then each on a line of its own
 abbrev pub keys_listed : List (List ℕ) → List ℕ
 keys_listed keys = text_line (codes "KEYS " ++ decimal (length keys)) ++ concat (map text_line keys)
 
+-- how many values there are, and what they weigh together
 abbrev pub counts_of : List Value → List ℕ
 counts_of values = text_line (codes "SYNC " ++ decimal (length values) ++ codes " " ++ decimal (sum_by (λ v. v.weight) values))
 
+-- the reply to a line that cannot be read
 abbrev pub fault_text : LineError → List ℕ
 fault_text fault.Command = text_line (codes "ERR command")
 fault_text fault.Syntax = text_line (codes "ERR syntax")
 fault_text fault.Deadline = text_line (codes "ERR deadline")
 fault_text fault.Number = text_line (codes "ERR number")
 
+-- the reply to a waiting `LOAD` that is handed this outcome
 abbrev pub outcome_text : Outcome → List ℕ
 outcome_text (came.Value bytes ms) = value_reply bytes
 outcome_text came.None = text_line (codes "NONE")
@@ -72,6 +81,7 @@ reply_to config seen held says.Keys = Some (keys_listed seen.live_keys)
 reply_to config seen held says.Sync = Some (counts_of held)
 reply_to config seen held says.Quit = Some (text_line (codes "OK"))
 
+-- the reply that a step owes; a line held back and an answer's own step have none
 abbrev pub reply_of : Config → View → List Value → Action → Option (List ℕ)
 reply_of config seen held (Running command) = reply_to config seen held command
 reply_of config seen held (Faulting error) = Some (fault_text error)
@@ -85,6 +95,7 @@ abbrev pub may_refuse : View → Action → Bool
 may_refuse seen (Running (says.DropIf prefix)) = seen.dropped
 may_refuse seen action = false
 
+-- the step's reply is the one that it owes, or the refusal that it may give
 abbrev pub is_reply : Config → View → Effect → List Value → Bool
 is_reply config seen effect held =
     option_eq same effect.reply (reply_of config seen held effect.action)
@@ -101,6 +112,7 @@ pub record Offer : Type 0 where
   pub bytes : List ℕ
   pub ms : Option ℕ
 
+-- what a step would have accepted, if values are: the value of a `SET`, the sum of an `ADD`, an answer's value
 abbrev pub offered : View → Action → Option Offer
 offered seen (Running (says.Set key ms value)) = Some (record { key = key; bytes = value; ms = ms })
 offered seen (Running (says.Add key ms number)) =
@@ -108,6 +120,7 @@ offered seen (Running (says.Add key ms number)) =
 offered seen (Storing (Some key) (came.Value bytes ms)) = Some (record { key = key; bytes = bytes; ms = ms })
 offered seen action = None
 
+-- the offer, where values are accepted
 abbrev pub taken_where : Bool → Option Offer → Option Offer
 taken_where accepts None = None
 taken_where accepts (Some offer) = if accepts then Some offer else None
@@ -116,10 +129,12 @@ taken_where accepts (Some offer) = if accepts then Some offer else None
 abbrev pub offer_of : Config → View → Action → Option Offer
 offer_of config seen action = taken_where (accepts_values config.capacity) (offered seen action)
 
+-- the value that an offer becomes in that part at that moment
 abbrev pub value_with : Config → ℕ → ℕ → Offer → Value
 value_with config now part offer =
     record { key = offer.key; bytes = offer.bytes; part = part; weight = weight_of config.weight offer.bytes; accepted_at = now; own_deadline = own_deadline_from now offer.ms }
 
+-- the value that was accepted: an offer that a part took
 abbrev pub value_from : Config → ℕ → Option Offer → Option ℕ → Option Value
 value_from config now offer None = None
 value_from config now offer (Some part) = option_map (value_with config now part) offer

@@ -22,6 +22,7 @@ was_over config key part (h ∷ past) =
     is_over config part (held_values (h ∷ past))
     || (not (accepts key h) && not (is_step_that syncs h) && not (step_tells_size part h past) && was_over config key part past)
 
+-- a held value, with what the history says of it at that moment
 abbrev pub candidate_of : Config → History → ℕ → Value → Candidate
 candidate_of config past now value =
     record { value = value; dead = has_come (deadline config value (last_use config value.key past)) now; covered = is_covered value.key past; evictable = was_over config value.key value.part past; new = false }
@@ -30,6 +31,7 @@ candidate_of config past now value =
 abbrev pub has_dropped : History → Bool
 has_dropped past = list_any (is_step_that drops) past
 
+-- what a step at that moment sees after this history
 abbrev pub view_of : Config → History → ℕ → View
 view_of config past now =
     record { now = now; live = λ key. live_value config key past now; live_keys = live_keys config past now; load_of_key = λ key. load_of_key key past; next_load = next_load past; dropped = has_dropped past; held = map (candidate_of config past now) (held_values past) }

@@ -52,18 +52,22 @@ empty_situation made = record { latest = made; opened = 0; sent = 0; connections
 
 -- ---- connections
 
+-- it runs lines
 abbrev pub is_ready : Standing → Bool
 is_ready Ready = true
 is_ready standing = false
 
+-- it holds a line back
 abbrev pub is_holding : Standing → Bool
 is_holding (Held line) = true
 is_holding standing = false
 
+-- its `LOAD` waits
 abbrev pub is_waiting_now : Standing → Bool
 is_waiting_now (Waiting line) = true
 is_waiting_now standing = false
 
+-- the open connection of that number
 abbrev pub connection_in : ℕ → Situation → Option Connection
 connection_in conn s = find (λ c. c.number == conn) s.connections
 
@@ -71,6 +75,7 @@ connection_in conn s = find (λ c. c.number == conn) s.connections
 abbrev pub may_run_in : Situation → ℕ → Bool
 may_run_in s conn = option_map_or (λ c. is_ready c.standing && is_some (first_line c.unread)) (connection_in conn s) false
 
+-- that connection holds a line back
 abbrev pub is_holding_in : Situation → ℕ → Bool
 is_holding_in s conn = option_map_or (λ c. is_holding c.standing) (connection_in conn s) false
 
@@ -83,9 +88,11 @@ is_overlong c =
 abbrev pub without_waiting : ℕ → PendingLoad → PendingLoad
 without_waiting conn load = record load { waiting = filter (λ n. not (n == conn)) load.waiting }
 
+-- the connections but for that one
 abbrev pub without_number : ℕ → List Connection → List Connection
 without_number conn connections = filter (λ c. not (c.number == conn)) connections
 
+-- the situation when that connection has closed; its load stays under way
 abbrev pub without_connection : ℕ → Situation → Situation
 without_connection conn s = record s { connections = without_number conn s.connections; pending = map (without_waiting conn) s.pending }
 
@@ -108,20 +115,25 @@ with_waiting conn key load = if same load.key key then record load { waiting = l
 abbrev pub load_in : Situation → List ℕ → Option ℕ
 load_in s key = option_map (λ load. load.number) (find (λ load. same load.key key) s.pending)
 
+-- the load under way of that number
 abbrev pub pending_in : ℕ → Situation → Option PendingLoad
 pending_in number s = find (λ load. load.number == number) s.pending
 
+-- the key of the load under way of that number
 abbrev pub key_in : ℕ → Situation → Option (List ℕ)
 key_in number s = option_map (λ load. load.key) (pending_in number s)
 
+-- the connections that wait for that load, in the order in which they joined
 abbrev pub waiting_in : ℕ → Situation → List ℕ
 waiting_in number s = option_map_or (λ load. load.waiting) (pending_in number s) []
 
 -- ---- what a step sees
 
+-- its deadline has come at that moment
 abbrev pub is_dead_at : Config → ℕ → HeldValue → Bool
 is_dead_at config now held = has_come (deadline config held.value held.last_use) now
 
+-- it is not covered, and its deadline has not come
 abbrev pub is_live_at : Config → ℕ → HeldValue → Bool
 is_live_at config now held = not held.covered && not (is_dead_at config now held)
 
@@ -133,10 +145,12 @@ live_at config now held key = option_map (λ h. h.value) (find (λ h. same key h
 abbrev pub live_keys_at : Config → ℕ → List HeldValue → List (List ℕ)
 live_keys_at config now held = sorted (map (λ h. h.value.key) (filter (is_live_at config now) held))
 
+-- a held value, with what is true of it at that moment
 abbrev pub candidate_at : Config → ℕ → HeldValue → Candidate
 candidate_at config now held =
     record { value = held.value; dead = is_dead_at config now held; covered = held.covered; evictable = held.evictable; new = false }
 
+-- what a step sees in this situation
 abbrev pub view_in : Config → Situation → View
 view_in config s =
     record { now = s.latest; live = live_at config s.latest s.held; live_keys = live_keys_at config s.latest s.held; load_of_key = load_in s; next_load = suc s.sent; dropped = s.dropped; held = map (candidate_at config s.latest) s.held }

@@ -12,8 +12,8 @@ use Rattle.audit_model.specs.declared.config.Config.{Config}
 use Rattle.audit_model.specs.declared.event.Outcome.{Outcome}
 use Rattle.audit_model.specs.declared.transcript.Step.{Step}
 
--- what can be due: to store an answer under its load's key; to hand it to a connection's waiting `LOAD`; to run a connection's given-up `LOAD`
--- again; to run its held command; to run its lines, while one may run
+-- what can be due: to store an answer under its load's key; to hand it to a connection's waiting `LOAD`; to run a connection's given-up
+-- `LOAD` again; to run its held command; to run its lines, while one may run
 pub data Task : Type 0 where
   Store : Option (List ℕ) → Outcome → Task
   Deliver : ℕ → Outcome → Task
@@ -21,10 +21,12 @@ pub data Task : Type 0 where
   RunHeld : ℕ → Task
   RunLines : ℕ → Task
 
+-- what a line does that was read so
 abbrev pub action_by : Reading → Action
 action_by (Ok command) = Running command
 action_by (Err error) = Faulting error
 
+-- a line is held back, or does what it says
 abbrev pub action_of_line : Config → Step → Action
 action_of_line config step = if step.held then Holding else action_by (reading config step.line)
 
@@ -35,6 +37,7 @@ action_in config times_waited (Some (Deliver conn outcome)) step = Delivering ou
 action_in config times_waited (Some (RunAgain conn)) step = if nat_le 200 times_waited then Abandoning else action_of_line config step
 action_in config times_waited task step = action_of_line config step
 
+-- the step with what it does, its moment and the value that it accepted
 abbrev pub effect_in : Config → View → Action → Step → Effect
 effect_in config seen action step =
     record { at = seen.now; action = action; reply = step.reply; load = step.load; value = value_from config seen.now (offer_of config seen action) (option_map (λ a. a.part) step.accepted); notes = step.notices }
@@ -48,6 +51,7 @@ pub record PlacedStep : Type 0 where
   pub effect : Effect
   pub held : List Value
 
+-- the task is that connection's; an answer's own step is no connection's
 abbrev pub is_task_of : ℕ → Option Task → Bool
 is_task_of conn None = false
 is_task_of conn (Some (Store key outcome)) = true
@@ -66,15 +70,19 @@ may_hold (Some (RunAgain conn)) Holding = true
 may_hold (Some (RunLines conn)) Holding = true
 may_hold task action = false
 
+-- it is held only where it may be
 abbrev pub is_held_rightly : PlacedStep → Bool
 is_held_rightly placed = not placed.step.held || may_hold placed.task placed.effect.action
 
+-- its line is the one that is due
 abbrev pub has_right_line : PlacedStep → Bool
 has_right_line placed = option_eq same placed.line (Some placed.step.line)
 
+-- its reply is the one that it owes
 abbrev pub has_right_reply : Config → PlacedStep → Bool
 has_right_reply config placed = is_reply config placed.seen placed.effect placed.held
 
+-- it sends the load that it should, with its number, or none
 abbrev pub has_right_load : PlacedStep → Bool
 has_right_load placed = option_eq nat_eq placed.step.load (load_sent_by placed.seen placed.effect.action)
 
@@ -91,6 +99,7 @@ abbrev pub has_right_notes : Config → PlacedStep → Bool
 has_right_notes config placed =
     let deed = deed_of placed.effect in are_true_notes config placed.seen.held deed (candidates_of config placed.seen.held deed) placed.effect.notes
 
+-- a step that tells nothing has no notes
 abbrev pub is_quiet_where_silent : PlacedStep → Bool
 is_quiet_where_silent placed = not (is_silent placed.effect.action) || is_empty placed.effect.notes
 

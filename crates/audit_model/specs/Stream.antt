@@ -13,6 +13,7 @@ opened_count [] = 0
 opened_count (Opened conn ∷ past) = suc (opened_count past)
 opened_count (h ∷ past) = opened_count past
 
+-- the connection was opened
 abbrev pub was_opened : ℕ → History → Bool
 was_opened conn [] = false
 was_opened conn (Opened c ∷ past) = (c == conn) || was_opened conn past
@@ -42,6 +43,7 @@ replies_of conn [] = 0
 replies_of conn (Ran c effect ∷ past) = (if (c == conn) && is_some effect.reply then 1 else 0) + replies_of conn past
 replies_of conn (h ∷ past) = replies_of conn past
 
+-- it is a line held back
 abbrev pub is_held : Effect → Bool
 is_held effect = go effect.action
   where
@@ -84,6 +86,7 @@ without_return (b ∷ c ∷ bs) = b ∷ without_return (c ∷ bs)
 abbrev pub first_line : List ℕ → Option (List ℕ)
 first_line bytes = if is_some (cut_at 10 bytes).1 then Some (without_return (cut_at 10 bytes).0) else None
 
+-- the connection ran a `QUIT`
 abbrev pub has_quit : ℕ → History → Bool
 has_quit conn [] = false
 has_quit conn (Ran c effect ∷ past) = ((c == conn) && quits effect) || has_quit conn past
@@ -105,6 +108,7 @@ closing conn past =
     else (if is_behind conn past then Some by.Behind
     else (if is_long conn past then Some by.Long else None)))
 
+-- it was opened, and nothing has closed it
 abbrev pub is_open : ℕ → History → Bool
 is_open conn past = was_opened conn past && is_none (closing conn past)
 

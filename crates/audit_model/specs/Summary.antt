@@ -18,17 +18,21 @@ opened_conns [] = []
 opened_conns (Opened conn ∷ past) = opened_conns past ++ conn ∷ []
 opened_conns (h ∷ past) = opened_conns past
 
+-- whether it runs lines, holds one back, or waits, by its history
 abbrev pub standing_of : ℕ → History → Standing
 standing_of conn past =
     let line = unwrap_or (first_line (unanswered conn past)) [] in
     if holds conn past then Held line else (if waits conn past then Waiting line else Ready)
 
+-- the connection that its history leaves
 abbrev pub connection_from : History → ℕ → Connection
 connection_from past conn = record { number = conn; unread = unread conn past; standing = standing_of conn past; waited = times_waited conn past }
 
+-- a load under way, with the connections that wait for it
 abbrev pub pending_from : History → Sent → PendingLoad
 pending_from past sent = record { number = sent.number; key = sent.key; waiting = waiting_for (Some sent.key) past }
 
+-- a held value, with what its history leaves of it
 abbrev pub held_from : Config → History → Value → HeldValue
 held_from config past value =
     record { value = value; last_use = last_use config value.key past; covered = is_covered value.key past; evictable = was_over config value.key value.part past }

@@ -12,6 +12,7 @@ use Rattle.audit_model.specs.declared.transcript.Note.{Note}
 abbrev pub rounded : ℕ → ℕ
 rounded moment = moment - moment % 4096
 
+-- the moment that many milliseconds later
 abbrev pub after_ms : ℕ → ℕ → ℕ
 after_ms moment ms = moment + ms * 1000000
 
@@ -31,10 +32,12 @@ deadline config value last_use =
     earlier_of value.own_deadline
     (earlier_of (option_map (after_ms value.accepted_at) config.live_ms) (option_map (after_ms last_use) config.idle_ms))
 
+-- there is a deadline, and it is at or before that moment
 abbrev pub has_come : Option ℕ → ℕ → Bool
 has_come None now = false
 has_come (Some moment) now = nat_le moment now
 
+-- there is a value, and it is the key's
 abbrev pub is_value_of : List ℕ → Option Value → Bool
 is_value_of key None = false
 is_value_of key (Some value) = same key value.key
@@ -68,6 +71,7 @@ abbrev pub untold : {A : Type 0} → (A → List ℕ) → List Note → List A �
 untold key_of [] xs = xs
 untold key_of (note ∷ notes) xs = untold key_of notes (without_key key_of note.key xs)
 
+-- the values held after what happened: a step's own one is added, and those that it tells go
 abbrev pub untold_after : Option Effect → List Value → List Value
 untold_after None values = values
 untold_after (Some effect) values = untold (λ v. v.key) effect.notes (values ++ option_to_list effect.value)
@@ -77,6 +81,7 @@ abbrev pub held_values : History → List Value
 held_values [] = []
 held_values (h ∷ past) = untold_after (effect_of h) (held_values past)
 
+-- no value of the key is held: its last accepted one, if there is one, was told
 abbrev pub is_told : List ℕ → History → Bool
 is_told key past = not (list_any (λ v. same key v.key) (held_values past))
 
@@ -84,10 +89,12 @@ is_told key past = not (list_any (λ v. same key v.key) (held_values past))
 abbrev pub lives : Config → List ℕ → History → ℕ → ℕ → Value → Bool
 lives config key past last_use now value = not (is_deleted key past) && not (is_covered key past) && not (is_told key past) && not (has_come (deadline config value last_use) now)
 
+-- the value, where it lives
 abbrev pub if_lives : Config → List ℕ → History → ℕ → ℕ → Option Value → Option Value
 if_lives config key past last_use now None = None
 if_lives config key past last_use now (Some value) = if lives config key past last_use now value then Some value else None
 
+-- the step's moment
 abbrev pub moment_of : Happening → ℕ
 moment_of h = option_map_or (λ effect. effect.at) (effect_of h) 0
 
@@ -103,14 +110,16 @@ last_use config key (h ∷ past) =
 abbrev pub live_value : Config → List ℕ → History → ℕ → Option Value
 live_value config key past now = if_lives config key past (last_use config key past) now (last_accepted key past)
 
--- the live keys in byte order
+-- the sorted keys with one more, in its place
 abbrev pub put_sorted : List ℕ → List (List ℕ) → List (List ℕ)
 put_sorted key [] = key ∷ []
 put_sorted key (k ∷ ks) = if is_before key k then key ∷ k ∷ ks else k ∷ put_sorted key ks
 
+-- the keys in byte order
 abbrev pub sorted : List (List ℕ) → List (List ℕ)
 sorted [] = []
 sorted (k ∷ ks) = put_sorted k (sorted ks)
 
+-- the held keys that have a live value, in byte order
 abbrev pub live_keys : Config → History → ℕ → List (List ℕ)
 live_keys config past now = sorted (filter_map (λ v. option_map (λ w. w.key) (live_value config v.key past now)) (held_values past))

@@ -11,8 +11,8 @@ pub record Candidate : Type 0 where
   pub evictable : Bool
   pub new : Bool
 
--- the live value and the load under way of each key, the live keys in byte order, the number of the next load, whether a `DROPIF` was
--- accepted, and the values held, oldest first
+-- the step's moment, the live value and the load under way of each key, the live keys in byte order, the number of the next load, whether
+-- a `DROPIF` was accepted, and the values held, oldest first
 pub record View : Type 0 where
   pub now : ℕ
   pub live : List ℕ → Option Value

@@ -1,9 +1,9 @@
 -- Notes taken part by part come out in the order in which they were told.
-use Rattle.std.proofs.Common.{◌≡◌, ℕ, ◌+◌, ◌<◌, ◌≤◌, List, [], ◌∷◌, ◌++◌, length, Option, Some, None, refl, sym, ap, ◌∙◌, subst, arith, append_assoc, length-append}
+use Rattle.std.proofs.Common.{◌≡◌, ℕ, ◌+◌, ◌<◌, ◌≤◌, List, [], ◌∷◌, ◌++◌, length, refl, sym, ap, ◌∙◌, subst, arith, append_assoc, length-append}
 use Rattle.std.specs.Prelude.{All}
 use Rattle.std.proofs.Math.Seq.{get_or-append_seam}
 use Rattle.audit_model.specs.declared.transcript.Note.{Note}
-use Rattle.cache_store.specs.Handing.{ArePartByPart, Takes, TakesOne}
+use Rattle.cache_store.specs.Handing.{ArePartByPart, TakesOne}
 
 at-seam : (part_of : List ℕ → ℕ) (k : Note) (ks behind : List Note) (note : Note) → All (λ later. part_of k.key ≤ part_of later.key) (ks ++ note ∷ behind) → part_of k.key ≤ part_of note.key
 at-seam part_of k ks behind note all =

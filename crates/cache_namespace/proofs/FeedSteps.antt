@@ -1,28 +1,28 @@
 -- A feed's steps, from its first task to its last.
-use Rattle.std.proofs.Common.{◌≡◌, ℕ, ◌+◌, Bool, true, false, not, ◌&&◌, ◌||◌, ◌==◌, List, [], ◌∷◌, ◌++◌, map, take, drop, cond, Option, Some, None, if◌then◌else◌, refl, sym, ap, ◌∙◌, subst, append_assoc}
-use Rattle.std.specs.Prelude.{is_some, IsTrue, unwrap_or}
+use Rattle.std.proofs.Common.{◌≡◌, ℕ, Bool, true, false, not, ◌&&◌, ◌||◌, ◌==◌, List, [], ◌∷◌, ◌++◌, map, take, cond, Some, None, if◌then◌else◌, refl, sym, ap, ◌∙◌, subst}
+use Rattle.std.specs.Prelude.{is_some, unwrap_or}
 use Rattle.std.specs.List.{find, list_all}
 use Rattle.std.specs.Option.{option_map_or}
 use Rattle.std.proofs.lemmas.Bool.{eq-eqb, and_from}
-use Rattle.audit_model.specs.Bytewise.{is_empty, cut_at}
+use Rattle.audit_model.specs.Bytewise.{is_empty}
 use Rattle.audit_model.specs.Changes.{after_step, connection_after, all_held_after}
 use Rattle.audit_model.specs.Follows.{after_steps, line_in, placed_step_in}
 use Rattle.audit_model.specs.Grammar.{reading}
 use Rattle.audit_model.specs.History.{Holding}
-use Rattle.audit_model.specs.Places.{due, first_due, left_after, tasks_to_feed}
-use Rattle.audit_model.specs.Situation.{Situation, Connection, HeldValue, connection_in, may_run_in, is_ready, is_overlong, without_number, view_in, candidate_at}
-use Rattle.audit_model.specs.Steps.{Task, RunLines, RunHeld, action_by, effect_in, is_right, is_in_turn, is_held_rightly}
+use Rattle.audit_model.specs.Places.{first_due, left_after}
+use Rattle.audit_model.specs.Situation.{Situation, Connection, HeldValue, may_run_in, is_ready, is_overlong, without_number, view_in, candidate_at}
+use Rattle.audit_model.specs.Steps.{Task, RunLines, RunHeld, action_by, effect_in, is_right, is_in_turn}
 use Rattle.audit_model.specs.Stream.{first_line, behind_lines, without_return}
 use Rattle.audit_model.specs.declared.config.Config.{Config}
 use Rattle.audit_model.specs.declared.transcript.Step.{Step}
 use Rattle.cache_lines.specs.Next.{IsLine, IsPartial}
-use Rattle.cache_lines.proofs.Lines.{IsLine-first_line, IsLine-behind_lines, IsPartial-first_line, IsPartial-not_long, long_from}
+use Rattle.cache_lines.proofs.Lines.{IsLine-first_line, IsPartial-first_line, IsPartial-not_long}
 use Rattle.cache_steps.specs.Right.{step_saying, placed_by, held_when_run}
 use Rattle.cache_steps.proofs.Answering.{same-refl, none_succeeded}
 use Rattle.cache_store.specs.Promises.{no_deed}
 use Rattle.cache_namespace.specs.Gathered.{Gathered, gather}
 use Rattle.cache_namespace.specs.Lines.{Runs, IsThere, set_in, ready, holding, held_step, placed_in}
-use Rattle.cache_namespace.specs.Ran.{RanOne, RanLines, RanReady, RanFeed, ends_held, standing_with, with_piece}
+use Rattle.cache_namespace.specs.Ran.{RanOne, RanLines, RanReady, RanFeed, ends_held}
 use Rattle.cache_namespace.proofs.Placing.{found-there}
 use Rattle.cache_namespace.specs.Whole.{held_line}
 use Rattle.cache_namespace.proofs.Running.{runs-more, may-run, line-due, line-fits, gather-more}

@@ -1,6 +1,11 @@
 pub mod Draining
 pub mod FeedSteps
+pub mod FeedTaken
+pub mod Following
+pub mod Places
 pub mod Placing
+pub mod Putting
 pub mod Recording
 pub mod Running
 pub mod Stepping
+pub mod Table

@@ -1,9 +1,9 @@
 -- A connection put in its place again.
-use Rattle.std.proofs.Common.{◌≡◌, ℕ, Bool, true, false, not, ◌&&◌, ◌||◌, ◌==◌, List, [], ◌∷◌, map, cond, Option, Some, None, if◌then◌else◌, refl, sym, ap, ◌∙◌, subst}
+use Rattle.std.proofs.Common.{◌≡◌, ℕ, Bool, true, false, not, ◌==◌, List, [], ◌∷◌, map, cond, Some, if◌then◌else◌, refl, sym, ap, ◌∙◌}
 use Rattle.std.specs.Prelude.{is_some}
-use Rattle.std.specs.List.{find, filter}
+use Rattle.std.specs.List.{find}
 use Rattle.std.proofs.lemmas.Bool.{eq-eqb}
-use Rattle.audit_model.specs.Situation.{Situation, Connection, HeldValue, PendingLoad, connection_in, with_connection, without_number, without_waiting, is_overlong}
+use Rattle.audit_model.specs.Situation.{Situation, Connection, HeldValue, connection_in, without_number, without_waiting, is_overlong}
 use Rattle.cache_namespace.specs.Lines.{set_in, IsThere}
 
 -- the connection under that number

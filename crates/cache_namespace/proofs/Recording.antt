@@ -1,5 +1,5 @@
 -- A line that ran while a record is made.
-use Rattle.std.proofs.Common.{◌≡◌, ℕ, List, [], ◌∷◌, ◌++◌, Option, Some, None, refl, sym, ap, ◌∙◌, subst}
+use Rattle.std.proofs.Common.{◌≡◌, ℕ, List, [], ◌∷◌, ◌++◌, Option, Some, sym, ap, ◌∙◌, subst}
 use Rattle.audit_model.specs.Grammar.{reading}
 use Rattle.audit_model.specs.Situation.{Situation, HeldValue}
 use Rattle.audit_model.specs.Steps.{action_by}
@@ -9,7 +9,6 @@ use Rattle.audit_model.specs.declared.transcript.Note.{Note}
 use Rattle.audit_model.specs.declared.transcript.Step.{Step}
 use Rattle.cache_store.specs.Handing.{Hands, ArePartByPart}
 use Rattle.cache_steps.specs.Right.{Answers, step_saying}
-use Rattle.cache_namespace.specs.Gathered.{Gathered}
 use Rattle.cache_namespace.specs.Ran.{RanOne, IsPlainLine}
 
 pub ran-kept : (config : Config) (s : Situation) (number : ℕ) (line copy old_text new_text last_text : List ℕ) (accepted : Option Accepted) (before steps : List Step) (notes waiting drained last : List Note)

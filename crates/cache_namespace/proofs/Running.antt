@@ -1,6 +1,6 @@
 -- A connection's lines run, one after another.
-use Rattle.std.proofs.Common.{◌≡◌, ℕ, ◌+◌, Bool, true, false, not, ◌&&◌, ◌||◌, ◌==◌, List, [], ◌∷◌, ◌++◌, map, take, drop, Option, Some, None, if◌then◌else◌, refl, sym, ap, ◌∙◌, subst, append_assoc}
-use Rattle.std.specs.Prelude.{is_some, IsTrue, unwrap_or}
+use Rattle.std.proofs.Common.{◌≡◌, ℕ, ◌+◌, Bool, true, false, not, ◌&&◌, ◌||◌, List, [], ◌∷◌, ◌++◌, take, drop, Option, Some, None, refl, sym, ap, ◌∙◌, subst, append_assoc}
+use Rattle.std.specs.Prelude.{is_some}
 use Rattle.std.specs.List.{flat_map}
 use Rattle.std.specs.Option.{option_map_or}
 use Rattle.std.proofs.lemmas.List.{append-nil}
@@ -11,16 +11,15 @@ use Rattle.std.specs.List.{list_all}
 use Rattle.audit_model.specs.Changes.{after_step}
 use Rattle.audit_model.specs.Follows.{line_in, placed_step_in}
 use Rattle.audit_model.specs.Grammar.{reading}
-use Rattle.audit_model.specs.Situation.{Situation, Connection, HeldValue, Ready, is_ready, connection_in, may_run_in, is_overlong}
+use Rattle.audit_model.specs.Situation.{Situation, HeldValue, is_ready, connection_in, may_run_in, is_overlong}
 use Rattle.audit_model.specs.Steps.{RunLines, action_by, is_right}
-use Rattle.audit_model.specs.Stream.{first_line, behind_lines, without_return}
+use Rattle.audit_model.specs.Stream.{first_line, without_return}
 use Rattle.audit_model.specs.declared.config.Config.{Config}
-use Rattle.audit_model.specs.declared.transcript.Note.{Note}
 use Rattle.audit_model.specs.declared.transcript.Step.{Step}
 use Rattle.cache_lines.specs.Next.{IsLine}
 use Rattle.cache_lines.proofs.Lines.{IsLine-first_line, IsLine-behind_lines, IsLine-not_long}
 use Rattle.cache_steps.specs.Right.{step_saying, placed_by, held_when_run}
-use Rattle.cache_namespace.specs.Gathered.{Gathered, gather, reply_in}
+use Rattle.cache_namespace.specs.Gathered.{Gathered, IsFresh, gather, reply_in}
 use Rattle.cache_namespace.specs.Lines.{Runs, IsThere, set_in, ready, placed_in}
 use Rattle.cache_namespace.specs.Ran.{RanOne, RanLines}
 use Rattle.cache_namespace.proofs.Placing.{found-there}
@@ -28,7 +27,7 @@ use Rattle.cache_namespace.proofs.Stepping.{right-in-turn, after-line}
 
 -- ---- what is gathered
 
-gather-none : (g : Gathered) → gather g [] ≡ g
+pub gather-none : (g : Gathered) → gather g [] ≡ g
 gather-none g = go g.kept
   where
     go : (kept : Option (List Step)) → gather (record g { kept = kept }) [] ≡ record g { kept = kept }
@@ -115,3 +114,11 @@ pub ran-kept : (config : Config) (base : Situation) (number : ℕ) (held : List 
     → RanLines config base number held bytes rest Stands old new
 ran-kept config base number held bytes rest Stood Stands old middle new r stays same =
     record { steps = r.steps; left = r.left; stands = stays r.left r.stands; runs = r.runs; none_held = r.none_held; gathered = same ∙ r.gathered }
+
+-- what is gathered stays fresh
+pub fresh-gather : (g : Gathered) (steps : List Step) → IsFresh g → IsFresh (gather g steps)
+fresh-gather g steps fresh = go g.kept fresh
+  where
+    go : (kept : Option (List Step)) → IsFresh (record g { kept = kept }) → IsFresh (gather (record g { kept = kept }) steps)
+    go None f = tt
+    go (Some before) f = f

@@ -1,25 +1,21 @@
 -- One line of a connection runs.
-use Rattle.std.proofs.Common.{◌≡◌, ℕ, ◌+◌, Bool, true, false, not, ◌&&◌, ◌||◌, ◌==◌, List, [], ◌∷◌, ◌++◌, map, take, drop, Option, Some, None, if◌then◌else◌, refl, sym, ap, ◌∙◌, subst}
-use Rattle.std.specs.Prelude.{is_some, IsTrue}
-use Rattle.std.specs.Option.{option_eq, option_map_or}
-use Rattle.std.proofs.lemmas.Bool.{eq-eqb, and_from}
-use Rattle.audit_model.specs.Bytewise.{same, cut_at}
-use Rattle.audit_model.specs.Changes.{after_step, join_by, join_load, connection_after, with_connection_after, all_held_after}
-use Rattle.audit_model.specs.Commands.{deed_of, drops, quits}
-use Rattle.audit_model.specs.Follows.{line_in, placed_step_in}
-use Rattle.audit_model.specs.History.{Action, Effect}
+use Rattle.std.proofs.Common.{◌≡◌, ℕ, Bool, true, false, ◌||◌, List, [], Option, Some, None, if◌then◌else◌, refl, ap, ◌∙◌}
+use Rattle.std.specs.Option.{option_map_or}
+use Rattle.std.proofs.lemmas.Bool.{and_from}
+use Rattle.audit_model.specs.Changes.{after_step, join_by, join_load, connection_after}
+use Rattle.audit_model.specs.Commands.{drops, quits}
+use Rattle.audit_model.specs.History.{Effect}
 use Rattle.audit_model.specs.Loads.{key_loaded}
-use Rattle.audit_model.specs.Situation.{Situation, Connection, HeldValue, Standing, Ready, Held, view_in, connection_in, may_run_in, with_connection, is_overlong}
-use Rattle.audit_model.specs.Steps.{Task, RunLines, RunHeld, action_by, effect_in, is_right, is_in_turn, is_held_rightly, has_right_line, has_right_reply, has_right_load, has_right_acceptance, has_right_notes, is_quiet_where_silent, keeps_shares}
+use Rattle.audit_model.specs.Situation.{Situation, Connection, HeldValue, Ready, Held, view_in, connection_in, with_connection, is_overlong}
+use Rattle.audit_model.specs.Steps.{Task, RunLines, RunHeld, action_by, effect_in, is_right, is_in_turn, is_held_rightly}
 use Rattle.audit_model.specs.Grammar.{reading}
-use Rattle.audit_model.specs.Stream.{is_held, is_waiting, first_line, behind_lines, without_return}
+use Rattle.audit_model.specs.Stream.{is_waiting, behind_lines}
 use Rattle.audit_model.specs.declared.config.Config.{Config}
 use Rattle.audit_model.specs.declared.transcript.Accepted.{Accepted}
 use Rattle.audit_model.specs.declared.transcript.Note.{Note}
-use Rattle.audit_model.specs.declared.transcript.Step.{Step}
 use Rattle.cache_steps.specs.Right.{DoesRight, step_saying, placed_by, held_when_run}
 use Rattle.cache_steps.proofs.Answering.{same-refl}
-use Rattle.cache_namespace.specs.Lines.{IsPlain, IsThere, set_in, ready, holding, placed_in}
+use Rattle.cache_namespace.specs.Lines.{IsPlain, IsThere, set_in}
 use Rattle.cache_namespace.proofs.Placing.{found-there, set-again, numbered}
 
 -- the effect of a step of a line

@@ -1,5 +1,5 @@
 -- Whether a command can be held back without memory.
-use Rattle.std.specs.Prelude.{◌≡◌, ℕ, ◌<◌, ◌≤◌, [], List, Option, MatchOption, option_map, vec_len, vec_capacity}
+use Rattle.std.specs.Prelude.{◌≡◌, ℕ, ◌<◌, ◌≤◌, List, Option, MatchOption, option_map, vec_len, vec_capacity}
 use Rattle.audit_model.specs.declared.transcript.Step.{Step}
 use Rattle.audit_model.specs.declared.transcript.Note.{Note}
 use Rattle.cache_namespace.specs.Gathered.{Gathered}

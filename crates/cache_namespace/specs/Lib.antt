@@ -4,4 +4,5 @@ pub mod Lines
 pub mod Ran
 pub mod Shown
 pub mod Stops
+pub mod Taken
 pub mod Whole

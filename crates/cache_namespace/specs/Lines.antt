@@ -1,17 +1,14 @@
 -- A connection's lines, run one after another.
-use Rattle.std.specs.Prelude.{◌≡◌, ℕ, false, true, List, [], ◌∷◌, Option, Some, None, IsTrue, is_some}
-use Rattle.std.specs.List.{flat_map}
-use Rattle.std.specs.Option.{option_map_or}
+use Rattle.std.specs.Prelude.{◌≡◌, ℕ, false, true, List, [], ◌∷◌, Some, None, IsTrue, is_some}
 use Rattle.audit_model.specs.Commands.{drops, quits}
 use Rattle.audit_model.specs.Follows.{placed_step_in}
 use Rattle.audit_model.specs.Changes.{after_step}
 use Rattle.audit_model.specs.History.{Effect}
 use Rattle.audit_model.specs.Loads.{key_loaded}
 use Rattle.audit_model.specs.Situation.{Situation, Connection, HeldValue, Ready, Held, connection_in, may_run_in, with_connection}
-use Rattle.audit_model.specs.Steps.{Task, RunLines, is_right}
+use Rattle.audit_model.specs.Steps.{RunLines, is_right}
 use Rattle.audit_model.specs.Stream.{is_held}
 use Rattle.audit_model.specs.declared.config.Config.{Config}
-use Rattle.audit_model.specs.declared.transcript.Note.{Note}
 use Rattle.audit_model.specs.declared.transcript.Step.{Step}
 
 -- a connection that runs lines, with those bytes unread

@@ -6,7 +6,7 @@ use Rattle.audit_model.specs.Places.{tasks_to_feed}
 use Rattle.audit_model.specs.Stream.{behind_lines}
 use Rattle.cache_namespace.specs.Whole.{held_line}
 use Rattle.audit_model.specs.Grammar.{reading}
-use Rattle.audit_model.specs.Situation.{Situation, Connection, HeldValue, view_in}
+use Rattle.audit_model.specs.Situation.{Situation, Connection, HeldValue, Ready, Held, view_in}
 use Rattle.audit_model.specs.Steps.{RunLines, action_by, effect_in}
 use Rattle.audit_model.specs.declared.config.Config.{Config}
 use Rattle.audit_model.specs.declared.transcript.Accepted.{Accepted}
@@ -14,7 +14,7 @@ use Rattle.audit_model.specs.declared.transcript.Note.{Note}
 use Rattle.audit_model.specs.declared.transcript.Step.{Step}
 use Rattle.cache_steps.specs.Right.{DoesRight, step_saying, held_when_run}
 use Rattle.cache_namespace.specs.Gathered.{Gathered, gather}
-use Rattle.cache_namespace.specs.Lines.{IsPlain, Runs, set_in, ready, holding}
+use Rattle.cache_namespace.specs.Lines.{IsPlain, Runs, set_in, ready}
 
 -- The line's step was right but for its turn, its values stand, and its reply and notes were gathered.
 pub record RanOne (config : Config) (s : Situation) (number : ℕ) (line : List ℕ) (Stands : List HeldValue → Type 0) (old new : Gathered) : Type 0 where
@@ -47,7 +47,8 @@ ends_held (step ∷ next ∷ steps) = ends_held (next ∷ steps)
 
 -- the connection with those bytes, of which the first line is held back or not
 abbrev pub standing_with : ℕ → Bool → List ℕ → Connection
-standing_with number held bytes = if held then holding number (held_line bytes) (behind_lines 1 bytes) else ready number bytes
+standing_with number held bytes =
+    record { number = number; unread = if held then behind_lines 1 bytes else bytes; standing = if held then Held (held_line bytes) else Ready; waited = 0 }
 
 -- the connection with a piece more
 abbrev pub with_piece : List ℕ → Connection → Connection

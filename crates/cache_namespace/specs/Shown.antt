@@ -1,7 +1,8 @@
 -- The situation that a namespace's connections stand for.
-use Rattle.std.specs.Prelude.{◌≡◌, ℕ, suc, Bool, true, false, not, ◌&&◌, List, [], ◌∷◌, ◌++◌, length, Option, Some, None, if◌then◌else◌, is_none}
+use Rattle.std.specs.Prelude.{ℕ, suc, Bool, not, ◌&&◌, List, [], ◌∷◌, length, Option, if◌then◌else◌, is_none}
 use Rattle.audit_model.specs.Situation as model
 use Rattle.audit_model.specs.Situation.{Situation, HeldValue, is_overlong, without_connection}
+use Rattle.audit_model.specs.declared.command.Closing.{Closing}
 use Rattle.cache_namespace.specs.Lines.{set_in}
 use Rattle.cache_namespace.specs.Ran.{standing_with}
 use Rattle.cache_namespace.specs.declared.connection.Connection.{Connection}
@@ -10,9 +11,13 @@ use Rattle.cache_namespace.specs.declared.connection.Connection.{Connection}
 abbrev pub shown : ℕ → Connection → model.Connection
 shown number c = standing_with number c.held c.unread.bytes
 
+-- it is open, with that reason to be closed, a line held back or not, and those bytes
+abbrev pub is_open_with : ℕ → Option Closing → Bool → List ℕ → Bool
+is_open_with number closing held bytes = is_none closing && not (is_overlong (standing_with number held bytes))
+
 -- it is open
 abbrev pub is_listed : ℕ → Connection → Bool
-is_listed number c = is_none c.closing && not (is_overlong (shown number c))
+is_listed number c = is_open_with number c.closing c.held c.unread.bytes
 
 -- the open connections, numbered from n
 abbrev pub open_from : ℕ → List Connection → List model.Connection
@@ -24,6 +29,11 @@ abbrev pub situation : ℕ → List Connection → Bool → List HeldValue → S
 situation latest connections dropped held =
     record { latest = latest; opened = length connections; sent = 0; connections = open_from 1 connections; pending = []; held = held; dropped = dropped }
 
+-- the situation, but with those values held and a connection as its parts say
+abbrev pub put_parts : Situation → List HeldValue → ℕ → Option Closing → Bool → List ℕ → Situation
+put_parts base values number closing held bytes =
+    if is_open_with number closing held bytes then set_in base values (standing_with number held bytes) else without_connection number (record base { held = values })
+
 -- the situation, but with those values held and that connection as it now is
 abbrev pub put_in : Situation → List HeldValue → ℕ → Connection → Situation
-put_in base held number c = if is_listed number c then set_in base held (shown number c) else without_connection number (record base { held = held })
+put_in base values number c = put_parts base values number c.closing c.held c.unread.bytes

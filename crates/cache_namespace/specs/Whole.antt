@@ -1,5 +1,5 @@
 -- What is known of a connection's unread bytes.
-use Rattle.std.specs.Prelude.{ℕ, Bool, ◌&&◌, ◌||◌, not, nat_lt, nat_le, List, [], length, is_some, unwrap_or}
+use Rattle.std.specs.Prelude.{ℕ, Bool, ◌&&◌, nat_lt, nat_le, List, [], length, is_some, unwrap_or}
 use Rattle.audit_model.specs.Bytewise.{cut_at}
 use Rattle.audit_model.specs.Stream.{first_line}
 

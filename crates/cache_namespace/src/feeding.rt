@@ -39,7 +39,7 @@ fn hold_back(kept: &mut Option<Kept>, alloc: Global, number: u64, line: &[u8])
     }
 }
 
-/// Runs the lines of a connection that is ready, and holds the line back for which memory was wanted.
+/// Takes a piece for a connection that is ready and runs its lines, and holds the line back for which memory was wanted.
 fn run_ready<S: Store>(
     store: &mut S,
     alloc: Global,
@@ -48,6 +48,7 @@ fn run_ready<S: Store>(
     number: u64,
     unread: &mut Buffer,
     text: &mut Vec<u8>,
+    piece: &[u8],
     kept: &mut Option<Kept>,
 ) -> Stop
     requires config { (S.frame store.old).config ≡ config.now }
@@ -55,17 +56,21 @@ fn run_ready<S: Store>(
     requires moment { now < 2 ^ 63 }
     requires fresh { IsFresh (gathered text.old.items kept.old (S.untaken store.old)) }
     requires ready { IsReadyToHold kept.old }
-    ensures ran { (base : Situation) (held : List HeldValue) → base.latest ≡ now → IsThere number base → S.stands store.old held → RanReady config.now base number held unread.old.bytes (holds_back result) unread.new.bytes (S.stands store.new) (gathered text.old.items kept.old (S.untaken store.old)) (gathered text.new.items kept.new (S.untaken store.new)) }
+    requires room { length piece.now ≤ unread.old.room }
+    ensures ran { (base : Situation) (held : List HeldValue) → base.latest ≡ now → IsThere number base → S.stands store.old held → RanReady config.now base number held (unread.old.bytes ++ piece.now) (holds_back result) unread.new.bytes (S.stands store.new) (gathered text.old.items kept.old (S.untaken store.old)) (gathered text.new.items kept.new (S.untaken store.new)) }
     ensures stops { StopsFor result unread.new.bytes }
     ensures frame { KeepsFrame (S.frame store.old) (S.frame store.new) now }
     ensures fresh { IsFresh (gathered text.new.items kept.new (S.untaken store.new)) }
 {
-    let stop = run_lines(store, alloc, config, now, number, unread, text, kept);
-    match stop {
-        Stop::Held(len) => hold_back(kept, alloc, number, unread.line(len)),
-        Stop::More | Stop::TooLong => {}
+    unread.append(piece);
+    match run_lines(store, alloc, config, now, number, unread, text, kept) {
+        Stop::More => Stop::More,
+        Stop::TooLong => Stop::TooLong,
+        Stop::Held(len) => {
+            hold_back(kept, alloc, number, unread.line(len));
+            Stop::Held(len)
+        }
     }
-    stop
 }
 
 /// Takes a piece: a command that is held back runs first, then the lines that are whole. An `Err` changes nothing.
@@ -99,12 +104,11 @@ pub fn feed_lines<S: Store>(
     if unread.reserve(piece.len()).is_err() {
         return Err(FeedError::OutOfMemory);
     }
-    if held {
-        match release(store, alloc, config, now, number, unread, text, kept) {
-            Ok(()) => {}
-            Err(_) => return Err(FeedError::HeldAgain),
-        }
+    if !held {
+        return Ok(run_ready(store, alloc, config, now, number, unread, text, piece, kept));
     }
-    unread.append(piece);
-    Ok(run_ready(store, alloc, config, now, number, unread, text, kept))
+    match release(store, alloc, config, now, number, unread, text, kept) {
+        Ok(()) => Ok(run_ready(store, alloc, config, now, number, unread, text, piece, kept)),
+        Err(_) => Err(FeedError::HeldAgain),
+    }
 }

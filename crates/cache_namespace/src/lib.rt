@@ -1,11 +1,12 @@
-//! One namespace: its connections over its store.
+//! One namespace: its connections, and the lines that run over its store.
 #![tactic(auto)]
 
 mod connection;
 mod feeding;
 mod kept;
 mod lines;
+mod namespace;
 
-pub use connection::{Connection, new_connection};
-pub use feeding::{FeedError, feed_lines};
-pub use kept::{Draft, Kept};
+pub use connection::Connection;
+pub use kept::Kept;
+pub use namespace::Namespace;

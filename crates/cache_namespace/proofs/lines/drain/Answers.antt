@@ -1,5 +1,5 @@
-use Rattle.std.proofs.Common.{◌≡◌, ◌++◌, ◌∷◌, [], ap, sym, subst, ◌∙◌, arith}
-use Rattle.cache_store.specs.Handing.{ArePartByPart, TakesOne}
+use Rattle.std.proofs.Common.{◌++◌, ap, subst, ◌∙◌, arith}
+use Rattle.cache_store.specs.Handing.{TakesOne}
 use Rattle.cache_store.specs.Promises.{Frame}
 use Rattle.cache_namespace.proofs.Draining.{taken-next, fewer}
 use Rattle.cache_namespace.proofs.lines.drain.Goals as goal

@@ -1,4 +1,4 @@
-use Rattle.std.proofs.Common.{◌≡◌, refl, ap, sym, ◌∙◌, subst, arith}
+use Rattle.std.proofs.Common.{refl, ap, ◌∙◌}
 use Rattle.cache_store.specs.Promises.{Frame}
 use Rattle.cache_namespace.proofs.Running.{ran-more, ran-none, ran-kept}
 use Rattle.cache_namespace.proofs.lines.run_lines.Goals as goal

@@ -1,4 +1,4 @@
-use Rattle.std.proofs.Common.{◌≡◌, ◌++◌, ◌∷◌, [], Option, Some, ap, sym, subst, ◌∙◌, refl}
+use Rattle.std.proofs.Common.{◌≡◌, ◌++◌, ◌∷◌, [], Option, Some, ap, sym, subst, ◌∙◌}
 use Rattle.cache_namespace.proofs.Recording.{ran-kept}
 use Rattle.cache_steps.specs.Right.{step_saying}
 use Rattle.cache_store.specs.Handing.{ArePartByPart}

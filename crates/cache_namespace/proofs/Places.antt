@@ -1,0 +1,77 @@
+-- What stands at a place of a list, before and after it is replaced.
+use Rattle.std.proofs.Common.{◌≡◌, ◌≢◌, ℕ, zero, suc, ◌<◌, List, [], ◌∷◌, Bool, Some, None, if◌then◌else◌, length, refl, sym, ap, ◌∙◌, arith, get_or}
+use Rattle.std.specs.Prelude.{slice_set}
+use Rattle.std.specs.List.{slice_get}
+use Rattle.std.specs.Option.{option_map_or}
+use Rattle.std.proofs.lemmas.List.{get_or-set_same, length-set}
+use Rattle.std.proofs.lemmas.Option.{slice_get-get_or, slice_get_within, same_Some}
+use Rattle.cache_namespace.specs.Ran.{standing_with}
+use Rattle.cache_namespace.specs.Shown.{shown, is_listed, is_open_with, open_from, situation}
+use Rattle.audit_model.specs.Situation.{HeldValue}
+use Rattle.cache_namespace.specs.Taken.{text_at, closing_at, ReplacedAt, SameConnections, LooksSame}
+use Rattle.cache_namespace.specs.declared.connection.Connection.{Connection}
+
+pub at-place : {X : Type 0} (xs : List X) (i : ℕ) (x : X) → i < length xs → x ≡ get_or xs i x → slice_get xs i ≡ Some x
+at-place xs i x lt is = slice_get-get_or xs i x lt ∙ ap Some (sym is)
+
+pub at-replaced : {X : Type 0} (xs : List X) (i : ℕ) (x : X) → i < length xs → slice_get (slice_set xs i x) i ≡ Some x
+at-replaced xs i x lt = slice_get-get_or (slice_set xs i x) i x (let e = length-set xs i x in omega arith) ∙ ap Some (get_or-set_same xs i x x lt)
+
+pub text-is : (cs : List Connection) (i : ℕ) (c : Connection) → slice_get cs i ≡ Some c → text_at cs i ≡ c.output.items
+text-is cs i c at = ap (λ o. option_map_or (λ (k : Connection). k.output.items) o []) at
+
+-- what is seen of a place that stands for the same
+pub seen-same : {A : Type 0} (f : Connection → A) (d : A) (cs : List Connection) (i j : ℕ) (old new : Connection) → slice_get cs i ≡ Some old → f new ≡ f old
+    → option_map_or f (slice_get (slice_set cs i new) j) d ≡ option_map_or f (slice_get cs j) d
+seen-same f d [] i j old new at e = refl
+seen-same f d (c ∷ cs) zero zero old new at e = e ∙ sym (ap f (same_Some c old at))
+seen-same f d (c ∷ cs) zero (suc j) old new at e = refl
+seen-same f d (c ∷ cs) (suc i) zero old new at e = refl
+seen-same f d (c ∷ cs) (suc i) (suc j) old new at e = seen-same f d cs i j old new at e
+
+-- other places stay
+pub other-place : (cs : List Connection) (i j : ℕ) (new : Connection) → j ≢ i → slice_get (slice_set cs i new) j ≡ slice_get cs j
+other-place [] i j new ne = refl
+other-place (c ∷ cs) zero zero new ne = absurd (ne refl)
+other-place (c ∷ cs) zero (suc j) new ne = refl
+other-place (c ∷ cs) (suc i) zero new ne = refl
+other-place (c ∷ cs) (suc i) (suc j) new ne = other-place cs i j new (λ e. ne (ap suc e))
+
+-- the same connections are listed
+open-same : (n i : ℕ) (old new : Connection) (cs : List Connection) → slice_get cs i ≡ Some old → new.unread.bytes ≡ old.unread.bytes → new.held ≡ old.held → new.closing ≡ old.closing → open_from n (slice_set cs i new) ≡ open_from n cs
+open-same n i old new [] at bytes_same held_same closing_same = refl
+open-same n zero old new (c ∷ cs) at bytes_same held_same closing_same =
+    ap (λ closing. if is_open_with n closing new.held new.unread.bytes then standing_with n new.held new.unread.bytes ∷ open_from (suc n) cs else open_from (suc n) cs) closing_same
+    ∙ ap (λ held. if is_open_with n old.closing held new.unread.bytes then standing_with n held new.unread.bytes ∷ open_from (suc n) cs else open_from (suc n) cs) held_same
+    ∙ ap (λ bytes. if is_open_with n old.closing old.held bytes then standing_with n old.held bytes ∷ open_from (suc n) cs else open_from (suc n) cs) bytes_same
+    ∙ sym (ap (λ k. if is_listed n k then shown n k ∷ open_from (suc n) cs else open_from (suc n) cs) (same_Some c old at))
+open-same n (suc i) old new (c ∷ cs) at bytes_same held_same closing_same = ap (λ ks. if is_listed n c then shown n c ∷ ks else ks) (open-same (suc n) i old new cs at bytes_same held_same closing_same)
+
+-- a connection that stands for the same leaves the situation
+pub same-situation : (old new : List Connection) (i : ℕ) → (p : ReplacedAt old new i) → p.is.unread.bytes ≡ p.was.unread.bytes → p.is.held ≡ p.was.held → p.is.closing ≡ p.was.closing
+    → (latest : ℕ) (dropped : Bool) (values : List HeldValue) → situation latest new dropped values ≡ situation latest old dropped values
+same-situation old new i p bytes held closing latest dropped values =
+    ap (λ cs. situation latest cs dropped values) p.set
+    ∙ ap (λ n. record { latest = latest; opened = n; sent = 0; connections = open_from 1 (slice_set old i p.is); pending = []; held = values; dropped = dropped }) (length-set old i p.is)
+    ∙ ap (λ ks. record { latest = latest; opened = length old; sent = 0; connections = ks; pending = []; held = values; dropped = dropped }) (open-same 1 i p.was p.is old p.at bytes held closing)
+
+-- a connection that looks the same makes no difference
+pub same-connections : (old new : List Connection) (i : ℕ) → (p : ReplacedAt old new i) → LooksSame p.was p.is → SameConnections old new
+same-connections old new i p same = record {
+  situation = same-situation old new i p same.bytes same.held same.closing;
+  texts = λ j. ap (λ cs. text_at cs j) p.set ∙ seen-same (λ (c : Connection). c.output.items) [] old i j p.was p.is p.at same.output;
+  closings = λ j. ap (λ cs. closing_at cs j) p.set ∙ seen-same (λ (c : Connection). c.closing) None old i j p.was p.is p.at same.closing;
+}
+
+-- the connection that was put at a place stands there
+pub replaced-is : (old new : List Connection) (i : ℕ) → (p : ReplacedAt old new i) → slice_get new i ≡ Some p.is
+replaced-is old new i p = ap (λ cs. slice_get cs i) p.set ∙ at-replaced old i p.is (slice_get_within old i p.was p.at)
+
+-- other places are as they were
+pub replaced-others : (old new : List Connection) (i : ℕ) → (p : ReplacedAt old new i) → (place : ℕ) → place ≢ i → slice_get new place ≡ slice_get old place
+replaced-others old new i p place ne = ap (λ cs. slice_get cs place) p.set ∙ other-place old i place p.is ne
+
+-- what is seen of each place, where it is the same of the one that was replaced
+pub replaced-seen : {A : Type 0} (f : Connection → A) (d : A) (old new : List Connection) (i : ℕ) → (p : ReplacedAt old new i) → f p.is ≡ f p.was
+    → (place : ℕ) → option_map_or f (slice_get new place) d ≡ option_map_or f (slice_get old place) d
+replaced-seen f d old new i p e place = ap (λ cs. option_map_or f (slice_get cs place) d) p.set ∙ seen-same f d old i place p.was p.is p.at e

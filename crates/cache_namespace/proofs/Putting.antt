@@ -1,0 +1,37 @@
+-- A connection as a feed leaves it.
+use Rattle.std.proofs.Common.{◌≡◌, ℕ, Bool, true, false, not, ◌&&◌, ◌==◌, List, map, Option, Some, None, if◌then◌else◌, sym, ap, ◌∙◌}
+use Rattle.std.specs.Prelude.{is_none}
+use Rattle.audit_model.specs.Situation as model
+use Rattle.audit_model.specs.Situation.{Situation, HeldValue, is_overlong, without_connection, without_number, without_waiting}
+use Rattle.audit_model.specs.declared.config.Config.{Config}
+use Rattle.audit_model.specs.declared.command.Closing.{Closing}
+use Rattle.cache_namespace.specs.Gathered.{Gathered}
+use Rattle.cache_namespace.specs.Lines.{set_in, ready}
+use Rattle.cache_namespace.specs.Ran.{RanFeed, standing_with}
+use Rattle.cache_namespace.specs.Shown.{put_in, put_parts}
+use Rattle.cache_namespace.specs.Taken.{FeedsConnection}
+use Rattle.cache_namespace.specs.declared.connection.Connection.{Connection}
+
+-- a connection that stays open, with those bytes
+pub put-open : (base : Situation) (left : List HeldValue) (number : ℕ) (closing : Option Closing) (held : Bool) (rest : List ℕ)
+    → closing ≡ None → is_overlong (standing_with number held rest) ≡ false
+    → set_in base left (standing_with number held rest) ≡ put_parts base left number closing held rest
+put-open base left number closing held rest is_open fits =
+    let gone = without_connection number (record base { held = left }) in
+    sym (ap (λ o. if is_none o && not (is_overlong (standing_with number held rest)) then set_in base left (standing_with number held rest) else gone) is_open
+    ∙ ap (λ x. if not x then set_in base left (standing_with number held rest) else gone) fits)
+
+-- a connection that is closed for too long a line
+pub put-long : (base : Situation) (left : List HeldValue) (number : ℕ) (by : Closing) (held : Bool) (bytes rest : List ℕ)
+    → is_overlong (ready number rest) ≡ true
+    → set_in base left (ready number rest) ≡ put_parts base left number (Some by) held bytes
+put-long base left number by held bytes rest long =
+    ap (λ x. record base { held = left; connections = if x then without_number number base.connections else map (λ (k : model.Connection). if k.number == number then ready number rest else k) base.connections; pending = if x then map (without_waiting number) base.pending else base.pending }) long
+
+-- the steps of a feed, with the connection as it is then
+pub feeds-to : (config : Config) (base : Situation) (number : ℕ) (values : List HeldValue) (old new : Connection) (piece : List ℕ) (is_held : Bool) (rest : List ℕ) (Stands : List HeldValue → Type 0) (was is : Gathered)
+    → (r : RanFeed config base number values old.held old.unread.bytes piece is_held rest Stands was is)
+    → ((left : List HeldValue) → set_in base left (standing_with number is_held rest) ≡ put_in base left number new)
+    → FeedsConnection config base number values old piece new is_held Stands was is
+feeds-to config base number values old new piece is_held rest Stands was is r puts =
+    record { steps = r.steps; left = r.left; stands = r.stands; after = r.after ∙ ap Some (puts r.left); ends = r.ends; gathered = r.gathered }

@@ -1,0 +1,49 @@
+use Rattle.std.proofs.Common.{◌-◌, Err, ap, ◌∙◌, arith, refl, inl, inr}
+use Rattle.std.specs.List.{slice_get}
+use Rattle.audit_model.specs.declared.input.ServiceError.TheVariants as error
+use Rattle.cache_store.specs.Promises.{Frame}
+use Rattle.cache_namespace.proofs.FeedTaken.{taken-feed, late-is, memory-is}
+use Rattle.cache_namespace.proofs.Places.{same-connections, other-place}
+use Rattle.cache_namespace.proofs.namespace.Namespace.feed.Goals as goal
+
+pub returns-in-Ok-feed_at-clause-ran : goal.returns-in-Ok-feed_at-clause-ran
+returns-in-Ok-feed_at-clause-ran g c = λ values m.
+    let old = c.args.self.now in
+    let ran = c.in-Ok-feed_at.ensures.ran in
+    let place = rw c.deref.ensures.value at c.in-Ok.ensures.place in
+    taken-feed old.config old.latest c.max-now.result c.args.number c.in-Ok.index (c.args.number - 1) c.args.moment old.connections.items c.feed_at.new.connections.items (g.S.Store.frame old.store).dropped (g.S.Store.frame c.feed_at.new.store).dropped values
+    c.args.piece.now c.in-Ok-feed_at.is_held (g.S.Store.stands old.store) (g.S.Store.stands c.feed_at.new.store) c.args.kept.now c.feed_at.new.kept (g.S.Store.untaken old.store) (g.S.Store.untaken c.feed_at.new.store)
+    place.0 refl c.max-now.ensures (ap (λ (f : Frame). f.dropped) c.in-Ok-feed_at.ensures.frame.rest) place.1 (omega arith) (rw c.deref.ensures.value at c.in-Ok.ensures.open) ran.0 ran.1 m
+
+pub returns-in-Ok-feed_at-clause-others : goal.returns-in-Ok-feed_at-clause-others
+returns-in-Ok-feed_at-clause-others g c = λ place ne.
+    let p = c.in-Ok-feed_at.ensures.ran.0 in
+    let at = rw c.deref.ensures.value at c.in-Ok.ensures.place in
+    let number_is = at.0 in
+    ap (λ cs. slice_get cs place) p.set ∙ other-place c.args.self.now.connections.items c.in-Ok.index place p.is (λ e. ne (e ∙ omega arith))
+
+pub returns-in-Err-OutOfMemory-clause-same : goal.returns-in-Err-OutOfMemory-clause-same
+returns-in-Err-OutOfMemory-clause-same g c =
+    let s = c.in-Err-OutOfMemory.ensures.same in same-connections c.args.self.now.connections.items c.feed_at.new.connections.items c.in-Ok.index s.0 s.1
+
+pub returns-in-Err-HeldAgain-clause-same : goal.returns-in-Err-HeldAgain-clause-same
+returns-in-Err-HeldAgain-clause-same g c =
+    let s = c.in-Err-HeldAgain.ensures.same in same-connections c.args.self.now.connections.items c.feed_at.new.connections.items c.in-Ok.index s.0 s.1
+
+pub returns-then-moment-gt-MAX_MOMENT-clause-refused : goal.returns-then-moment-gt-MAX_MOMENT-clause-refused
+returns-then-moment-gt-MAX_MOMENT-clause-refused g c =
+    let old = c.args.self.now in
+    let place = rw c.deref.ensures.value at c.in-Ok.ensures.place in
+    late-is old.config old.connections.items c.args.number c.in-Ok.index c.args.moment c.args.piece.now _ place.0 place.1 (rw c.deref.ensures.value at c.in-Ok.ensures.open) (omega arith)
+
+pub returns-in-Err-OutOfMemory-clause-refused : goal.returns-in-Err-OutOfMemory-clause-refused
+returns-in-Err-OutOfMemory-clause-refused g c =
+    let old = c.args.self.now in
+    let place = rw c.deref.ensures.value at c.in-Ok.ensures.place in
+    memory-is old.config old.connections.items c.args.number c.in-Ok.index c.args.moment c.args.piece.now error.OutOfMemory place.0 place.1 (rw c.deref.ensures.value at c.in-Ok.ensures.open) (omega arith) (λ k at. inl refl)
+
+pub returns-in-Err-HeldAgain-clause-refused : goal.returns-in-Err-HeldAgain-clause-refused
+returns-in-Err-HeldAgain-clause-refused g c =
+    let old = c.args.self.now in
+    let place = rw c.deref.ensures.value at c.in-Ok.ensures.place in
+    memory-is old.config old.connections.items c.args.number c.in-Ok.index c.args.moment c.args.piece.now error.HeldAgain place.0 place.1 (rw c.deref.ensures.value at c.in-Ok.ensures.open) (omega arith) (λ k at. inr (refl, c.in-Err-HeldAgain.ensures.again (ap Err c.in-Err-HeldAgain.field-0-is) k at))

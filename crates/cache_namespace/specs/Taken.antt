@@ -1,0 +1,94 @@
+-- What an event does to a namespace.
+use Rattle.std.specs.Prelude.{◌≡◌, ℕ, ◌≤◌, ◌<◌, ◌^◌, Bool, true, false, List, [], Option, Some, None, MatchOption, ◌⊎◌, slice_set}
+use Rattle.std.specs.List.{slice_get}
+use Rattle.std.specs.Option.{option_map_or}
+use Rattle.audit_model.specs.Belongs.{Known, refusal_of}
+use Rattle.audit_model.specs.Follows.{Follows, after_steps, known_in}
+use Rattle.audit_model.specs.Places.{tasks_to_feed}
+use Rattle.audit_model.specs.Situation.{Situation, HeldValue, is_holding_in}
+use Rattle.audit_model.specs.declared.config.Config.{Config}
+use Rattle.audit_model.specs.declared.event.Event.{Event}
+use Rattle.audit_model.specs.declared.event.Event.TheVariants as event
+use Rattle.audit_model.specs.declared.command.Closing.{Closing}
+use Rattle.audit_model.specs.declared.input.ServiceError.{ServiceError}
+use Rattle.audit_model.specs.declared.input.ServiceError.TheVariants as error
+use Rattle.audit_model.specs.declared.transcript.Record.{Record}
+use Rattle.audit_model.specs.declared.transcript.Step.{Step}
+use Rattle.cache_store.specs.Promises.{Frame}
+use Rattle.cache_namespace.specs.Gathered.{Gathered, gather}
+use Rattle.cache_namespace.specs.Lines.{set_in}
+use Rattle.cache_namespace.specs.Ran.{ends_held, with_piece}
+use Rattle.cache_namespace.specs.Shown.{shown, put_in, situation}
+use Rattle.cache_namespace.specs.declared.connection.Connection.{Connection}
+
+-- the record of an event that is no answer
+abbrev pub record_of : Event → List Step → Record
+record_of happened steps = record { event = happened; own = None; notices = []; steps = steps }
+
+abbrev pub fed : ℕ → List ℕ → ℕ → Event
+fed conn piece moment = event.Feed conn piece (record { nanos = moment })
+
+-- The steps of a connection's feed ran, and may have closed it.
+pub record FeedsConnection (config : Config) (base : Situation) (number : ℕ) (values : List HeldValue) (old : Connection) (piece : List ℕ) (new : Connection) (is_held : Bool) (Stands : List HeldValue → Type 0) (was is : Gathered) : Type 0 where
+  pub steps : List Step
+  pub left : List HeldValue
+  pub stands : Stands left
+  pub after : after_steps config (set_in base values (with_piece piece (shown number old))) (tasks_to_feed number old.held) steps ≡ Some (put_in base left number new)
+  pub ends : ends_held steps ≡ is_held
+  pub gathered : is ≡ gather was steps
+
+-- The event's record followed, with these steps; their replies, steps and notes were gathered.
+pub record Takes (config : Config) (s : Situation) (happened : Event) (is_held : Bool) (Stands : List HeldValue → Type 0) (situated : List HeldValue → Situation) (was is : Gathered) : Type 0 where
+  pub steps : List Step
+  pub left : List HeldValue
+  pub stands : Stands left
+  pub follows : Follows config s (record_of happened steps) (situated left)
+  pub ends : ends_held steps ≡ is_held
+  pub gathered : is ≡ gather was steps
+
+-- the replies of the connection at a place that were not taken
+abbrev pub text_at : List Connection → ℕ → List ℕ
+text_at connections index = option_map_or (λ c. c.output.items) (slice_get connections index) []
+
+-- what a namespace knows of its store
+pub record IsSound (wanted : Config) (frame : Frame) (latest : ℕ) : Type 0 where
+  pub config : frame.config ≡ wanted
+  pub in_time : frame.latest ≤ latest
+  pub moment : latest < 2 ^ 63
+
+-- what is known of a namespace's connections
+abbrev pub known : List Connection → Known
+known connections = known_in (situation 0 connections false [])
+
+-- an event that is refused for what is known, and else for memory alone; `again` where a command is held back
+abbrev pub RefusedFor : Config → List Connection → Event → (held : Bool) → ServiceError → Type 0
+RefusedFor config connections happened held e =
+    MatchOption (refusal_of config (known connections) happened) ((e ≡ error.OutOfMemory) ⊎ ((e ≡ error.HeldAgain) × (held ≡ true))) (λ refused. e ≡ refused)
+
+-- a command of the connection of that number is held back
+abbrev pub holds_at : List Connection → ℕ → Bool
+holds_at connections number = is_holding_in (situation 0 connections false []) number
+
+-- why the connection at a place is closed, if it is
+abbrev pub closing_at : List Connection → ℕ → Option Closing
+closing_at connections index = option_map_or (λ c. c.closing) (slice_get connections index) None
+
+-- one connection was put in the place of another
+pub record ReplacedAt (old new : List Connection) (index : ℕ) : Type 0 where
+  pub was : Connection
+  pub is : Connection
+  pub at : slice_get old index ≡ Some was
+  pub set : new ≡ slice_set old index is
+
+-- the connections stand for the same
+pub record SameConnections (old new : List Connection) : Type 0 where
+  pub situation : (latest : ℕ) (dropped : Bool) (values : List HeldValue) → situation latest new dropped values ≡ situation latest old dropped values
+  pub texts : (index : ℕ) → text_at new index ≡ text_at old index
+  pub closings : (index : ℕ) → closing_at new index ≡ closing_at old index
+
+-- the connection is the same to whoever looks at it
+pub record LooksSame (old new : Connection) : Type 0 where
+  pub bytes : new.unread.bytes ≡ old.unread.bytes
+  pub held : new.held ≡ old.held
+  pub closing : new.closing ≡ old.closing
+  pub output : new.output.items ≡ old.output.items

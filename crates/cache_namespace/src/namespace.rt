@@ -1,0 +1,318 @@
+//! One namespace: its connections over its store.
+ghost use Rattle.std.specs.Prelude.{◌-◌, ◌≡◌, ◌≢◌, ◌<◌, ◌≤◌, ◌^◌, ◌+◌, ◌++◌, ◌∷◌, [], None, Some, ℕ, Bool, true, false, List, IfOk, OnOk, OnErr, IsErrOf, length, slice_set, IfSome, IfErr, IsErr, is_none, ◌↔◌};
+ghost use Rattle.cache_namespace.specs.declared.connection.Connection.{Connection as Open};
+ghost use Rattle.std.specs.List.{slice_get};
+ghost use Rattle.audit_model.specs.Situation.{Situation, HeldValue};
+ghost use Rattle.cache_store.specs.Promises.{IsUnchanged};
+ghost use Rattle.cache_steps.specs.Right.{KeepsFrame};
+ghost use Rattle.cache_namespace.specs.Gathered.{Gathered, IsFresh};
+ghost use Rattle.cache_namespace.specs.Kept.{IsReadyToHold, gathered, steps_of};
+ghost use Rattle.cache_namespace.specs.Lines.{IsThere};
+ghost use Rattle.cache_namespace.specs.Shown.{situation};
+ghost use Rattle.audit_model.specs.Belongs.{refusal_of, refusal_of_conn};
+ghost use Rattle.audit_model.specs.declared.event.Event.TheVariants as event;
+ghost use Rattle.cache_namespace.specs.Taken.{FeedsConnection, Takes, fed, known, holds_at, RefusedFor, text_at, closing_at, ReplacedAt, SameConnections, LooksSame, IsSound};
+
+use crate::connection::{Connection, new_connection};
+use crate::feeding::{FeedError, feed_lines};
+use crate::kept::Kept;
+use crate::lines::Stop;
+use audit_model::{Closing, Config, ServiceError};
+use cache_store::Store;
+use std::alloc::{AllocError, Global};
+use std::mem;
+
+/// The latest moment that may be handed in.
+const MAX_MOMENT: u64 = (1 << 63) - 1;
+
+/// Takes a piece of a connection's bytes, and answers whether its last command is held back. An `Err` changes nothing.
+fn feed_connection<S: Store>(
+    store: &mut S,
+    alloc: Global,
+    config: &Config,
+    now: u64,
+    number: u64,
+    connection: &mut Connection,
+    piece: &[u8],
+    kept: &mut Option<Kept>,
+) -> Result<bool, FeedError>
+    requires config { (S.frame store.old).config ≡ config.now }
+    requires in_time { (S.frame store.old).latest ≤ now }
+    requires moment { now < 2 ^ 63 }
+    requires fresh { IsFresh (gathered connection.old.output.items kept.old (S.untaken store.old)) }
+    requires ready { IsReadyToHold kept.old }
+    requires open { connection.old.closing ≡ None }
+    ensures ran { IfOk result (λ is_held. (base : Situation) (values : List HeldValue) → base.latest ≡ now → IsThere number base → S.stands store.old values → FeedsConnection config.now base number values connection.old piece.now connection.new is_held (S.stands store.new) (gathered connection.old.output.items kept.old (S.untaken store.old)) (gathered connection.new.output.items kept.new (S.untaken store.new))) }
+    ensures frame { KeepsFrame (S.frame store.old) (S.frame store.new) now }
+    ensures fresh { IsFresh (gathered connection.new.output.items kept.new (S.untaken store.new)) }
+    ensures same { OnErr result (LooksSame connection.old connection.new) }
+    ensures unchanged { OnErr result (IsUnchanged (S.stands store.old) (S.stands store.new) (S.frame store.old) (S.frame store.new) (S.untaken store.old) (S.untaken store.new)) }
+    ensures ungathered { OnErr result (gathered connection.new.output.items kept.new (S.untaken store.new) ≡ gathered connection.old.output.items kept.old (S.untaken store.old)) }
+    ensures again { IsErrOf result FeedError.HeldAgain → connection.old.held ≡ true }
+{
+    let held = connection.held;
+    match feed_lines(
+        store,
+        alloc,
+        config,
+        now,
+        number,
+        held,
+        &mut connection.unread,
+        &mut connection.output,
+        piece,
+        kept,
+    ) {
+        Ok(Stop::More) => {
+            connection.held = false;
+            Ok(false)
+        }
+        Ok(Stop::TooLong) => {
+            connection.held = false;
+            connection.closing = Some(Closing::Long);
+            connection.unread.clear();
+            Ok(false)
+        }
+        Ok(Stop::Held(_)) => {
+            connection.held = true;
+            Ok(true)
+        }
+        Err(error) => Err(error),
+    }
+}
+
+/// Takes a piece of the bytes of the connection at a place. An `Err` changes nothing.
+fn feed_at<S: Store>(
+    store: &mut S,
+    alloc: Global,
+    config: &Config,
+    now: u64,
+    number: u64,
+    connections: &mut Vec<Connection>,
+    index: usize,
+    piece: &[u8],
+    kept: &mut Option<Kept>,
+) -> Result<bool, FeedError>
+    requires config { (S.frame store.old).config ≡ config.now }
+    requires in_time { (S.frame store.old).latest ≤ now }
+    requires moment { now < 2 ^ 63 }
+    requires fresh { IsFresh (gathered (text_at connections.old.items index) kept.old (S.untaken store.old)) }
+    requires ready { IsReadyToHold kept.old }
+    requires inside { index < length connections.old.items }
+    requires open { closing_at connections.old.items index ≡ None }
+    ensures ran { IfOk result (λ is_held. (p : ReplacedAt connections.old.items connections.new.items index) × ((base : Situation) (values : List HeldValue) → base.latest ≡ now → IsThere number base → S.stands store.old values → FeedsConnection config.now base number values p.was piece.now p.is is_held (S.stands store.new) (gathered (text_at connections.old.items index) kept.old (S.untaken store.old)) (gathered (text_at connections.new.items index) kept.new (S.untaken store.new)))) }
+    ensures frame { KeepsFrame (S.frame store.old) (S.frame store.new) now }
+    ensures fresh { IsFresh (gathered (text_at connections.new.items index) kept.new (S.untaken store.new)) }
+    ensures same { OnErr result ((p : ReplacedAt connections.old.items connections.new.items index) × LooksSame p.was p.is) }
+    ensures unchanged { OnErr result (IsUnchanged (S.stands store.old) (S.stands store.new) (S.frame store.old) (S.frame store.new) (S.untaken store.old) (S.untaken store.new)) }
+    ensures ungathered { OnErr result (gathered (text_at connections.new.items index) kept.new (S.untaken store.new) ≡ gathered (text_at connections.old.items index) kept.old (S.untaken store.old)) }
+    ensures again { IsErrOf result FeedError.HeldAgain → (c : Open) → slice_get connections.old.items index ≡ Some c → c.held ≡ true }
+{
+    let connection = &mut connections[index];
+    match feed_connection(store, alloc, config, now, number, connection, piece, kept) {
+        Ok(is_held) => Ok(is_held),
+        Err(error) => Err(error),
+    }
+}
+
+/// Whether the connection is open.
+fn is_open(connection: &Connection) -> bool
+    ensures { result ≡ is_none connection.now.closing }
+{
+    connection.closing.is_none()
+}
+
+/// The place of an open connection.
+fn find_open(connections: &[Connection], number: u64) -> Result<usize, ServiceError>
+    ensures place { IfOk result (λ index. (number ≡ index + 1) × (index < length connections.now)) }
+    ensures open { IfOk result (λ index. (c : Open) → slice_get connections.now index ≡ Some c → c.closing ≡ None) }
+    ensures refused { IfErr result (λ e. refusal_of_conn (known connections.now) number ≡ Some e) }
+{
+    if number == 0 || number > connections.len() as u64 {
+        return Err(ServiceError::NoConnection);
+    }
+    let index = (number - 1) as usize;
+    let connection = &connections[index];
+    if is_open(connection) {
+        Ok(index)
+    } else {
+        Err(ServiceError::Closed)
+    }
+}
+
+/// A namespace: its store, and its connections in the order in which they were opened.
+#[derive(Drop)]
+pub struct Namespace<S: Drop> {
+    pub store: S,
+    pub config: Config,
+    pub latest: u64,
+    pub connections: Vec<Connection>,
+}
+
+impl<S: Store> Namespace<S> {
+    /// Opens a connection, and answers its number. An `Err` changes nothing.
+    pub fn open(&mut self, alloc: Global) -> Result<u64, AllocError>
+        requires sound { IsSound self.old.config (S.frame self.old.store) self.old.latest }
+        ensures number { IfOk result (λ number. number ≡ length self.old.connections.items + 1) }
+        ensures ran { IfOk result (λ number. (values : List HeldValue) (was : Gathered) → S.stands self.old.store values → Takes self.old.config (situation self.old.latest self.old.connections.items (S.frame self.old.store).dropped values) (event.Open number) false (S.stands self.new.store) (situation self.new.latest self.new.connections.items (S.frame self.new.store).dropped) was was) }
+        ensures rest { self.new ≡ record self.old { connections = self.new.connections } }
+        ensures connections { OnOk result ((c : Open) × (c.output.items ≡ []) × (c.closing ≡ None) × (self.new.connections.items ≡ self.old.connections.items ++ c ∷ [])) }
+        ensures err { OnErr result (self.new.connections.items ≡ self.old.connections.items) }
+    {
+        let connection = new_connection(alloc);
+        self.connections.push(connection)?;
+        Ok(self.connections.len() as u64)
+    }
+
+    /// Takes a piece of a connection's bytes at a moment in nanoseconds, and answers whether its last command is held back.
+    /// An `Err` changes nothing.
+    pub fn feed(
+        &mut self,
+        alloc: Global,
+        number: u64,
+        piece: &[u8],
+        moment: u64,
+        kept: &mut Option<Kept>,
+    ) -> Result<bool, ServiceError>
+        requires sound { IsSound self.old.config (S.frame self.old.store) self.old.latest }
+        requires fresh { IsFresh (gathered (text_at self.old.connections.items (number - 1)) kept.old (S.untaken self.old.store)) }
+        requires ready { IsReadyToHold kept.old }
+        ensures ran { IfOk result (λ is_held. (values : List HeldValue) → S.stands self.old.store values → Takes self.old.config (situation self.old.latest self.old.connections.items (S.frame self.old.store).dropped values) (fed number piece.now moment) is_held (S.stands self.new.store) (situation self.new.latest self.new.connections.items (S.frame self.new.store).dropped) (gathered (text_at self.old.connections.items (number - 1)) kept.old (S.untaken self.old.store)) (gathered (text_at self.new.connections.items (number - 1)) kept.new (S.untaken self.new.store))) }
+        ensures others { OnOk result ((place : ℕ) → place ≢ number - 1 → slice_get self.new.connections.items place ≡ slice_get self.old.connections.items place) }
+        ensures part_of { (S.frame self.new.store).part_of ≡ (S.frame self.old.store).part_of }
+        ensures sound { IsSound self.new.config (S.frame self.new.store) self.new.latest }
+        ensures config { self.new.config ≡ self.old.config }
+        ensures fresh { IsFresh (gathered (text_at self.new.connections.items (number - 1)) kept.new (S.untaken self.new.store)) }
+        ensures refused { IfErr result (RefusedFor self.old.config self.old.connections.items (fed number piece.now moment) (holds_at self.old.connections.items number)) }
+        ensures unchanged { OnErr result (IsUnchanged (S.stands self.old.store) (S.stands self.new.store) (S.frame self.old.store) (S.frame self.new.store) (S.untaken self.old.store) (S.untaken self.new.store)) }
+        ensures same { OnErr result (SameConnections self.old.connections.items self.new.connections.items) }
+        ensures latest { OnErr result (self.new.latest ≡ self.old.latest) }
+        ensures kept { OnErr result (steps_of kept.new ≡ steps_of kept.old) }
+    {
+        let index = match find_open(&self.connections, number) {
+            Ok(index) => index,
+            Err(error) => return Err(error),
+        };
+        if moment > MAX_MOMENT {
+            return Err(ServiceError::Moment);
+        }
+        let now = moment.max(self.latest);
+        match feed_at(
+            &mut self.store,
+            alloc,
+            &self.config,
+            now,
+            number,
+            &mut self.connections,
+            index,
+            piece,
+            kept,
+        ) {
+            Ok(is_held) => {
+                self.latest = now;
+                Ok(is_held)
+            }
+            Err(FeedError::OutOfMemory) => Err(ServiceError::OutOfMemory),
+            Err(FeedError::HeldAgain) => Err(ServiceError::HeldAgain),
+        }
+    }
+
+    /// Closes a connection, and drops what came and was not used.
+    pub fn close(&mut self, number: u64) -> Result<(), ServiceError>
+        requires sound { IsSound self.old.config (S.frame self.old.store) self.old.latest }
+        ensures ran { OnOk result ((values : List HeldValue) (was : Gathered) → S.stands self.old.store values → Takes self.old.config (situation self.old.latest self.old.connections.items (S.frame self.old.store).dropped values) (event.Close number) false (S.stands self.new.store) (situation self.new.latest self.new.connections.items (S.frame self.new.store).dropped) was was) }
+        ensures texts { (place : ℕ) → text_at self.new.connections.items place ≡ text_at self.old.connections.items place }
+        ensures others { (place : ℕ) → place ≢ number - 1 → slice_get self.new.connections.items place ≡ slice_get self.old.connections.items place }
+        ensures closed { OnOk result (closing_at self.new.connections.items (number - 1) ≡ Some Closing.Asked) }
+        ensures rest { self.new ≡ record self.old { connections = self.new.connections } }
+        ensures refused { IfErr result (λ e. refusal_of self.old.config (known self.old.connections.items) (event.Close number) ≡ Some e) }
+        ensures err { OnErr result (self.new ≡ self.old) }
+    {
+        let index = match find_open(&self.connections, number) {
+            Ok(index) => index,
+            Err(error) => return Err(error),
+        };
+        close_at(&mut self.connections, index);
+        Ok(())
+    }
+
+    /// The reply bytes of a connection since the last taking, moved out.
+    pub fn take_output(&mut self, alloc: Global, number: u64) -> Result<Vec<u8>, ServiceError>
+        ensures text { IfOk result (λ text. text.items ≡ text_at self.old.connections.items (number - 1)) }
+        ensures taken { OnOk result (text_at self.new.connections.items (number - 1) ≡ []) }
+        ensures others { (place : ℕ) → place ≢ number - 1 → slice_get self.new.connections.items place ≡ slice_get self.old.connections.items place }
+        ensures closings { (place : ℕ) → closing_at self.new.connections.items place ≡ closing_at self.old.connections.items place }
+        ensures situation { (latest : ℕ) (dropped : Bool) (values : List HeldValue) → situation latest self.new.connections.items dropped values ≡ situation latest self.old.connections.items dropped values }
+        ensures rest { self.new ≡ record self.old { connections = self.new.connections } }
+        ensures refused { IsErr result ↔ (((known self.old.connections.items).was_opened number) ≡ false) }
+        ensures error { IfErr result (λ e. e ≡ ServiceError.NoConnection) }
+        ensures err { OnErr result (self.new ≡ self.old) }
+    {
+        let index = match find_opened(&self.connections, number) {
+            Ok(index) => index,
+            Err(error) => return Err(error),
+        };
+        Ok(take_at(&mut self.connections, alloc, index))
+    }
+
+    /// Why a connection is closed, if it is.
+    pub fn closed(&self, number: u64) -> Result<Option<Closing>, ServiceError>
+        ensures closing { IfOk result (λ closing. closing ≡ closing_at self.now.connections.items (number - 1)) }
+        ensures refused { IsErr result ↔ (((known self.now.connections.items).was_opened number) ≡ false) }
+        ensures error { IfErr result (λ e. e ≡ ServiceError.NoConnection) }
+    {
+        let index = match find_opened(&self.connections, number) {
+            Ok(index) => index,
+            Err(error) => return Err(error),
+        };
+        Ok(closing_of(&self.connections, index))
+    }
+}
+
+/// The place of a connection that was opened.
+fn find_opened(connections: &[Connection], number: u64) -> Result<usize, ServiceError>
+    ensures place { IfOk result (λ index. (number ≡ index + 1) × (index < length connections.now)) }
+    ensures refused { IsErr result ↔ (((known connections.now).was_opened number) ≡ false) }
+    ensures error { IfErr result (λ e. e ≡ ServiceError.NoConnection) }
+{
+    if number == 0 || number > connections.len() as u64 {
+        return Err(ServiceError::NoConnection);
+    }
+    Ok((number - 1) as usize)
+}
+
+/// Why the connection at a place is closed, if it is.
+fn closing_of(connections: &[Connection], index: usize) -> Option<Closing>
+    requires { index < length connections.now }
+    ensures { result ≡ closing_at connections.now index }
+{
+    let connection = &connections[index];
+    connection.closing
+}
+
+/// Closes the connection at a place.
+fn close_at(connections: &mut Vec<Connection>, index: usize)
+    requires { index < length connections.old.items }
+    ensures { (p : ReplacedAt connections.old.items connections.new.items index) × (p.is.closing ≡ Some Closing.Asked) × (p.is.output.items ≡ p.was.output.items) }
+{
+    let connection = &mut connections[index];
+    close_connection(connection);
+}
+
+fn close_connection(connection: &mut Connection)
+    ensures closing { connection.new.closing ≡ Some Closing.Asked }
+    ensures output { connection.new.output.items ≡ connection.old.output.items }
+{
+    connection.closing = Some(Closing::Asked);
+    connection.held = false;
+    connection.unread.clear();
+}
+
+/// Moves out the replies of the connection at a place.
+fn take_at(connections: &mut Vec<Connection>, alloc: Global, index: usize) -> Vec<u8>
+    requires { index < length connections.old.items }
+    ensures replaced { (p : ReplacedAt connections.old.items connections.new.items index) × (p.is.unread.bytes ≡ p.was.unread.bytes) × (p.is.held ≡ p.was.held) × (p.is.closing ≡ p.was.closing) × (p.is.output.items ≡ []) × (result.items ≡ p.was.output.items) }
+{
+    let connection = &mut connections[index];
+    mem::replace(&mut connection.output, Vec::new(alloc))
+}

@@ -1,0 +1,90 @@
+-- What a namespace's calls say of each situation that it stands for.
+use Rattle.std.proofs.Common.{◌≡◌, ◌≢◌, ℕ, zero, suc, Bool, false, List, [], ◌∷◌, ◌++◌, length, Option, Some, None, refl, sym, ap, ◌∙◌, subst}
+use Rattle.audit_model.specs.Follows.{Follows}
+use Rattle.audit_model.specs.Situation.{Situation, HeldValue}
+use Rattle.audit_model.specs.declared.config.Config.{Config}
+use Rattle.audit_model.specs.declared.event.Event.{Event}
+use Rattle.cache_namespace.specs.Gathered.{Gathered}
+use Rattle.cache_namespace.specs.Shown.{situation}
+use Rattle.cache_namespace.specs.Taken.{Takes, record_of}
+use Rattle.cache_namespace.specs.declared.connection.Connection.{Connection}
+use Rattle.plain_store.specs.Seen.{Holds}
+use Rattle.plain_store.specs.declared.store.PlainStore.{PlainStore}
+use Rattle.std.specs.List.{slice_get}
+use Rattle.std.specs.Option.{option_map_or}
+use Rattle.cache_namespace.specs.Taken.{text_at}
+use Rattle.cache_namespace.specs.declared.kept.Kept.{Kept}
+use Rattle.cache_spaces.specs.Moves.{Moves}
+use Rattle.cache_spaces.specs.Serves.{Serves}
+use Rattle.cache_spaces.specs.declared.space.Space.{Space}
+use Rattle.cache_spaces.specs.Spaces.{StandsWith, Stands, config_of, gathered_in, output_of, notices_of}
+
+-- an event that is taken, whatever values are held
+pub moves-from : (config : Config) (store left : PlainStore) (latest now : ℕ) (old new : List Connection) (happened : Event) (is_held : Bool) (was is : Gathered) (s : Situation)
+    → StandsWith store latest old s
+    → ((values : List HeldValue) → Holds store values → Takes config (situation latest old false values) happened is_held (Holds left) (situation now new false) was is)
+    → Moves config s happened is_held (StandsWith left now new) was is
+moves-from config store left latest now old new happened is_held was is s stands takes =
+    let t = takes stands.values stands.held in
+    record {
+      steps = t.steps;
+      next = situation now new false t.left;
+      stands = record { values = t.left; held = t.stands; same = refl };
+      follows = subst (λ x. Follows config x (record_of happened t.steps) (situation now new false t.left)) (sym stands.same) t.follows;
+      ends = t.ends;
+      gathered = t.gathered;
+    }
+
+-- what changes nothing
+pub stands-on : (store left : PlainStore) (latest now : ℕ) (old new : List Connection) (s : Situation) → StandsWith store latest old s
+    → ((values : List HeldValue) → Holds store values → Holds left values) → ((values : List HeldValue) → situation now new false values ≡ situation latest old false values) → StandsWith left now new s
+stands-on store left latest now old new s stands holds same =
+    record { values = stands.values; held = holds stands.values stands.held; same = stands.same ∙ sym (same stands.values) }
+
+-- a feed of which no record is made
+pub serves-from : (was is : Space) (number : ℕ) (s : Situation) (happened : Event) (is_held : Bool) (kept : Option Kept)
+    → Moves (config_of was) s happened is_held (Stands is) (gathered_in was number None) (gathered_in is number kept) → Serves was is number s happened is_held
+serves-from was is number s happened is_held kept m = record {
+  steps = m.steps;
+  next = m.next;
+  stands = m.stands;
+  follows = m.follows;
+  ends = m.ends;
+  output = ap (λ (g : Gathered). g.text) m.gathered;
+  notices = ap (λ (g : Gathered). g.waiting) m.gathered;
+}
+
+-- an event whose record has no replies and notes
+pub serves-still : (was is : Space) (number : ℕ) (s : Situation) (happened : Event) (is_held : Bool)
+    → Moves (config_of was) s happened is_held (Stands is) (gathered_in was number None) (gathered_in was number None) → output_of is number ≡ output_of was number → notices_of is ≡ notices_of was
+    → Serves was is number s happened is_held
+serves-still was is number s happened is_held m output notices = record {
+  steps = m.steps;
+  next = m.next;
+  stands = m.stands;
+  follows = m.follows;
+  ends = m.ends;
+  output = output ∙ ap (λ (g : Gathered). g.text) m.gathered;
+  notices = notices ∙ ap (λ (g : Gathered). g.waiting) m.gathered;
+}
+
+-- one more connection leaves the others
+pub others-opened : (cs : List Connection) (c : Connection) (place : ℕ) → place ≢ length cs → slice_get (cs ++ c ∷ []) place ≡ slice_get cs place
+others-opened [] c zero ne = absurd (ne refl)
+others-opened [] c (suc i) ne = refl
+others-opened (k ∷ ks) c zero ne = refl
+others-opened (k ∷ ks) c (suc i) ne = others-opened ks c i (λ e. ne (ap suc e))
+
+pub opened-at : (cs : List Connection) (c : Connection) → slice_get (cs ++ c ∷ []) (length cs) ≡ Some c
+opened-at [] c = refl
+opened-at (k ∷ ks) c = opened-at ks c
+
+pub none-at : (cs : List Connection) → slice_get cs (length cs) ≡ None
+none-at [] = refl
+none-at (k ∷ ks) = none-at ks
+
+-- a new connection has no replies yet
+pub opened-output : (cs : List Connection) (c : Connection) (place : ℕ) → place ≡ length cs → c.output.items ≡ [] → text_at (cs ++ c ∷ []) place ≡ text_at cs place
+opened-output cs c place e empty =
+    ap (text_at (cs ++ c ∷ [])) e ∙ ap (λ o. option_map_or (λ (k : Connection). k.output.items) o []) (opened-at cs c) ∙ empty
+    ∙ sym (ap (λ o. option_map_or (λ (k : Connection). k.output.items) o []) (none-at cs)) ∙ ap (text_at cs) (sym e)

@@ -1,0 +1,24 @@
+-- One namespace of a service in the place of another.
+use Rattle.std.proofs.Common.{◌≡◌, ℕ, ◌<◌, List, length, refl, sym, subst, get_or, inr}
+use Rattle.std.specs.Prelude.{slice_set}
+use Rattle.audit_model.specs.declared.input.ServiceError.{ServiceError}
+use Rattle.cache_namespace.proofs.Places.{at-place}
+use Rattle.cache_spaces.specs.Moves.{At}
+use Rattle.cache_spaces.specs.Serves.{SameSpace}
+use Rattle.cache_spaces.specs.Services.{Refuses}
+use Rattle.cache_spaces.specs.declared.space.Space.{Space}
+
+pub put-at : {X : Type 0} (Fact : X → X → Type 0) (xs : List X) (i : ℕ) (was is : X) → i < length xs → was ≡ get_or xs i was → Fact was is → At xs (slice_set xs i is) i Fact
+put-at Fact xs i was is lt at fact = record { was = was; is = is; at = at-place xs i was lt at; set = refl; fact = fact }
+
+pub at-of : {X : Type 0} (Fact : X → X → Type 0) (old new : List X) (i j : ℕ) → i ≡ j → At old new i Fact → At old new j Fact
+at-of Fact old new i j e a = subst (λ k. At old new k Fact) e a
+
+-- a refusal of a namespace that there is
+pub refuses-at : (Cause : Space → Type 0) (old new : List Space) (i j : ℕ) (e : ServiceError) → i ≡ j → At old new i (λ was is. SameSpace was is × Cause was) → Refuses old new j e Cause
+refuses-at Cause old new i j e same a = inr (subst (λ k. At old new k (λ was is. SameSpace was is × Cause was)) same a)
+
+-- a namespace that was left alone is the same
+pub same-space : (was is : Space) → is ≡ was → SameSpace was is
+same-space was is e =
+    subst (λ x. SameSpace was x) (sym e) (record { stands = λ s stands. stands; config = refl; outputs = λ number. refl; closings = λ number. refl; notices = refl })

@@ -1,0 +1,28 @@
+use Rattle.std.proofs.Common.{◌≡◌, ◌-◌, refl, ap, sym, ◌∙◌, None, arith, length}
+use Rattle.std.specs.List.{slice_get}
+use Rattle.cache_namespace.specs.Taken.{text_at}
+use Rattle.cache_spaces.specs.Spaces.{gathered_in}
+use Rattle.cache_spaces.proofs.Moving.{moves-from, serves-still, others-opened, opened-output}
+use Rattle.cache_spaces.proofs.space.Space.open.Goals as goal
+
+pub returns-in-Ok-clause-moves : goal.returns-in-Ok-clause-moves
+returns-in-Ok-clause-moves c = λ s was stands.
+    let old = c.args.self.now.inner in
+    let new = c.open.new.self in
+    moves-from old.config old.store new.store old.latest new.latest old.connections.items new.connections.items _ _ was was s stands (λ values held. c.in-Ok.ensures.ran values was held)
+
+pub returns-in-Ok-clause-takes : goal.returns-in-Ok-clause-takes
+returns-in-Ok-clause-takes c =
+    let old = c.args.self.now.inner in
+    let new = c.open.new.self in
+    let was = gathered_in c.args.self.now c.in-Ok.number None in
+    let added = c.in-Ok.ensures.connections in
+    let place : c.in-Ok.number - 1 ≡ length old.connections.items = let n = c.in-Ok.ensures.number in omega arith in
+    record {
+      serves = λ s stands.
+          serves-still c.args.self.now _ c.in-Ok.number s _ _
+          (moves-from old.config old.store new.store old.latest new.latest old.connections.items new.connections.items _ _ was was s stands (λ values held. c.in-Ok.ensures.ran values was held))
+          (ap (λ cs. text_at cs (c.in-Ok.number - 1)) added.3 ∙ opened-output old.connections.items added.0 (c.in-Ok.number - 1) place added.1) (rw c.in-Ok.ensures.rest refl);
+      others = λ k ne. ap (λ cs. slice_get cs k) added.3 ∙ others-opened old.connections.items added.0 k (λ e. ne (e ∙ sym place));
+      config = rw c.in-Ok.ensures.rest refl;
+    }

@@ -1,0 +1,6 @@
+pub mod Spaces
+pub mod Moves
+pub mod Serves
+pub mod Services
+pub mod Recorded
+pub mod Played

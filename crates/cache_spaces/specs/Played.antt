@@ -1,0 +1,46 @@
+-- What is played.
+use Rattle.std.specs.Prelude.{◌≡◌, ℕ, List, length, Some}
+use Rattle.std.specs.List.{slice_get}
+use Rattle.audit_laws.specs.Leading.{LeadsTo}
+use Rattle.audit_model.specs.Belongs.{Belongs, IsAdmitted}
+use Rattle.audit_model.specs.BelongsIn.{BelongsIn}
+use Rattle.audit_model.specs.Obeys.{Obeys}
+use Rattle.audit_model.specs.Situation.{Situation, empty_situation}
+use Rattle.audit_model.specs.declared.config.Config.{Config}
+use Rattle.audit_model.specs.declared.event.Instant.{Instant}
+use Rattle.audit_model.specs.declared.input.Input.{Input}
+use Rattle.audit_model.specs.declared.transcript.Transcript.{Transcript}
+use Rattle.cache_spaces.specs.Recorded.{IsQuiet}
+use Rattle.cache_spaces.specs.Spaces.{Stands, config_of}
+use Rattle.cache_spaces.specs.declared.space.Space.{Space}
+
+-- the namespace's transcript: it begins at that moment, belongs to the inputs, leads to a situation and obeys, and none of its events is one
+-- that is refused
+pub record Plays (config : Config) (namespace : ℕ) (moment : Instant) (inputs : List Input) (transcript : Transcript) : Type 0 where
+  pub made : transcript.made ≡ moment
+  pub belongs : Belongs config namespace transcript inputs
+  pub last : Situation
+  pub leads : LeadsTo config transcript last
+
+-- one transcript a configuration, in their order
+pub record ArePlayed (configs : List Config) (moment : Instant) (inputs : List Input) (transcripts : List Transcript) : Type 0 where
+  pub count : length transcripts ≡ length configs
+  pub each : (namespace : ℕ) (config : Config) (transcript : Transcript)
+      → slice_get configs namespace ≡ Some config → slice_get transcripts namespace ≡ Some transcript → Plays config namespace moment inputs transcript
+
+-- a namespace that has taken the inputs, with its transcript
+pub record HasPlayed (config : Config) (namespace : ℕ) (moment : Instant) (inputs : List Input) (transcript : Transcript) (space : Space) : Type 0 where
+  pub made : transcript.made ≡ moment
+  pub configured : config_of space ≡ config
+  pub last : Situation
+  pub stands : Stands space last
+  pub belongs : BelongsIn config namespace (empty_situation moment.nanos) inputs transcript.records last
+  pub quiet : IsQuiet space
+
+-- each namespace has taken the inputs
+pub record HavePlayed (configs : List Config) (moment : Instant) (inputs : List Input) (transcripts : List Transcript) (spaces : List Space) : Type 0 where
+  pub count : length transcripts ≡ length configs
+  pub spaces_count : length spaces ≡ length configs
+  pub each : (namespace : ℕ) (config : Config) (transcript : Transcript) (space : Space)
+      → slice_get configs namespace ≡ Some config → slice_get transcripts namespace ≡ Some transcript → slice_get spaces namespace ≡ Some space
+      → HasPlayed config namespace moment inputs transcript space

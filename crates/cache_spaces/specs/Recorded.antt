@@ -1,0 +1,65 @@
+-- What a namespace's record keeps of an input.
+use Rattle.std.specs.Prelude.{◌≡◌, ℕ, ◌+◌, List, [], ◌∷◌, ◌++◌, length, ◌⊎◌, Some}
+use Rattle.audit_model.specs.Belongs.{refusal_of, event_in}
+use Rattle.audit_model.specs.Follows.{Follows}
+use Rattle.audit_model.specs.Situation.{Situation}
+use Rattle.audit_model.specs.declared.config.Config.{Config}
+use Rattle.audit_model.specs.declared.event.Event.{Event}
+use Rattle.audit_model.specs.declared.input.Input.{Input}
+use Rattle.audit_model.specs.declared.input.Input.TheVariants as input
+use Rattle.audit_model.specs.declared.input.ServiceError.{ServiceError}
+use Rattle.audit_model.specs.declared.input.ServiceError.TheVariants as error
+use Rattle.audit_model.specs.declared.transcript.Record.{Record}
+use Rattle.cache_namespace.specs.Taken.{known}
+use Rattle.cache_spaces.specs.Serves.{SameSpace}
+use Rattle.cache_spaces.specs.Spaces.{Stands, config_of, connections_of, notices_of, output_of}
+use Rattle.cache_spaces.specs.declared.space.Space.{Space}
+
+-- no reply and no note waits to be taken: the records hold them
+pub record IsQuiet (space : Space) : Type 0 where
+  pub outputs : (number : ℕ) → output_of space number ≡ []
+  pub notices : notices_of space ≡ []
+
+-- the record leads on from that situation, and holds its replies and notes
+pub record LeadsOnIn (was is : Space) (s : Situation) (entry : Record) : Type 0 where
+  pub next : Situation
+  pub stands : Stands is next
+  pub follows : Follows (config_of was) s entry next
+  pub quiet : IsQuiet is
+
+-- the event happened, and its record was added
+pub record Records (happened : Event) (before after : List Record) (was is : Space) : Type 0 where
+  pub entry : Record
+  pub event : entry.event ≡ happened
+  pub added : after ≡ before ++ entry ∷ []
+  pub leads : (s : Situation) → Stands was s → LeadsOnIn was is s entry
+  pub config : config_of is ≡ config_of was
+
+-- the namespace that an input names
+abbrev pub namespace_of : Input → ℕ
+namespace_of (input.Open n) = n
+namespace_of (input.Close conn) = conn.namespace
+namespace_of (input.Feed conn piece moment) = conn.namespace
+namespace_of (input.Answer load outcome moment) = load.namespace
+namespace_of (input.GiveUp load moment) = load.namespace
+
+-- the input's event happened, and its record was added
+pub record RecordsInput (i : Input) (before after : List Record) (was is : Space) : Type 0 where
+  pub happened : Event
+  pub event : event_in (namespace_of i) (length (connections_of was)) i ≡ Some happened
+  pub records : Records happened before after was is
+
+-- the definition refuses the event with that, or memory was wanted
+abbrev pub Refused : Event → ServiceError → Space → Type 0
+Refused happened e was =
+    (refusal_of (config_of was) (known (connections_of was)) happened ≡ Some e) ⊎ ((e ≡ error.OutOfMemory) ⊎ (e ≡ error.HeldAgain))
+
+-- the input's event is refused so
+pub record RefusedInput (i : Input) (e : ServiceError) (was : Space) : Type 0 where
+  pub happened : Event
+  pub event : event_in (namespace_of i) (length (connections_of was)) i ≡ Some happened
+  pub refused : Refused happened e was
+
+-- nothing was recorded, and the space is the same
+abbrev pub Stays : List Record → List Record → Space → Space → Type 0
+Stays before after was is = (after ≡ before) × SameSpace was is

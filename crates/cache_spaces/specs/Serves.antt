@@ -1,0 +1,63 @@
+-- What a call of a service does to its namespaces.
+use Rattle.std.specs.Prelude.{◌≡◌, ◌≢◌, ℕ, ◌-◌, Bool, false, List, [], ◌++◌, Option, IsNone}
+use Rattle.std.specs.List.{flat_map, slice_get}
+use Rattle.audit_model.specs.Follows.{Follows}
+use Rattle.audit_model.specs.Situation.{Situation}
+use Rattle.audit_model.specs.declared.event.Event.{Event}
+use Rattle.audit_model.specs.declared.transcript.Step.{Step}
+use Rattle.cache_namespace.specs.Gathered.{reply_in}
+use Rattle.cache_namespace.specs.Ran.{ends_held}
+use Rattle.std.specs.Option.{option_to_list}
+use Rattle.audit_model.specs.declared.input.ServiceError.{ServiceError}
+use Rattle.audit_model.specs.declared.input.ServiceError.TheVariants as error
+use Rattle.audit_model.specs.declared.transcript.Note.{Note}
+use Rattle.cache_namespace.specs.Taken.{record_of, known}
+use Rattle.cache_spaces.specs.Spaces.{Stands, config_of, connections_of, notices_of, output_of, closing_of}
+use Rattle.cache_spaces.specs.declared.space.Space.{Space}
+
+-- The event's record follows; its replies stand behind the output of that connection, and its notes behind the notices.
+pub record Serves (was is : Space) (number : ℕ) (s : Situation) (happened : Event) (is_held : Bool) : Type 0 where
+  pub steps : List Step
+  pub next : Situation
+  pub stands : Stands is next
+  pub follows : Follows (config_of was) s (record_of happened steps) next
+  pub ends : ends_held steps ≡ is_held
+  pub output : output_of is number ≡ output_of was number ++ flat_map reply_in steps
+  pub notices : notices_of is ≡ notices_of was ++ flat_map (λ step. step.notices) steps
+
+-- each situation that the namespace stood for goes on by the event's record, and other connections are as they were
+pub record Takes (was is : Space) (number : ℕ) (happened : Event) (is_held : Bool) : Type 0 where
+  pub serves : (s : Situation) → Stands was s → Serves was is number s happened is_held
+  pub others : (place : ℕ) → place ≢ number - 1 → slice_get (connections_of is) place ≡ slice_get (connections_of was) place
+  pub config : config_of is ≡ config_of was
+
+-- the namespace is the same to whoever looks at it
+pub record SameSpace (was is : Space) : Type 0 where
+  pub stands : (s : Situation) → Stands was s → Stands is s
+  pub config : config_of is ≡ config_of was
+  pub outputs : (number : ℕ) → output_of is number ≡ output_of was number
+  pub closings : (number : ℕ) → closing_of is number ≡ closing_of was number
+  pub notices : notices_of is ≡ notices_of was
+
+-- The replies of a connection are moved out, and nothing else changes.
+pub record TakesOutput (was is : Space) (number : ℕ) (text : List ℕ) : Type 0 where
+  pub stands : (s : Situation) → Stands was s → Stands is s
+  pub taken : text ≡ output_of was number
+  pub none : output_of is number ≡ []
+  pub others : (place : ℕ) → place ≢ number - 1 → slice_get (connections_of is) place ≡ slice_get (connections_of was) place
+  pub closings : (n : ℕ) → closing_of is n ≡ closing_of was n
+  pub config : config_of is ≡ config_of was
+  pub notices : notices_of is ≡ notices_of was
+
+-- The oldest note is taken, if there is one, and nothing else changes.
+pub record TakesNotice (was is : Space) (note : Option Note) : Type 0 where
+  pub stands : (s : Situation) → Stands was s → Stands is s
+  pub taken : notices_of was ≡ option_to_list note ++ notices_of is
+  pub none : IsNone note → notices_of was ≡ []
+  pub connections : connections_of is ≡ connections_of was
+  pub config : config_of is ≡ config_of was
+
+-- the connection was never opened
+pub record IsUnknown (space : Space) (number : ℕ) (e : ServiceError) : Type 0 where
+  pub unknown : (known (connections_of space)).was_opened number ≡ false
+  pub error : e ≡ error.NoConnection

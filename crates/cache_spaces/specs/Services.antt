@@ -1,0 +1,51 @@
+-- What is seen of a service.
+use Rattle.std.specs.Prelude.{◌≡◌, ℕ, ◌≤◌, Bool, true, false, List, [], ◌∷◌, length, ◌⊎◌, Some}
+use Rattle.std.specs.List.{slice_get}
+use Rattle.cache_spaces.specs.Moves.{At}
+use Rattle.cache_spaces.specs.Serves.{SameSpace}
+use Rattle.audit_model.specs.declared.input.ServiceError.{ServiceError}
+use Rattle.audit_model.specs.declared.input.ServiceError.TheVariants as error
+use Rattle.cache_spaces.specs.declared.service.Fed.{Fed}
+use Rattle.cache_spaces.specs.declared.service.Fed.TheVariants.{All, Held}
+use Rattle.audit_model.specs.Situation.{empty_situation}
+use Rattle.audit_model.specs.declared.config.Config.{Config}
+use Rattle.plain_store.specs.Plain.{is_plain}
+use Rattle.cache_spaces.specs.Spaces.{Stands, config_of, connections_of, notices_of}
+use Rattle.cache_spaces.specs.declared.service.Service.{Service}
+use Rattle.cache_spaces.specs.declared.space.Space.{Space}
+
+-- its namespaces, in order
+abbrev pub spaces_of : Service → List Space
+spaces_of service = service.spaces.items
+
+-- the configurations that a service is made with: one namespace, of plain configuration
+abbrev pub are_taken : List Config → Bool
+are_taken [] = false
+are_taken (config ∷ []) = is_plain config
+are_taken (config ∷ next ∷ configs) = false
+
+-- a namespace just made
+pub record IsNew (space : Space) (config : Config) (made : ℕ) : Type 0 where
+  pub stands : Stands space (empty_situation made)
+  pub configured : config_of space ≡ config
+  pub connections : connections_of space ≡ []
+  pub notices : notices_of space ≡ []
+
+-- each namespace is new, of its configuration
+abbrev pub AreNew : List Space → List Config → ℕ → Type 0
+AreNew [] [] made = Unit {0}
+AreNew (space ∷ spaces) (config ∷ configs) made = IsNew space config made × AreNew spaces configs made
+AreNew spaces configs made = ⊥
+
+abbrev pub is_held : Fed → Bool
+is_held All = false
+is_held Held = true
+
+-- A call of a namespace was refused: there is no such namespace; or nothing has changed, and the cause is true.
+abbrev pub Refuses : List Space → List Space → ℕ → ServiceError → (Space → Type 0) → Type 0
+Refuses old new namespace e Cause =
+    ((e ≡ error.NoNamespace) × (length old ≤ namespace) × (new ≡ old)) ⊎ At old new namespace (λ was is. SameSpace was is × Cause was)
+
+-- the namespace of that number is this one
+abbrev pub IsSpace : List Space → ℕ → Space → Type 0
+IsSpace spaces namespace space = slice_get spaces namespace ≡ Some space

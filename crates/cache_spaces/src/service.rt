@@ -1,0 +1,353 @@
+//! A service: namespaces, each with its connections.
+ghost use Rattle.std.specs.Prelude.{◌-◌, ◌≡◌, ◌≢◌, ◌≤◌, ◌<◌, ◌^◌, ◌+◌, ◌++◌, ◌∷◌, ◌⊎◌, [], None, Some, ℕ, Bool, true, false, IfOk, IfErr, OnOk, OnErr, IsErr, IsErrOf, IsErrAnd, IfNone, IfSome, IsTrue, MatchOption, length, ◌↔◌};
+ghost use Rattle.plain_store.specs.Plain.{is_plain};
+ghost use Rattle.audit_model.specs.Belongs.{refusal_of};
+ghost use Rattle.audit_model.specs.declared.event.Event.TheVariants as event;
+ghost use Rattle.cache_namespace.specs.Taken.{RefusedFor, fed, holds_at, known};
+ghost use Rattle.cache_spaces.specs.Moves.{At};
+ghost use Rattle.cache_spaces.specs.Serves.{Takes, SameSpace, TakesOutput, TakesNotice, IsUnknown};
+ghost use Rattle.cache_spaces.specs.Services.{are_taken, AreNew, spaces_of};
+ghost use Rattle.cache_spaces.specs.Spaces.{config_of, connections_of, closing_of};
+
+use crate::space::Space;
+use audit_model::{Bytes, Closing, Config, Conn, Instant, LoadId, Note, Outcome, ServiceError};
+use plain_store::is_plain;
+use std::alloc::{AllocError, Global};
+
+/// Namespaces, each with its connections and values.
+///
+/// Connection numbers count from 1 within each namespace. In this stage there is one namespace, without capacity, times and
+/// own deadlines, of one part, in which each value weighs one.
+#[derive(Drop)]
+pub struct Service {
+    alloc: Global,
+    spaces: Vec<Space>,
+}
+
+/// What a feed did.
+#[derive(Clone, Copy, Debug, PartialEq, Eq, Drop)]
+pub enum Fed {
+    /// The lines that could run have run.
+    All,
+    /// A command was refused for memory, and stays first.
+    Held,
+}
+
+/// An outcome that was not taken, handed back.
+#[derive(Drop)]
+pub struct AnswerError {
+    pub error: ServiceError,
+    pub outcome: Outcome,
+}
+
+impl Service {
+    ghost use Rattle.std.specs.List.{slice_get, flat_map};
+    ghost use Rattle.audit_model.specs.Belongs.{refusal_of};
+    ghost use Rattle.audit_model.specs.declared.event.Event.TheVariants as event;
+    ghost use Rattle.cache_namespace.specs.Taken.{RefusedFor, fed, holds_at, known};
+    ghost use Rattle.cache_spaces.specs.Moves.{At};
+    ghost use Rattle.cache_spaces.specs.Serves.{Takes, SameSpace, TakesOutput, TakesNotice, IsUnknown};
+    ghost use Rattle.cache_spaces.specs.declared.space.Space.{Space as Seen};
+    ghost use Rattle.cache_spaces.specs.Services.{AreNew, Refuses, IsSpace, spaces_of, is_held};
+    ghost use Rattle.cache_spaces.specs.Spaces.{config_of, connections_of, notices_of, output_of, closing_of};
+
+    /// A service of these configurations, made at that moment.
+    ///
+    /// Refused with `Moment` above 2^63 - 1 nanoseconds, then with `Config` where a configuration or their number is not
+    /// served, then with `OutOfMemory`.
+    pub fn new(alloc: Global, configs: &[Config], moment: Instant) -> Result<Service, ServiceError>
+        ensures made { IfOk result (λ service. AreNew (spaces_of service) configs.now moment.nanos) }
+        ensures moment { IsErrOf result ServiceError.Moment ↔ (2 ^ 63 ≤ moment.nanos) }
+        ensures config { IsErrOf result ServiceError.Config ↔ ((moment.nanos < 2 ^ 63) × (are_taken configs.now ≡ false)) }
+        ensures memory { IfErr result (λ e. (e ≡ ServiceError.Moment) ⊎ (e ≡ ServiceError.Config) ⊎ (e ≡ ServiceError.OutOfMemory)) }
+    {
+        if moment.nanos > MAX_MOMENT {
+            return Err(ServiceError::Moment);
+        }
+        match configs {
+            [config] if is_plain(config) => one_space(alloc, *config, moment.nanos),
+            _ => Err(ServiceError::Config),
+        }
+    }
+
+    /// Opens a connection in a namespace. Refused with `NoNamespace`, then with `OutOfMemory`.
+    pub fn open(&mut self, namespace: u64) -> Result<Conn, ServiceError>
+        ensures taken { IfOk result (λ conn. (conn.namespace ≡ namespace) × At (spaces_of self.old) (spaces_of self.new) namespace (λ was is. Takes was is conn.number (event.Open conn.number) false × (conn.number ≡ length (connections_of was) + 1))) }
+        ensures refused { IfErr result (λ e. Refuses (spaces_of self.old) (spaces_of self.new) namespace e (λ was. e ≡ ServiceError.OutOfMemory)) }
+    {
+        let index = match self.index_of(namespace) {
+            Ok(index) => index,
+            Err(error) => return Err(error),
+        };
+        match open_in(&mut self.spaces, self.alloc, index) {
+            Ok(number) => Ok(Conn { namespace, number }),
+            Err(_) => Err(ServiceError::OutOfMemory),
+        }
+    }
+
+    /// Closes a connection: its unread bytes and its held command are dropped. Refused with `NoNamespace`, `NoConnection`,
+    /// `Closed`.
+    pub fn close(&mut self, conn: Conn) -> Result<(), ServiceError>
+        ensures taken { OnOk result (At (spaces_of self.old) (spaces_of self.new) conn.namespace (λ was is. Takes was is conn.number (event.Close conn.number) false × (closing_of is conn.number ≡ Some Closing.Asked))) }
+        ensures refused { IfErr result (λ e. Refuses (spaces_of self.old) (spaces_of self.new) conn.namespace e (λ was. refusal_of (config_of was) (known (connections_of was)) (event.Close conn.number) ≡ Some e)) }
+    {
+        let index = match self.index_of(conn.namespace) {
+            Ok(index) => index,
+            Err(error) => return Err(error),
+        };
+        match close_in(&mut self.spaces, index, conn.number) {
+            Ok(()) => Ok(()),
+            Err(error) => Err(error),
+        }
+    }
+
+    /// Takes a piece of a connection's bytes at a moment, and runs its complete lines: a command that is held back runs first.
+    /// An earlier moment counts as the namespace's latest.
+    ///
+    /// Refused with `NoNamespace`, `NoConnection`, `Closed`, `Moment` above 2^63 - 1 nanoseconds, `OutOfMemory`, and with
+    /// `HeldAgain` where the held command is refused for memory again. Then nothing has changed.
+    pub fn feed(&mut self, conn: Conn, piece: &[u8], moment: Instant) -> Result<Fed, ServiceError>
+        ensures taken { IfOk result (λ done. At (spaces_of self.old) (spaces_of self.new) conn.namespace (λ was is. Takes was is conn.number (fed conn.number piece.now moment.nanos) (is_held done))) }
+        ensures refused { IfErr result (λ e. Refuses (spaces_of self.old) (spaces_of self.new) conn.namespace e (λ was. RefusedFor (config_of was) (connections_of was) (fed conn.number piece.now moment.nanos) (holds_at (connections_of was) conn.number) e)) }
+    {
+        let index = match self.index_of(conn.namespace) {
+            Ok(index) => index,
+            Err(error) => return Err(error),
+        };
+        match feed_in(
+            &mut self.spaces,
+            self.alloc,
+            index,
+            conn.number,
+            piece,
+            moment.nanos,
+        ) {
+            Ok(true) => Ok(Fed::Held),
+            Ok(false) => Ok(Fed::All),
+            Err(error) => Err(error),
+        }
+    }
+
+    /// The reply bytes of a connection since the last taking, moved out; also after it closed. Takes no memory. Refused with
+    /// `NoNamespace`, `NoConnection`.
+    pub fn take_output(&mut self, conn: Conn) -> Result<Vec<u8>, ServiceError>
+        ensures taken { IfOk result (λ text. At (spaces_of self.old) (spaces_of self.new) conn.namespace (λ was is. TakesOutput was is conn.number text.items)) }
+        ensures refused { IfErr result (λ e. Refuses (spaces_of self.old) (spaces_of self.new) conn.namespace e (λ was. IsUnknown was conn.number e)) }
+    {
+        let index = match self.index_of(conn.namespace) {
+            Ok(index) => index,
+            Err(error) => return Err(error),
+        };
+        match take_output_in(&mut self.spaces, self.alloc, index, conn.number) {
+            Ok(text) => Ok(text),
+            Err(error) => Err(error),
+        }
+    }
+
+    /// The oldest note of a namespace that was told and not taken. Takes no memory. Refused with `NoNamespace`.
+    pub fn next_notice(&mut self, namespace: u64) -> Result<Option<Note>, ServiceError>
+        ensures taken { IfOk result (λ note. At (spaces_of self.old) (spaces_of self.new) namespace (λ was is. TakesNotice was is note)) }
+        ensures refused { IfErr result (λ e. Refuses (spaces_of self.old) (spaces_of self.new) namespace e (λ was. ⊥)) }
+    {
+        let index = match self.index_of(namespace) {
+            Ok(index) => index,
+            Err(error) => return Err(error),
+        };
+        Ok(next_notice_in(&mut self.spaces, index))
+    }
+
+    /// Why a connection is closed, if it is. Takes no memory. Refused with `NoNamespace`, `NoConnection`.
+    pub fn closed(&self, conn: Conn) -> Result<Option<Closing>, ServiceError>
+        ensures closing { IfOk result (λ closing. (space : Seen) → IsSpace (spaces_of self.now) conn.namespace space → closing ≡ closing_of space conn.number) }
+        ensures refused { IfErr result (λ e. ((e ≡ ServiceError.NoNamespace) × (length (spaces_of self.now) ≤ conn.namespace)) ⊎ ((space : Seen) → IsSpace (spaces_of self.now) conn.namespace space → IsUnknown space conn.number e)) }
+        ensures known { OnOk result ((space : Seen) → IsSpace (spaces_of self.now) conn.namespace space → (known (connections_of space)).was_opened conn.number ≡ true) }
+    {
+        let index = match self.index_of(conn.namespace) {
+            Ok(index) => index,
+            Err(error) => return Err(error),
+        };
+        let space = &self.spaces[index];
+        match space.closed(conn.number) {
+            Ok(closing) => Ok(closing),
+            Err(error) => Err(error),
+        }
+    }
+
+    /// Whether a `LOAD` of the connection waits: none does in this stage. Takes no memory. Refused with `NoNamespace`,
+    /// `NoConnection`.
+    pub fn waiting(&self, conn: Conn) -> Result<bool, ServiceError>
+        ensures none { IfOk result (λ waits. waits ≡ false) }
+        ensures refused { IfErr result (λ e. ((e ≡ ServiceError.NoNamespace) × (length (spaces_of self.now) ≤ conn.namespace)) ⊎ ((space : Seen) → IsSpace (spaces_of self.now) conn.namespace space → IsUnknown space conn.number e)) }
+    {
+        match self.closed(conn) {
+            Ok(_) => Ok(false),
+            Err(error) => Err(error),
+        }
+    }
+
+    /// How many loads of a namespace are under way: none is in this stage. Takes no memory. Refused with `NoNamespace`.
+    pub fn loads_open(&self, namespace: u64) -> Result<u64, ServiceError>
+        ensures none { IfOk result (λ count. count ≡ 0) }
+        ensures known { OnOk result (namespace < length (spaces_of self.now)) }
+        ensures refused { IfErr result (λ e. (e ≡ ServiceError.NoNamespace) × (length (spaces_of self.now) ≤ namespace)) }
+    {
+        match self.index_of(namespace) {
+            Ok(_) => Ok(0),
+            Err(error) => Err(error),
+        }
+    }
+
+    /// The loads of a namespace that went out and were not taken, with their keys: none does in this stage. Takes no memory.
+    /// Refused with `NoNamespace`.
+    pub fn take_loads(&mut self, namespace: u64) -> Result<Vec<(LoadId, Bytes)>, ServiceError>
+        ensures none { IfOk result (λ loads. loads.items ≡ []) }
+        ensures known { OnOk result (namespace < length (spaces_of self.old)) }
+        ensures refused { IfErr result (λ e. (e ≡ ServiceError.NoNamespace) × (length (spaces_of self.old) ≤ namespace)) }
+        ensures unchanged { self.new ≡ self.old }
+    {
+        match self.index_of(namespace) {
+            Ok(_) => Ok(Vec::new(self.alloc)),
+            Err(error) => Err(error),
+        }
+    }
+
+    /// Answers a load. No load goes out in this stage: refused with `NoNamespace`, then with `NoLoad`, the outcome handed back.
+    pub fn answer(
+        &mut self,
+        load: LoadId,
+        outcome: Outcome,
+        moment: Instant,
+    ) -> Result<(), AnswerError>
+        ensures refused { IsErrAnd result (λ e. (e.outcome ≡ outcome) × ((e.error ≡ ServiceError.NoNamespace) ↔ (length (spaces_of self.old) ≤ load.namespace)) × ((e.error ≡ ServiceError.NoLoad) ↔ (load.namespace < length (spaces_of self.old)))) }
+        ensures unchanged { self.new ≡ self.old }
+    {
+        let _moment = moment;
+        let error = self.no_load(load);
+        Err(AnswerError { error, outcome })
+    }
+
+    /// Gives a load up. No load goes out in this stage: refused with `NoNamespace`, then with `NoLoad`.
+    pub fn give_up(&mut self, load: LoadId, moment: Instant) -> Result<(), ServiceError>
+        ensures refused { IsErrAnd result (λ e. ((e ≡ ServiceError.NoNamespace) ↔ (length (spaces_of self.old) ≤ load.namespace)) × ((e ≡ ServiceError.NoLoad) ↔ (load.namespace < length (spaces_of self.old)))) }
+        ensures unchanged { self.new ≡ self.old }
+    {
+        let _moment = moment;
+        Err(self.no_load(load))
+    }
+
+    /// Why a load is refused.
+    fn no_load(&self, load: LoadId) -> ServiceError
+        ensures namespace { (result ≡ ServiceError.NoNamespace) ↔ (length (spaces_of self.now) ≤ load.namespace) }
+        ensures load { (result ≡ ServiceError.NoLoad) ↔ (load.namespace < length (spaces_of self.now)) }
+    {
+        if load.namespace >= self.spaces.len() as u64 {
+            ServiceError::NoNamespace
+        } else {
+            ServiceError::NoLoad
+        }
+    }
+
+    /// The place of a namespace.
+    fn index_of(&self, namespace: u64) -> Result<usize, ServiceError>
+        ensures place { IfOk result (λ index. (index ≡ namespace) × (index < length (spaces_of self.now))) }
+        ensures error { IfErr result (λ e. (e ≡ ServiceError.NoNamespace) × (length (spaces_of self.now) ≤ namespace)) }
+    {
+        if namespace >= self.spaces.len() as u64 {
+            return Err(ServiceError::NoNamespace);
+        }
+        Ok(namespace as usize)
+    }
+}
+
+/// Opens a connection of the namespace at a place.
+fn open_in(spaces: &mut Vec<Space>, alloc: Global, index: usize) -> Result<u64, AllocError>
+    requires { index < length spaces.old.items }
+    ensures ok { IfOk result (λ number. At spaces.old.items spaces.new.items index (λ was is. Takes was is number (event.Open number) false × (number ≡ length (connections_of was) + 1))) }
+    ensures err { OnErr result (At spaces.old.items spaces.new.items index SameSpace) }
+{
+    let space = &mut spaces[index];
+    match space.open(alloc) {
+        Ok(number) => Ok(number),
+        Err(error) => Err(error),
+    }
+}
+
+/// Closes a connection of the namespace at a place.
+fn close_in(spaces: &mut Vec<Space>, index: usize, number: u64) -> Result<(), ServiceError>
+    requires { index < length spaces.old.items }
+    ensures ok { OnOk result (At spaces.old.items spaces.new.items index (λ was is. Takes was is number (event.Close number) false × (closing_of is number ≡ Some Closing.Asked))) }
+    ensures err { IfErr result (λ e. At spaces.old.items spaces.new.items index (λ was is. SameSpace was is × (refusal_of (config_of was) (known (connections_of was)) (event.Close number) ≡ Some e))) }
+{
+    let space = &mut spaces[index];
+    match space.close(number) {
+        Ok(()) => Ok(()),
+        Err(error) => Err(error),
+    }
+}
+
+/// Moves out the replies of a connection of the namespace at a place.
+fn take_output_in(
+    spaces: &mut Vec<Space>,
+    alloc: Global,
+    index: usize,
+    number: u64,
+) -> Result<Vec<u8>, ServiceError>
+    requires { index < length spaces.old.items }
+    ensures ok { IfOk result (λ text. At spaces.old.items spaces.new.items index (λ was is. TakesOutput was is number text.items)) }
+    ensures err { IfErr result (λ e. At spaces.old.items spaces.new.items index (λ was is. SameSpace was is × IsUnknown was number e)) }
+{
+    let space = &mut spaces[index];
+    match space.take_output(alloc, number) {
+        Ok(text) => Ok(text),
+        Err(error) => Err(error),
+    }
+}
+
+/// Takes the oldest note of the namespace at a place.
+fn next_notice_in(spaces: &mut Vec<Space>, index: usize) -> Option<Note>
+    requires { index < length spaces.old.items }
+    ensures { At spaces.old.items spaces.new.items index (λ was is. TakesNotice was is result) }
+{
+    let space = &mut spaces[index];
+    match space.next_notice() {
+        Some(note) => Some(note),
+        None => None,
+    }
+}
+
+/// Takes a piece for a connection of the namespace at a place.
+fn feed_in(
+    spaces: &mut Vec<Space>,
+    alloc: Global,
+    index: usize,
+    number: u64,
+    piece: &[u8],
+    moment: u64,
+) -> Result<bool, ServiceError>
+    requires { index < length spaces.old.items }
+    ensures ok { IfOk result (λ is_held. At spaces.old.items spaces.new.items index (λ was is. Takes was is number (fed number piece.now moment) is_held)) }
+    ensures err { IfErr result (λ e. At spaces.old.items spaces.new.items index (λ was is. SameSpace was is × RefusedFor (config_of was) (connections_of was) (fed number piece.now moment) (holds_at (connections_of was) number) e)) }
+{
+    let space = &mut spaces[index];
+    match space.serve(alloc, number, piece, moment) {
+        Ok(is_held) => Ok(is_held),
+        Err(error) => Err(error),
+    }
+}
+
+/// The latest moment that may be handed in.
+const MAX_MOMENT: u64 = (1 << 63) - 1;
+
+/// A service of one namespace.
+fn one_space(alloc: Global, config: Config, made: u64) -> Result<Service, ServiceError>
+    requires config { IsTrue (is_plain config) }
+    requires moment { made < 2 ^ 63 }
+    ensures made { IfOk result (λ service. AreNew (spaces_of service) (config ∷ []) made) }
+    ensures memory { IfErr result (λ e. e ≡ ServiceError.OutOfMemory) }
+{
+    let mut spaces = Vec::new(alloc);
+    match spaces.push(Space::new(alloc, config, made)) {
+        Ok(()) => Ok(Service { alloc, spaces }),
+        Err(_) => Err(ServiceError::OutOfMemory),
+    }
+}

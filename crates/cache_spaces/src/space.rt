@@ -1,0 +1,169 @@
+//! One namespace of a service.
+ghost use Rattle.std.specs.Prelude.{◌-◌, ◌≡◌, ◌≢◌, ◌≤◌, ◌<◌, ◌^◌, ◌+◌, ◌++◌, ◌∷◌, [], None, Some, ℕ, Bool, true, false, IfOk, IfErr, OnOk, OnErr, IsErr, IfNone, IfSome, IsTrue, length, ◌↔◌};
+ghost use Rattle.plain_store.specs.Plain.{is_plain};
+ghost use Rattle.plain_store.specs.Seen.{frame_of};
+ghost use Rattle.cache_namespace.specs.Taken.{IsSound};
+
+use audit_model::{Closing, Config, Note, ServiceError};
+use cache_namespace::{Kept, Namespace};
+use cache_store::Store;
+use plain_store::PlainStore;
+use std::alloc::{AllocError, Global};
+
+/// A namespace: its connections over its values.
+#[derive(Drop)]
+pub struct Space {
+    inner: Namespace<PlainStore>,
+    ghost sound: { IsSound inner.config (frame_of inner.store) inner.latest },
+}
+
+impl Space {
+    ghost use Rattle.std.specs.List.{slice_get};
+    ghost use Rattle.audit_model.specs.Belongs.{refusal_of};
+    ghost use Rattle.audit_model.specs.Situation.{Situation, empty_situation};
+    ghost use Rattle.audit_model.specs.declared.event.Event.TheVariants as event;
+    ghost use Rattle.cache_namespace.specs.Gathered.{Gathered, IsFresh};
+    ghost use Rattle.cache_namespace.specs.Kept.{IsReadyToHold, steps_of};
+    ghost use Rattle.cache_namespace.specs.Taken.{RefusedFor, fed, holds_at, known};
+    ghost use Rattle.cache_namespace.specs.declared.connection.Connection.{Connection};
+    ghost use Rattle.cache_spaces.specs.Moves.{Moves};
+    ghost use Rattle.cache_spaces.specs.Serves.{Serves, Takes, SameSpace};
+    ghost use Rattle.cache_spaces.specs.Spaces.{Stands, config_of, connections_of, notices_of, output_of, closing_of, gathered_in};
+
+    /// A namespace without connections and values.
+    pub fn new(alloc: Global, config: Config, made: u64) -> Space
+        requires config { IsTrue (is_plain config) }
+        requires moment { made < 2 ^ 63 }
+        ensures stands { Stands result (empty_situation made) }
+        ensures config { config_of result ≡ config }
+        ensures notices { notices_of result ≡ [] }
+        ensures connections { connections_of result ≡ [] }
+    {
+        Space {
+            inner: Namespace {
+                store: PlainStore::new(alloc, config, made),
+                config,
+                latest: made,
+                connections: Vec::new(alloc),
+            },
+        }
+    }
+
+    /// Takes a piece of a connection's bytes, and answers whether its last command is held back.
+    pub fn feed(
+        &mut self,
+        alloc: Global,
+        number: u64,
+        piece: &[u8],
+        moment: u64,
+        kept: &mut Option<Kept>,
+    ) -> Result<bool, ServiceError>
+        requires fresh { IsFresh (gathered_in self.old number kept.old) }
+        requires ready { IsReadyToHold kept.old }
+        ensures moves { IfOk result (λ is_held. (s : Situation) → Stands self.old s → Moves (config_of self.old) s (fed number piece.now moment) is_held (Stands self.new) (gathered_in self.old number kept.old) (gathered_in self.new number kept.new)) }
+        ensures others { OnOk result ((place : ℕ) → place ≢ number - 1 → slice_get (connections_of self.new) place ≡ slice_get (connections_of self.old) place) }
+        ensures config { config_of self.new ≡ config_of self.old }
+        ensures fresh { IsFresh (gathered_in self.new number kept.new) }
+        ensures refused { IfErr result (RefusedFor (config_of self.old) (connections_of self.old) (fed number piece.now moment) (holds_at (connections_of self.old) number)) }
+        ensures stands { OnErr result ((s : Situation) → Stands self.old s → Stands self.new s) }
+        ensures outputs { OnErr result ((n : ℕ) → output_of self.new n ≡ output_of self.old n) }
+        ensures closings { OnErr result ((n : ℕ) → closing_of self.new n ≡ closing_of self.old n) }
+        ensures notices { OnErr result (notices_of self.new ≡ notices_of self.old) }
+        ensures kept { OnErr result (steps_of kept.new ≡ steps_of kept.old) }
+    {
+        match self.inner.feed(alloc, number, piece, moment, kept) {
+            Ok(is_held) => Ok(is_held),
+            Err(error) => Err(error),
+        }
+    }
+
+    /// Opens a connection, and answers its number.
+    pub fn open(&mut self, alloc: Global) -> Result<u64, AllocError>
+        ensures number { IfOk result (λ number. number ≡ length (connections_of self.old) + 1) }
+        ensures takes { IfOk result (λ number. Takes self.old self.new number (event.Open number) false) }
+        ensures moves { IfOk result (λ number. (s : Situation) (was : Gathered) → Stands self.old s → Moves (config_of self.old) s (event.Open number) false (Stands self.new) was was) }
+        ensures outputs { OnOk result ((n : ℕ) → output_of self.new n ≡ output_of self.old n) }
+        ensures notices { notices_of self.new ≡ notices_of self.old }
+        ensures same { OnErr result (SameSpace self.old self.new) }
+    {
+        match self.inner.open(alloc) {
+            Ok(number) => Ok(number),
+            Err(error) => Err(error),
+        }
+    }
+
+    /// Closes a connection.
+    pub fn close(&mut self, number: u64) -> Result<(), ServiceError>
+        ensures takes { OnOk result (Takes self.old self.new number (event.Close number) false) }
+        ensures moves { OnOk result ((s : Situation) (was : Gathered) → Stands self.old s → Moves (config_of self.old) s (event.Close number) false (Stands self.new) was was) }
+        ensures closed { OnOk result (closing_of self.new number ≡ Some Closing.Asked) }
+        ensures outputs { OnOk result ((n : ℕ) → output_of self.new n ≡ output_of self.old n) }
+        ensures notices { notices_of self.new ≡ notices_of self.old }
+        ensures refused { IfErr result (λ e. refusal_of (config_of self.old) (known (connections_of self.old)) (event.Close number) ≡ Some e) }
+        ensures err { OnErr result (self.new ≡ self.old) }
+    {
+        match self.inner.close(number) {
+            Ok(()) => Ok(()),
+            Err(error) => Err(error),
+        }
+    }
+
+    /// The reply bytes of a connection since the last taking, moved out.
+    pub fn take_output(&mut self, alloc: Global, number: u64) -> Result<Vec<u8>, ServiceError>
+        ensures text { IfOk result (λ text. text.items ≡ output_of self.old number) }
+        ensures taken { OnOk result (output_of self.new number ≡ []) }
+        ensures others { (place : ℕ) → place ≢ number - 1 → slice_get (connections_of self.new) place ≡ slice_get (connections_of self.old) place }
+        ensures closings { (n : ℕ) → closing_of self.new n ≡ closing_of self.old n }
+        ensures stands { (s : Situation) → Stands self.old s → Stands self.new s }
+        ensures config { config_of self.new ≡ config_of self.old }
+        ensures notices { notices_of self.new ≡ notices_of self.old }
+        ensures refused { IsErr result ↔ ((known (connections_of self.old)).was_opened number ≡ false) }
+        ensures error { IfErr result (λ e. e ≡ ServiceError.NoConnection) }
+        ensures err { OnErr result (self.new ≡ self.old) }
+    {
+        match self.inner.take_output(alloc, number) {
+            Ok(text) => Ok(text),
+            Err(error) => Err(error),
+        }
+    }
+
+    /// Why a connection is closed, if it is.
+    pub fn closed(&self, number: u64) -> Result<Option<Closing>, ServiceError>
+        ensures closing { IfOk result (λ closing. closing ≡ closing_of self.now number) }
+        ensures refused { IsErr result ↔ ((known (connections_of self.now)).was_opened number ≡ false) }
+        ensures error { IfErr result (λ e. e ≡ ServiceError.NoConnection) }
+    {
+        self.inner.closed(number)
+    }
+
+    /// The oldest note that was told and not taken.
+    pub fn next_notice(&mut self) -> Option<Note>
+        ensures none { IfNone result (notices_of self.old ≡ []) }
+        ensures first { IfSome result (λ note. notices_of self.old ≡ note ∷ notices_of self.new) }
+        ensures unchanged { IfNone result (notices_of self.new ≡ []) }
+        ensures stands { (s : Situation) → Stands self.old s → Stands self.new s }
+        ensures connections { connections_of self.new ≡ connections_of self.old }
+        ensures config { config_of self.new ≡ config_of self.old }
+    {
+        self.inner.store.next_notice()
+    }
+
+    /// Takes a piece of a connection's bytes; no record is made of it.
+    pub fn serve(
+        &mut self,
+        alloc: Global,
+        number: u64,
+        piece: &[u8],
+        moment: u64,
+    ) -> Result<bool, ServiceError>
+        ensures takes { IfOk result (λ is_held. Takes self.old self.new number (fed number piece.now moment) is_held) }
+        ensures refused { IfErr result (RefusedFor (config_of self.old) (connections_of self.old) (fed number piece.now moment) (holds_at (connections_of self.old) number)) }
+        ensures same { OnErr result (SameSpace self.old self.new) }
+    {
+        let mut kept = None;
+        match self.feed(alloc, number, piece, moment, &mut kept) {
+            Ok(is_held) => Ok(is_held),
+            Err(error) => Err(error),
+        }
+    }
+}

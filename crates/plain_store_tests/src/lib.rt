@@ -1,0 +1,5 @@
+//! Tests of the plain store.
+#![tactic(auto)]
+
+#[cfg(test)]
+mod tests;
