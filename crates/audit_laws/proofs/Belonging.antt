@@ -47,6 +47,7 @@ module _ (config : Config) (namespace : ℕ) where
   taken-on s happened (entry ∷ entries) more Rest Then f (inl h) = inl (record { event = h.event; next = h.next; follows = h.follows; rest = f h.next entries h.rest })
   taken-on s happened (entry ∷ entries) more Rest Then f (inr h) = inr (f s (entry ∷ entries) h)
 
+  -- two lists of inputs, one behind the other
   pub belongs_in-append : (inputs later : List Input) (s t u : Situation) (entries more : List Record)
       → BelongsIn config namespace s inputs entries t → BelongsIn config namespace t later more u → BelongsIn config namespace s (inputs ++ later) (entries ++ more) u
   belongs_in-append [] later s t u entries more h k =
@@ -68,6 +69,7 @@ module _ (config : Config) (namespace : ℕ) where
       go None = f e h
       go (Some r) = h
 
+  -- an input may be left out
   pub left-out_one : (i : Input) (s : Situation) → BelongsIn config namespace s (i ∷ []) [] s
   left-out_one i s = left-out_by (event_in namespace s.opened i) (refusal_of config (known_in s)) _ _ (refl, refl) (λ e h. h)
 
@@ -82,6 +84,7 @@ module _ (config : Config) (namespace : ℕ) where
       let tests = passed (is_none refusal && is_numbered s.opened entry.event && has_right_own_value entry) (after_steps config (after_event entry.event s) (tasks_in s entry.event) (steps_of entry)) t f in
       none-of refusal (and_parts (is_none refusal) (is_numbered s.opened entry.event) (and_parts (is_none refusal && is_numbered s.opened entry.event) (has_right_own_value entry) tests.test).0).0
 
+  -- or taken, with a record that is its event's and follows
   pub taken-one : (i : Input) (s t : Situation) (entry : Record) → event_in namespace s.opened i ≡ Some entry.event → Follows config s entry t
       → BelongsIn config namespace s (i ∷ []) (entry ∷ []) t
   taken-one i s t entry e f =
@@ -102,6 +105,7 @@ module _ (config : Config) (namespace : ℕ) where
       ap (option_and_then (λ t. after_records config t entries)) h.follows ∙ f h.next entries h.rest
   leads-taken s last happened (entry ∷ entries) Rest f (inr h) = f s (entry ∷ entries) h
 
+  -- the records follow one another to the last situation
   pub belongs_in-leads : (inputs : List Input) (entries : List Record) (s last : Situation) → BelongsIn config namespace s inputs entries last → after_records config s entries ≡ Some last
   belongs_in-leads [] entries s last h = ap (after_records config s) h.0 ∙ ap Some h.1
   belongs_in-leads (i ∷ inputs) entries s last h =
@@ -137,6 +141,7 @@ module _ (config : Config) (namespace : ℕ) where
         inl (h.event, f (placed_record config made past entry).walked.after entries on.sound (subst (λ t. Rest t entries) on.is h.rest))
     belongs-taken past happened (entry ∷ entries) Rest Then sound f (inr h) = inr (f past (entry ∷ entries) sound h)
 
+    -- they belong to the inputs, from a history that leaves the first situation
     pub belongs_in-from : (inputs : List Input) (entries : List Record) (past : History) (last : Situation) → Sound past
         → BelongsIn config namespace (now past) inputs entries last → BelongsFrom config namespace made past inputs entries
     belongs_in-from [] entries past last sound h = h.0

@@ -13,7 +13,9 @@ use Rattle.audit_model.specs.Bytewise.{same, is_before}
 use Rattle.audit_model.specs.Situation.{HeldValue, is_live_at, live_at, live_keys_at}
 use Rattle.audit_model.specs.Values.{put_sorted, sorted}
 use Rattle.audit_model.specs.declared.config.Config.{Config}
+use Rattle.audit_laws.proofs.HeldStep.{same-refl}
 use Rattle.audit_laws.proofs.Told.{Each}
+use Rattle.audit_laws.proofs.Views.{same-true}
 use Rattle.audit_laws.proofs.Pairs.{Pairs, Differ, pairs-map, pairs-filter, all_of_each}
 
 -- ---- byte order
@@ -113,3 +115,64 @@ pub keys-live : (config : Config) (now : ℕ) (held : List HeldValue) (key : Lis
     → list_any (λ k. same key k) (live_keys_at config now held) ≡ is_some (live_at config now held key)
 keys-live config now held key =
     any-sorted (λ k. same key k) (map (λ h. h.value.key) (filter (is_live_at config now) held)) ∙ listed-found key (is_live_at config now) held
+
+-- ---- two lists in byte order with the same keys
+
+unequal : (o : Ordering) → o ≡ Less → is_eq o ≡ false
+unequal o e = ap is_eq e
+
+differ-before : (a b : List ℕ) → Before a b → same a b ≡ false
+differ-before a b h = sym (is_eq-slice_cmp a b) ∙ unequal (slice_cmp nat_cmp a b) h
+
+not_listed : (key : List ℕ) (ks : List (List ℕ)) → Each (Before key) ks → list_any (λ k. same key k) ks ≡ false
+not_listed key [] h = refl
+not_listed key (k ∷ ks) (b, h) = ap (λ x. x || list_any (λ l. same key l) ks) (differ-before key k b) ∙ not_listed key ks h
+
+-- the first key of one list is the first of the other, since each of them would else be listed in the one alone
+heads : (k l : List ℕ) (ks ls : List (List ℕ)) → Each (Before k) ks → Each (Before l) ls
+    → ((key : List ℕ) → list_any (λ x. same key x) (k ∷ ks) ≡ list_any (λ x. same key x) (l ∷ ls)) → same k l ≡ true
+heads k l ks ls hk hl e = go (slice_cmp nat_cmp k l) refl
+  where
+    go : (o : Ordering) → slice_cmp nat_cmp k l ≡ o → same k l ≡ true
+    go Equal c = sym (is_eq-slice_cmp k l) ∙ ap is_eq c
+    go Less c =
+        absurd (true≢false (sym (ap (λ x. x || list_any (λ y. same k y) ks) (same-refl k)) ∙ e k
+        ∙ ap (λ x. x || list_any (λ y. same k y) ls) (differ-before k l c) ∙ not_listed k ls (behind k l ls c hl)))
+    go Greater c =
+        let b : Before l k = nat_list_cmp_total.antisymm l k ∙ ap ordering_reverse c in
+        absurd (true≢false (sym (ap (λ x. x || list_any (λ y. same l y) ls) (same-refl l)) ∙ sym (e l)
+        ∙ ap (λ x. x || list_any (λ y. same l y) ks) (differ-before l k b) ∙ not_listed l ks (behind l k ks b hk)))
+
+tails : (key k l : List ℕ) (ks ls : List (List ℕ)) → same k l ≡ true → Each (Before k) ks → Each (Before l) ls
+    → list_any (λ x. same key x) (k ∷ ks) ≡ list_any (λ x. same key x) (l ∷ ls) → list_any (λ x. same key x) ks ≡ list_any (λ x. same key x) ls
+tails key k l ks ls s hk hl e = go (same key k) refl
+  where
+    is : k ≡ l
+    is = same-true k l s
+
+    go : (b : Bool) → same key k ≡ b → list_any (λ x. same key x) ks ≡ list_any (λ x. same key x) ls
+    go true c =
+        ap (λ y. list_any (λ x. same y x) ks) (same-true key k c) ∙ not_listed k ks hk
+        ∙ sym (ap (λ y. list_any (λ x. same y x) ls) (same-true key k c ∙ is) ∙ not_listed l ls hl)
+    go false c =
+        sym (ap (λ b. b || list_any (λ x. same key x) ks) c) ∙ e ∙ ap (λ b. b || list_any (λ x. same key x) ls) (ap (same key) (sym is) ∙ c)
+
+rise-same : (ks ls : List (List ℕ)) → Pairs Before ks → Pairs Before ls → ((key : List ℕ) → list_any (λ x. same key x) ks ≡ list_any (λ x. same key x) ls) → ks ≡ ls
+rise-same [] [] h g e = refl
+rise-same [] (l ∷ ls) h g e = absurd (true≢false (sym (e l ∙ ap (λ b. b || list_any (λ x. same l x) ls) (same-refl l))))
+rise-same (k ∷ ks) [] h g e = absurd (true≢false (sym (ap (λ b. b || list_any (λ x. same k x) ks) (same-refl k)) ∙ e k))
+rise-same (k ∷ ks) (l ∷ ls) (hk, h) (gl, g) e =
+    let s = heads k l ks ls hk gl e in
+    ap (λ x. x ∷ ks) (same-true k l s) ∙ ap (λ xs. l ∷ xs) (rise-same ks ls h g (λ key. tails key k l ks ls s hk gl (e key)))
+
+live-rising : (config : Config) (now : ℕ) (held : List HeldValue) → Pairs (λ g h. Differ g.value.key h.value.key) held → Pairs Before (live_keys_at config now held)
+live-rising config now held h =
+    rising-sorted (map (λ k. k.value.key) (filter (is_live_at config now) held))
+    (pairs-map Differ (λ (k : HeldValue). k.value.key) (filter (is_live_at config now) held) (pairs-filter (λ g k. Differ g.value.key k.value.key) (is_live_at config now) held h))
+
+-- where the same keys are live, the same are listed
+pub keys-same : (config other : Config) (now : ℕ) (held more : List HeldValue) → Pairs (λ g h. Differ g.value.key h.value.key) held → Pairs (λ g h. Differ g.value.key h.value.key) more
+    → ((key : List ℕ) → is_some (live_at config now held key) ≡ is_some (live_at other now more key)) → live_keys_at config now held ≡ live_keys_at other now more
+keys-same config other now held more h k e =
+    rise-same (live_keys_at config now held) (live_keys_at other now more) (live-rising config now held h) (live-rising other now more k)
+    (λ key. keys-live config now held key ∙ e key ∙ sym (keys-live other now more key))

@@ -34,3 +34,12 @@ pub mod StaysOrderly
 pub mod Asking
 pub mod Stages
 pub mod Belonging
+pub mod FedMore
+pub mod FedSteps
+pub mod FedTwice
+pub mod Cuts
+pub mod CutTranscripts
+pub mod Lasting
+pub mod SameReplies
+pub mod Twins
+pub mod TwinRecords

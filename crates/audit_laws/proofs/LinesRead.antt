@@ -28,10 +28,10 @@ pub cut-more : (xs ys : List ℕ) → is_some (cut_at 10 xs).1 ≡ true → cut_
 cut-more [] ys e = absurd (true≢false (sym e))
 cut-more (b ∷ bs) ys e = cut_step b (b == 10) bs ys (cut_at 10 bs) (cut_at 10 (bs ++ ys)) (cut-more bs ys) e
 
-behind_first : (xs ys : List ℕ) → is_some (cut_at 10 xs).1 ≡ true → behind_lines 1 (xs ++ ys) ≡ behind_lines 1 xs ++ ys
+pub behind_first : (xs ys : List ℕ) → is_some (cut_at 10 xs).1 ≡ true → behind_lines 1 (xs ++ ys) ≡ behind_lines 1 xs ++ ys
 behind_first xs ys e = ap (λ (m : Cut). unwrap_or m.1 []) (cut-more xs ys e)
 
-first_line-more : (xs ys : List ℕ) → is_some (cut_at 10 xs).1 ≡ true → first_line (xs ++ ys) ≡ first_line xs
+pub first_line-more : (xs ys : List ℕ) → is_some (cut_at 10 xs).1 ≡ true → first_line (xs ++ ys) ≡ first_line xs
 first_line-more xs ys e =
     ap (λ (m : Cut). cond (is_some m.1) (Some (without_return m.0)) None) (cut-more xs ys e)
     ∙ sym (ap (λ b. cond b (Some (without_return (cut_at 10 xs).0)) None) e)

@@ -39,6 +39,7 @@ pub record Parts (config : Config) (placed : PlacedStep) : Type 0 where
   pub line : has_right_line placed ≡ true
   pub reply : has_right_reply config placed ≡ true
   pub load : has_right_load placed ≡ true
+  pub accepted : has_right_acceptance config placed ≡ true
   pub told : has_right_notes config placed ≡ true
   pub quiet : is_quiet_where_silent placed ≡ true
 
@@ -52,7 +53,7 @@ parts-of config placed e =
     let p3 = and_parts _ _ p4.0 in
     let p2 = and_parts _ _ p3.0 in
     let p1 = and_parts _ _ p2.0 in
-    record { in_turn = p1.0; line = p2.1; reply = p3.1; load = p4.1; told = p6.1; quiet = p7.1 }
+    record { in_turn = p1.0; line = p2.1; reply = p3.1; load = p4.1; accepted = p5.1; told = p6.1; quiet = p7.1 }
 
 -- ---- the connection whose task it is
 

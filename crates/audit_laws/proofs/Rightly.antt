@@ -29,7 +29,7 @@ pub held-silent : (config : Config) (seen : View) (held : List Value) (effect : 
 held-silent config seen held effect r e = held_by config seen held effect effect.action effect.reply e r
 
 -- a step that covers values accepts none
-no_value : (config : Config) (now : ℕ) (part : Option ℕ) (v : Value) (P : Type 0) → value_from config now None part ≡ Some v → P
+pub no_value : (config : Config) (now : ℕ) (part : Option ℕ) (v : Value) (P : Type 0) → value_from config now None part ≡ Some v → P
 no_value config now None v P e = absurd (true≢false (sym (ap is_some e)))
 no_value config now (Some part) v P e = absurd (true≢false (sym (ap is_some e)))
 

@@ -8,7 +8,7 @@ use Rattle.std.specs.Cmp.Lexicographic.{slice_cmp}
 use Rattle.audit_model.specs.Belongs.{IsAdmitted, is_good, first_break, event_in, Belongs}
 use Rattle.audit_model.specs.BelongsIn.{BelongsIn}
 use Rattle.audit_model.specs.Follows.{AgreesWithHistory, Follows, after_event, placed_step_in, after_steps, after_records, followed}
-use Rattle.audit_model.specs.History.{Value, Running}
+use Rattle.audit_model.specs.History.{Value, Running, accepts_values}
 use Rattle.audit_model.specs.Replies.{keys_listed}
 use Rattle.audit_model.specs.Bytewise.{same}
 use Rattle.audit_model.specs.Changes.{all_held_after, connection_after, after_step}
@@ -21,6 +21,7 @@ use Rattle.audit_model.specs.Steps.{Task, is_right}
 use Rattle.audit_model.specs.Summary.{LeadsToSummary}
 use Rattle.audit_model.specs.declared.command.Command.TheVariants as says
 use Rattle.audit_model.specs.declared.config.Config.{Config}
+use Rattle.audit_model.specs.declared.config.EvictionPolicy.{EvictionPolicy}
 use Rattle.audit_model.specs.declared.event.Event.{Event}
 use Rattle.audit_model.specs.declared.event.Instant.{Instant}
 use Rattle.audit_model.specs.declared.input.Input.{Input}
@@ -30,6 +31,8 @@ use Rattle.audit_model.specs.declared.transcript.Step.{Step}
 use Rattle.audit_model.specs.declared.transcript.Transcript.{Transcript}
 use Rattle.audit_laws.specs.Placing.{placed_steps_in, accepted_in, all_placed_in, Stage, stage_after}
 use Rattle.audit_laws.specs.Leading.{LeadsTo, LeadsBy, is_parted}
+use Rattle.audit_laws.specs.Comparing.{otherwise, HappenAlike, ReplyAlike}
+use Rattle.audit_laws.specs.Cutting.{fed, none_held, LeadsInTwo, FollowsInTwo, FaultlessInTwo, FaultlessParts}
 use Rattle.audit_laws.specs.Breaking.{first_break_from, IsFaultless, BreaksFirstAt}
 use Rattle.audit_laws.specs.Orderly.{IsOrderly, idle_deed, is_asking}
 use Rattle.audit_laws.specs.Telling.{notes_of, none_with_size}
@@ -183,3 +186,30 @@ pub record BelongsOn : Type 0 where
   pub in_parts : (config : Config) (namespace : ℕ) (inputs later : List Input) (records more : List Record) (s t u : Situation)
       → BelongsIn config namespace s inputs records t → BelongsIn config namespace t later more u
       → BelongsIn config namespace s (inputs ++ later) (records ++ more) u
+
+-- where no command is held, a feed may be cut in two, and two feeds of a connection at one moment joined, with each step put where the byte
+-- that lets it run came; the second is left out where the first closes the connection
+pub record FeedsMayBeCut : Type 0 where
+  pub cut : (config : Config) (s t : Situation) (conn : ℕ) (moment : Instant) (front rest : List ℕ) (steps : List Step)
+      → IsTrue (none_held steps) → Follows config s (fed conn moment (front ++ rest) steps) t → FollowsInTwo config s conn moment front rest steps t
+  pub joined : (config : Config) (s t : Situation) (conn : ℕ) (moment : Instant) (front rest : List ℕ) (first second : List Step)
+      → IsTrue (none_held first) → LeadsInTwo config s conn moment front rest first second t → Follows config s (fed conn moment (front ++ rest) (first ++ second)) t
+
+-- so a transcript that obeys, and has no refused event, stays so where a feed of it is cut in two, and where two neighbouring feeds are joined
+pub record TranscriptsMayBeCut : Type 0 where
+  pub cut : (config : Config) (made : Instant) (before after : List Record) (conn : ℕ) (moment : Instant) (front rest : List ℕ) (steps : List Step)
+      → IsTrue (none_held steps) → IsFaultless config (record { made = made; records = before ++ fed conn moment (front ++ rest) steps ∷ after })
+      → FaultlessParts config made before after conn moment front rest steps
+  pub joined : (config : Config) (made : Instant) (before after : List Record) (conn : ℕ) (moment : Instant) (front rest : List ℕ) (first second : List Step)
+      → IsTrue (none_held first) → FaultlessInTwo config made before after conn moment front rest first second
+      → IsFaultless config (record { made = made; records = before ++ fed conn moment (front ++ rest) (first ++ second) ∷ after })
+
+-- two faultless transcripts of the same events, whose configurations differ at most in capacity, eviction policy and number of parts, and both
+-- accept values or neither does: where nothing is told `Size`, the same steps are held back and the same `DROPIF`s refused, both have the same
+-- steps with the same replies, but for those to `SYNC`
+abbrev pub RepliesByCommands : Type 0
+RepliesByCommands =
+    (config : Config) (capacity : Option ℕ) (policy : EvictionPolicy) (parts : ℕ) (made : Instant) (xs ys : List Record)
+    → accepts_values config.capacity ≡ accepts_values capacity
+    → IsFaultless config (record { made = made; records = xs }) → IsFaultless (otherwise config capacity policy parts) (record { made = made; records = ys })
+    → HappenAlike xs ys → ReplyAlike config xs ys

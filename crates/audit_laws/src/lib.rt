@@ -1,7 +1,7 @@
 //! Laws of the definitions of transcripts. Each function does nothing: its contract is the law.
 #![tactic(auto)]
 
-ghost use Rattle.audit_laws.specs.Laws.{FrontsObey, RecordsLead, StepsAgree, PlacesAgree, StepsInParts, LeadsOn, LeadsOnBy, LedObeys, BreaksAgree, BreaksWhereUnfollowed, GoodIsFaultless, FirstBreakIsFirst, NothingToldSize, LiveByAcceptance, OrderlyStays, IdleKeeps, AskingChangesNothing, KeysAnswer, BelongsStepByStep, BelongsOn};
+ghost use Rattle.audit_laws.specs.Laws.{FrontsObey, RecordsLead, StepsAgree, PlacesAgree, StepsInParts, LeadsOn, LeadsOnBy, LedObeys, BreaksAgree, BreaksWhereUnfollowed, GoodIsFaultless, FirstBreakIsFirst, NothingToldSize, LiveByAcceptance, OrderlyStays, IdleKeeps, AskingChangesNothing, KeysAnswer, BelongsStepByStep, BelongsOn, FeedsMayBeCut, TranscriptsMayBeCut, RepliesByCommands};
 ghost use Rattle.audit_model.specs.Configs.{DeadlinesAgree};
 
 /// A front of an obeying transcript obeys.
@@ -107,4 +107,19 @@ pub fn belongs_step_by_step()
 /// Records that belong to inputs belong to one more, which is left out or has a record that follows.
 pub fn belongs_on()
     ensures { BelongsOn }
+{}
+
+/// Where no command is held, a feed may be cut in two, and two feeds of a connection at one moment joined.
+pub fn feeds_may_be_cut()
+    ensures { FeedsMayBeCut }
+{}
+
+/// So a transcript that obeys, and has no refused event, stays so where a feed is cut in two or two are joined.
+pub fn transcripts_may_be_cut()
+    ensures { TranscriptsMayBeCut }
+{}
+
+/// Where nothing is told `Size` and the same commands are taken, replies but `SYNC`'s do not depend on parts, policy, hasher, batches or capacity.
+pub fn replies_by_commands()
+    ensures { RepliesByCommands }
 {}

@@ -5,3 +5,4 @@ pub mod Connections
 pub mod Values
 pub mod Sizes
 pub mod Deadlines
+pub mod Belonging

@@ -5,6 +5,7 @@ ghost use Rattle.audit_tests.specs.Lines.{GoodLines, BrokenLines};
 ghost use Rattle.audit_tests.specs.Connections.{GoodConnections, BrokenConnections};
 ghost use Rattle.audit_tests.specs.Values.{GoodValues, BrokenValues};
 ghost use Rattle.audit_tests.specs.Sizes.{GoodSizes, BrokenSizes};
+ghost use Rattle.audit_tests.specs.Belonging.{GoodBelonging, BrokenBelonging};
 ghost use Rattle.audit_tests.specs.Deadlines.{GoodDeadlines, BrokenDeadlines};
 
 /// Which bytes make which line, and which fault is told.
@@ -35,4 +36,10 @@ pub fn rows_of_sizes()
 pub fn rows_of_deadlines()
     ensures good { GoodDeadlines }
     ensures broken { BrokenDeadlines }
+{}
+
+/// Which records belong to a list of inputs, step by step.
+pub fn rows_of_belonging()
+    ensures good { GoodBelonging }
+    ensures broken { BrokenBelonging }
 {}

@@ -1,0 +1,48 @@
+-- A feed in two parts.
+use Rattle.std.specs.Prelude.{◌≡◌, ℕ, Bool, false, not, List, [], ◌∷◌, ◌++◌, Some, None, ◌⊎◌}
+use Rattle.std.specs.List.{list_all}
+use Rattle.audit_model.specs.Follows.{Follows, after_records}
+use Rattle.audit_model.specs.Places.{history_after}
+use Rattle.audit_model.specs.Situation.{Situation, connection_in}
+use Rattle.audit_model.specs.Stream.{is_open}
+use Rattle.audit_model.specs.declared.config.Config.{Config}
+use Rattle.audit_model.specs.declared.event.Event.TheVariants as event
+use Rattle.audit_model.specs.declared.event.Instant.{Instant}
+use Rattle.audit_model.specs.declared.transcript.Record.{Record}
+use Rattle.audit_model.specs.declared.transcript.Step.{Step}
+use Rattle.audit_laws.specs.Breaking.{IsFaultless}
+
+-- the record of a feed
+abbrev pub fed : ℕ → Instant → List ℕ → List Step → Record
+fed conn moment piece steps = record { event = event.Feed conn piece moment; own = None; notices = []; steps = steps }
+
+abbrev pub none_held : List Step → Bool
+none_held steps = list_all (λ step. not step.held) steps
+
+-- the two feeds, one after the other, lead there; or the first alone does, and closes the connection
+abbrev pub LeadsInTwo : Config → Situation → ℕ → Instant → List ℕ → List ℕ → List Step → List Step → Situation → Type 0
+LeadsInTwo config s conn moment front rest first second t =
+    (after_records config s (fed conn moment front first ∷ fed conn moment rest second ∷ []) ≡ Some t)
+    ⊎ (Follows config s (fed conn moment front first) t × (connection_in conn t ≡ None) × (second ≡ []))
+
+-- the steps of a feed in two parts, with which the two feeds lead there
+pub record FollowsInTwo (config : Config) (s : Situation) (conn : ℕ) (moment : Instant) (front rest : List ℕ) (steps : List Step) (t : Situation) : Type 0 where
+  pub first : List Step
+  pub second : List Step
+  pub in_parts : steps ≡ first ++ second
+  pub leads : LeadsInTwo config s conn moment front rest first second t
+
+-- the transcript with the two feeds in the middle is faultless; or the one with the first alone is, which closes the connection
+abbrev pub FaultlessInTwo : Config → Instant → List Record → List Record → ℕ → Instant → List ℕ → List ℕ → List Step → List Step → Type 0
+FaultlessInTwo config made before after conn moment front rest first second =
+    IsFaultless config (record { made = made; records = before ++ fed conn moment front first ∷ fed conn moment rest second ∷ after })
+    ⊎ (IsFaultless config (record { made = made; records = before ++ fed conn moment front first ∷ after })
+    × (is_open conn (history_after config made.nanos [] (before ++ fed conn moment front first ∷ [])) ≡ false)
+    × (second ≡ []))
+
+-- the steps of a feed in two parts, with which the transcript stays faultless
+pub record FaultlessParts (config : Config) (made : Instant) (before after : List Record) (conn : ℕ) (moment : Instant) (front rest : List ℕ) (steps : List Step) : Type 0 where
+  pub first : List Step
+  pub second : List Step
+  pub in_parts : steps ≡ first ++ second
+  pub stays : FaultlessInTwo config made before after conn moment front rest first second
