@@ -1,3 +1,4 @@
 pub mod Moving
 pub mod Putting
 pub mod Noting
+pub mod Journaling

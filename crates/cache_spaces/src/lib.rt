@@ -1,10 +1,10 @@
 //! A cache that is served by lines: namespaces, connections, loads.
 #![tactic(auto)]
 
-mod play;
+mod playing;
 mod recording;
 mod service;
 mod space;
 
-pub use play::play;
+pub use playing::play;
 pub use service::{AnswerError, Fed, Service};
