@@ -43,3 +43,4 @@ pub mod Lasting
 pub mod SameReplies
 pub mod Twins
 pub mod TwinRecords
+pub mod OnePart

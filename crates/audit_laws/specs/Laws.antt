@@ -8,7 +8,7 @@ use Rattle.std.specs.Cmp.Lexicographic.{slice_cmp}
 use Rattle.audit_model.specs.Belongs.{IsAdmitted, is_good, first_break, event_in, Belongs}
 use Rattle.audit_model.specs.BelongsIn.{BelongsIn}
 use Rattle.audit_model.specs.Follows.{AgreesWithHistory, Follows, after_event, placed_step_in, after_steps, after_records, followed}
-use Rattle.audit_model.specs.History.{Value, Running, accepts_values}
+use Rattle.audit_model.specs.History.{Value, Running, accepts_values, part_count}
 use Rattle.audit_model.specs.Replies.{keys_listed}
 use Rattle.audit_model.specs.Bytewise.{same}
 use Rattle.audit_model.specs.Changes.{all_held_after, connection_after, after_step}
@@ -213,3 +213,8 @@ RepliesByCommands =
     → accepts_values config.capacity ≡ accepts_values capacity
     → IsFaultless config (record { made = made; records = xs }) → IsFaultless (otherwise config capacity policy parts) (record { made = made; records = ys })
     → HappenAlike xs ys → ReplyAlike config xs ys
+
+-- where there is one part, what follows from the empty situation obeys, and none of its events is refused
+abbrev pub OnePartObeys : Type 0
+OnePartObeys =
+    (config : Config) (transcript : Transcript) (s : Situation) → part_count config ≡ 1 → LeadsTo config transcript s → Obeys config transcript × IsAdmitted config transcript

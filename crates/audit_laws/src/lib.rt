@@ -1,7 +1,7 @@
 //! Laws of the definitions of transcripts. Each function does nothing: its contract is the law.
 #![tactic(auto)]
 
-ghost use Rattle.audit_laws.specs.Laws.{FrontsObey, RecordsLead, StepsAgree, PlacesAgree, StepsInParts, LeadsOn, LeadsOnBy, LedObeys, BreaksAgree, BreaksWhereUnfollowed, GoodIsFaultless, FirstBreakIsFirst, NothingToldSize, LiveByAcceptance, OrderlyStays, IdleKeeps, AskingChangesNothing, KeysAnswer, BelongsStepByStep, BelongsOn, FeedsMayBeCut, TranscriptsMayBeCut, RepliesByCommands};
+ghost use Rattle.audit_laws.specs.Laws.{FrontsObey, RecordsLead, StepsAgree, PlacesAgree, StepsInParts, LeadsOn, LeadsOnBy, LedObeys, BreaksAgree, BreaksWhereUnfollowed, GoodIsFaultless, FirstBreakIsFirst, NothingToldSize, LiveByAcceptance, OrderlyStays, IdleKeeps, AskingChangesNothing, KeysAnswer, BelongsStepByStep, BelongsOn, OnePartObeys, FeedsMayBeCut, TranscriptsMayBeCut, RepliesByCommands};
 ghost use Rattle.audit_model.specs.Configs.{DeadlinesAgree};
 
 /// A front of an obeying transcript obeys.
@@ -122,4 +122,9 @@ pub fn transcripts_may_be_cut()
 /// Where nothing is told `Size` and the same commands are taken, replies but `SYNC`'s do not depend on parts, policy, hasher, batches or capacity.
 pub fn replies_by_commands()
     ensures { RepliesByCommands }
+{}
+
+/// Where there is one part, a transcript whose records follow one another obeys, and none of its events is refused.
+pub fn one_part_obeys()
+    ensures { OnePartObeys }
 {}

@@ -1,12 +1,16 @@
 -- What namespaces and their transcripts are, input by input.
 use Rattle.std.proofs.Common.{◌≡◌, ◌≢◌, ℕ, zero, suc, ◌<◌, ◌-◌, Bool, List, [], ◌∷◌, ◌++◌, length, Option, Some, None, refl, sym, ap, ◌∙◌, subst, inl, inr, arith, get_or, take, ◌+◌, length-append, ◌≤◌}
-use Rattle.std.specs.Prelude.{◌⊎◌, slice_set, Result, Ok, Err, OnOk, OnErr, IfErr}
+use Rattle.std.specs.Prelude.{◌⊎◌, slice_set, Result, Ok, Err, OnOk, OnErr, IfErr, IsTrue, is_none, not}
 use Rattle.std.proofs.Math.Seq.{take-suc}
 use Rattle.std.specs.List.{slice_get}
 use Rattle.std.proofs.lemmas.List.{length-set, set-get_or, take_all}
 use Rattle.std.proofs.lemmas.Option.{slice_get-get_or, slice_get_within, none-some, same_Some}
 use Rattle.audit_laws.proofs.Belonging.{belongs_on, belongs_step_by_step}
+use Rattle.audit_laws.proofs.OnePart.{one-part-obeys}
 use Rattle.audit_model.specs.Belongs.{event_in}
+use Rattle.audit_model.specs.History.{part_count}
+use Rattle.plain_store.specs.Plain.{is_plain, is_one}
+use Rattle.std.proofs.lemmas.Bool.{and_parts, eqb-true}
 use Rattle.audit_model.specs.BelongsIn.{BelongsIn}
 use Rattle.audit_model.specs.Follows.{Follows}
 use Rattle.audit_model.specs.Situation.{Situation, empty_situation}
@@ -89,6 +93,7 @@ played-none configs moment transcripts spaces new count empty = record {
       record {
         made = ap (λ (x : Transcript). x.made) e;
         configured = n.configured;
+        plain = n.plain;
         last = empty_situation moment.nanos;
         stands = n.stands;
         belongs = (ap (λ (x : Transcript). x.records) e, refl);
@@ -111,6 +116,7 @@ left-alone : (config : Config) (k : ℕ) (moment : Instant) (inputs : List Input
 left-alone config k moment inputs i transcript space h = record {
   made = h.made;
   configured = h.configured;
+  plain = h.plain;
   last = h.last;
   stands = h.stands;
   belongs = belongs_on.left_out config k inputs i transcript.records (empty_situation moment.nanos) h.last h.belongs;
@@ -122,6 +128,7 @@ same-kept : (config : Config) (k : ℕ) (moment : Instant) (inputs : List Input)
 same-kept config k moment inputs transcript was is same h = record {
   made = h.made;
   configured = same.config ∙ h.configured;
+  plain = h.plain;
   last = h.last;
   stands = same.stands h.last h.stands;
   belongs = h.belongs;
@@ -138,6 +145,7 @@ taken-here config k moment inputs i t u was is here h made r =
     record {
       made = made ∙ h.made;
       configured = r.records.config ∙ h.configured;
+      plain = h.plain;
       last = l.next;
       stands = l.stands;
       belongs = subst (λ rs. BelongsIn config k (empty_situation moment.nanos) (inputs ++ i ∷ []) rs l.next) (sym r.records.added)
@@ -198,6 +206,12 @@ played-left configs moment inputs i ts us old new e Cause played same refused =
 
 -- ---- the end
 
+-- a plain configuration has one part
+one-part : (config : Config) → IsTrue (is_plain config) → part_count config ≡ 1
+one-part config plain =
+    let p = eqb-true config.parts 1 (and_parts (is_none config.capacity) _ (and_parts _ (is_one config.weight) (and_parts _ (is_none config.live_ms) (and_parts _ (is_none config.idle_ms) (and_parts _ (not config.own_deadlines) plain).0).0).0).0).1 in
+    ap (λ n. part_count (record config { parts = n })) p
+
 pub played-all : (configs : List Config) (moment : Instant) (inputs : List Input) (transcripts : List Transcript) (spaces : List Space)
     → HavePlayed configs moment inputs transcripts spaces → ArePlayed configs moment inputs transcripts
 played-all configs moment inputs transcripts spaces played = record {
@@ -207,7 +221,8 @@ played-all configs moment inputs transcripts spaces played = record {
       let space = got spaces k (let e = played.spaces_count in omega arith) in
       let h = played.each k config transcript space.0 c t space.1 in
       let b = belongs_step_by_step.belongs config k transcript.made inputs transcript.records h.last (subst (λ (m : Instant). BelongsIn config k (empty_situation m.nanos) inputs transcript.records h.last) (sym h.made) h.belongs) in
-      record { made = h.made; belongs = b.1; last = h.last; leads = b.0 };
+      let o = one-part-obeys config transcript h.last (one-part config h.plain) b.0 in
+      record { made = h.made; belongs = b.1; last = h.last; leads = b.0; obeys = o.0; admitted = o.1 };
 }
 
 -- ---- an input's place

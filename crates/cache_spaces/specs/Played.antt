@@ -1,5 +1,5 @@
 -- What is played.
-use Rattle.std.specs.Prelude.{◌≡◌, ℕ, List, length, Some}
+use Rattle.std.specs.Prelude.{◌≡◌, ℕ, List, length, Some, IsTrue}
 use Rattle.std.specs.List.{slice_get}
 use Rattle.audit_laws.specs.Leading.{LeadsTo}
 use Rattle.audit_model.specs.Belongs.{Belongs, IsAdmitted}
@@ -10,6 +10,7 @@ use Rattle.audit_model.specs.declared.config.Config.{Config}
 use Rattle.audit_model.specs.declared.event.Instant.{Instant}
 use Rattle.audit_model.specs.declared.input.Input.{Input}
 use Rattle.audit_model.specs.declared.transcript.Transcript.{Transcript}
+use Rattle.plain_store.specs.Plain.{is_plain}
 use Rattle.cache_spaces.specs.Recorded.{IsQuiet}
 use Rattle.cache_spaces.specs.Spaces.{Stands, config_of}
 use Rattle.cache_spaces.specs.declared.space.Space.{Space}
@@ -21,6 +22,8 @@ pub record Plays (config : Config) (namespace : ℕ) (moment : Instant) (inputs 
   pub belongs : Belongs config namespace transcript inputs
   pub last : Situation
   pub leads : LeadsTo config transcript last
+  pub obeys : Obeys config transcript
+  pub admitted : IsAdmitted config transcript
 
 -- one transcript a configuration, in their order
 pub record ArePlayed (configs : List Config) (moment : Instant) (inputs : List Input) (transcripts : List Transcript) : Type 0 where
@@ -32,6 +35,7 @@ pub record ArePlayed (configs : List Config) (moment : Instant) (inputs : List I
 pub record HasPlayed (config : Config) (namespace : ℕ) (moment : Instant) (inputs : List Input) (transcript : Transcript) (space : Space) : Type 0 where
   pub made : transcript.made ≡ moment
   pub configured : config_of space ≡ config
+  pub plain : IsTrue (is_plain config)
   pub last : Situation
   pub stands : Stands space last
   pub belongs : BelongsIn config namespace (empty_situation moment.nanos) inputs transcript.records last

@@ -1,5 +1,5 @@
 -- What is seen of a service.
-use Rattle.std.specs.Prelude.{◌≡◌, ℕ, ◌≤◌, Bool, true, false, List, [], ◌∷◌, length, ◌⊎◌, Some}
+use Rattle.std.specs.Prelude.{◌≡◌, ℕ, ◌≤◌, Bool, true, false, List, [], ◌∷◌, length, ◌⊎◌, Some, IsTrue}
 use Rattle.std.specs.List.{slice_get}
 use Rattle.cache_spaces.specs.Moves.{At}
 use Rattle.cache_spaces.specs.Serves.{SameSpace}
@@ -28,6 +28,7 @@ are_taken (config ∷ next ∷ configs) = false
 pub record IsNew (space : Space) (config : Config) (made : ℕ) : Type 0 where
   pub stands : Stands space (empty_situation made)
   pub configured : config_of space ≡ config
+  pub plain : IsTrue (is_plain config)
   pub connections : connections_of space ≡ []
   pub notices : notices_of space ≡ []
 
