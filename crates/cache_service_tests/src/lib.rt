@@ -1,0 +1,11 @@
+//! Tests of the service: rows of requests, refusals, and refused allocations.
+#![tactic(auto)]
+
+#[cfg(test)]
+mod playing;
+#[cfg(test)]
+mod refusing;
+#[cfg(test)]
+mod serving;
+#[cfg(test)]
+mod wanting;

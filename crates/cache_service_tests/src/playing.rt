@@ -1,0 +1,103 @@
+//! What is played.
+use audit_model::{Bytes, Config, Conn, EvictionPolicy, Input, Instant, LoadId, Outcome, Seq, ServiceError, Weight};
+use cache_spaces::play;
+use std::alloc::{AllocError, Global};
+use std::test::Fail;
+
+const PLAIN: Config = Config {
+    capacity: None,
+    policy: EvictionPolicy::Lru,
+    parts: 1,
+    weight: Weight::One,
+    live_ms: None,
+    idle_ms: None,
+    own_deadlines: false,
+};
+
+const START: Instant = Instant { nanos: 7 };
+const LATE: Instant = Instant { nanos: 1 << 63 };
+
+const CONN: Conn = Conn {
+    namespace: 0,
+    number: 1,
+};
+
+/// A feed of these bytes.
+fn feed(alloc: Global, bytes: &[u8], moment: Instant) -> Result<Input, AllocError> {
+    let piece = Vec::from_slice(alloc, bytes)?;
+    Ok(Input::Feed {
+        conn: CONN,
+        piece: Seq::from_vec(piece),
+        moment,
+    })
+}
+
+/// Whether these are the bytes.
+fn is_text(bytes: &Option<Bytes>, text: &[u8]) -> bool {
+    match bytes {
+        Some(bytes) => bytes.as_slice() == text,
+        None => false,
+    }
+}
+
+#[test]
+fn accepted_inputs_have_their_records(rt: HostRuntime) -> Result<(), Fail> {
+    let alloc = rt.alloc();
+    let load = LoadId {
+        namespace: 0,
+        number: 1,
+    };
+    let inputs = [
+        feed(alloc, b"GET a\n", START)?,
+        Input::Open { namespace: 0 },
+        Input::Open { namespace: 1 },
+        feed(alloc, b"SET a - 1\nGE", START)?,
+        feed(alloc, b"T a\n", LATE)?,
+        feed(alloc, b"T a\nSET a - 2\n", START)?,
+        Input::Answer {
+            load,
+            outcome: Outcome::None,
+            moment: START,
+        },
+        Input::GiveUp {
+            load,
+            moment: START,
+        },
+        Input::Close { conn: CONN },
+        Input::Close { conn: CONN },
+        feed(alloc, b"GET a\n", START)?,
+    ];
+    let transcripts = play(alloc, &[PLAIN], START, &inputs)?;
+    assert_eq!(rt; transcripts.len(), 1);
+    let Some(transcript) = transcripts.first() else {
+        return Err(Fail::new("no transcript"));
+    };
+    assert_eq!(rt; transcript.made, START);
+    let [opened, first, second, closed] = transcript.records.as_slice() else {
+        return Err(Fail::new("not four records"));
+    };
+    assert_eq!(rt; opened.steps.len(), 0);
+    assert_eq!(rt; closed.steps.len(), 0);
+    let [set] = first.steps.as_slice() else {
+        return Err(Fail::new("not one step"));
+    };
+    assert_eq!(rt; set.line.as_slice(), b"SET a - 1".as_slice());
+    assert!(rt; is_text(&set.reply, b"OK\n"));
+    let [get, replace] = second.steps.as_slice() else {
+        return Err(Fail::new("not two steps"));
+    };
+    assert_eq!(rt; get.line.as_slice(), b"GET a".as_slice());
+    assert!(rt; is_text(&get.reply, b"VAL 1\n"));
+    assert_eq!(rt; replace.notices.len(), 1);
+    Ok(())
+}
+
+#[test]
+fn fails_as_a_new_service_does(rt: HostRuntime) -> Result<(), Fail> {
+    let alloc = rt.alloc();
+    assert_eq!(rt; play(alloc, &[], START, &[]).err(), Some(ServiceError::Config));
+    assert_eq!(rt; play(alloc, &[], LATE, &[]).err(), Some(ServiceError::Moment));
+    let transcripts = play(alloc, &[PLAIN], START, &[])?;
+    assert_eq!(rt; transcripts.len(), 1);
+    Ok(())
+}
