@@ -1,0 +1,8 @@
+//! One connection of a service over a reader and a writer.
+#![tactic(auto)]
+
+mod errors;
+mod feeding;
+mod turns;
+
+pub use errors::RunError;
