@@ -87,3 +87,9 @@ replaced-count old new i p = ap length p.set ∙ length-set old i p.is
 -- connections that stand for the same are as many
 pub same-count : (old new : List Connection) → SameConnections old new → length new ≡ length old
 same-count old new same = ap (λ (s : Situation). s.opened) (same.situation 0 false [])
+
+-- a place at which no closed connection stands
+pub closing-none : (cs : List Connection) (i : ℕ) → ((c : Connection) → slice_get cs i ≡ Some c → c.closing ≡ None) → closing_at cs i ≡ None
+closing-none [] i is_open = refl
+closing-none (c ∷ cs) zero is_open = is_open c refl
+closing-none (c ∷ cs) (suc i) is_open = closing-none cs i is_open

@@ -229,6 +229,7 @@ impl<S: Store> Namespace<S> {
         ensures texts { (place : ℕ) → text_at self.new.connections.items place ≡ text_at self.old.connections.items place }
         ensures others { (place : ℕ) → place ≢ number - 1 → slice_get self.new.connections.items place ≡ slice_get self.old.connections.items place }
         ensures closed { OnOk result (closing_at self.new.connections.items (number - 1) ≡ Some Closing.Asked) }
+        ensures open { OnOk result (closing_at self.old.connections.items (number - 1) ≡ None) }
         ensures count { length self.new.connections.items ≡ length self.old.connections.items }
         ensures rest { self.new ≡ record self.old { connections = self.new.connections } }
         ensures refused { IfErr result (λ e. refusal_of self.old.config (known self.old.connections.items) (event.Close number) ≡ Some e) }

@@ -5,6 +5,8 @@ use Rattle.std.specs.List.{slice_get}
 use Rattle.std.proofs.lemmas.Bool.{and_from, lt-ltb, le-leb, cases_lt}
 use Rattle.std.proofs.lemmas.Option.{slice_get_within, same_Some, get_or_from_slice_get}
 use Rattle.audit_model.specs.Belongs.{refusal_of}
+use Rattle.audit_model.specs.declared.command.Closing.{Closing}
+use Rattle.audit_model.specs.declared.command.Closing.TheVariants as by
 use Rattle.audit_model.specs.declared.event.Event.TheVariants as event
 use Rattle.audit_model.specs.declared.input.ServiceError.{ServiceError}
 use Rattle.audit_model.specs.declared.input.ServiceError.TheVariants as error
@@ -103,3 +105,12 @@ connected-taken old new n number text c a =
 -- less of it is wanted
 pub connected-map : (IsLeft IsWanted : ℕ → Space → Type 0) (spaces : List Space) (n number : ℕ) → Connected spaces n number IsLeft → ((x : Space) → IsLeft number x → IsWanted number x) → Connected spaces n number IsWanted
 connected-map IsLeft IsWanted spaces n number c h = record { space = c.space; at = c.at; positive = c.positive; known = c.known; left = h c.space c.left }
+
+-- what is true of it where it stands
+pub connected-here : (IsLeft IsWanted : ℕ → Space → Type 0) (spaces : List Space) (n number : ℕ) (c : Connected spaces n number IsLeft) → IsWanted number c.space → Connected spaces n number IsWanted
+connected-here IsLeft IsWanted spaces n number c wanted = record { space = c.space; at = c.at; positive = c.positive; known = c.known; left = wanted }
+
+-- a connection that has closed has closed for too long a line
+pub long-where-closed : (closing : Option Closing) (why : Closing) → IsOpenOrLong closing → closing ≡ Some why → closing ≡ Some by.Long
+long-where-closed closing why (inl none) is = let h : None ≡ Some why = sym none ∙ is in cc
+long-where-closed closing why (inr long) is = long

@@ -4,3 +4,4 @@ pub mod Going
 pub mod Delivering
 pub mod Carrying
 pub mod Turning
+pub mod Ending

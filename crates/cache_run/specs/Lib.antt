@@ -4,3 +4,4 @@ pub mod Goes
 pub mod Connected
 pub mod Delivered
 pub mod Turns
+pub mod Runs

@@ -3,6 +3,8 @@
 
 mod errors;
 mod feeding;
+mod serving;
 mod turns;
 
 pub use errors::RunError;
+pub use serving::run;

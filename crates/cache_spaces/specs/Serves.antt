@@ -28,12 +28,13 @@ pub record Serves (was is : Space) (number : ℕ) (s : Situation) (happened : Ev
   pub output : output_of is number ≡ output_of was number ++ flat_map reply_in steps
   pub notices : notices_of is ≡ notices_of was ++ flat_map (λ step. step.notices) steps
 
--- how an event of a connection leaves it: open and without replies, closed as asked, or open or closed for too long a line
-abbrev pub Leaves : Event → Option Closing → List ℕ → Type 0
-Leaves (event.Open conn) closing output = (closing ≡ None) × (output ≡ [])
-Leaves (event.Close conn) closing output = closing ≡ Some by.Asked
-Leaves (event.Feed conn piece moment) closing output = IsOpenOrLong closing
-Leaves happened closing output = Unit {0}
+-- how an event finds and leaves its connection: it opens without replies; it was open and is closed as asked; it is open or closed for
+-- too long a line
+abbrev pub Leaves : Event → Option Closing → Option Closing → List ℕ → Type 0
+Leaves (event.Open conn) before closing output = (closing ≡ None) × (output ≡ [])
+Leaves (event.Close conn) before closing output = (before ≡ None) × (closing ≡ Some by.Asked)
+Leaves (event.Feed conn piece moment) before closing output = IsOpenOrLong closing
+Leaves happened before closing output = Unit {0}
 
 -- how many connections there are after an event
 abbrev pub count_after : Event → ℕ → ℕ
@@ -45,7 +46,7 @@ pub record Takes (was is : Space) (number : ℕ) (happened : Event) (is_held : B
   pub serves : (s : Situation) → Stands was s → Serves was is number s happened is_held
   pub others : (place : ℕ) → place ≢ number - 1 → slice_get (connections_of is) place ≡ slice_get (connections_of was) place
   pub config : config_of is ≡ config_of was
-  pub left : Leaves happened (closing_of is number) (output_of is number)
+  pub left : Leaves happened (closing_of was number) (closing_of is number) (output_of is number)
   pub count : length (connections_of is) ≡ count_after happened (length (connections_of was))
 
 -- the namespace is the same to whoever looks at it

@@ -98,6 +98,7 @@ impl Space {
         ensures takes { OnOk result (Takes self.old self.new number (event.Close number) false) }
         ensures moves { OnOk result ((s : Situation) (was : Gathered) → Stands self.old s → Moves (config_of self.old) s (event.Close number) false (Stands self.new) was was) }
         ensures closed { OnOk result (closing_of self.new number ≡ Some Closing.Asked) }
+        ensures open { OnOk result (closing_of self.old number ≡ None) }
         ensures notices { notices_of self.new ≡ notices_of self.old }
         ensures refused { IfErr result (λ e. refusal_of (config_of self.old) (known (connections_of self.old)) (event.Close number) ≡ Some e) }
         ensures err { OnErr result (self.new ≡ self.old) }

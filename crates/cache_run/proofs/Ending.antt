@@ -1,0 +1,114 @@
+-- One connection, from its opening to its closing.
+use Rattle.std.proofs.Common.{◌≡◌, ◌≢◌, ℕ, zero, suc, ◌+◌, ◌-◌, ◌<◌, ◌≤◌, Bool, true, false, List, [], ◌∷◌, length, Option, Some, None, refl, sym, ap, ◌∙◌, subst, arith, inl, inr, if◌then◌else◌}
+use Rattle.std.specs.Prelude.{◌⊎◌, ◌++◌, ◌&&◌, is_none}
+use Rattle.std.specs.List.{flat_map, slice_get}
+use Rattle.std.specs.Io.KnownBytes.{IsAtEnd}
+use Rattle.std.proofs.lemmas.List.{append-nil}
+use Rattle.std.proofs.lemmas.Option.{none-some}
+use Rattle.audit_model.specs.Belongs.{refusal_of}
+use Rattle.audit_model.specs.Follows.{Follows, known_in}
+use Rattle.audit_model.specs.Obeys.{is_numbered, has_right_own_value}
+use Rattle.audit_model.specs.Situation.{Situation}
+use Rattle.audit_model.specs.declared.command.Closing.TheVariants as by
+use Rattle.audit_model.specs.declared.config.Config.{Config}
+use Rattle.audit_model.specs.declared.event.Event.TheVariants as event
+use Rattle.audit_model.specs.declared.input.ServiceError.{ServiceError}
+use Rattle.audit_model.specs.declared.transcript.Note.{Note}
+use Rattle.audit_model.specs.declared.transcript.Step.{Step}
+use Rattle.cache_namespace.specs.Taken.{IsOpenOrLong, record_of, known}
+use Rattle.cache_spaces.specs.Moves.{At}
+use Rattle.cache_spaces.specs.Serves.{SameSpace, Takes}
+use Rattle.cache_spaces.specs.Spaces.{closing_of, config_of, connections_of, notices_of, output_of}
+use Rattle.cache_spaces.specs.declared.space.Space.{Space}
+use Rattle.cache_run.specs.Carried.{Broken, Carried}
+use Rattle.cache_run.specs.Connected.{Connected, IsFed, IsOver, IsReady}
+use Rattle.cache_run.specs.Delivered.{Unfed}
+use Rattle.cache_run.specs.Goes.{Goes}
+use Rattle.cache_run.specs.Runs.{Closes, Ends, Quiet, ServesPartly, ServesWhole, next_number}
+use Rattle.cache_run.specs.Worlds.{Outside, World, world}
+use Rattle.cache_run.specs.declared.errors.RunError.{RunError}
+use Rattle.cache_run.proofs.Carrying.{broken-more, carried-close, carried-more, carried-opened}
+use Rattle.cache_run.proofs.Connecting.{close-refused}
+use Rattle.cache_run.proofs.Going.{goes-map, goes-more, goes-same, seen-alike}
+use Rattle.cache_run.proofs.Placing.{at-is, at-map, at-more, at-was, at-with}
+
+chosen-none : (b : Bool) (t : Situation) → (if b then None else None) ≡ Some t → ⊥
+chosen-none true t e = none-some t e
+chosen-none false t e = none-some t e
+
+-- an opening has no steps
+pub open-still : (config : Config) (s : Situation) (number : ℕ) (steps : List Step) (t : Situation) → Follows config s (record_of (event.Open number) steps) t → steps ≡ []
+open-still config s number [] t follows = refl
+open-still config s number (step ∷ steps) t follows = absurd (chosen-none _ t follows)
+
+-- a closing has no steps
+pub close-still : (config : Config) (s : Situation) (number : ℕ) (steps : List Step) (t : Situation) → Follows config s (record_of (event.Close number) steps) t → steps ≡ []
+close-still config s number [] t follows = refl
+close-still config s number (step ∷ steps) t follows = absurd (chosen-none _ t follows)
+
+untold : (before after : List Note) (steps : List Step) → steps ≡ [] → after ≡ before ++ flat_map (λ step. step.notices) steps → after ≡ before
+untold before after steps none e = e ∙ ap (λ l. before ++ flat_map (λ step. step.notices) l) none ∙ append-nil before
+
+-- ---- the opening
+
+pub at-opened : (old new : List Space) (n number : ℕ) → At old new n (λ was is. Takes was is number (event.Open number) false × (number ≡ length (connections_of was) + 1))
+    → At old new n (λ was is. (number ≡ next_number was) × Goes number was is (λ s t. Quiet (config_of was) (event.Open number) s t (notices_of was) (notices_of is)))
+at-opened old new n number a =
+    at-map (λ was is. Takes was is number (event.Open number) false × (number ≡ length (connections_of was) + 1)) (λ was is. (number ≡ next_number was) × Goes number was is (λ s t. Quiet (config_of was) (event.Open number) s t (notices_of was) (notices_of is))) old new n a
+    (λ x y p. (p.1, record {
+      each = λ s stands.
+          let r = p.0.serves s stands in
+          let none = open-still (config_of x) s number r.steps r.next r.follows in
+          record {
+            next = r.next;
+            stands = r.stands;
+            fact = record { follows = subst (λ l. Follows (config_of x) s (record_of (event.Open number) l) r.next) none r.follows; notices = untold (notices_of x) (notices_of y) r.steps none r.notices };
+          };
+      config = p.0.config;
+      others = λ other ne. seen-alike x y other (p.0.others (other - 1) ne);
+    }))
+
+pub connected-opened : (old new : List Space) (n number : ℕ) → At old new n (λ was is. Takes was is number (event.Open number) false × (number ≡ length (connections_of was) + 1)) → Connected new n number IsReady
+connected-opened old new n number a =
+    let next = a.fact.1 in
+    let count = a.fact.0.count in
+    record {
+      space = a.is;
+      at = at-is (λ was is. Takes was is number (event.Open number) false × (number ≡ length (connections_of was) + 1)) old new n a;
+      positive = omega arith;
+      known = omega arith;
+      left = a.fact.0.left;
+    }
+
+-- ---- the closing
+
+pub at-closed : (old new : List Space) (n number : ℕ) → Connected old n number IsFed → At old new n (λ was is. Takes was is number (event.Close number) false × (closing_of is number ≡ Some by.Asked))
+    → At old new n (Closes number)
+at-closed old new n number c a =
+    at-with (λ was is. Takes was is number (event.Close number) false × (closing_of is number ≡ Some by.Asked)) (Closes number) old new n c.space c.at a
+    (λ y p. inl (p.0.left.0, p.1, record {
+      each = λ s stands.
+          let r = p.0.serves s stands in
+          let none = close-still (config_of c.space) s number r.steps r.next r.follows in
+          record {
+            next = r.next;
+            stands = r.stands;
+            fact = record { follows = subst (λ l. Follows (config_of c.space) s (record_of (event.Close number) l) r.next) none r.follows; notices = untold (notices_of c.space) (notices_of y) r.steps none r.notices };
+          };
+      config = p.0.config;
+      others = λ other ne. seen-alike c.space y other (p.0.others (other - 1) ne);
+    }))
+
+long-where-refused : (space : Space) (number : ℕ) (e : ServiceError) → 0 < number → number ≤ length (connections_of space) → IsOpenOrLong (closing_of space number)
+    → refusal_of (config_of space) (known (connections_of space)) (event.Close number) ≡ Some e → closing_of space number ≡ Some by.Long
+long-where-refused space number e positive bound (inl none) refused = absurd (close-refused space number e positive bound refused none)
+long-where-refused space number e positive bound (inr long) refused = long
+
+pub at-closed-before : (old new : List Space) (n number : ℕ) (e : ServiceError) → Connected old n number IsFed
+    → At old new n (λ was is. SameSpace was is × (refusal_of (config_of was) (known (connections_of was)) (event.Close number) ≡ Some e))
+    → At old new n (Closes number)
+at-closed-before old new n number e c a =
+    at-with (λ was is. SameSpace was is × (refusal_of (config_of was) (known (connections_of was)) (event.Close number) ≡ Some e)) (Closes number) old new n c.space c.at a
+    (λ y p.
+        let long = long-where-refused c.space number e c.positive c.known c.left p.1 in
+        inr (long, p.0.closings number ∙ long, goes-same number c.space y (λ s t. Unfed s t (notices_of c.space) (notices_of y)) p.0 (λ s. record { same = refl; notices = p.0.notices })))
