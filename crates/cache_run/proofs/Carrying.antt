@@ -174,3 +174,18 @@ carried-close config number reads a b y u opens late lost unsent c follows notic
   replies = c.replies;
   clock = c.clock;
 }
+
+-- nothing came behind what was carried
+pub carried-still : {C : Type 0} (config : Config) (number : ℕ) (reads : C → ℕ → C → Type 0) (a b : World C) (y : Space) (u : Situation) (opens closes : Bool) (late lost unsent : List ℕ)
+    → Carried config number reads a b opens closes late lost unsent → u ≡ b.situation → notices_of y ≡ b.notices
+    → Carried config number reads a (world y u b.outside) opens closes late lost unsent
+carried-still config number reads a b y u opens closes late lost unsent c same notices = record {
+  feeds = c.feeds;
+  follows = c.follows ∙ ap (λ s. Some s) (sym same);
+  notices = notices ∙ c.notices;
+  read = c.read;
+  sent = c.sent;
+  wrote = c.wrote;
+  replies = c.replies;
+  clock = c.clock;
+}

@@ -22,11 +22,11 @@ use Rattle.cache_spaces.specs.declared.space.Space.{Space}
 use Rattle.cache_run.specs.Connected.{Connected, IsFed, IsReady, IsTaken}
 use Rattle.cache_run.proofs.Placing.{at-is, at-was}
 
--- the connection at a place
-connection-at : (cs : List Connection) (i : ℕ) → i < length cs → (c : Connection) × (slice_get cs i ≡ Some c)
-connection-at [] i lt = absurd (omega (arith, lt))
-connection-at (c ∷ cs) zero lt = (c, refl)
-connection-at (c ∷ cs) (suc i) lt = connection-at cs i (omega (arith, lt))
+-- what stands at a place
+pub found-at : {X : Type 0} (xs : List X) (i : ℕ) → i < length xs → (x : X) × (slice_get xs i ≡ Some x)
+found-at [] i lt = absurd (omega (arith, lt))
+found-at (x ∷ xs) zero lt = (x, refl)
+found-at (x ∷ xs) (suc i) lt = found-at xs i (omega (arith, lt))
 
 -- a refusal for the moment, where the connection is open
 pub moment-late : (space : Space) (number : ℕ) (piece : List ℕ) (moment : ℕ) (held : Bool) → 0 < number → number ≤ length (connections_of space) → closing_of space number ≡ None
@@ -37,7 +37,7 @@ moment-late space number piece moment held positive bound is_open refused =
     go : moment < 2 ^ 63 → ⊥
     go low =
         let cs = connections_of space in
-        let found = connection-at cs (number - 1) (omega arith) in
+        let found = found-at cs (number - 1) (omega arith) in
         let c = found.0 in
         let none = admitted (config_of space) number (number - 1) moment c cs piece (omega arith) (omega arith) (get_or_from_slice_get cs (number - 1) c c found.1) (sym (closing-is cs (number - 1) c found.1) ∙ is_open) low in
         let memory : (error.Moment ≡ error.OutOfMemory) ⊎ ((error.Moment ≡ error.HeldAgain) × (held ≡ true)) =
@@ -49,7 +49,7 @@ pub close-refused : (space : Space) (number : ℕ) (e : ServiceError) → 0 < nu
     → refusal_of (config_of space) (known (connections_of space)) (event.Close number) ≡ Some e → closing_of space number ≡ None → ⊥
 close-refused space number e positive bound refused is_open =
     let cs = connections_of space in
-    let found = connection-at cs (number - 1) (omega arith) in
+    let found = found-at cs (number - 1) (omega arith) in
     let c = found.0 in
     let none = known-none number (number - 1) c cs (omega arith) (omega arith) (get_or_from_slice_get cs (number - 1) c c found.1) (sym (closing-is cs (number - 1) c found.1) ∙ is_open) in
     let h : None ≡ Some e = sym none ∙ refused in cc

@@ -27,7 +27,7 @@ use Rattle.cache_run.specs.Goes.{Goes}
 use Rattle.cache_run.specs.Runs.{Closes, Ends, Quiet, ServesPartly, ServesWhole, next_number}
 use Rattle.cache_run.specs.Worlds.{Outside, World, world}
 use Rattle.cache_run.specs.declared.errors.RunError.{RunError}
-use Rattle.cache_run.proofs.Carrying.{broken-more, carried-close, carried-more, carried-opened}
+use Rattle.cache_run.proofs.Carrying.{broken-more, carried-close, carried-more, carried-opened, carried-still}
 use Rattle.cache_run.proofs.Connecting.{close-refused}
 use Rattle.cache_run.proofs.Going.{goes-map, goes-more, goes-same, seen-alike}
 use Rattle.cache_run.proofs.Placing.{at-is, at-map, at-more, at-was, at-with}
@@ -112,3 +112,117 @@ at-closed-before old new n number e c a =
     (λ y p.
         let long = long-where-refused c.space number e c.positive c.known c.left p.1 in
         inr (long, p.0.closings number ∙ long, goes-same number c.space y (λ s t. Unfed s t (notices_of c.space) (notices_of y)) p.0 (λ s. record { same = refl; notices = p.0.notices })))
+
+-- ---- the whole
+
+module _ {C : Type 0} (reads : C → ℕ → C → Type 0) (number : ℕ) (before after : Outside C) where
+  -- what was carried stands behind the opening
+  pub at-begun : (first second third : List Space) (n : ℕ)
+      → At first second n (λ was is. (number ≡ next_number was) × Goes number was is (λ s t. Quiet (config_of was) (event.Open number) s t (notices_of was) (notices_of is)))
+      → At second third n (λ was is. Goes number was is (λ s t. Carried (config_of was) number reads (world was s before) (world is t after) false false [] [] []))
+      → At first third n (λ was is. (number ≡ next_number was) × Goes number was is (λ s t. Carried (config_of was) number reads (world was s before) (world is t after) true false [] [] []))
+  at-begun first second third n a b =
+      at-more (λ x y. (number ≡ next_number x) × Goes number x y (λ s t. Quiet (config_of x) (event.Open number) s t (notices_of x) (notices_of y)))
+      (λ y z. Goes number y z (λ s t. Carried (config_of y) number reads (world y s before) (world z t after) false false [] [] []))
+      (λ x z. (number ≡ next_number x) × Goes number x z (λ s t. Carried (config_of x) number reads (world x s before) (world z t after) true false [] [] [])) first second third n a b
+      (λ x y z p q. (p.0, goes-more number x y z (λ s t. Quiet (config_of x) (event.Open number) s t (notices_of x) (notices_of y)) (λ s t. Carried (config_of y) number reads (world y s before) (world z t after) false false [] [] [])
+      (λ s t. Carried (config_of x) number reads (world x s before) (world z t after) true false [] [] []) p.1 q
+      (λ s t u f g. carried-more (config_of x) number reads (world x s before) (world y t before) (world z u after) true false [] [] []
+      (carried-opened (config_of x) number reads x y s t before f.follows f.notices)
+      (subst (λ k. Carried k number reads (world y t before) (world z u after) false false [] [] []) p.1.config g))))
+
+  -- what was broken stands behind the opening
+  pub at-begun-broken : (first second third : List Space) (n : ℕ) (e : RunError)
+      → At first second n (λ was is. (number ≡ next_number was) × Goes number was is (λ s t. Quiet (config_of was) (event.Open number) s t (notices_of was) (notices_of is)))
+      → At second third n (λ was is. Goes number was is (λ s t. Broken (config_of was) number reads (world was s before) (world is t after) false false e))
+      → At first third n (λ was is. (number ≡ next_number was) × Goes number was is (λ s t. Broken (config_of was) number reads (world was s before) (world is t after) true false e))
+  at-begun-broken first second third n e a b =
+      at-more (λ x y. (number ≡ next_number x) × Goes number x y (λ s t. Quiet (config_of x) (event.Open number) s t (notices_of x) (notices_of y)))
+      (λ y z. Goes number y z (λ s t. Broken (config_of y) number reads (world y s before) (world z t after) false false e))
+      (λ x z. (number ≡ next_number x) × Goes number x z (λ s t. Broken (config_of x) number reads (world x s before) (world z t after) true false e)) first second third n a b
+      (λ x y z p q. (p.0, goes-more number x y z (λ s t. Quiet (config_of x) (event.Open number) s t (notices_of x) (notices_of y)) (λ s t. Broken (config_of y) number reads (world y s before) (world z t after) false false e)
+      (λ s t. Broken (config_of x) number reads (world x s before) (world z t after) true false e) p.1 q
+      (λ s t u f g. broken-more (config_of x) number reads (world x s before) (world y t before) (world z u after) true false e
+      (carried-opened (config_of x) number reads x y s t before f.follows f.notices)
+      (subst (λ k. Broken k number reads (world y t before) (world z u after) false false e) p.1.config g))))
+
+  whole : (x z w : Space) → number ≡ next_number x → Goes number x z (λ s t. Carried (config_of x) number reads (world x s before) (world z t after) true false [] [] [])
+      → IsOver after.remaining number z → Closes number z w → ServesWhole reads x w before after
+  whole x z w next g (inl over) (inl closes) = record {
+    number = number;
+    next = next;
+    closes = true;
+    goes = goes-more number x z w (λ s t. Carried (config_of x) number reads (world x s before) (world z t after) true false [] [] []) (λ s t. Quiet (config_of z) (event.Close number) s t (notices_of z) (notices_of w))
+        (λ s t. Carried (config_of x) number reads (world x s before) (world w t after) true true [] [] []) g closes.2
+        (λ s t u f q. carried-close (config_of x) number reads (world x s before) (world z t after) w u true [] [] [] f (subst (λ k. Follows k t (record_of (event.Close number) []) u) g.config q.follows) q.notices);
+    ends = (closes.1, over.1);
+  }
+  whole x z w next g (inl over) (inr closes) = absurd (none-some by.Long (sym over.0 ∙ closes.0))
+  whole x z w next g (inr over) (inl closes) = absurd (none-some by.Long (sym closes.0 ∙ over))
+  whole x z w next g (inr over) (inr closes) = record {
+    number = number;
+    next = next;
+    closes = false;
+    goes = goes-more number x z w (λ s t. Carried (config_of x) number reads (world x s before) (world z t after) true false [] [] []) (λ s t. Unfed s t (notices_of z) (notices_of w))
+        (λ s t. Carried (config_of x) number reads (world x s before) (world w t after) true false [] [] []) g closes.2
+        (λ s t u f q. carried-still (config_of x) number reads (world x s before) (world z t after) w u true false [] [] [] f q.same q.notices);
+    ends = closes.1;
+  }
+
+  partly : (x z w : Space) (e : RunError) → number ≡ next_number x → Goes number x z (λ s t. Broken (config_of x) number reads (world x s before) (world z t after) true false e)
+      → Closes number z w → ServesPartly reads x w before after e
+  partly x z w e next g (inl closes) = record {
+    number = number;
+    next = next;
+    closes = true;
+    goes = goes-more number x z w (λ s t. Broken (config_of x) number reads (world x s before) (world z t after) true false e) (λ s t. Quiet (config_of z) (event.Close number) s t (notices_of z) (notices_of w))
+        (λ s t. Broken (config_of x) number reads (world x s before) (world w t after) true true e) g closes.2
+        (λ s t u f q. record {
+          late = f.late;
+          lost = f.lost;
+          unsent = f.unsent;
+          carried = carried-close (config_of x) number reads (world x s before) (world z t after) w u true f.late f.lost f.unsent f.carried (subst (λ k. Follows k t (record_of (event.Close number) []) u) g.config q.follows) q.notices;
+          moment = f.moment;
+        });
+    why = by.Asked;
+    closed = closes.1;
+  }
+  partly x z w e next g (inr closes) = record {
+    number = number;
+    next = next;
+    closes = false;
+    goes = goes-more number x z w (λ s t. Broken (config_of x) number reads (world x s before) (world z t after) true false e) (λ s t. Unfed s t (notices_of z) (notices_of w))
+        (λ s t. Broken (config_of x) number reads (world x s before) (world w t after) true false e) g closes.2
+        (λ s t u f q. record {
+          late = f.late;
+          lost = f.lost;
+          unsent = f.unsent;
+          carried = carried-still (config_of x) number reads (world x s before) (world z t after) w u true false f.late f.lost f.unsent f.carried q.same q.notices;
+          moment = f.moment;
+        });
+    why = by.Long;
+    closed = closes.1;
+  }
+
+  pub at-whole : (first second third fourth : List Space) (n : ℕ)
+      → At first second n (λ was is. (number ≡ next_number was) × Goes number was is (λ s t. Quiet (config_of was) (event.Open number) s t (notices_of was) (notices_of is)))
+      → At second third n (λ was is. Goes number was is (λ s t. Carried (config_of was) number reads (world was s before) (world is t after) false false [] [] []))
+      → Connected third n number (IsOver after.remaining) → At third fourth n (Closes number)
+      → At first fourth n (λ was is. ServesWhole reads was is before after)
+  at-whole first second third fourth n a b c d =
+      at-more (λ x z. (number ≡ next_number x) × Goes number x z (λ s t. Carried (config_of x) number reads (world x s before) (world z t after) true false [] [] []))
+      (λ z w. IsOver after.remaining number z × Closes number z w) (λ x w. ServesWhole reads x w before after) first third fourth n
+      (at-begun first second third n a b)
+      (at-with (Closes number) (λ z w. IsOver after.remaining number z × Closes number z w) third fourth n c.space c.at d (λ w closes. (c.left, closes)))
+      (λ x z w p q. whole x z w p.0 p.1 q.0 q.1)
+
+  pub at-partly : (first second third fourth : List Space) (n : ℕ) (e : RunError)
+      → At first second n (λ was is. (number ≡ next_number was) × Goes number was is (λ s t. Quiet (config_of was) (event.Open number) s t (notices_of was) (notices_of is)))
+      → At second third n (λ was is. Goes number was is (λ s t. Broken (config_of was) number reads (world was s before) (world is t after) false false e))
+      → At third fourth n (Closes number)
+      → At first fourth n (λ was is. ServesPartly reads was is before after e)
+  at-partly first second third fourth n e a b d =
+      at-more (λ x z. (number ≡ next_number x) × Goes number x z (λ s t. Broken (config_of x) number reads (world x s before) (world z t after) true false e))
+      (Closes number) (λ x w. ServesPartly reads x w before after e) first third fourth n
+      (at-begun-broken first second third n e a b) d
+      (λ x z w p q. partly x z w e p.0 p.1 q)
