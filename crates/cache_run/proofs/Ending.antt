@@ -1,6 +1,6 @@
 -- One connection, from its opening to its closing.
 use Rattle.std.proofs.Common.{◌≡◌, ◌≢◌, ℕ, zero, suc, ◌+◌, ◌-◌, ◌<◌, ◌≤◌, Bool, true, false, List, [], ◌∷◌, length, Option, Some, None, refl, sym, ap, ◌∙◌, subst, arith, inl, inr, if◌then◌else◌}
-use Rattle.std.specs.Prelude.{◌⊎◌, ◌++◌, ◌&&◌, is_none}
+use Rattle.std.specs.Prelude.{◌⊎◌, ◌++◌, Result, Ok, Err, OnOk, OnErr, IfErr}
 use Rattle.std.specs.List.{flat_map, slice_get}
 use Rattle.std.specs.Io.KnownBytes.{IsAtEnd}
 use Rattle.std.proofs.lemmas.List.{append-nil}
@@ -28,7 +28,7 @@ use Rattle.cache_run.specs.Runs.{Closes, Ends, Quiet, ServesPartly, ServesWhole,
 use Rattle.cache_run.specs.Worlds.{Outside, World, world}
 use Rattle.cache_run.specs.declared.errors.RunError.{RunError}
 use Rattle.cache_run.proofs.Carrying.{broken-more, carried-close, carried-more, carried-opened, carried-still}
-use Rattle.cache_run.proofs.Connecting.{close-refused}
+use Rattle.cache_run.proofs.Connecting.{close-refused, connected-map}
 use Rattle.cache_run.proofs.Going.{goes-map, goes-more, goes-same, seen-alike}
 use Rattle.cache_run.proofs.Placing.{at-is, at-map, at-more, at-was, at-with}
 
@@ -226,3 +226,20 @@ module _ {C : Type 0} (reads : C → ℕ → C → Type 0) (number : ℕ) (befor
       (Closes number) (λ x w. ServesPartly reads x w before after e) first third fourth n
       (at-begun-broken first second third n e a b) d
       (λ x z w p q. partly x z w e p.0 p.1 q)
+
+-- however it ended, the connection may only have closed for too long a line
+pub fed-after : {X E : Type 0} (spaces : List Space) (n number : ℕ) (remaining : Option (List ℕ)) (r : Result X E) → OnOk r (Connected spaces n number (IsOver remaining)) → OnErr r (Connected spaces n number IsFed) → Connected spaces n number IsFed
+fed-after spaces n number remaining (Ok x) over left = connected-map (IsOver remaining) IsFed spaces n number over (λ space is. fed space is)
+  where
+    fed : (space : Space) → IsOver remaining number space → IsFed number space
+    fed space (inl p) = inl p.0
+    fed space (inr p) = inr p
+fed-after spaces n number remaining (Err e) over left = left
+
+pub on-ok : {X E : Type 0} (A B D : Type 0) (r : Result X E) → OnOk r A → OnOk r B → (A → B → D) → OnOk r D
+on-ok A B D (Ok x) a b h = h a b
+on-ok A B D (Err e) a b h = tt
+
+pub on-err : {X E : Type 0} (P Q : E → Type 0) (r : Result X E) → IfErr r P → ((e : E) → P e → Q e) → IfErr r Q
+on-err P Q (Ok x) a h = tt
+on-err P Q (Err e) a h = h e a

@@ -1,5 +1,5 @@
 -- One turn of a run.
-use Rattle.std.proofs.Common.{◌≡◌, ◌≢◌, ℕ, false, List, [], Option, refl, ap, sym, ◌∙◌}
+use Rattle.std.proofs.Common.{◌≡◌, ◌≢◌, ℕ, false, List, [], Option, refl, subst}
 use Rattle.std.specs.Io.KnownBytes.{Consumes}
 use Rattle.cache_devices.proofs.Sending.{same_appends}
 use Rattle.cache_spaces.specs.Moves.{At}
@@ -9,11 +9,11 @@ use Rattle.cache_run.specs.Carried.{Broken, Carried}
 use Rattle.cache_run.specs.Connected.{Connected, IsReady}
 use Rattle.cache_run.specs.Delivered.{Delivered, Undelivered}
 use Rattle.cache_run.specs.Goes.{Goes}
-use Rattle.cache_run.specs.Worlds.{outside, world}
+use Rattle.cache_run.specs.Worlds.{Outside, outside, world}
 use Rattle.cache_run.specs.declared.errors.RunError.{RunError}
 use Rattle.cache_run.specs.declared.errors.RunError.TheVariants.{Moment}
-use Rattle.cache_run.proofs.Carrying.{broken-one, carried-none, carried-one}
-use Rattle.cache_run.proofs.Going.{at-goes-map}
+use Rattle.cache_run.proofs.Carrying.{broken-more, broken-one, carried-more, carried-none, carried-one, carried-same}
+use Rattle.cache_run.proofs.Going.{at-goes-map, at-goes-more}
 use Rattle.cache_run.proofs.Placing.{at-same}
 
 module _ {C : Type 0} (reads : C → ℕ → C → Type 0) (old : List Space) (n number : ℕ) where
@@ -49,3 +49,33 @@ module _ {C : Type 0} (reads : C → ℕ → C → Type 0) (old : List Space) (n
   at-broken new r q v w k l e ne a =
       at-goes-map number n old new (λ x y s t. Carried (config_of x) number reads (world x s (outside r v k)) (world y t (outside q w l)) false false [] [] []) (λ x y s t. Broken (config_of x) number reads (world x s (outside r v k)) (world y t (outside q w l)) false false e) a
       (λ x y s t d. record { late = []; lost = []; unsent = []; carried = d; moment = λ is. absurd (ne is) })
+
+-- ---- turns one after another
+
+module _ {C : Type 0} (reads : C → ℕ → C → Type 0) (n number : ℕ) (first second third : List Space) (a b d : Outside C) where
+  pub at-carried-more : At first second n (λ was is. Goes number was is (λ s t. Carried (config_of was) number reads (world was s a) (world is t b) false false [] [] []))
+      → At second third n (λ was is. Goes number was is (λ s t. Carried (config_of was) number reads (world was s b) (world is t d) false false [] [] []))
+      → At first third n (λ was is. Goes number was is (λ s t. Carried (config_of was) number reads (world was s a) (world is t d) false false [] [] []))
+  at-carried-more p q =
+      at-goes-more number n first second third (λ x y s t. Carried (config_of x) number reads (world x s a) (world y t b) false false [] [] []) (λ x y s t. Carried (config_of x) number reads (world x s b) (world y t d) false false [] [] [])
+      (λ x y s t. Carried (config_of x) number reads (world x s a) (world y t d) false false [] [] []) p q
+      (λ x y z same s t u f g. carried-more (config_of x) number reads (world x s a) (world y t b) (world z u d) false false [] [] [] f (subst (λ k. Carried k number reads (world y t b) (world z u d) false false [] [] []) same g))
+
+  pub at-broken-more : (e : RunError) → At first second n (λ was is. Goes number was is (λ s t. Carried (config_of was) number reads (world was s a) (world is t b) false false [] [] []))
+      → At second third n (λ was is. Goes number was is (λ s t. Broken (config_of was) number reads (world was s b) (world is t d) false false e))
+      → At first third n (λ was is. Goes number was is (λ s t. Broken (config_of was) number reads (world was s a) (world is t d) false false e))
+  at-broken-more e p q =
+      at-goes-more number n first second third (λ x y s t. Carried (config_of x) number reads (world x s a) (world y t b) false false [] [] []) (λ x y s t. Broken (config_of x) number reads (world x s b) (world y t d) false false e)
+      (λ x y s t. Broken (config_of x) number reads (world x s a) (world y t d) false false e) p q
+      (λ x y z same s t u f g. broken-more (config_of x) number reads (world x s a) (world y t b) (world z u d) false false e f (subst (λ k. Broken k number reads (world y t b) (world z u d) false false e) same g))
+
+-- nothing has come yet
+pub at-carried-start : {C : Type 0} (reads : C → ℕ → C → Type 0) (old : List Space) (n number : ℕ) (a : Outside C) → Connected old n number IsReady
+    → At old old n (λ was is. Goes number was is (λ s t. Carried (config_of was) number reads (world was s a) (world is t a) false false [] [] []))
+at-carried-start reads old n number a c =
+    at-same (λ was is. Goes number was is (λ s t. Carried (config_of was) number reads (world was s a) (world is t a) false false [] [] [])) old n c.space c.at
+    (record {
+      each = λ s stands. record { next = s; stands = stands; fact = carried-same (config_of c.space) number reads c.space c.space s s a refl refl };
+      config = refl;
+      others = λ other ne. (refl, refl);
+    })

@@ -1,0 +1,25 @@
+use Rattle.std.proofs.Common.{refl, inl, inr, ◌≡◌, sym, subst}
+use Rattle.cache_run.specs.Connected.{Connected, IsFed, IsOver}
+use Rattle.cache_run.specs.Runs.{Closes, Quiet, next_number}
+use Rattle.cache_run.specs.Worlds.{outside}
+use Rattle.cache_run.proofs.Connecting.{found-at}
+use Rattle.cache_run.proofs.Ending.{at-partly, at-whole, fed-after, on-ok, on-err}
+use Rattle.cache_run.proofs.Placing.{at-map, at-same}
+use Rattle.cache_devices.specs.Watched.{device}
+use Rattle.cache_spaces.proofs.Putting.{at-of, same-space}
+use Rattle.cache_spaces.specs.Services.{spaces_of}
+use Rattle.cache_run.proofs.serving.run.Goals as goal
+
+pub returns-in-Err-clause-err : goal.returns-in-Err-clause-err
+returns-in-Err-clause-err g c =
+    let found = found-at (spaces_of c.args.service.now) c.args.namespace c.requires.known in
+    at-same _ _ _ found.0 found.1 (inl (refl, same-space found.0 found.0 refl, refl, refl, refl))
+
+pub returns-in-Err-open_connection-clause-err : goal.returns-in-Err-open_connection-clause-err
+returns-in-Err-open_connection-clause-err g c =
+    let e = c.in-Err-open_connection.ensures.err in
+    at-map _ _ _ _ _ e.1 (λ x y same. inl (e.0, same, refl, refl, refl))
+
+pub close_if_open-requires : goal.close_if_open-requires
+close_if_open-requires g c =
+    record { fed = fed-after _ _ _ (g.R.Read.remaining (device c.converse-outcome.new.reader)) c.converse-outcome.result c.converse-outcome.ensures.over c.converse-outcome.ensures.left }
