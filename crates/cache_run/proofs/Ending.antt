@@ -243,3 +243,29 @@ on-ok A B D (Err e) a b h = tt
 pub on-err : {X E : Type 0} (P Q : E → Type 0) (r : Result X E) → IfErr r P → ((e : E) → P e → Q e) → IfErr r Q
 on-err P Q (Ok x) a h = tt
 on-err P Q (Err e) a h = h e a
+
+-- ---- what a run leaves
+
+module _ {C X : Type 0} (reads : C → ℕ → C → Type 0) (first second third fourth : List Space) (m n number : ℕ) (before after : Outside C) (r : Result X RunError) where
+  pub run-whole : m ≡ n
+      → At first second n (λ was is. (number ≡ next_number was) × Goes number was is (λ s t. Quiet (config_of was) (event.Open number) s t (notices_of was) (notices_of is)))
+      → OnOk r (At second third m (λ was is. Goes number was is (λ s t. Carried (config_of was) number reads (world was s before) (world is t after) false false [] [] [])))
+      → OnOk r (Connected third m number (IsOver after.remaining)) → At third fourth m (Closes number)
+      → OnOk r (At first fourth n (λ was is. ServesWhole reads was is before after))
+  run-whole e opened carried over closes =
+      on-ok (At second third m (λ was is. Goes number was is (λ s t. Carried (config_of was) number reads (world was s before) (world is t after) false false [] [] []))) (Connected third m number (IsOver after.remaining)) (At first fourth n (λ was is. ServesWhole reads was is before after)) r carried over
+      (λ a b. at-whole reads number before after first second third fourth n opened
+      (subst (λ k. At second third k (λ was is. Goes number was is (λ s t. Carried (config_of was) number reads (world was s before) (world is t after) false false [] [] []))) e a)
+      (subst (λ k. Connected third k number (IsOver after.remaining)) e b) (subst (λ k. At third fourth k (Closes number)) e closes))
+
+  pub run-partly : (Else : RunError → Space → Space → Type 0) → m ≡ n
+      → At first second n (λ was is. (number ≡ next_number was) × Goes number was is (λ s t. Quiet (config_of was) (event.Open number) s t (notices_of was) (notices_of is)))
+      → IfErr r (λ e. At second third m (λ was is. Goes number was is (λ s t. Broken (config_of was) number reads (world was s before) (world is t after) false false e)))
+      → At third fourth m (Closes number)
+      → IfErr r (λ e. At first fourth n (λ was is. Else e was is ⊎ ServesPartly reads was is before after e))
+  run-partly Else same opened broken closes =
+      on-err (λ e. At second third m (λ was is. Goes number was is (λ s t. Broken (config_of was) number reads (world was s before) (world is t after) false false e))) (λ e. At first fourth n (λ was is. Else e was is ⊎ ServesPartly reads was is before after e)) r broken
+      (λ e a. at-map (λ was is. ServesPartly reads was is before after e) (λ was is. Else e was is ⊎ ServesPartly reads was is before after e) first fourth n
+      (at-partly reads number before after first second third fourth n e opened
+      (subst (λ k. At second third k (λ was is. Goes number was is (λ s t. Broken (config_of was) number reads (world was s before) (world is t after) false false e))) same a) (subst (λ k. At third fourth k (Closes number)) same closes))
+      (λ x y p. inr p))

@@ -3,7 +3,7 @@ use Rattle.cache_run.specs.Connected.{Connected, IsFed, IsOver}
 use Rattle.cache_run.specs.Runs.{Closes, Quiet, next_number}
 use Rattle.cache_run.specs.Worlds.{outside}
 use Rattle.cache_run.proofs.Connecting.{found-at}
-use Rattle.cache_run.proofs.Ending.{at-partly, at-whole, fed-after, on-ok, on-err}
+use Rattle.cache_run.proofs.Ending.{fed-after, run-partly, run-whole}
 use Rattle.cache_run.proofs.Placing.{at-map, at-same}
 use Rattle.cache_devices.specs.Watched.{device}
 use Rattle.cache_spaces.proofs.Putting.{at-of, same-space}
@@ -23,3 +23,15 @@ returns-in-Err-open_connection-clause-err g c =
 pub close_if_open-requires : goal.close_if_open-requires
 close_if_open-requires g c =
     record { fed = fed-after _ _ _ (g.R.Read.remaining (device c.converse-outcome.new.reader)) c.converse-outcome.result c.converse-outcome.ensures.over c.converse-outcome.ensures.left }
+
+pub returns-clause-ok : goal.returns-clause-ok
+returns-clause-ok g c =
+    let o = c.in-Ok-open_connection.ensures.ok in
+    let ran = c.converse-outcome in
+    run-whole g.C.Clock.reads _ _ _ _ c.in-Ok-open_connection.conn.namespace c.args.namespace c.in-Ok-open_connection.conn.number _ _ ran.result o.0 o.1 ran.ensures.ok ran.ensures.over c.close_if_open.ensures
+
+pub returns-clause-err : goal.returns-clause-err
+returns-clause-err g c =
+    let o = c.in-Ok-open_connection.ensures.ok in
+    let ran = c.converse-outcome in
+    run-partly g.C.Clock.reads _ _ _ _ c.in-Ok-open_connection.conn.namespace c.args.namespace c.in-Ok-open_connection.conn.number _ _ ran.result _ o.0 o.1 ran.ensures.err c.close_if_open.ensures
