@@ -1,5 +1,5 @@
 -- What is carried over several calls.
-use Rattle.std.proofs.Common.{◌≡◌, ◌≢◌, ℕ, ◌≤◌, ◌^◌, Bool, true, false, List, [], ◌∷◌, ◌++◌, map, refl, sym, ap, ◌∙◌, subst, Option, None, Some, append_assoc, inl, inr}
+use Rattle.std.proofs.Common.{◌≡◌, ℕ, ◌≤◌, ◌^◌, Bool, true, false, List, [], ◌∷◌, ◌++◌, map, refl, sym, ap, ◌∙◌, subst, Option, None, Some, append_assoc, inl, inr}
 use Rattle.std.specs.Prelude.{◌⊎◌}
 use Rattle.std.specs.List.{flat_map}
 use Rattle.std.specs.Option.{option_and_then}
@@ -77,9 +77,9 @@ carried-more config number reads a b c opens closes late lost unsent x y =
     let fs = x.feeds in
     let gs = y.feeds in
     let read : (pieces fs ++ []) ++ (pieces gs ++ lost) ≡ pieces (fs ++ gs) ++ lost =
-        ap (λ z. z ++ (pieces gs ++ lost)) (append-nil (pieces fs)) ∙ sym (append_assoc (pieces fs) (pieces gs) lost) ∙ ap (λ z. z ++ lost) (sym (flat_map-append (λ (f : Feeding). f.piece) fs gs)) in
+    ap (λ z. z ++ (pieces gs ++ lost)) (append-nil (pieces fs)) ∙ sym (append_assoc (pieces fs) (pieces gs) lost) ∙ ap (λ z. z ++ lost) (sym (flat_map-append (λ (f : Feeding). f.piece) fs gs)) in
     let times : (moments fs ++ []) ++ (moments gs ++ late) ≡ moments (fs ++ gs) ++ late =
-        ap (λ z. z ++ (moments gs ++ late)) (append-nil (moments fs)) ∙ sym (append_assoc (moments fs) (moments gs) late) ∙ ap (λ z. z ++ late) (sym (map-append (λ (f : Feeding). f.moment) fs gs)) in
+    ap (λ z. z ++ (moments gs ++ late)) (append-nil (moments fs)) ∙ sym (append_assoc (moments fs) (moments gs) late) ∙ ap (λ z. z ++ late) (sym (map-append (λ (f : Feeding). f.moment) fs gs)) in
     record {
       feeds = fs ++ gs;
       follows = subst (λ rs. after_records config a.situation rs ≡ Some c.situation) (records-join number opens closes fs gs) (records-more config a.situation (records_of number opens fs false) b.situation (records_of number false gs closes) c.situation x.follows y.follows);

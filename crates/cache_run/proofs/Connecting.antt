@@ -1,19 +1,18 @@
 -- A connection of a namespace over several calls.
-use Rattle.std.proofs.Common.{◌≡◌, ℕ, zero, suc, ◌+◌, ◌-◌, ◌<◌, ◌≤◌, ◌^◌, Bool, true, false, List, [], ◌∷◌, length, Option, Some, None, refl, sym, ap, ◌∙◌, subst, arith, inl, inr, ⊎_elim, nat_lt, nat_le, get_or}
-use Rattle.std.specs.Prelude.{MatchOption, ◌⊎◌, ◌&&◌, IsSome}
+use Rattle.std.proofs.Common.{◌≡◌, ℕ, zero, suc, ◌-◌, ◌<◌, ◌≤◌, ◌^◌, Bool, true, false, List, [], ◌∷◌, length, Option, Some, None, refl, sym, ap, ◌∙◌, subst, arith, inl, inr, ⊎_elim, nat_lt, nat_le}
+use Rattle.std.specs.Prelude.{MatchOption, ◌⊎◌, ◌&&◌}
 use Rattle.std.specs.List.{slice_get}
 use Rattle.std.proofs.lemmas.Bool.{and_from, lt-ltb, le-leb, cases_lt}
-use Rattle.std.proofs.lemmas.Option.{slice_get_within, same_Some, get_or_from_slice_get}
+use Rattle.std.proofs.lemmas.Option.{slice_get_within, get_or_from_slice_get}
 use Rattle.audit_model.specs.Belongs.{refusal_of}
 use Rattle.audit_model.specs.declared.command.Closing.{Closing}
 use Rattle.audit_model.specs.declared.command.Closing.TheVariants as by
 use Rattle.audit_model.specs.declared.event.Event.TheVariants as event
 use Rattle.audit_model.specs.declared.input.ServiceError.{ServiceError}
 use Rattle.audit_model.specs.declared.input.ServiceError.TheVariants as error
-use Rattle.cache_namespace.proofs.Following.{admitted, known-none, refused-closed}
+use Rattle.cache_namespace.proofs.Following.{admitted, known-none}
 use Rattle.cache_namespace.proofs.Places.{closing-is}
-use Rattle.cache_namespace.specs.Taken.{IsOpenOrLong, RefusedFor, fed, known, closing_at}
-use Rattle.cache_namespace.specs.declared.connection.Connection.{Connection}
+use Rattle.cache_namespace.specs.Taken.{IsOpenOrLong, RefusedFor, fed, known}
 use Rattle.cache_spaces.specs.Moves.{At}
 use Rattle.cache_spaces.specs.Serves.{IsUnknown, SameSpace, Takes, TakesOutput}
 use Rattle.cache_spaces.specs.Services.{Refuses}
@@ -41,7 +40,7 @@ moment-late space number piece moment held positive bound is_open refused =
         let c = found.0 in
         let none = admitted (config_of space) number (number - 1) moment c cs piece (omega arith) (omega arith) (get_or_from_slice_get cs (number - 1) c c found.1) (sym (closing-is cs (number - 1) c found.1) ∙ is_open) low in
         let memory : (error.Moment ≡ error.OutOfMemory) ⊎ ((error.Moment ≡ error.HeldAgain) × (held ≡ true)) =
-            subst (λ o. MatchOption o ((error.Moment ≡ error.OutOfMemory) ⊎ ((error.Moment ≡ error.HeldAgain) × (held ≡ true))) (λ refused. error.Moment ≡ refused)) none refused in
+        subst (λ o. MatchOption o ((error.Moment ≡ error.OutOfMemory) ⊎ ((error.Moment ≡ error.HeldAgain) × (held ≡ true))) (λ refused. error.Moment ≡ refused)) none refused in
         ⊎_elim (λ e. let h : error.Moment ≡ error.OutOfMemory = e in cc) (λ e. let h : error.Moment ≡ error.HeldAgain = e.0 in cc) memory
 
 -- a closing is refused only where the connection has closed

@@ -1,13 +1,11 @@
 -- One connection, from its opening to its closing.
-use Rattle.std.proofs.Common.{◌≡◌, ◌≢◌, ℕ, zero, suc, ◌+◌, ◌-◌, ◌<◌, ◌≤◌, Bool, true, false, List, [], ◌∷◌, length, Option, Some, None, refl, sym, ap, ◌∙◌, subst, arith, inl, inr, if◌then◌else◌}
+use Rattle.std.proofs.Common.{◌≡◌, ℕ, ◌+◌, ◌-◌, ◌<◌, ◌≤◌, Bool, true, false, List, [], ◌∷◌, length, Option, Some, None, refl, sym, ap, ◌∙◌, subst, arith, inl, inr, if◌then◌else◌}
 use Rattle.std.specs.Prelude.{◌⊎◌, ◌++◌, Result, Ok, Err, OnOk, OnErr, IfErr}
-use Rattle.std.specs.List.{flat_map, slice_get}
-use Rattle.std.specs.Io.KnownBytes.{IsAtEnd}
+use Rattle.std.specs.List.{flat_map}
 use Rattle.std.proofs.lemmas.List.{append-nil}
 use Rattle.std.proofs.lemmas.Option.{none-some}
 use Rattle.audit_model.specs.Belongs.{refusal_of}
-use Rattle.audit_model.specs.Follows.{Follows, known_in}
-use Rattle.audit_model.specs.Obeys.{is_numbered, has_right_own_value}
+use Rattle.audit_model.specs.Follows.{Follows}
 use Rattle.audit_model.specs.Situation.{Situation}
 use Rattle.audit_model.specs.declared.command.Closing.TheVariants as by
 use Rattle.audit_model.specs.declared.config.Config.{Config}
@@ -18,19 +16,19 @@ use Rattle.audit_model.specs.declared.transcript.Step.{Step}
 use Rattle.cache_namespace.specs.Taken.{IsOpenOrLong, record_of, known}
 use Rattle.cache_spaces.specs.Moves.{At}
 use Rattle.cache_spaces.specs.Serves.{SameSpace, Takes}
-use Rattle.cache_spaces.specs.Spaces.{closing_of, config_of, connections_of, notices_of, output_of}
+use Rattle.cache_spaces.specs.Spaces.{closing_of, config_of, connections_of, notices_of}
 use Rattle.cache_spaces.specs.declared.space.Space.{Space}
 use Rattle.cache_run.specs.Carried.{Broken, Carried}
 use Rattle.cache_run.specs.Connected.{Connected, IsFed, IsOver, IsReady}
 use Rattle.cache_run.specs.Delivered.{Unfed}
 use Rattle.cache_run.specs.Goes.{Goes}
-use Rattle.cache_run.specs.Runs.{Closes, Ends, Quiet, ServesPartly, ServesWhole, next_number}
-use Rattle.cache_run.specs.Worlds.{Outside, World, world}
+use Rattle.cache_run.specs.Runs.{Closes, Quiet, ServesPartly, ServesWhole, next_number}
+use Rattle.cache_run.specs.Worlds.{Outside, world}
 use Rattle.cache_run.specs.declared.errors.RunError.{RunError}
 use Rattle.cache_run.proofs.Carrying.{broken-more, carried-close, carried-more, carried-opened, carried-still}
 use Rattle.cache_run.proofs.Connecting.{close-refused, connected-map}
-use Rattle.cache_run.proofs.Going.{goes-map, goes-more, goes-same, seen-alike}
-use Rattle.cache_run.proofs.Placing.{at-is, at-map, at-more, at-was, at-with}
+use Rattle.cache_run.proofs.Going.{goes-more, goes-same, seen-alike}
+use Rattle.cache_run.proofs.Placing.{at-is, at-map, at-more, at-with}
 
 chosen-none : (b : Bool) (t : Situation) → (if b then None else None) ≡ Some t → ⊥
 chosen-none true t e = none-some t e
@@ -55,18 +53,21 @@ pub at-opened : (old new : List Space) (n number : ℕ) → At old new n (λ was
     → At old new n (λ was is. (number ≡ next_number was) × Goes number was is (λ s t. Quiet (config_of was) (event.Open number) s t (notices_of was) (notices_of is)))
 at-opened old new n number a =
     at-map (λ was is. Takes was is number (event.Open number) false × (number ≡ length (connections_of was) + 1)) (λ was is. (number ≡ next_number was) × Goes number was is (λ s t. Quiet (config_of was) (event.Open number) s t (notices_of was) (notices_of is))) old new n a
-    (λ x y p. (p.1, record {
-      each = λ s stands.
-          let r = p.0.serves s stands in
-          let none = open-still (config_of x) s number r.steps r.next r.follows in
-          record {
-            next = r.next;
-            stands = r.stands;
-            fact = record { follows = subst (λ l. Follows (config_of x) s (record_of (event.Open number) l) r.next) none r.follows; notices = untold (notices_of x) (notices_of y) r.steps none r.notices };
-          };
-      config = p.0.config;
-      others = λ other ne. seen-alike x y other (p.0.others (other - 1) ne);
-    }))
+    (λ x y p. (
+      p.1,
+      record {
+        each = λ s stands.
+            let r = p.0.serves s stands in
+            let none = open-still (config_of x) s number r.steps r.next r.follows in
+            record {
+              next = r.next;
+              stands = r.stands;
+              fact = record { follows = subst (λ l. Follows (config_of x) s (record_of (event.Open number) l) r.next) none r.follows; notices = untold (notices_of x) (notices_of y) r.steps none r.notices };
+            };
+        config = p.0.config;
+        others = λ other ne. seen-alike x y other (p.0.others (other - 1) ne);
+      },
+    ))
 
 pub connected-opened : (old new : List Space) (n number : ℕ) → At old new n (λ was is. Takes was is number (event.Open number) false × (number ≡ length (connections_of was) + 1)) → Connected new n number IsReady
 connected-opened old new n number a =
@@ -86,18 +87,22 @@ pub at-closed : (old new : List Space) (n number : ℕ) → Connected old n numb
     → At old new n (Closes number)
 at-closed old new n number c a =
     at-with (λ was is. Takes was is number (event.Close number) false × (closing_of is number ≡ Some by.Asked)) (Closes number) old new n c.space c.at a
-    (λ y p. inl (p.0.left.0, p.1, record {
-      each = λ s stands.
-          let r = p.0.serves s stands in
-          let none = close-still (config_of c.space) s number r.steps r.next r.follows in
-          record {
-            next = r.next;
-            stands = r.stands;
-            fact = record { follows = subst (λ l. Follows (config_of c.space) s (record_of (event.Close number) l) r.next) none r.follows; notices = untold (notices_of c.space) (notices_of y) r.steps none r.notices };
-          };
-      config = p.0.config;
-      others = λ other ne. seen-alike c.space y other (p.0.others (other - 1) ne);
-    }))
+    (λ y p. inl (
+      p.0.left.0,
+      p.1,
+      record {
+        each = λ s stands.
+            let r = p.0.serves s stands in
+            let none = close-still (config_of c.space) s number r.steps r.next r.follows in
+            record {
+              next = r.next;
+              stands = r.stands;
+              fact = record { follows = subst (λ l. Follows (config_of c.space) s (record_of (event.Close number) l) r.next) none r.follows; notices = untold (notices_of c.space) (notices_of y) r.steps none r.notices };
+            };
+        config = p.0.config;
+        others = λ other ne. seen-alike c.space y other (p.0.others (other - 1) ne);
+      },
+    ))
 
 long-where-refused : (space : Space) (number : ℕ) (e : ServiceError) → 0 < number → number ≤ length (connections_of space) → IsOpenOrLong (closing_of space number)
     → refusal_of (config_of space) (known (connections_of space)) (event.Close number) ≡ Some e → closing_of space number ≡ Some by.Long
@@ -110,8 +115,8 @@ pub at-closed-before : (old new : List Space) (n number : ℕ) (e : ServiceError
 at-closed-before old new n number e c a =
     at-with (λ was is. SameSpace was is × (refusal_of (config_of was) (known (connections_of was)) (event.Close number) ≡ Some e)) (Closes number) old new n c.space c.at a
     (λ y p.
-        let long = long-where-refused c.space number e c.positive c.known c.left p.1 in
-        inr (long, p.0.closings number ∙ long, goes-same number c.space y (λ s t. Unfed s t (notices_of c.space) (notices_of y)) p.0 (λ s. record { same = refl; notices = p.0.notices })))
+    let long = long-where-refused c.space number e c.positive c.known c.left p.1 in
+    inr (long, p.0.closings number ∙ long, goes-same number c.space y (λ s t. Unfed s t (notices_of c.space) (notices_of y)) p.0 (λ s. record { same = refl; notices = p.0.notices })))
 
 -- ---- the whole
 
@@ -125,11 +130,14 @@ module _ {C : Type 0} (reads : C → ℕ → C → Type 0) (number : ℕ) (befor
       at-more (λ x y. (number ≡ next_number x) × Goes number x y (λ s t. Quiet (config_of x) (event.Open number) s t (notices_of x) (notices_of y)))
       (λ y z. Goes number y z (λ s t. Carried (config_of y) number reads (world y s before) (world z t after) false false [] [] []))
       (λ x z. (number ≡ next_number x) × Goes number x z (λ s t. Carried (config_of x) number reads (world x s before) (world z t after) true false [] [] [])) first second third n a b
-      (λ x y z p q. (p.0, goes-more number x y z (λ s t. Quiet (config_of x) (event.Open number) s t (notices_of x) (notices_of y)) (λ s t. Carried (config_of y) number reads (world y s before) (world z t after) false false [] [] [])
-      (λ s t. Carried (config_of x) number reads (world x s before) (world z t after) true false [] [] []) p.1 q
-      (λ s t u f g. carried-more (config_of x) number reads (world x s before) (world y t before) (world z u after) true false [] [] []
-      (carried-opened (config_of x) number reads x y s t before f.follows f.notices)
-      (subst (λ k. Carried k number reads (world y t before) (world z u after) false false [] [] []) p.1.config g))))
+      (λ x y z p q. (
+        p.0,
+        goes-more number x y z (λ s t. Quiet (config_of x) (event.Open number) s t (notices_of x) (notices_of y)) (λ s t. Carried (config_of y) number reads (world y s before) (world z t after) false false [] [] [])
+            (λ s t. Carried (config_of x) number reads (world x s before) (world z t after) true false [] [] []) p.1 q
+            (λ s t u f g. carried-more (config_of x) number reads (world x s before) (world y t before) (world z u after) true false [] [] []
+            (carried-opened (config_of x) number reads x y s t before f.follows f.notices)
+            (subst (λ k. Carried k number reads (world y t before) (world z u after) false false [] [] []) p.1.config g)),
+      ))
 
   -- what was broken stands behind the opening
   pub at-begun-broken : (first second third : List Space) (n : ℕ) (e : RunError)
@@ -140,11 +148,14 @@ module _ {C : Type 0} (reads : C → ℕ → C → Type 0) (number : ℕ) (befor
       at-more (λ x y. (number ≡ next_number x) × Goes number x y (λ s t. Quiet (config_of x) (event.Open number) s t (notices_of x) (notices_of y)))
       (λ y z. Goes number y z (λ s t. Broken (config_of y) number reads (world y s before) (world z t after) false false e))
       (λ x z. (number ≡ next_number x) × Goes number x z (λ s t. Broken (config_of x) number reads (world x s before) (world z t after) true false e)) first second third n a b
-      (λ x y z p q. (p.0, goes-more number x y z (λ s t. Quiet (config_of x) (event.Open number) s t (notices_of x) (notices_of y)) (λ s t. Broken (config_of y) number reads (world y s before) (world z t after) false false e)
-      (λ s t. Broken (config_of x) number reads (world x s before) (world z t after) true false e) p.1 q
-      (λ s t u f g. broken-more (config_of x) number reads (world x s before) (world y t before) (world z u after) true false e
-      (carried-opened (config_of x) number reads x y s t before f.follows f.notices)
-      (subst (λ k. Broken k number reads (world y t before) (world z u after) false false e) p.1.config g))))
+      (λ x y z p q. (
+        p.0,
+        goes-more number x y z (λ s t. Quiet (config_of x) (event.Open number) s t (notices_of x) (notices_of y)) (λ s t. Broken (config_of y) number reads (world y s before) (world z t after) false false e)
+            (λ s t. Broken (config_of x) number reads (world x s before) (world z t after) true false e) p.1 q
+            (λ s t u f g. broken-more (config_of x) number reads (world x s before) (world y t before) (world z u after) true false e
+            (carried-opened (config_of x) number reads x y s t before f.follows f.notices)
+            (subst (λ k. Broken k number reads (world y t before) (world z u after) false false e) p.1.config g)),
+      ))
 
   whole : (x z w : Space) → number ≡ next_number x → Goes number x z (λ s t. Carried (config_of x) number reads (world x s before) (world z t after) true false [] [] [])
       → IsOver after.remaining number z → Closes number z w → ServesWhole reads x w before after

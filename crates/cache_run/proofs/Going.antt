@@ -1,21 +1,18 @@
 -- How a namespace goes on by several calls.
-use Rattle.std.proofs.Common.{◌≡◌, ◌≢◌, ℕ, ◌-◌, ◌^◌, Bool, List, [], ◌++◌, Option, Some, None, refl, sym, ap, ◌∙◌, subst, inl, inr}
+use Rattle.std.proofs.Common.{◌≡◌, ℕ, ◌-◌, Bool, List, [], ◌++◌, None, refl, ap, ◌∙◌, inl, inr}
 use Rattle.std.specs.List.{slice_get, flat_map}
 use Rattle.std.specs.Option.{option_map_or}
 use Rattle.audit_model.specs.Situation.{Situation}
-use Rattle.audit_model.specs.declared.config.Config.{Config}
-use Rattle.audit_model.specs.declared.transcript.Step.{Step}
 use Rattle.cache_namespace.specs.Gathered.{reply_in}
 use Rattle.cache_namespace.specs.Taken.{fed}
 use Rattle.cache_namespace.specs.declared.connection.Connection.{Connection}
 use Rattle.cache_spaces.specs.Moves.{At}
 use Rattle.cache_spaces.specs.Serves.{SameSpace, Takes, TakesOutput}
-use Rattle.cache_spaces.specs.Spaces.{Stands, closing_of, config_of, connections_of, notices_of, output_of}
+use Rattle.cache_spaces.specs.Spaces.{closing_of, config_of, connections_of, notices_of, output_of}
 use Rattle.cache_spaces.specs.declared.space.Space.{Space}
-use Rattle.cache_run.specs.Carried.{Feeding}
 use Rattle.cache_run.specs.Connected.{Connected, IsReady}
 use Rattle.cache_run.specs.Delivered.{Answered, IsCause, Unanswered}
-use Rattle.cache_run.specs.Goes.{Goes, StandsSo}
+use Rattle.cache_run.specs.Goes.{Goes}
 use Rattle.cache_run.specs.declared.errors.RunError.{RunError}
 use Rattle.cache_run.specs.declared.errors.RunError.TheVariants.{OutOfMemory}
 use Rattle.cache_run.proofs.Placing.{at-map, at-more, at-with}
@@ -109,14 +106,18 @@ at-held old new n number piece moment held a =
           record {
             next = r.next;
             stands = r.stands;
-            fact = inr (flat_map reply_in r.steps, record {
-              feeding = record { piece = piece; moment = moment; steps = r.steps };
-              piece_is = refl;
-              moment_is = refl;
-              follows = r.follows;
-              notices = r.notices;
-              replies = refl;
-            }, refl);
+            fact = inr (
+              flat_map reply_in r.steps,
+              record {
+                feeding = record { piece = piece; moment = moment; steps = r.steps };
+                piece_is = refl;
+                moment_is = refl;
+                follows = r.follows;
+                notices = r.notices;
+                replies = refl;
+              },
+              refl,
+            );
           };
       config = takes.config;
       others = λ other ne. seen-alike x y other (takes.others (other - 1) ne);

@@ -1,5 +1,5 @@
 -- One turn of a run.
-use Rattle.std.proofs.Common.{◌≡◌, ◌≢◌, ℕ, false, List, [], Option, refl, subst}
+use Rattle.std.proofs.Common.{◌≢◌, ℕ, false, List, [], Option, refl, subst}
 use Rattle.std.specs.Io.KnownBytes.{Consumes}
 use Rattle.cache_devices.proofs.Sending.{same_appends}
 use Rattle.cache_spaces.specs.Moves.{At}

@@ -19,12 +19,7 @@ use cache_spaces::{Fed, Service};
 use std::io::Write;
 
 /// Feeds a piece to a connection that is open.
-fn feed_piece(
-    service: &mut Service,
-    conn: Conn,
-    piece: &[u8],
-    moment: u64,
-) -> Result<Fed, RunError>
+fn feed_piece(service: &mut Service, conn: Conn, piece: &[u8], moment: u64) -> Result<Fed, RunError>
     requires ready { Connected (spaces_of service.old) conn.namespace conn.number IsReady }
     ensures taken { IfOk result (λ done. At (spaces_of service.old) (spaces_of service.new) conn.namespace (λ was is. Takes was is conn.number (fed conn.number piece.now moment) (is_held done))) }
     ensures refused { IfErr result (λ e. At (spaces_of service.old) (spaces_of service.new) conn.namespace SameSpace × IsCause moment e) }

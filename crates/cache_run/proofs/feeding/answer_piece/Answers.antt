@@ -1,4 +1,4 @@
-use Rattle.std.proofs.Common.{false, true, refl, inl}
+use Rattle.std.proofs.Common.{false, true, inl}
 use Rattle.cache_run.specs.Connected.{IsFed, IsReady}
 use Rattle.cache_run.proofs.Connecting.{connected-fed, connected-map, connected-same, connected-taken}
 use Rattle.cache_run.proofs.Going.{at-answered, at-held, at-refused}

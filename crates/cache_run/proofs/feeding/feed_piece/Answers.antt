@@ -1,6 +1,6 @@
-use Rattle.std.proofs.Common.{refl, inl, inr, sym, ap, ◌∙◌}
+use Rattle.std.proofs.Common.{refl, inl, inr}
 use Rattle.cache_spaces.specs.Serves.{SameSpace}
-use Rattle.cache_spaces.specs.Spaces.{config_of, connections_of, closing_of}
+use Rattle.cache_spaces.specs.Spaces.{config_of, connections_of}
 use Rattle.cache_namespace.specs.Taken.{RefusedFor, fed, holds_at}
 use Rattle.audit_model.specs.declared.input.ServiceError.TheVariants as error
 use Rattle.cache_run.proofs.Connecting.{moment-late, refused-here}

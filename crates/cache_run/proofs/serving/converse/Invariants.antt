@@ -1,4 +1,4 @@
-use Rattle.std.proofs.Common.{◌≡◌, ◌≤◌, ◌<◌, [], false, length}
+use Rattle.std.proofs.Common.{◌≤◌, ◌<◌, [], false, length}
 use Rattle.cache_devices.specs.Watched.{device, failures}
 use Rattle.cache_spaces.specs.Moves.{At}
 use Rattle.cache_spaces.specs.Services.{spaces_of}

@@ -1,12 +1,9 @@
-use Rattle.std.proofs.Common.{refl, inl, inr, ◌≡◌, sym, subst}
-use Rattle.cache_run.specs.Connected.{Connected, IsFed, IsOver}
-use Rattle.cache_run.specs.Runs.{Closes, Quiet, next_number}
-use Rattle.cache_run.specs.Worlds.{outside}
+use Rattle.std.proofs.Common.{refl, inl}
 use Rattle.cache_run.proofs.Connecting.{found-at}
 use Rattle.cache_run.proofs.Ending.{fed-after, run-partly, run-whole}
 use Rattle.cache_run.proofs.Placing.{at-map, at-same}
 use Rattle.cache_devices.specs.Watched.{device}
-use Rattle.cache_spaces.proofs.Putting.{at-of, same-space}
+use Rattle.cache_spaces.proofs.Putting.{same-space}
 use Rattle.cache_spaces.specs.Services.{spaces_of}
 use Rattle.cache_run.proofs.serving.run.Goals as goal
 

@@ -1,4 +1,4 @@
-use Rattle.std.proofs.Common.{◌≡◌, None, Some, sym, ◌∙◌, inr}
+use Rattle.std.proofs.Common.{◌≡◌, sym, ◌∙◌, inr}
 use Rattle.cache_run.specs.Connected.{IsOver, IsReady, IsTaken}
 use Rattle.cache_run.proofs.Connecting.{connected-here, long-where-closed}
 use Rattle.cache_spaces.specs.Spaces.{closing_of}
