@@ -164,7 +164,8 @@ refused-closed m i c cs e lt at closed =
 
 -- ---- refusals
 
-known-none : (m i : ℕ) (c : Connection) (cs : List Connection) → m ≡ suc i → i < length cs → get_or cs i c ≡ c → c.closing ≡ None
+-- an open connection is known
+pub known-none : (m i : ℕ) (c : Connection) (cs : List Connection) → m ≡ suc i → i < length cs → get_or cs i c ≡ c → c.closing ≡ None
     → refusal_of_conn (known cs) m ≡ None
 known-none m i c cs e lt at is_open =
     let k = known-open 0 m i c cs false [] e lt at (listed-open m c ∙ ap is_none is_open) in

@@ -1,5 +1,5 @@
 -- What stands at a place of a list, before and after it is replaced.
-use Rattle.std.proofs.Common.{◌≡◌, ◌≢◌, ℕ, zero, suc, ◌<◌, List, [], ◌∷◌, Bool, Some, None, if◌then◌else◌, length, refl, sym, ap, ◌∙◌, arith, get_or}
+use Rattle.std.proofs.Common.{◌≡◌, ◌≢◌, ℕ, zero, suc, ◌<◌, List, [], ◌∷◌, Bool, false, Some, None, if◌then◌else◌, length, refl, sym, ap, ◌∙◌, arith, get_or}
 use Rattle.std.specs.Prelude.{slice_set}
 use Rattle.std.specs.List.{slice_get}
 use Rattle.std.specs.Option.{option_map_or}
@@ -7,7 +7,7 @@ use Rattle.std.proofs.lemmas.List.{get_or-set_same, length-set}
 use Rattle.std.proofs.lemmas.Option.{slice_get-get_or, slice_get_within, same_Some}
 use Rattle.cache_namespace.specs.Ran.{standing_with}
 use Rattle.cache_namespace.specs.Shown.{shown, is_listed, is_open_with, open_from, situation}
-use Rattle.audit_model.specs.Situation.{HeldValue}
+use Rattle.audit_model.specs.Situation.{Situation, HeldValue}
 use Rattle.cache_namespace.specs.Taken.{text_at, closing_at, ReplacedAt, SameConnections, LooksSame}
 use Rattle.cache_namespace.specs.declared.connection.Connection.{Connection}
 
@@ -75,3 +75,21 @@ replaced-others old new i p place ne = ap (λ cs. slice_get cs place) p.set ∙ 
 pub replaced-seen : {A : Type 0} (f : Connection → A) (d : A) (old new : List Connection) (i : ℕ) → (p : ReplacedAt old new i) → f p.is ≡ f p.was
     → (place : ℕ) → option_map_or f (slice_get new place) d ≡ option_map_or f (slice_get old place) d
 replaced-seen f d old new i p e place = ap (λ cs. option_map_or f (slice_get cs place) d) p.set ∙ seen-same f d old i place p.was p.is p.at e
+
+-- what is seen of the connection that was put at a place
+pub closing-is : (cs : List Connection) (i : ℕ) (c : Connection) → slice_get cs i ≡ Some c → closing_at cs i ≡ c.closing
+closing-is cs i c at = ap (λ o. option_map_or (λ (k : Connection). k.closing) o None) at
+
+-- as many connections as before
+pub replaced-count : (old new : List Connection) (i : ℕ) → ReplacedAt old new i → length new ≡ length old
+replaced-count old new i p = ap length p.set ∙ length-set old i p.is
+
+-- connections that stand for the same are as many
+pub same-count : (old new : List Connection) → SameConnections old new → length new ≡ length old
+same-count old new same = ap (λ (s : Situation). s.opened) (same.situation 0 false [])
+
+-- a place at which no closed connection stands
+pub closing-none : (cs : List Connection) (i : ℕ) → ((c : Connection) → slice_get cs i ≡ Some c → c.closing ≡ None) → closing_at cs i ≡ None
+closing-none [] i is_open = refl
+closing-none (c ∷ cs) zero is_open = is_open c refl
+closing-none (c ∷ cs) (suc i) is_open = closing-none cs i is_open

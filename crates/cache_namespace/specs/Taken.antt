@@ -10,6 +10,7 @@ use Rattle.audit_model.specs.declared.config.Config.{Config}
 use Rattle.audit_model.specs.declared.event.Event.{Event}
 use Rattle.audit_model.specs.declared.event.Event.TheVariants as event
 use Rattle.audit_model.specs.declared.command.Closing.{Closing}
+use Rattle.audit_model.specs.declared.command.Closing.TheVariants as by
 use Rattle.audit_model.specs.declared.input.ServiceError.{ServiceError}
 use Rattle.audit_model.specs.declared.input.ServiceError.TheVariants as error
 use Rattle.audit_model.specs.declared.transcript.Record.{Record}
@@ -72,6 +73,10 @@ holds_at connections number = is_holding_in (situation 0 connections false []) n
 -- why the connection at a place is closed, if it is
 abbrev pub closing_at : List Connection → ℕ → Option Closing
 closing_at connections index = option_map_or (λ c. c.closing) (slice_get connections index) None
+
+-- open, or closed for too long a line
+abbrev pub IsOpenOrLong : Option Closing → Type 0
+IsOpenOrLong closing = (closing ≡ None) ⊎ (closing ≡ Some by.Long)
 
 -- one connection was put in the place of another
 pub record ReplacedAt (old new : List Connection) (index : ℕ) : Type 0 where

@@ -11,7 +11,7 @@ ghost use Rattle.cache_namespace.specs.Lines.{IsThere};
 ghost use Rattle.cache_namespace.specs.Shown.{situation};
 ghost use Rattle.audit_model.specs.Belongs.{refusal_of, refusal_of_conn};
 ghost use Rattle.audit_model.specs.declared.event.Event.TheVariants as event;
-ghost use Rattle.cache_namespace.specs.Taken.{FeedsConnection, Takes, fed, known, holds_at, RefusedFor, text_at, closing_at, ReplacedAt, SameConnections, LooksSame, IsSound};
+ghost use Rattle.cache_namespace.specs.Taken.{FeedsConnection, IsOpenOrLong, Takes, fed, known, holds_at, RefusedFor, text_at, closing_at, ReplacedAt, SameConnections, LooksSame, IsSound};
 
 use crate::connection::{Connection, new_connection};
 use crate::feeding::{FeedError, feed_lines};
@@ -49,6 +49,7 @@ fn feed_connection<S: Store>(
     ensures unchanged { OnErr result (IsUnchanged (S.stands store.old) (S.stands store.new) (S.frame store.old) (S.frame store.new) (S.untaken store.old) (S.untaken store.new)) }
     ensures ungathered { OnErr result (gathered connection.new.output.items kept.new (S.untaken store.new) ≡ gathered connection.old.output.items kept.old (S.untaken store.old)) }
     ensures again { IsErrOf result FeedError.HeldAgain → connection.old.held ≡ true }
+    ensures closing { OnOk result (IsOpenOrLong connection.new.closing) }
 {
     let held = connection.held;
     match feed_lines(
@@ -107,6 +108,8 @@ fn feed_at<S: Store>(
     ensures unchanged { OnErr result (IsUnchanged (S.stands store.old) (S.stands store.new) (S.frame store.old) (S.frame store.new) (S.untaken store.old) (S.untaken store.new)) }
     ensures ungathered { OnErr result (gathered (text_at connections.new.items index) kept.new (S.untaken store.new) ≡ gathered (text_at connections.old.items index) kept.old (S.untaken store.old)) }
     ensures again { IsErrOf result FeedError.HeldAgain → (c : Open) → slice_get connections.old.items index ≡ Some c → c.held ≡ true }
+    ensures closing { OnOk result (IsOpenOrLong (closing_at connections.new.items index)) }
+    ensures count { length connections.new.items ≡ length connections.old.items }
 {
     let connection = &mut connections[index];
     match feed_connection(store, alloc, config, now, number, connection, piece, kept) {
@@ -188,6 +191,8 @@ impl<S: Store> Namespace<S> {
         ensures same { OnErr result (SameConnections self.old.connections.items self.new.connections.items) }
         ensures latest { OnErr result (self.new.latest ≡ self.old.latest) }
         ensures kept { OnErr result (steps_of kept.new ≡ steps_of kept.old) }
+        ensures closing { OnOk result (IsOpenOrLong (closing_at self.new.connections.items (number - 1))) }
+        ensures count { length self.new.connections.items ≡ length self.old.connections.items }
     {
         let index = match find_open(&self.connections, number) {
             Ok(index) => index,
@@ -224,6 +229,8 @@ impl<S: Store> Namespace<S> {
         ensures texts { (place : ℕ) → text_at self.new.connections.items place ≡ text_at self.old.connections.items place }
         ensures others { (place : ℕ) → place ≢ number - 1 → slice_get self.new.connections.items place ≡ slice_get self.old.connections.items place }
         ensures closed { OnOk result (closing_at self.new.connections.items (number - 1) ≡ Some Closing.Asked) }
+        ensures open { OnOk result (closing_at self.old.connections.items (number - 1) ≡ None) }
+        ensures count { length self.new.connections.items ≡ length self.old.connections.items }
         ensures rest { self.new ≡ record self.old { connections = self.new.connections } }
         ensures refused { IfErr result (λ e. refusal_of self.old.config (known self.old.connections.items) (event.Close number) ≡ Some e) }
         ensures err { OnErr result (self.new ≡ self.old) }
@@ -242,6 +249,7 @@ impl<S: Store> Namespace<S> {
         ensures taken { OnOk result (text_at self.new.connections.items (number - 1) ≡ []) }
         ensures others { (place : ℕ) → place ≢ number - 1 → slice_get self.new.connections.items place ≡ slice_get self.old.connections.items place }
         ensures closings { (place : ℕ) → closing_at self.new.connections.items place ≡ closing_at self.old.connections.items place }
+        ensures count { length self.new.connections.items ≡ length self.old.connections.items }
         ensures situation { (latest : ℕ) (dropped : Bool) (values : List HeldValue) → situation latest self.new.connections.items dropped values ≡ situation latest self.old.connections.items dropped values }
         ensures rest { self.new ≡ record self.old { connections = self.new.connections } }
         ensures refused { IsErr result ↔ (((known self.old.connections.items).was_opened number) ≡ false) }

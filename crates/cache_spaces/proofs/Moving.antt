@@ -12,7 +12,7 @@ use Rattle.plain_store.specs.Seen.{Holds}
 use Rattle.plain_store.specs.declared.store.PlainStore.{PlainStore}
 use Rattle.std.specs.List.{slice_get}
 use Rattle.std.specs.Option.{option_map_or}
-use Rattle.cache_namespace.specs.Taken.{text_at}
+use Rattle.cache_namespace.specs.Taken.{text_at, closing_at}
 use Rattle.cache_namespace.specs.declared.kept.Kept.{Kept}
 use Rattle.cache_spaces.specs.Moves.{Moves}
 use Rattle.cache_spaces.specs.Serves.{Serves}
@@ -88,3 +88,12 @@ pub opened-output : (cs : List Connection) (c : Connection) (place : ℕ) → pl
 opened-output cs c place e empty =
     ap (text_at (cs ++ c ∷ [])) e ∙ ap (λ o. option_map_or (λ (k : Connection). k.output.items) o []) (opened-at cs c) ∙ empty
     ∙ sym (ap (λ o. option_map_or (λ (k : Connection). k.output.items) o []) (none-at cs)) ∙ ap (text_at cs) (sym e)
+
+-- the connection that was opened, as it is seen
+pub opened-closing : (cs is : List Connection) (c : Connection) (place : ℕ) → place ≡ length cs → is ≡ cs ++ c ∷ [] → closing_at is place ≡ c.closing
+opened-closing cs is c place e added =
+    ap (λ ks. closing_at ks place) added ∙ ap (closing_at (cs ++ c ∷ [])) e ∙ ap (λ o. option_map_or (λ (k : Connection). k.closing) o None) (opened-at cs c)
+
+pub opened-text : (cs is : List Connection) (c : Connection) (place : ℕ) → place ≡ length cs → is ≡ cs ++ c ∷ [] → text_at is place ≡ c.output.items
+opened-text cs is c place e added =
+    ap (λ ks. text_at ks place) added ∙ ap (text_at (cs ++ c ∷ [])) e ∙ ap (λ o. option_map_or (λ (k : Connection). k.output.items) o []) (opened-at cs c)

@@ -1,9 +1,12 @@
 -- What a call of a service does to its namespaces.
-use Rattle.std.specs.Prelude.{◌≡◌, ◌≢◌, ℕ, ◌-◌, Bool, false, List, [], ◌++◌, Option, IsNone}
+use Rattle.std.specs.Prelude.{◌≡◌, ◌≢◌, ℕ, ◌-◌, ◌+◌, Bool, false, List, [], ◌++◌, length, Option, Some, None, IsNone}
 use Rattle.std.specs.List.{flat_map, slice_get}
 use Rattle.audit_model.specs.Follows.{Follows}
 use Rattle.audit_model.specs.Situation.{Situation}
+use Rattle.audit_model.specs.declared.command.Closing.{Closing}
+use Rattle.audit_model.specs.declared.command.Closing.TheVariants as by
 use Rattle.audit_model.specs.declared.event.Event.{Event}
+use Rattle.audit_model.specs.declared.event.Event.TheVariants as event
 use Rattle.audit_model.specs.declared.transcript.Step.{Step}
 use Rattle.cache_namespace.specs.Gathered.{reply_in}
 use Rattle.cache_namespace.specs.Ran.{ends_held}
@@ -11,7 +14,7 @@ use Rattle.std.specs.Option.{option_to_list}
 use Rattle.audit_model.specs.declared.input.ServiceError.{ServiceError}
 use Rattle.audit_model.specs.declared.input.ServiceError.TheVariants as error
 use Rattle.audit_model.specs.declared.transcript.Note.{Note}
-use Rattle.cache_namespace.specs.Taken.{record_of, known}
+use Rattle.cache_namespace.specs.Taken.{IsOpenOrLong, record_of, known}
 use Rattle.cache_spaces.specs.Spaces.{Stands, config_of, connections_of, notices_of, output_of, closing_of}
 use Rattle.cache_spaces.specs.declared.space.Space.{Space}
 
@@ -25,11 +28,26 @@ pub record Serves (was is : Space) (number : ℕ) (s : Situation) (happened : Ev
   pub output : output_of is number ≡ output_of was number ++ flat_map reply_in steps
   pub notices : notices_of is ≡ notices_of was ++ flat_map (λ step. step.notices) steps
 
+-- how an event finds and leaves its connection: it opens without replies; it was open and is closed as asked; it is open or closed for
+-- too long a line
+abbrev pub Leaves : Event → Option Closing → Option Closing → List ℕ → Type 0
+Leaves (event.Open conn) before closing output = (closing ≡ None) × (output ≡ [])
+Leaves (event.Close conn) before closing output = (before ≡ None) × (closing ≡ Some by.Asked)
+Leaves (event.Feed conn piece moment) before closing output = IsOpenOrLong closing
+Leaves happened before closing output = Unit {0}
+
+-- how many connections there are after an event
+abbrev pub count_after : Event → ℕ → ℕ
+count_after (event.Open conn) count = count + 1
+count_after happened count = count
+
 -- each situation that the namespace stood for goes on by the event's record, and other connections are as they were
 pub record Takes (was is : Space) (number : ℕ) (happened : Event) (is_held : Bool) : Type 0 where
   pub serves : (s : Situation) → Stands was s → Serves was is number s happened is_held
   pub others : (place : ℕ) → place ≢ number - 1 → slice_get (connections_of is) place ≡ slice_get (connections_of was) place
   pub config : config_of is ≡ config_of was
+  pub left : Leaves happened (closing_of was number) (closing_of is number) (output_of is number)
+  pub count : length (connections_of is) ≡ count_after happened (length (connections_of was))
 
 -- the namespace is the same to whoever looks at it
 pub record SameSpace (was is : Space) : Type 0 where
@@ -38,6 +56,7 @@ pub record SameSpace (was is : Space) : Type 0 where
   pub outputs : (number : ℕ) → output_of is number ≡ output_of was number
   pub closings : (number : ℕ) → closing_of is number ≡ closing_of was number
   pub notices : notices_of is ≡ notices_of was
+  pub count : length (connections_of is) ≡ length (connections_of was)
 
 -- The replies of a connection are moved out, and nothing else changes.
 pub record TakesOutput (was is : Space) (number : ℕ) (text : List ℕ) : Type 0 where
@@ -48,6 +67,7 @@ pub record TakesOutput (was is : Space) (number : ℕ) (text : List ℕ) : Type 
   pub closings : (n : ℕ) → closing_of is n ≡ closing_of was n
   pub config : config_of is ≡ config_of was
   pub notices : notices_of is ≡ notices_of was
+  pub count : length (connections_of is) ≡ length (connections_of was)
 
 -- The oldest note is taken, if there is one, and nothing else changes.
 pub record TakesNotice (was is : Space) (note : Option Note) : Type 0 where

@@ -24,7 +24,7 @@ impl Space {
     ghost use Rattle.audit_model.specs.declared.event.Event.TheVariants as event;
     ghost use Rattle.cache_namespace.specs.Gathered.{Gathered, IsFresh};
     ghost use Rattle.cache_namespace.specs.Kept.{IsReadyToHold, steps_of};
-    ghost use Rattle.cache_namespace.specs.Taken.{RefusedFor, fed, holds_at, known};
+    ghost use Rattle.cache_namespace.specs.Taken.{IsOpenOrLong, RefusedFor, fed, holds_at, known};
     ghost use Rattle.cache_namespace.specs.declared.connection.Connection.{Connection};
     ghost use Rattle.cache_spaces.specs.Moves.{Moves};
     ghost use Rattle.cache_spaces.specs.Serves.{Serves, Takes, SameSpace};
@@ -70,6 +70,8 @@ impl Space {
         ensures closings { OnErr result ((n : ℕ) → closing_of self.new n ≡ closing_of self.old n) }
         ensures notices { OnErr result (notices_of self.new ≡ notices_of self.old) }
         ensures kept { OnErr result (steps_of kept.new ≡ steps_of kept.old) }
+        ensures closing { OnOk result (IsOpenOrLong (closing_of self.new number)) }
+        ensures count { length (connections_of self.new) ≡ length (connections_of self.old) }
     {
         match self.inner.feed(alloc, number, piece, moment, kept) {
             Ok(is_held) => Ok(is_held),
@@ -98,6 +100,7 @@ impl Space {
         ensures moves { OnOk result ((s : Situation) (was : Gathered) → Stands self.old s → Moves (config_of self.old) s (event.Close number) false (Stands self.new) was was) }
         ensures closed { OnOk result (closing_of self.new number ≡ Some Closing.Asked) }
         ensures outputs { OnOk result ((n : ℕ) → output_of self.new n ≡ output_of self.old n) }
+        ensures open { OnOk result (closing_of self.old number ≡ None) }
         ensures notices { notices_of self.new ≡ notices_of self.old }
         ensures refused { IfErr result (λ e. refusal_of (config_of self.old) (known (connections_of self.old)) (event.Close number) ≡ Some e) }
         ensures err { OnErr result (self.new ≡ self.old) }
@@ -114,6 +117,7 @@ impl Space {
         ensures taken { OnOk result (output_of self.new number ≡ []) }
         ensures others { (place : ℕ) → place ≢ number - 1 → slice_get (connections_of self.new) place ≡ slice_get (connections_of self.old) place }
         ensures closings { (n : ℕ) → closing_of self.new n ≡ closing_of self.old n }
+        ensures count { length (connections_of self.new) ≡ length (connections_of self.old) }
         ensures stands { (s : Situation) → Stands self.old s → Stands self.new s }
         ensures config { config_of self.new ≡ config_of self.old }
         ensures notices { notices_of self.new ≡ notices_of self.old }

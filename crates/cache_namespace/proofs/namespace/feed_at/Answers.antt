@@ -2,9 +2,9 @@ use Rattle.std.proofs.Common.{◌≡◌, sym, ap, subst, ◌∙◌, refl}
 use Rattle.std.specs.Prelude.{slice_set}
 use Rattle.std.proofs.lemmas.Option.{same_Some}
 use Rattle.cache_namespace.specs.Kept.{gathered}
-use Rattle.cache_namespace.specs.Taken.{FeedsConnection, text_at}
+use Rattle.cache_namespace.specs.Taken.{FeedsConnection, IsOpenOrLong, text_at}
 use Rattle.cache_namespace.specs.declared.connection.Connection.{Connection}
-use Rattle.cache_namespace.proofs.Places.{at-place, at-replaced, text-is}
+use Rattle.cache_namespace.proofs.Places.{at-place, at-replaced, text-is, closing-is}
 use Rattle.cache_namespace.proofs.namespace.feed_at.Goals as goal
 
 pub returns-in-Ok-clause-ran : goal.returns-in-Ok-clause-ran
@@ -42,3 +42,8 @@ returns-in-Err-clause-again g c = λ h k at.
     let old = c.index_mut-connection.result.now in
     let is : old ≡ k = same_Some _ _ (sym (at-place c.args.connections.now.items c.args.index c.index_mut-connection.result.now c.requires.inside c.index_mut-connection.ensures.value) ∙ at) in
     ap (λ (x : Connection). x.held) (sym is) ∙ c.in-Err.ensures.again h
+
+pub returns-in-Ok-clause-closing : goal.returns-in-Ok-clause-closing
+returns-in-Ok-clause-closing g c =
+    let new = c.feed_connection.new.connection in
+    subst IsOpenOrLong (sym (closing-is (slice_set c.args.connections.now.items c.args.index new) c.args.index new (at-replaced c.args.connections.now.items c.args.index new c.requires.inside))) c.in-Ok.ensures.closing

@@ -3,7 +3,7 @@ use Rattle.std.specs.Option.{option_map_or}
 use Rattle.cache_namespace.specs.declared.connection.Connection.{Connection}
 use Rattle.cache_namespace.specs.Taken.{closing_at}
 use Rattle.cache_namespace.proofs.FeedTaken.{taken-close}
-use Rattle.cache_namespace.proofs.Places.{replaced-is, replaced-others, replaced-seen}
+use Rattle.cache_namespace.proofs.Places.{closing-none, replaced-count, replaced-is, replaced-others, replaced-seen}
 use Rattle.cache_namespace.proofs.namespace.Namespace.close.Goals as goal
 
 pub returns-clause-ran : goal.returns-clause-ran
@@ -29,3 +29,12 @@ returns-clause-closed g c =
     ap (closing_at c.close_at.new.connections.items) at
     ∙ ap (λ o. option_map_or (λ (k : Connection). k.closing) o None) (replaced-is c.args.self.now.connections.items c.close_at.new.connections.items c.in-Ok.index c.close_at.ensures.0)
     ∙ c.close_at.ensures.1
+
+pub returns-clause-count : goal.returns-clause-count
+returns-clause-count g c = replaced-count c.args.self.now.connections.items c.close_at.new.connections.items c.in-Ok.index c.close_at.ensures.0
+
+pub returns-clause-open : goal.returns-clause-open
+returns-clause-open g c =
+    let number_is = c.in-Ok.ensures.place.0 in
+    let at : c.args.number - 1 ≡ c.in-Ok.index = omega arith in
+    ap (closing_at c.args.self.now.connections.items) at ∙ closing-none c.args.self.now.connections.items c.in-Ok.index (rw c.deref.ensures.value at c.in-Ok.ensures.open)

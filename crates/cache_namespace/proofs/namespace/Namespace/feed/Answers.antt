@@ -1,7 +1,8 @@
-use Rattle.std.proofs.Common.{◌-◌, Err, ap, ◌∙◌, arith, refl, inl, inr}
+use Rattle.std.proofs.Common.{◌≡◌, subst, ◌-◌, Err, ap, ◌∙◌, arith, refl, inl, inr}
 use Rattle.std.specs.List.{slice_get}
 use Rattle.audit_model.specs.declared.input.ServiceError.TheVariants as error
 use Rattle.cache_store.specs.Promises.{Frame}
+use Rattle.cache_namespace.specs.Taken.{IsOpenOrLong, closing_at}
 use Rattle.cache_namespace.proofs.FeedTaken.{taken-feed, late-is, memory-is}
 use Rattle.cache_namespace.proofs.Places.{same-connections, other-place}
 use Rattle.cache_namespace.proofs.namespace.Namespace.feed.Goals as goal
@@ -47,3 +48,8 @@ returns-in-Err-HeldAgain-clause-refused g c =
     let old = c.args.self.now in
     let place = rw c.deref.ensures.value at c.in-Ok.ensures.place in
     memory-is old.config old.connections.items c.args.number c.in-Ok.index c.args.moment c.args.piece.now error.HeldAgain place.0 place.1 (rw c.deref.ensures.value at c.in-Ok.ensures.open) (omega arith) (λ k at. inr (refl, c.in-Err-HeldAgain.ensures.again (ap Err c.in-Err-HeldAgain.field-0-is) k at))
+
+pub returns-in-Ok-feed_at-clause-closing : goal.returns-in-Ok-feed_at-clause-closing
+returns-in-Ok-feed_at-clause-closing g c =
+    let number_is = c.in-Ok.ensures.place.0 in
+    subst (λ i. IsOpenOrLong (closing_at c.feed_at.new.connections.items i)) (let at : c.in-Ok.index ≡ c.args.number - 1 = omega arith in at) c.in-Ok-feed_at.ensures.closing

@@ -21,4 +21,6 @@ returns-in-Ok-clause-takes c =
           (c.in-Ok.ensures.texts (c.args.number - 1)) (rw c.in-Ok.ensures.rest refl);
       others = c.in-Ok.ensures.others;
       config = rw c.in-Ok.ensures.rest refl;
+      left = (c.in-Ok.ensures.open, c.in-Ok.ensures.closed);
+      count = c.in-Ok.ensures.count;
     }

@@ -1,8 +1,8 @@
-use Rattle.std.proofs.Common.{◌≡◌, ◌-◌, refl, ap, sym, ◌∙◌, None, arith, length}
+use Rattle.std.proofs.Common.{◌≡◌, ◌-◌, refl, ap, sym, ◌∙◌, None, arith, length, length-append, [], ◌∷◌}
 use Rattle.std.specs.List.{slice_get}
 use Rattle.cache_namespace.specs.Taken.{text_at}
 use Rattle.cache_spaces.specs.Spaces.{gathered_in}
-use Rattle.cache_spaces.proofs.Moving.{moves-from, serves-still, others-opened, opened-output}
+use Rattle.cache_spaces.proofs.Moving.{moves-from, serves-still, others-opened, opened-output, opened-closing, opened-text}
 use Rattle.cache_spaces.proofs.space.Space.open.Goals as goal
 
 pub returns-in-Ok-clause-moves : goal.returns-in-Ok-clause-moves
@@ -25,4 +25,9 @@ returns-in-Ok-clause-takes c =
           (ap (λ cs. text_at cs (c.in-Ok.number - 1)) added.3 ∙ opened-output old.connections.items added.0 (c.in-Ok.number - 1) place added.1) (rw c.in-Ok.ensures.rest refl);
       others = λ k ne. ap (λ cs. slice_get cs k) added.3 ∙ others-opened old.connections.items added.0 k (λ e. ne (e ∙ sym place));
       config = rw c.in-Ok.ensures.rest refl;
+      left = (
+        opened-closing old.connections.items new.connections.items added.0 (c.in-Ok.number - 1) place added.3 ∙ added.2,
+        opened-text old.connections.items new.connections.items added.0 (c.in-Ok.number - 1) place added.3 ∙ added.1,
+      );
+      count = let more = ap length added.3 ∙ length-append old.connections.items (added.0 ∷ []) in omega arith;
     }

@@ -1,0 +1,282 @@
+-- One connection, from its opening to its closing.
+use Rattle.std.proofs.Common.{◌≡◌, ℕ, ◌+◌, ◌-◌, ◌<◌, ◌≤◌, Bool, true, false, List, [], ◌∷◌, length, Option, Some, None, refl, sym, ap, ◌∙◌, subst, arith, inl, inr, if◌then◌else◌}
+use Rattle.std.specs.Prelude.{◌⊎◌, ◌++◌, Result, Ok, Err, OnOk, OnErr, IfErr}
+use Rattle.std.specs.List.{flat_map}
+use Rattle.std.proofs.lemmas.List.{append-nil}
+use Rattle.std.proofs.lemmas.Option.{none-some}
+use Rattle.audit_model.specs.Belongs.{refusal_of}
+use Rattle.audit_model.specs.Follows.{Follows}
+use Rattle.audit_model.specs.Situation.{Situation}
+use Rattle.audit_model.specs.declared.command.Closing.TheVariants as by
+use Rattle.audit_model.specs.declared.config.Config.{Config}
+use Rattle.audit_model.specs.declared.event.Event.TheVariants as event
+use Rattle.audit_model.specs.declared.input.ServiceError.{ServiceError}
+use Rattle.audit_model.specs.declared.transcript.Note.{Note}
+use Rattle.audit_model.specs.declared.transcript.Step.{Step}
+use Rattle.cache_namespace.specs.Taken.{IsOpenOrLong, record_of, known}
+use Rattle.cache_spaces.specs.Moves.{At}
+use Rattle.cache_spaces.specs.Serves.{SameSpace, Takes}
+use Rattle.cache_spaces.specs.Spaces.{closing_of, config_of, connections_of, notices_of}
+use Rattle.cache_spaces.specs.declared.space.Space.{Space}
+use Rattle.cache_run.specs.Carried.{Broken, Carried}
+use Rattle.cache_run.specs.Connected.{Connected, IsFed, IsOver, IsReady}
+use Rattle.cache_run.specs.Delivered.{Unfed}
+use Rattle.cache_run.specs.Goes.{Goes}
+use Rattle.cache_run.specs.Runs.{Closes, Quiet, ServesPartly, ServesWhole, next_number}
+use Rattle.cache_run.specs.Worlds.{Outside, world}
+use Rattle.cache_run.specs.declared.errors.RunError.{RunError}
+use Rattle.cache_run.proofs.Carrying.{broken-more, carried-close, carried-more, carried-opened, carried-still}
+use Rattle.cache_run.proofs.Connecting.{close-refused, connected-map}
+use Rattle.cache_run.proofs.Going.{goes-more, goes-same, seen-alike}
+use Rattle.cache_run.proofs.Placing.{at-is, at-map, at-more, at-with}
+
+chosen-none : (b : Bool) (t : Situation) → (if b then None else None) ≡ Some t → ⊥
+chosen-none true t e = none-some t e
+chosen-none false t e = none-some t e
+
+-- an opening has no steps
+pub open-still : (config : Config) (s : Situation) (number : ℕ) (steps : List Step) (t : Situation) → Follows config s (record_of (event.Open number) steps) t → steps ≡ []
+open-still config s number [] t follows = refl
+open-still config s number (step ∷ steps) t follows = absurd (chosen-none _ t follows)
+
+-- a closing has no steps
+pub close-still : (config : Config) (s : Situation) (number : ℕ) (steps : List Step) (t : Situation) → Follows config s (record_of (event.Close number) steps) t → steps ≡ []
+close-still config s number [] t follows = refl
+close-still config s number (step ∷ steps) t follows = absurd (chosen-none _ t follows)
+
+untold : (before after : List Note) (steps : List Step) → steps ≡ [] → after ≡ before ++ flat_map (λ step. step.notices) steps → after ≡ before
+untold before after steps none e = e ∙ ap (λ l. before ++ flat_map (λ step. step.notices) l) none ∙ append-nil before
+
+-- ---- the opening
+
+pub at-opened : (old new : List Space) (n number : ℕ) → At old new n (λ was is. Takes was is number (event.Open number) false × (number ≡ length (connections_of was) + 1))
+    → At old new n (λ was is. (number ≡ next_number was) × Goes number was is (λ s t. Quiet (config_of was) (event.Open number) s t (notices_of was) (notices_of is)))
+at-opened old new n number a =
+    at-map (λ was is. Takes was is number (event.Open number) false × (number ≡ length (connections_of was) + 1)) (λ was is. (number ≡ next_number was) × Goes number was is (λ s t. Quiet (config_of was) (event.Open number) s t (notices_of was) (notices_of is))) old new n a
+    (λ x y p. (
+      p.1,
+      record {
+        each = λ s stands.
+            let r = p.0.serves s stands in
+            let none = open-still (config_of x) s number r.steps r.next r.follows in
+            record {
+              next = r.next;
+              stands = r.stands;
+              fact = record { follows = subst (λ l. Follows (config_of x) s (record_of (event.Open number) l) r.next) none r.follows; notices = untold (notices_of x) (notices_of y) r.steps none r.notices };
+            };
+        config = p.0.config;
+        others = λ other ne. seen-alike x y other (p.0.others (other - 1) ne);
+      },
+    ))
+
+pub connected-opened : (old new : List Space) (n number : ℕ) → At old new n (λ was is. Takes was is number (event.Open number) false × (number ≡ length (connections_of was) + 1)) → Connected new n number IsReady
+connected-opened old new n number a =
+    let next = a.fact.1 in
+    let count = a.fact.0.count in
+    record {
+      space = a.is;
+      at = at-is (λ was is. Takes was is number (event.Open number) false × (number ≡ length (connections_of was) + 1)) old new n a;
+      positive = omega arith;
+      known = omega arith;
+      left = a.fact.0.left;
+    }
+
+-- ---- the closing
+
+pub at-closed : (old new : List Space) (n number : ℕ) → Connected old n number IsFed → At old new n (λ was is. Takes was is number (event.Close number) false × (closing_of is number ≡ Some by.Asked))
+    → At old new n (Closes number)
+at-closed old new n number c a =
+    at-with (λ was is. Takes was is number (event.Close number) false × (closing_of is number ≡ Some by.Asked)) (Closes number) old new n c.space c.at a
+    (λ y p. inl (
+      p.0.left.0,
+      p.1,
+      record {
+        each = λ s stands.
+            let r = p.0.serves s stands in
+            let none = close-still (config_of c.space) s number r.steps r.next r.follows in
+            record {
+              next = r.next;
+              stands = r.stands;
+              fact = record { follows = subst (λ l. Follows (config_of c.space) s (record_of (event.Close number) l) r.next) none r.follows; notices = untold (notices_of c.space) (notices_of y) r.steps none r.notices };
+            };
+        config = p.0.config;
+        others = λ other ne. seen-alike c.space y other (p.0.others (other - 1) ne);
+      },
+    ))
+
+long-where-refused : (space : Space) (number : ℕ) (e : ServiceError) → 0 < number → number ≤ length (connections_of space) → IsOpenOrLong (closing_of space number)
+    → refusal_of (config_of space) (known (connections_of space)) (event.Close number) ≡ Some e → closing_of space number ≡ Some by.Long
+long-where-refused space number e positive bound (inl none) refused = absurd (close-refused space number e positive bound refused none)
+long-where-refused space number e positive bound (inr long) refused = long
+
+pub at-closed-before : (old new : List Space) (n number : ℕ) (e : ServiceError) → Connected old n number IsFed
+    → At old new n (λ was is. SameSpace was is × (refusal_of (config_of was) (known (connections_of was)) (event.Close number) ≡ Some e))
+    → At old new n (Closes number)
+at-closed-before old new n number e c a =
+    at-with (λ was is. SameSpace was is × (refusal_of (config_of was) (known (connections_of was)) (event.Close number) ≡ Some e)) (Closes number) old new n c.space c.at a
+    (λ y p.
+    let long = long-where-refused c.space number e c.positive c.known c.left p.1 in
+    inr (long, p.0.closings number ∙ long, goes-same number c.space y (λ s t. Unfed s t (notices_of c.space) (notices_of y)) p.0 (λ s. record { same = refl; notices = p.0.notices })))
+
+-- ---- the whole
+
+module _ {C : Type 0} (reads : C → ℕ → C → Type 0) (number : ℕ) (before after : Outside C) where
+  -- what was carried stands behind the opening
+  pub at-begun : (first second third : List Space) (n : ℕ)
+      → At first second n (λ was is. (number ≡ next_number was) × Goes number was is (λ s t. Quiet (config_of was) (event.Open number) s t (notices_of was) (notices_of is)))
+      → At second third n (λ was is. Goes number was is (λ s t. Carried (config_of was) number reads (world was s before) (world is t after) false false [] [] []))
+      → At first third n (λ was is. (number ≡ next_number was) × Goes number was is (λ s t. Carried (config_of was) number reads (world was s before) (world is t after) true false [] [] []))
+  at-begun first second third n a b =
+      at-more (λ x y. (number ≡ next_number x) × Goes number x y (λ s t. Quiet (config_of x) (event.Open number) s t (notices_of x) (notices_of y)))
+      (λ y z. Goes number y z (λ s t. Carried (config_of y) number reads (world y s before) (world z t after) false false [] [] []))
+      (λ x z. (number ≡ next_number x) × Goes number x z (λ s t. Carried (config_of x) number reads (world x s before) (world z t after) true false [] [] [])) first second third n a b
+      (λ x y z p q. (
+        p.0,
+        goes-more number x y z (λ s t. Quiet (config_of x) (event.Open number) s t (notices_of x) (notices_of y)) (λ s t. Carried (config_of y) number reads (world y s before) (world z t after) false false [] [] [])
+            (λ s t. Carried (config_of x) number reads (world x s before) (world z t after) true false [] [] []) p.1 q
+            (λ s t u f g. carried-more (config_of x) number reads (world x s before) (world y t before) (world z u after) true false [] [] []
+            (carried-opened (config_of x) number reads x y s t before f.follows f.notices)
+            (subst (λ k. Carried k number reads (world y t before) (world z u after) false false [] [] []) p.1.config g)),
+      ))
+
+  -- what was broken stands behind the opening
+  pub at-begun-broken : (first second third : List Space) (n : ℕ) (e : RunError)
+      → At first second n (λ was is. (number ≡ next_number was) × Goes number was is (λ s t. Quiet (config_of was) (event.Open number) s t (notices_of was) (notices_of is)))
+      → At second third n (λ was is. Goes number was is (λ s t. Broken (config_of was) number reads (world was s before) (world is t after) false false e))
+      → At first third n (λ was is. (number ≡ next_number was) × Goes number was is (λ s t. Broken (config_of was) number reads (world was s before) (world is t after) true false e))
+  at-begun-broken first second third n e a b =
+      at-more (λ x y. (number ≡ next_number x) × Goes number x y (λ s t. Quiet (config_of x) (event.Open number) s t (notices_of x) (notices_of y)))
+      (λ y z. Goes number y z (λ s t. Broken (config_of y) number reads (world y s before) (world z t after) false false e))
+      (λ x z. (number ≡ next_number x) × Goes number x z (λ s t. Broken (config_of x) number reads (world x s before) (world z t after) true false e)) first second third n a b
+      (λ x y z p q. (
+        p.0,
+        goes-more number x y z (λ s t. Quiet (config_of x) (event.Open number) s t (notices_of x) (notices_of y)) (λ s t. Broken (config_of y) number reads (world y s before) (world z t after) false false e)
+            (λ s t. Broken (config_of x) number reads (world x s before) (world z t after) true false e) p.1 q
+            (λ s t u f g. broken-more (config_of x) number reads (world x s before) (world y t before) (world z u after) true false e
+            (carried-opened (config_of x) number reads x y s t before f.follows f.notices)
+            (subst (λ k. Broken k number reads (world y t before) (world z u after) false false e) p.1.config g)),
+      ))
+
+  whole : (x z w : Space) → number ≡ next_number x → Goes number x z (λ s t. Carried (config_of x) number reads (world x s before) (world z t after) true false [] [] [])
+      → IsOver after.remaining number z → Closes number z w → ServesWhole reads x w before after
+  whole x z w next g (inl over) (inl closes) = record {
+    number = number;
+    next = next;
+    closes = true;
+    goes = goes-more number x z w (λ s t. Carried (config_of x) number reads (world x s before) (world z t after) true false [] [] []) (λ s t. Quiet (config_of z) (event.Close number) s t (notices_of z) (notices_of w))
+        (λ s t. Carried (config_of x) number reads (world x s before) (world w t after) true true [] [] []) g closes.2
+        (λ s t u f q. carried-close (config_of x) number reads (world x s before) (world z t after) w u true [] [] [] f (subst (λ k. Follows k t (record_of (event.Close number) []) u) g.config q.follows) q.notices);
+    ends = (closes.1, over.1);
+  }
+  whole x z w next g (inl over) (inr closes) = absurd (none-some by.Long (sym over.0 ∙ closes.0))
+  whole x z w next g (inr over) (inl closes) = absurd (none-some by.Long (sym closes.0 ∙ over))
+  whole x z w next g (inr over) (inr closes) = record {
+    number = number;
+    next = next;
+    closes = false;
+    goes = goes-more number x z w (λ s t. Carried (config_of x) number reads (world x s before) (world z t after) true false [] [] []) (λ s t. Unfed s t (notices_of z) (notices_of w))
+        (λ s t. Carried (config_of x) number reads (world x s before) (world w t after) true false [] [] []) g closes.2
+        (λ s t u f q. carried-still (config_of x) number reads (world x s before) (world z t after) w u true false [] [] [] f q.same q.notices);
+    ends = closes.1;
+  }
+
+  partly : (x z w : Space) (e : RunError) → number ≡ next_number x → Goes number x z (λ s t. Broken (config_of x) number reads (world x s before) (world z t after) true false e)
+      → Closes number z w → ServesPartly reads x w before after e
+  partly x z w e next g (inl closes) = record {
+    number = number;
+    next = next;
+    closes = true;
+    goes = goes-more number x z w (λ s t. Broken (config_of x) number reads (world x s before) (world z t after) true false e) (λ s t. Quiet (config_of z) (event.Close number) s t (notices_of z) (notices_of w))
+        (λ s t. Broken (config_of x) number reads (world x s before) (world w t after) true true e) g closes.2
+        (λ s t u f q. record {
+          late = f.late;
+          lost = f.lost;
+          unsent = f.unsent;
+          carried = carried-close (config_of x) number reads (world x s before) (world z t after) w u true f.late f.lost f.unsent f.carried (subst (λ k. Follows k t (record_of (event.Close number) []) u) g.config q.follows) q.notices;
+          moment = f.moment;
+        });
+    why = by.Asked;
+    closed = closes.1;
+  }
+  partly x z w e next g (inr closes) = record {
+    number = number;
+    next = next;
+    closes = false;
+    goes = goes-more number x z w (λ s t. Broken (config_of x) number reads (world x s before) (world z t after) true false e) (λ s t. Unfed s t (notices_of z) (notices_of w))
+        (λ s t. Broken (config_of x) number reads (world x s before) (world w t after) true false e) g closes.2
+        (λ s t u f q. record {
+          late = f.late;
+          lost = f.lost;
+          unsent = f.unsent;
+          carried = carried-still (config_of x) number reads (world x s before) (world z t after) w u true false f.late f.lost f.unsent f.carried q.same q.notices;
+          moment = f.moment;
+        });
+    why = by.Long;
+    closed = closes.1;
+  }
+
+  pub at-whole : (first second third fourth : List Space) (n : ℕ)
+      → At first second n (λ was is. (number ≡ next_number was) × Goes number was is (λ s t. Quiet (config_of was) (event.Open number) s t (notices_of was) (notices_of is)))
+      → At second third n (λ was is. Goes number was is (λ s t. Carried (config_of was) number reads (world was s before) (world is t after) false false [] [] []))
+      → Connected third n number (IsOver after.remaining) → At third fourth n (Closes number)
+      → At first fourth n (λ was is. ServesWhole reads was is before after)
+  at-whole first second third fourth n a b c d =
+      at-more (λ x z. (number ≡ next_number x) × Goes number x z (λ s t. Carried (config_of x) number reads (world x s before) (world z t after) true false [] [] []))
+      (λ z w. IsOver after.remaining number z × Closes number z w) (λ x w. ServesWhole reads x w before after) first third fourth n
+      (at-begun first second third n a b)
+      (at-with (Closes number) (λ z w. IsOver after.remaining number z × Closes number z w) third fourth n c.space c.at d (λ w closes. (c.left, closes)))
+      (λ x z w p q. whole x z w p.0 p.1 q.0 q.1)
+
+  pub at-partly : (first second third fourth : List Space) (n : ℕ) (e : RunError)
+      → At first second n (λ was is. (number ≡ next_number was) × Goes number was is (λ s t. Quiet (config_of was) (event.Open number) s t (notices_of was) (notices_of is)))
+      → At second third n (λ was is. Goes number was is (λ s t. Broken (config_of was) number reads (world was s before) (world is t after) false false e))
+      → At third fourth n (Closes number)
+      → At first fourth n (λ was is. ServesPartly reads was is before after e)
+  at-partly first second third fourth n e a b d =
+      at-more (λ x z. (number ≡ next_number x) × Goes number x z (λ s t. Broken (config_of x) number reads (world x s before) (world z t after) true false e))
+      (Closes number) (λ x w. ServesPartly reads x w before after e) first third fourth n
+      (at-begun-broken first second third n e a b) d
+      (λ x z w p q. partly x z w e p.0 p.1 q)
+
+-- however it ended, the connection may only have closed for too long a line
+pub fed-after : {X E : Type 0} (spaces : List Space) (n number : ℕ) (remaining : Option (List ℕ)) (r : Result X E) → OnOk r (Connected spaces n number (IsOver remaining)) → OnErr r (Connected spaces n number IsFed) → Connected spaces n number IsFed
+fed-after spaces n number remaining (Ok x) over left = connected-map (IsOver remaining) IsFed spaces n number over (λ space is. fed space is)
+  where
+    fed : (space : Space) → IsOver remaining number space → IsFed number space
+    fed space (inl p) = inl p.0
+    fed space (inr p) = inr p
+fed-after spaces n number remaining (Err e) over left = left
+
+pub on-ok : {X E : Type 0} (A B D : Type 0) (r : Result X E) → OnOk r A → OnOk r B → (A → B → D) → OnOk r D
+on-ok A B D (Ok x) a b h = h a b
+on-ok A B D (Err e) a b h = tt
+
+pub on-err : {X E : Type 0} (P Q : E → Type 0) (r : Result X E) → IfErr r P → ((e : E) → P e → Q e) → IfErr r Q
+on-err P Q (Ok x) a h = tt
+on-err P Q (Err e) a h = h e a
+
+-- ---- what a run leaves
+
+module _ {C X : Type 0} (reads : C → ℕ → C → Type 0) (first second third fourth : List Space) (m n number : ℕ) (before after : Outside C) (r : Result X RunError) where
+  pub run-whole : m ≡ n
+      → At first second n (λ was is. (number ≡ next_number was) × Goes number was is (λ s t. Quiet (config_of was) (event.Open number) s t (notices_of was) (notices_of is)))
+      → OnOk r (At second third m (λ was is. Goes number was is (λ s t. Carried (config_of was) number reads (world was s before) (world is t after) false false [] [] [])))
+      → OnOk r (Connected third m number (IsOver after.remaining)) → At third fourth m (Closes number)
+      → OnOk r (At first fourth n (λ was is. ServesWhole reads was is before after))
+  run-whole e opened carried over closes =
+      on-ok (At second third m (λ was is. Goes number was is (λ s t. Carried (config_of was) number reads (world was s before) (world is t after) false false [] [] []))) (Connected third m number (IsOver after.remaining)) (At first fourth n (λ was is. ServesWhole reads was is before after)) r carried over
+      (λ a b. at-whole reads number before after first second third fourth n opened
+      (subst (λ k. At second third k (λ was is. Goes number was is (λ s t. Carried (config_of was) number reads (world was s before) (world is t after) false false [] [] []))) e a)
+      (subst (λ k. Connected third k number (IsOver after.remaining)) e b) (subst (λ k. At third fourth k (Closes number)) e closes))
+
+  pub run-partly : (Else : RunError → Space → Space → Type 0) → m ≡ n
+      → At first second n (λ was is. (number ≡ next_number was) × Goes number was is (λ s t. Quiet (config_of was) (event.Open number) s t (notices_of was) (notices_of is)))
+      → IfErr r (λ e. At second third m (λ was is. Goes number was is (λ s t. Broken (config_of was) number reads (world was s before) (world is t after) false false e)))
+      → At third fourth m (Closes number)
+      → IfErr r (λ e. At first fourth n (λ was is. Else e was is ⊎ ServesPartly reads was is before after e))
+  run-partly Else same opened broken closes =
+      on-err (λ e. At second third m (λ was is. Goes number was is (λ s t. Broken (config_of was) number reads (world was s before) (world is t after) false false e))) (λ e. At first fourth n (λ was is. Else e was is ⊎ ServesPartly reads was is before after e)) r broken
+      (λ e a. at-map (λ was is. ServesPartly reads was is before after e) (λ was is. Else e was is ⊎ ServesPartly reads was is before after e) first fourth n
+      (at-partly reads number before after first second third fourth n e opened
+      (subst (λ k. At second third k (λ was is. Goes number was is (λ s t. Broken (config_of was) number reads (world was s before) (world is t after) false false e))) same a) (subst (λ k. At third fourth k (Closes number)) same closes))
+      (λ x y p. inr p))

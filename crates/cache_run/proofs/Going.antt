@@ -1,0 +1,131 @@
+-- How a namespace goes on by several calls.
+use Rattle.std.proofs.Common.{◌≡◌, ℕ, ◌-◌, Bool, List, [], ◌++◌, None, refl, ap, ◌∙◌, inl, inr}
+use Rattle.std.specs.List.{slice_get, flat_map}
+use Rattle.std.specs.Option.{option_map_or}
+use Rattle.audit_model.specs.Situation.{Situation}
+use Rattle.cache_namespace.specs.Gathered.{reply_in}
+use Rattle.cache_namespace.specs.Taken.{fed}
+use Rattle.cache_namespace.specs.declared.connection.Connection.{Connection}
+use Rattle.cache_spaces.specs.Moves.{At}
+use Rattle.cache_spaces.specs.Serves.{SameSpace, Takes, TakesOutput}
+use Rattle.cache_spaces.specs.Spaces.{closing_of, config_of, connections_of, notices_of, output_of}
+use Rattle.cache_spaces.specs.declared.space.Space.{Space}
+use Rattle.cache_run.specs.Connected.{Connected, IsReady}
+use Rattle.cache_run.specs.Delivered.{Answered, IsCause, Unanswered}
+use Rattle.cache_run.specs.Goes.{Goes}
+use Rattle.cache_run.specs.declared.errors.RunError.{RunError}
+use Rattle.cache_run.specs.declared.errors.RunError.TheVariants.{OutOfMemory}
+use Rattle.cache_run.proofs.Placing.{at-map, at-more, at-with}
+
+-- what is seen of a connection at the same place
+pub seen-alike : (was is : Space) (other : ℕ) → slice_get (connections_of is) (other - 1) ≡ slice_get (connections_of was) (other - 1) → (output_of is other ≡ output_of was other) × (closing_of is other ≡ closing_of was other)
+seen-alike was is other e = (ap (λ o. option_map_or (λ (c : Connection). c.output.items) o []) e, ap (λ o. option_map_or (λ (c : Connection). c.closing) o None) e)
+
+-- one after another
+pub goes-more : (number : ℕ) (x y z : Space) (F G H : Situation → Situation → Type 0) → Goes number x y F → Goes number y z G → ((s t u : Situation) → F s t → G t u → H s u) → Goes number x z H
+goes-more number x y z F G H a b h = record {
+  each = λ s stands.
+      let first = a.each s stands in
+      let second = b.each first.next first.stands in
+      record { next = second.next; stands = second.stands; fact = h s first.next second.next first.fact second.fact };
+  config = b.config ∙ a.config;
+  others = λ other ne. let p = a.others other ne in let q = b.others other ne in (q.0 ∙ p.0, q.1 ∙ p.1);
+}
+
+pub goes-map : (number : ℕ) (x y : Space) (F G : Situation → Situation → Type 0) → Goes number x y F → ((s t : Situation) → F s t → G s t) → Goes number x y G
+goes-map number x y F G a h = record {
+  each = λ s stands. let first = a.each s stands in record { next = first.next; stands = first.stands; fact = h s first.next first.fact };
+  config = a.config;
+  others = a.others;
+}
+
+-- a namespace that is the same
+pub goes-same : (number : ℕ) (was is : Space) (F : Situation → Situation → Type 0) → SameSpace was is → ((s : Situation) → F s s) → Goes number was is F
+goes-same number was is F same h = record {
+  each = λ s stands. record { next = s; stands = same.stands s stands; fact = h s };
+  config = same.config;
+  others = λ other ne. (same.outputs other, same.closings other);
+}
+
+-- ---- among many
+
+pub at-goes-more : (number n : ℕ) (xs ys zs : List Space) (F G H : Space → Space → Situation → Situation → Type 0)
+    → At xs ys n (λ was is. Goes number was is (F was is)) → At ys zs n (λ was is. Goes number was is (G was is))
+    → ((x y z : Space) → config_of y ≡ config_of x → (s t u : Situation) → F x y s t → G y z t u → H x z s u)
+    → At xs zs n (λ was is. Goes number was is (H was is))
+at-goes-more number n xs ys zs F G H a b h =
+    at-more (λ was is. Goes number was is (F was is)) (λ was is. Goes number was is (G was is)) (λ was is. Goes number was is (H was is)) xs ys zs n a b
+    (λ x y z p q. goes-more number x y z (F x y) (G y z) (H x z) p q (h x y z p.config))
+
+pub at-goes-map : (number n : ℕ) (xs ys : List Space) (F G : Space → Space → Situation → Situation → Type 0)
+    → At xs ys n (λ was is. Goes number was is (F was is)) → ((x y : Space) (s t : Situation) → F x y s t → G x y s t) → At xs ys n (λ was is. Goes number was is (G was is))
+at-goes-map number n xs ys F G a h =
+    at-map (λ was is. Goes number was is (F was is)) (λ was is. Goes number was is (G was is)) xs ys n a (λ x y p. goes-map number x y (F x y) (G x y) p (h x y))
+
+-- ---- a piece
+
+-- it was fed and its replies were taken
+pub at-answered : (old between new : List Space) (n number : ℕ) (piece : List ℕ) (moment : ℕ) (held : Bool) (text : List ℕ) → Connected old n number IsReady
+    → At old between n (λ was is. Takes was is number (fed number piece moment) held) → At between new n (λ was is. TakesOutput was is number text)
+    → At old new n (λ was is. Goes number was is (λ s t. Answered (config_of was) number piece moment s t (notices_of was) (notices_of is) text))
+at-answered old between new n number piece moment held text c a b =
+    at-more (λ x y. (output_of x number ≡ []) × Takes x y number (fed number piece moment) held) (λ y z. TakesOutput y z number text)
+    (λ x z. Goes number x z (λ s t. Answered (config_of x) number piece moment s t (notices_of x) (notices_of z) text)) old between new n
+    (at-with (λ x y. Takes x y number (fed number piece moment) held) (λ x y. (output_of x number ≡ []) × Takes x y number (fed number piece moment) held) old between n c.space c.at a (λ y takes. (c.left.1, takes)))
+    b
+    (λ x y z takes taken. record {
+      each = λ s stands.
+          let r = takes.1.serves s stands in
+          record {
+            next = r.next;
+            stands = taken.stands r.next r.stands;
+            fact = record {
+              feeding = record { piece = piece; moment = moment; steps = r.steps };
+              piece_is = refl;
+              moment_is = refl;
+              follows = r.follows;
+              notices = taken.notices ∙ r.notices;
+              replies = taken.taken ∙ r.output ∙ ap (λ o. o ++ flat_map reply_in r.steps) takes.0;
+            };
+          };
+      config = taken.config ∙ takes.1.config;
+      others = λ other ne.
+          let p = seen-alike x y other (takes.1.others (other - 1) ne) in
+          let q = seen-alike y z other (taken.others (other - 1) ne) in (q.0 ∙ p.0, q.1 ∙ p.1);
+    })
+
+-- it was fed, and a command was held back
+pub at-held : (old new : List Space) (n number : ℕ) (piece : List ℕ) (moment : ℕ) (held : Bool)
+    → At old new n (λ was is. Takes was is number (fed number piece moment) held)
+    → At old new n (λ was is. Goes number was is (λ s t. Unanswered (config_of was) number piece moment s t (notices_of was) (notices_of is) OutOfMemory))
+at-held old new n number piece moment held a =
+    at-map (λ x y. Takes x y number (fed number piece moment) held) (λ x y. Goes number x y (λ s t. Unanswered (config_of x) number piece moment s t (notices_of x) (notices_of y) OutOfMemory)) old new n a
+    (λ x y takes. record {
+      each = λ s stands.
+          let r = takes.serves s stands in
+          record {
+            next = r.next;
+            stands = r.stands;
+            fact = inr (
+              flat_map reply_in r.steps,
+              record {
+                feeding = record { piece = piece; moment = moment; steps = r.steps };
+                piece_is = refl;
+                moment_is = refl;
+                follows = r.follows;
+                notices = r.notices;
+                replies = refl;
+              },
+              refl,
+            );
+          };
+      config = takes.config;
+      others = λ other ne. seen-alike x y other (takes.others (other - 1) ne);
+    })
+
+-- it was refused
+pub at-refused : (old new : List Space) (n number : ℕ) (piece : List ℕ) (moment : ℕ) (e : RunError) → At old new n SameSpace → IsCause moment e
+    → At old new n (λ was is. Goes number was is (λ s t. Unanswered (config_of was) number piece moment s t (notices_of was) (notices_of is) e))
+at-refused old new n number piece moment e a cause =
+    at-map SameSpace (λ x y. Goes number x y (λ s t. Unanswered (config_of x) number piece moment s t (notices_of x) (notices_of y) e)) old new n a
+    (λ x y same. goes-same number x y (λ s t. Unanswered (config_of x) number piece moment s t (notices_of x) (notices_of y) e) same (λ s. inl (record { same = refl; notices = same.notices }, cause)))

@@ -1,0 +1,51 @@
+-- One of many in the place of another, over several calls.
+use Rattle.std.proofs.Common.{◌≡◌, ℕ, zero, suc, List, [], ◌∷◌, Some, refl, sym, ap, ◌∙◌, subst}
+use Rattle.std.specs.Prelude.{slice_set}
+use Rattle.std.specs.List.{slice_get}
+use Rattle.std.proofs.lemmas.Option.{slice_get_within, same_Some}
+use Rattle.cache_namespace.proofs.Places.{at-replaced}
+use Rattle.cache_spaces.specs.Moves.{At}
+
+set-again : {X : Type 0} (xs : List X) (n : ℕ) (a b : X) → slice_set (slice_set xs n a) n b ≡ slice_set xs n b
+set-again [] n a b = refl
+set-again (x ∷ xs) zero a b = refl
+set-again (x ∷ xs) (suc n) a b = ap (λ l. x ∷ l) (set-again xs n a b)
+
+set-same : {X : Type 0} (xs : List X) (n : ℕ) (a : X) → slice_get xs n ≡ Some a → xs ≡ slice_set xs n a
+set-same [] n a at = refl
+set-same (x ∷ xs) zero a at = ap (λ y. y ∷ xs) (same_Some x a at)
+set-same (x ∷ xs) (suc n) a at = ap (λ l. x ∷ l) (set-same xs n a at)
+
+-- what was put stands there
+pub at-is : {X : Type 0} (F : X → X → Type 0) (xs ys : List X) (n : ℕ) (a : At xs ys n F) → slice_get ys n ≡ Some a.is
+at-is F xs ys n a = ap (λ l. slice_get l n) a.set ∙ at-replaced xs n a.is (slice_get_within xs n a.was a.at)
+
+-- what stood there was replaced
+pub at-was : {X : Type 0} (F : X → X → Type 0) (xs ys : List X) (n : ℕ) (a : At xs ys n F) (x : X) → slice_get xs n ≡ Some x → a.was ≡ x
+at-was F xs ys n a x at = same_Some a.was x (sym a.at ∙ at)
+
+-- one call after another
+pub at-more : {X : Type 0} (F G H : X → X → Type 0) (xs ys zs : List X) (n : ℕ) → At xs ys n F → At ys zs n G → ((x y z : X) → F x y → G y z → H x z) → At xs zs n H
+at-more F G H xs ys zs n a b h =
+    let same = at-was G ys zs n b a.is (at-is F xs ys n a) in
+    record {
+      was = a.was;
+      is = b.is;
+      at = a.at;
+      set = b.set ∙ ap (λ l. slice_set l n b.is) a.set ∙ set-again xs n a.is b.is;
+      fact = h a.was a.is b.is a.fact (subst (λ y. G y b.is) same b.fact);
+    }
+
+-- nothing changed
+pub at-same : {X : Type 0} (F : X → X → Type 0) (xs : List X) (n : ℕ) (x : X) → slice_get xs n ≡ Some x → F x x → At xs xs n F
+at-same F xs n x at fact = record { was = x; is = x; at = at; set = set-same xs n x at; fact = fact }
+
+-- another fact of the same two
+pub at-map : {X : Type 0} (F G : X → X → Type 0) (xs ys : List X) (n : ℕ) → At xs ys n F → ((x y : X) → F x y → G x y) → At xs ys n G
+at-map F G xs ys n a h = record { was = a.was; is = a.is; at = a.at; set = a.set; fact = h a.was a.is a.fact }
+
+-- another fact, by what is known of what stood there
+pub at-with : {X : Type 0} (F G : X → X → Type 0) (xs ys : List X) (n : ℕ) (x : X) → slice_get xs n ≡ Some x → At xs ys n F → ((y : X) → F x y → G x y) → At xs ys n G
+at-with F G xs ys n x at a h =
+    let same = at-was F xs ys n a x at in
+    record { was = x; is = a.is; at = at; set = a.set; fact = h a.is (subst (λ w. F w a.is) same a.fact) }

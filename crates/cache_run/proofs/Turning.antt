@@ -1,0 +1,81 @@
+-- One turn of a run.
+use Rattle.std.proofs.Common.{◌≢◌, ℕ, false, List, [], Option, refl, subst}
+use Rattle.std.specs.Io.KnownBytes.{Consumes}
+use Rattle.cache_devices.proofs.Sending.{same_appends}
+use Rattle.cache_spaces.specs.Moves.{At}
+use Rattle.cache_spaces.specs.Spaces.{config_of, notices_of}
+use Rattle.cache_spaces.specs.declared.space.Space.{Space}
+use Rattle.cache_run.specs.Carried.{Broken, Carried}
+use Rattle.cache_run.specs.Connected.{Connected, IsReady}
+use Rattle.cache_run.specs.Delivered.{Delivered, Undelivered}
+use Rattle.cache_run.specs.Goes.{Goes}
+use Rattle.cache_run.specs.Worlds.{Outside, outside, world}
+use Rattle.cache_run.specs.declared.errors.RunError.{RunError}
+use Rattle.cache_run.specs.declared.errors.RunError.TheVariants.{Moment}
+use Rattle.cache_run.proofs.Carrying.{broken-more, broken-one, carried-more, carried-none, carried-one, carried-same}
+use Rattle.cache_run.proofs.Going.{at-goes-map, at-goes-more}
+use Rattle.cache_run.proofs.Placing.{at-same}
+
+module _ {C : Type 0} (reads : C → ℕ → C → Type 0) (old : List Space) (n number : ℕ) where
+  -- where only the reader was called
+  pub turn-none : (v r q : Option (List ℕ)) (k : C) → Connected old n number IsReady → Consumes r q []
+      → At old old n (λ was is. Goes number was is (λ s t. Carried (config_of was) number reads (world was s (outside r v k)) (world is t (outside q v k)) false false [] [] []))
+  turn-none v r q k c read =
+      at-same (λ was is. Goes number was is (λ s t. Carried (config_of was) number reads (world was s (outside r v k)) (world is t (outside q v k)) false false [] [] [])) old n c.space c.at
+      (record {
+        each = λ s stands. record { next = s; stands = stands; fact = carried-none (config_of c.space) number reads (world c.space s (outside r v k)) (world c.space s (outside q v k)) [] [] refl refl read (same_appends v) refl };
+        config = refl;
+        others = λ other ne. (refl, refl);
+      })
+
+  pub turn-one : (new : List Space) (piece : List ℕ) (moment : ℕ) (r q v w : Option (List ℕ)) (k l : C)
+      → At old new n (λ was is. Goes number was is (λ s t. Delivered (config_of was) number piece moment s t (notices_of was) (notices_of is) v w [])) → Consumes r q piece → reads k moment l
+      → At old new n (λ was is. Goes number was is (λ s t. Carried (config_of was) number reads (world was s (outside r v k)) (world is t (outside q w l)) false false [] [] []))
+  turn-one new piece moment r q v w k l a read clock =
+      at-goes-map number n old new (λ x y s t. Delivered (config_of x) number piece moment s t (notices_of x) (notices_of y) v w []) (λ x y s t. Carried (config_of x) number reads (world x s (outside r v k)) (world y t (outside q w l)) false false [] [] []) a
+      (λ x y s t d. carried-one (config_of x) number reads x y s t r q v w k l piece moment [] d read clock)
+
+  pub turn-broken : (new : List Space) (piece : List ℕ) (moment : ℕ) (r q v w : Option (List ℕ)) (k l : C) (e : RunError)
+      → At old new n (λ was is. Goes number was is (λ s t. Undelivered (config_of was) number piece moment s t (notices_of was) (notices_of is) v w e)) → Consumes r q piece → reads k moment l
+      → At old new n (λ was is. Goes number was is (λ s t. Broken (config_of was) number reads (world was s (outside r v k)) (world is t (outside q w l)) false false e))
+  turn-broken new piece moment r q v w k l e a read clock =
+      at-goes-map number n old new (λ x y s t. Undelivered (config_of x) number piece moment s t (notices_of x) (notices_of y) v w e) (λ x y s t. Broken (config_of x) number reads (world x s (outside r v k)) (world y t (outside q w l)) false false e) a
+      (λ x y s t d. broken-one (config_of x) number reads x y s t r q v w k l piece moment e d read clock)
+
+  -- an error without a loss
+  pub at-broken : (new : List Space) (r q v w : Option (List ℕ)) (k l : C) (e : RunError) → e ≢ Moment
+      → At old new n (λ was is. Goes number was is (λ s t. Carried (config_of was) number reads (world was s (outside r v k)) (world is t (outside q w l)) false false [] [] []))
+      → At old new n (λ was is. Goes number was is (λ s t. Broken (config_of was) number reads (world was s (outside r v k)) (world is t (outside q w l)) false false e))
+  at-broken new r q v w k l e ne a =
+      at-goes-map number n old new (λ x y s t. Carried (config_of x) number reads (world x s (outside r v k)) (world y t (outside q w l)) false false [] [] []) (λ x y s t. Broken (config_of x) number reads (world x s (outside r v k)) (world y t (outside q w l)) false false e) a
+      (λ x y s t d. record { late = []; lost = []; unsent = []; carried = d; moment = λ is. absurd (ne is) })
+
+-- ---- turns one after another
+
+module _ {C : Type 0} (reads : C → ℕ → C → Type 0) (n number : ℕ) (first second third : List Space) (a b d : Outside C) where
+  pub at-carried-more : At first second n (λ was is. Goes number was is (λ s t. Carried (config_of was) number reads (world was s a) (world is t b) false false [] [] []))
+      → At second third n (λ was is. Goes number was is (λ s t. Carried (config_of was) number reads (world was s b) (world is t d) false false [] [] []))
+      → At first third n (λ was is. Goes number was is (λ s t. Carried (config_of was) number reads (world was s a) (world is t d) false false [] [] []))
+  at-carried-more p q =
+      at-goes-more number n first second third (λ x y s t. Carried (config_of x) number reads (world x s a) (world y t b) false false [] [] []) (λ x y s t. Carried (config_of x) number reads (world x s b) (world y t d) false false [] [] [])
+      (λ x y s t. Carried (config_of x) number reads (world x s a) (world y t d) false false [] [] []) p q
+      (λ x y z same s t u f g. carried-more (config_of x) number reads (world x s a) (world y t b) (world z u d) false false [] [] [] f (subst (λ k. Carried k number reads (world y t b) (world z u d) false false [] [] []) same g))
+
+  pub at-broken-more : (e : RunError) → At first second n (λ was is. Goes number was is (λ s t. Carried (config_of was) number reads (world was s a) (world is t b) false false [] [] []))
+      → At second third n (λ was is. Goes number was is (λ s t. Broken (config_of was) number reads (world was s b) (world is t d) false false e))
+      → At first third n (λ was is. Goes number was is (λ s t. Broken (config_of was) number reads (world was s a) (world is t d) false false e))
+  at-broken-more e p q =
+      at-goes-more number n first second third (λ x y s t. Carried (config_of x) number reads (world x s a) (world y t b) false false [] [] []) (λ x y s t. Broken (config_of x) number reads (world x s b) (world y t d) false false e)
+      (λ x y s t. Broken (config_of x) number reads (world x s a) (world y t d) false false e) p q
+      (λ x y z same s t u f g. broken-more (config_of x) number reads (world x s a) (world y t b) (world z u d) false false e f (subst (λ k. Broken k number reads (world y t b) (world z u d) false false e) same g))
+
+-- nothing has come yet
+pub at-carried-start : {C : Type 0} (reads : C → ℕ → C → Type 0) (old : List Space) (n number : ℕ) (a : Outside C) → Connected old n number IsReady
+    → At old old n (λ was is. Goes number was is (λ s t. Carried (config_of was) number reads (world was s a) (world is t a) false false [] [] []))
+at-carried-start reads old n number a c =
+    at-same (λ was is. Goes number was is (λ s t. Carried (config_of was) number reads (world was s a) (world is t a) false false [] [] [])) old n c.space c.at
+    (record {
+      each = λ s stands. record { next = s; stands = stands; fact = carried-same (config_of c.space) number reads c.space c.space s s a refl refl };
+      config = refl;
+      others = λ other ne. (refl, refl);
+    })

@@ -1,0 +1,32 @@
+-- How a connection stands in its namespace.
+use Rattle.std.specs.Prelude.{◌≡◌, ℕ, ◌<◌, ◌≤◌, List, [], length, Option, None, Some, ◌⊎◌}
+use Rattle.std.specs.Io.KnownBytes.{IsAtEnd}
+use Rattle.audit_model.specs.declared.command.Closing.TheVariants as by
+use Rattle.cache_namespace.specs.Taken.{IsOpenOrLong}
+use Rattle.cache_spaces.specs.Services.{IsSpace}
+use Rattle.cache_spaces.specs.Spaces.{connections_of, output_of, closing_of}
+use Rattle.cache_spaces.specs.declared.space.Space.{Space}
+
+-- the namespace knows the connection, and that is true of it
+pub record Connected (spaces : List Space) (namespace number : ℕ) (IsLeft : ℕ → Space → Type 0) : Type 0 where
+  pub space : Space
+  pub at : IsSpace spaces namespace space
+  pub positive : 0 < number
+  pub known : number ≤ length (connections_of space)
+  pub left : IsLeft number space
+
+-- it is open, and its replies were taken
+abbrev pub IsReady : ℕ → Space → Type 0
+IsReady number space = (closing_of space number ≡ None) × (output_of space number ≡ [])
+
+-- its replies were taken, and it may have closed for too long a line
+abbrev pub IsTaken : ℕ → Space → Type 0
+IsTaken number space = IsOpenOrLong (closing_of space number) × (output_of space number ≡ [])
+
+-- it may have closed for too long a line
+abbrev pub IsFed : ℕ → Space → Type 0
+IsFed number space = IsOpenOrLong (closing_of space number)
+
+-- the input is at its end, or the connection has closed for too long a line
+abbrev pub IsOver : Option (List ℕ) → ℕ → Space → Type 0
+IsOver remaining number space = ((closing_of space number ≡ None) × IsAtEnd remaining) ⊎ (closing_of space number ≡ Some by.Long)

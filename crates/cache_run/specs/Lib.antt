@@ -1,0 +1,7 @@
+pub mod Worlds
+pub mod Carried
+pub mod Goes
+pub mod Connected
+pub mod Delivered
+pub mod Turns
+pub mod Runs

@@ -1,0 +1,56 @@
+-- One connection from its opening to its closing.
+use Rattle.std.specs.Prelude.{◌≡◌, ℕ, ◌+◌, Bool, true, false, List, [], length, Option, Some, None, ◌⊎◌}
+use Rattle.std.specs.Io.KnownBytes.{IsAtEnd}
+use Rattle.audit_model.specs.Follows.{Follows}
+use Rattle.audit_model.specs.Situation.{Situation}
+use Rattle.audit_model.specs.declared.command.Closing.{Closing}
+use Rattle.audit_model.specs.declared.command.Closing.TheVariants as by
+use Rattle.audit_model.specs.declared.config.Config.{Config}
+use Rattle.audit_model.specs.declared.event.Event.{Event}
+use Rattle.audit_model.specs.declared.event.Event.TheVariants as event
+use Rattle.audit_model.specs.declared.transcript.Note.{Note}
+use Rattle.cache_namespace.specs.Taken.{record_of}
+use Rattle.cache_spaces.specs.Spaces.{closing_of, config_of, connections_of, notices_of}
+use Rattle.cache_spaces.specs.declared.space.Space.{Space}
+use Rattle.cache_run.specs.Carried.{Broken, Carried}
+use Rattle.cache_run.specs.Delivered.{Unfed}
+use Rattle.cache_run.specs.Goes.{Goes}
+use Rattle.cache_run.specs.Worlds.{Outside, world}
+use Rattle.cache_run.specs.declared.errors.RunError.{RunError}
+
+-- the number that the next connection gets
+abbrev pub next_number : Space → ℕ
+next_number space = length (connections_of space) + 1
+
+-- the event's record follows without steps, and nothing was told
+pub record Quiet (config : Config) (happened : Event) (s t : Situation) (before after : List Note) : Type 0 where
+  pub follows : Follows config s (record_of happened []) t
+  pub notices : after ≡ before
+
+-- an open connection closes as asked, and one that has closed for too long a line stays so
+abbrev pub Closes : ℕ → Space → Space → Type 0
+Closes number was is =
+    ((closing_of was number ≡ None) × (closing_of is number ≡ Some by.Asked) × Goes number was is (λ s t. Quiet (config_of was) (event.Close number) s t (notices_of was) (notices_of is)))
+    ⊎ ((closing_of was number ≡ Some by.Long) × (closing_of is number ≡ Some by.Long) × Goes number was is (λ s t. Unfed s t (notices_of was) (notices_of is)))
+
+-- it closed as asked at the end of the input, or for too long a line
+abbrev pub Ends : Bool → Option Closing → Option (List ℕ) → Type 0
+Ends true closing remaining = (closing ≡ Some by.Asked) × IsAtEnd remaining
+Ends false closing remaining = closing ≡ Some by.Long
+
+-- One connection was opened, fed with all that was read, and closed; the bytes written are its replies.
+pub record ServesWhole {C : Type 0} (reads : C → ℕ → C → Type 0) (was is : Space) (before after : Outside C) : Type 0 where
+  pub number : ℕ
+  pub next : number ≡ next_number was
+  pub closes : Bool
+  pub goes : Goes number was is (λ s t. Carried (config_of was) number reads (world was s before) (world is t after) true closes [] [] [])
+  pub ends : Ends closes (closing_of is number) after.remaining
+
+-- One connection was opened, fed, and closed after an error; the bytes written are a beginning of its replies.
+pub record ServesPartly {C : Type 0} (reads : C → ℕ → C → Type 0) (was is : Space) (before after : Outside C) (e : RunError) : Type 0 where
+  pub number : ℕ
+  pub next : number ≡ next_number was
+  pub closes : Bool
+  pub goes : Goes number was is (λ s t. Broken (config_of was) number reads (world was s before) (world is t after) true closes e)
+  pub why : Closing
+  pub closed : closing_of is number ≡ Some why

@@ -1,0 +1,11 @@
+-- Whether a run goes on.
+use Rattle.std.specs.Prelude.{ℕ, List, Option}
+use Rattle.cache_run.specs.Connected.{IsReady, IsOver}
+use Rattle.cache_run.specs.declared.turns.Progress.{Progress}
+use Rattle.cache_run.specs.declared.turns.Progress.TheVariants.{More, Over}
+use Rattle.cache_spaces.specs.declared.space.Space.{Space}
+
+-- a run goes on while the connection is open, and is over at the end of the input or where the connection has closed
+abbrev pub LeavesSo : Progress → Option (List ℕ) → ℕ → Space → Type 0
+LeavesSo More remaining number space = IsReady number space
+LeavesSo Over remaining number space = IsOver remaining number space

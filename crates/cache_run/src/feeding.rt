@@ -1,0 +1,95 @@
+//! One piece of a connection, and its closing.
+ghost use Rattle.std.specs.Prelude.{◌≡◌, ◌≢◌, ◌≤◌, ◌<◌, ◌^◌, ◌⊎◌, ℕ, [], None, Some, false, IfOk, IfErr, OnOk, OnErr, IsSome, IsErrOf};
+ghost use Rattle.audit_model.specs.declared.event.Event.TheVariants as event;
+ghost use Rattle.cache_devices.specs.Failures.{HasFailed};
+ghost use Rattle.cache_devices.specs.Watched.{device, failures};
+ghost use Rattle.cache_namespace.specs.Taken.{fed};
+ghost use Rattle.cache_spaces.specs.Moves.{At};
+ghost use Rattle.cache_spaces.specs.Serves.{SameSpace, Takes, TakesOutput};
+ghost use Rattle.cache_spaces.specs.Services.{is_held, spaces_of};
+ghost use Rattle.cache_spaces.specs.Spaces.{closing_of, config_of, notices_of};
+ghost use Rattle.cache_run.specs.Connected.{Connected, IsFed, IsReady, IsTaken};
+ghost use Rattle.cache_run.specs.Delivered.{Answered, Delivered, IsCause, Unanswered, Undelivered};
+ghost use Rattle.cache_run.specs.Goes.{Goes};
+
+use crate::errors::{RunError, error_of_send};
+use audit_model::{Conn, Instant, ServiceError};
+use cache_devices::{Watched, send};
+use cache_spaces::{Fed, Service};
+use std::io::Write;
+
+/// Feeds a piece to a connection that is open.
+fn feed_piece(service: &mut Service, conn: Conn, piece: &[u8], moment: u64) -> Result<Fed, RunError>
+    requires ready { Connected (spaces_of service.old) conn.namespace conn.number IsReady }
+    ensures taken { IfOk result (λ done. At (spaces_of service.old) (spaces_of service.new) conn.namespace (λ was is. Takes was is conn.number (fed conn.number piece.now moment) (is_held done))) }
+    ensures refused { IfErr result (λ e. At (spaces_of service.old) (spaces_of service.new) conn.namespace SameSpace × IsCause moment e) }
+{
+    match service.feed(conn, piece, Instant { nanos: moment }) {
+        Ok(done) => Ok(done),
+        Err(ServiceError::Moment) => Err(RunError::Moment),
+        Err(_) => Err(RunError::OutOfMemory),
+    }
+}
+
+/// Takes the replies of a connection.
+fn take_replies(service: &mut Service, conn: Conn) -> Vec<u8>
+    requires known { Connected (spaces_of service.old) conn.namespace conn.number IsFed }
+    ensures { At (spaces_of service.old) (spaces_of service.new) conn.namespace (λ was is. TakesOutput was is conn.number result.items) }
+{
+    match service.take_output(conn) {
+        Ok(text) => text,
+        Err(_) => unreachable!(),
+    }
+}
+
+/// Feeds a piece, and takes its replies.
+fn answer_piece(
+    service: &mut Service,
+    conn: Conn,
+    piece: &[u8],
+    moment: u64,
+) -> Result<Vec<u8>, RunError>
+    requires ready { Connected (spaces_of service.old) conn.namespace conn.number IsReady }
+    ensures ok { IfOk result (λ text. At (spaces_of service.old) (spaces_of service.new) conn.namespace (λ was is. Goes conn.number was is (λ s t. Answered (config_of was) conn.number piece.now moment s t (notices_of was) (notices_of is) text.items))) }
+    ensures taken { OnOk result (Connected (spaces_of service.new) conn.namespace conn.number IsTaken) }
+    ensures err { IfErr result (λ e. At (spaces_of service.old) (spaces_of service.new) conn.namespace (λ was is. Goes conn.number was is (λ s t. Unanswered (config_of was) conn.number piece.now moment s t (notices_of was) (notices_of is) e))) }
+    ensures left { OnErr result (Connected (spaces_of service.new) conn.namespace conn.number IsFed) }
+    ensures causes { IfErr result (λ e. (e ≢ RunError.Read) × (e ≢ RunError.Write)) }
+{
+    match feed_piece(service, conn, piece, moment) {
+        Ok(Fed::All) => Ok(take_replies(service, conn)),
+        Ok(Fed::Held) => Err(RunError::OutOfMemory),
+        Err(error) => Err(error),
+    }
+}
+
+/// Feeds a piece, and sends its replies.
+pub fn deliver<W: Write>(
+    service: &mut Service,
+    conn: Conn,
+    piece: &[u8],
+    moment: u64,
+    writer: &mut Watched<W>,
+) -> Result<(), RunError>
+    requires ready { Connected (spaces_of service.old) conn.namespace conn.number IsReady }
+    ensures ok { OnOk result (At (spaces_of service.old) (spaces_of service.new) conn.namespace (λ was is. Goes conn.number was is (λ s t. Delivered (config_of was) conn.number piece.now moment s t (notices_of was) (notices_of is) (W.contents (device writer.old)) (W.contents (device writer.new)) []))) }
+    ensures taken { OnOk result (Connected (spaces_of service.new) conn.namespace conn.number IsTaken) }
+    ensures err { IfErr result (λ e. At (spaces_of service.old) (spaces_of service.new) conn.namespace (λ was is. Goes conn.number was is (λ s t. Undelivered (config_of was) conn.number piece.now moment s t (notices_of was) (notices_of is) (W.contents (device writer.old)) (W.contents (device writer.new)) e))) }
+    ensures left { OnErr result (Connected (spaces_of service.new) conn.namespace conn.number IsFed) }
+    ensures cause { IsErrOf result RunError.Write → HasFailed (failures writer.old) (failures writer.new) }
+    ensures count { failures writer.old ≤ failures writer.new }
+    ensures causes { IfErr result (λ e. e ≢ RunError.Read) }
+{
+    let replies = match answer_piece(service, conn, piece, moment) {
+        Ok(replies) => replies,
+        Err(error) => return Err(error),
+    };
+    match send(&replies, writer) {
+        Ok(()) => {}
+        Err(error) => return Err(error_of_send(error)),
+    }
+    match writer.flush() {
+        Ok(()) => Ok(()),
+        Err(_) => Err(RunError::Write),
+    }
+}

@@ -1,0 +1,124 @@
+//! One connection, from its opening to its closing.
+ghost use Rattle.std.specs.Prelude.{◌≡◌, ◌≤◌, ◌<◌, ◌⊎◌, ℕ, [], false, length, IfOk, IfErr, OnOk, OnErr, IsErrOf};
+ghost use Rattle.audit_model.specs.declared.event.Event.TheVariants as event;
+ghost use Rattle.cache_devices.specs.Failures.{HasFailed};
+ghost use Rattle.cache_devices.specs.Watched.{device, failures};
+ghost use Rattle.cache_spaces.specs.Moves.{At};
+ghost use Rattle.cache_spaces.specs.Serves.{SameSpace};
+ghost use Rattle.cache_spaces.specs.Services.{spaces_of};
+ghost use Rattle.cache_spaces.specs.Spaces.{config_of, notices_of};
+ghost use Rattle.cache_run.specs.Carried.{Broken, Carried};
+ghost use Rattle.cache_run.specs.Connected.{Connected, IsFed, IsOver, IsReady};
+ghost use Rattle.cache_run.specs.Goes.{Goes};
+ghost use Rattle.cache_run.specs.Runs.{Closes, Quiet, ServesPartly, ServesWhole, next_number};
+ghost use Rattle.cache_run.specs.Worlds.{outside, world};
+
+use crate::errors::RunError;
+use crate::turns::{Progress, take_turn};
+use audit_model::Conn;
+use cache_devices::{Clock, Loader, Watched};
+use cache_spaces::Service;
+use std::alloc::Global;
+use std::io::{Read, Write};
+
+/// The most bytes that are read at once.
+const PIECE_BYTES: usize = 8192;
+
+/// Opens a connection of a namespace that there is.
+fn open_connection(service: &mut Service, namespace: u64) -> Result<Conn, RunError>
+    requires known { namespace < length (spaces_of service.old) }
+    ensures ok { IfOk result (λ conn. (conn.namespace ≡ namespace) × At (spaces_of service.old) (spaces_of service.new) namespace (λ was is. (conn.number ≡ next_number was) × Goes conn.number was is (λ s t. Quiet (config_of was) (event.Open conn.number) s t (notices_of was) (notices_of is)))) }
+    ensures ready { IfOk result (λ conn. Connected (spaces_of service.new) conn.namespace conn.number IsReady) }
+    ensures err { IfErr result (λ e. (e ≡ RunError.OutOfMemory) × At (spaces_of service.old) (spaces_of service.new) namespace SameSpace) }
+{
+    match service.open(namespace) {
+        Ok(conn) => Ok(conn),
+        Err(_) => Err(RunError::OutOfMemory),
+    }
+}
+
+/// Closes a connection, unless it has closed.
+fn close_if_open(service: &mut Service, conn: Conn)
+    requires fed { Connected (spaces_of service.old) conn.namespace conn.number IsFed }
+    ensures { At (spaces_of service.old) (spaces_of service.new) conn.namespace (Closes conn.number) }
+{
+    match service.close(conn) {
+        Ok(()) => (),
+        // It has closed.
+        Err(_) => (),
+    }
+}
+
+/// Answers the pieces that are read, to the end of the input or until the connection has closed.
+fn converse<R: Read, W: Write, C: Clock>(
+    service: &mut Service,
+    conn: Conn,
+    buffer: &mut [u8],
+    reader: &mut Watched<R>,
+    writer: &mut Watched<W>,
+    clock: &mut C,
+) -> Result<(), RunError>
+    requires room { 0 < length buffer.old }
+    requires ready { Connected (spaces_of service.old) conn.namespace conn.number IsReady }
+    ensures ok { OnOk result (At (spaces_of service.old) (spaces_of service.new) conn.namespace (λ was is. Goes conn.number was is (λ s t. Carried (config_of was) conn.number C.reads
+        (world was s (outside (R.remaining (device reader.old)) (W.contents (device writer.old)) clock.old))
+        (world is t (outside (R.remaining (device reader.new)) (W.contents (device writer.new)) clock.new)) false false [] [] []))) }
+    ensures over { OnOk result (Connected (spaces_of service.new) conn.namespace conn.number (IsOver (R.remaining (device reader.new)))) }
+    ensures err { IfErr result (λ e. At (spaces_of service.old) (spaces_of service.new) conn.namespace (λ was is. Goes conn.number was is (λ s t. Broken (config_of was) conn.number C.reads
+        (world was s (outside (R.remaining (device reader.old)) (W.contents (device writer.old)) clock.old))
+        (world is t (outside (R.remaining (device reader.new)) (W.contents (device writer.new)) clock.new)) false false e))) }
+    ensures left { OnErr result (Connected (spaces_of service.new) conn.namespace conn.number IsFed) }
+    ensures read { IsErrOf result RunError.Read → HasFailed (failures reader.old) (failures reader.new) }
+    ensures write { IsErrOf result RunError.Write → HasFailed (failures writer.old) (failures writer.new) }
+{
+    for _turn in 0..u64::MAX {
+        match take_turn(service, conn, buffer, reader, writer, clock) {
+            Ok(Progress::More) => {}
+            Ok(Progress::Over) => return Ok(()),
+            Err(error) => return Err(error),
+        }
+    }
+    Err(RunError::UsedUp)
+}
+
+/// Serves one connection of a namespace, from its opening to the end of its input, where it is closed, or until it has closed.
+///
+/// In this stage no load goes out, and the loader is not asked.
+pub fn run<R: Read, W: Write, C: Clock, L: Loader>(
+    service: &mut Service,
+    alloc: Global,
+    namespace: u64,
+    reader: &mut Watched<R>,
+    writer: &mut Watched<W>,
+    clock: &mut C,
+    loader: &mut L,
+) -> Result<(), RunError>
+    requires known { namespace < length (spaces_of service.old) }
+
+    // The bytes written are the replies of one connection whose pieces joined are the bytes read.
+    ensures ok { OnOk result (At (spaces_of service.old) (spaces_of service.new) namespace (λ was is. ServesWhole C.reads was is
+        (outside (R.remaining (device reader.old)) (W.contents (device writer.old)) clock.old)
+        (outside (R.remaining (device reader.new)) (W.contents (device writer.new)) clock.new))) }
+
+    // After an error they are a beginning of them, unless no connection was opened.
+    ensures err { IfErr result (λ e. At (spaces_of service.old) (spaces_of service.new) namespace (λ was is. ((e ≡ RunError.OutOfMemory) × SameSpace was is × (reader.new ≡ reader.old) × (writer.new ≡ writer.old) × (clock.new ≡ clock.old))
+        ⊎ ServesPartly C.reads was is
+        (outside (R.remaining (device reader.old)) (W.contents (device writer.old)) clock.old)
+        (outside (R.remaining (device reader.new)) (W.contents (device writer.new)) clock.new) e)) }
+    ensures read { IsErrOf result RunError.Read → HasFailed (failures reader.old) (failures reader.new) }
+    ensures write { IsErrOf result RunError.Write → HasFailed (failures writer.old) (failures writer.new) }
+    ensures loader { loader.new ≡ loader.old }
+{
+    let _loader = loader;
+    let mut buffer = match vec![in alloc; 0u8; PIECE_BYTES] {
+        Ok(buffer) => buffer,
+        Err(_) => return Err(RunError::OutOfMemory),
+    };
+    let conn = match open_connection(service, namespace) {
+        Ok(conn) => conn,
+        Err(error) => return Err(error),
+    };
+    let outcome = converse(service, conn, &mut buffer, reader, writer, clock);
+    close_if_open(service, conn);
+    outcome
+}

@@ -1,0 +1,84 @@
+//! One turn of a run.
+ghost use Rattle.std.specs.Prelude.{◌≡◌, ◌≤◌, ◌<◌, ℕ, [], List, Option, false, length, IfOk, IfErr, OnOk, OnErr, IsErrOf};
+ghost use Rattle.cache_devices.specs.Failures.{HasFailed};
+ghost use Rattle.cache_devices.specs.Watched.{device, failures};
+ghost use Rattle.cache_spaces.specs.Moves.{At};
+ghost use Rattle.cache_spaces.specs.Services.{spaces_of};
+ghost use Rattle.cache_spaces.specs.Spaces.{config_of};
+ghost use Rattle.cache_run.specs.Carried.{Broken, Carried};
+ghost use Rattle.cache_run.specs.Connected.{Connected, IsFed, IsReady, IsTaken};
+ghost use Rattle.cache_run.specs.Goes.{Goes};
+ghost use Rattle.cache_run.specs.Turns.{LeavesSo};
+ghost use Rattle.cache_run.specs.Worlds.{outside, world};
+
+use crate::errors::RunError;
+use crate::feeding::deliver;
+use audit_model::Conn;
+use cache_devices::{Clock, Watched};
+use cache_spaces::Service;
+use std::io::{ErrorKind, Read, Write};
+
+/// Whether a run goes on.
+#[derive(Clone, Copy, Debug, PartialEq, Eq, Drop)]
+pub enum Progress {
+    /// It goes on.
+    More,
+    /// It is over.
+    Over,
+}
+
+/// Whether a run goes on behind a piece: not where the connection has closed.
+fn progress_of(service: &Service, conn: Conn) -> Progress
+    requires taken { Connected (spaces_of service.now) conn.namespace conn.number IsTaken }
+    ensures { (remaining : Option (List ℕ)) → Connected (spaces_of service.now) conn.namespace conn.number (LeavesSo result remaining) }
+{
+    match service.closed(conn) {
+        Ok(None) => Progress::More,
+        Ok(Some(_)) => Progress::Over,
+        Err(_) => unreachable!(),
+    }
+}
+
+/// Reads a piece, and answers it.
+pub fn take_turn<R: Read, W: Write, C: Clock>(
+    service: &mut Service,
+    conn: Conn,
+    buffer: &mut [u8],
+    reader: &mut Watched<R>,
+    writer: &mut Watched<W>,
+    clock: &mut C,
+) -> Result<Progress, RunError>
+    requires room { 0 < length buffer.old }
+    requires ready { Connected (spaces_of service.old) conn.namespace conn.number IsReady }
+    ensures ok { OnOk result (At (spaces_of service.old) (spaces_of service.new) conn.namespace (λ was is. Goes conn.number was is (λ s t. Carried (config_of was) conn.number C.reads
+        (world was s (outside (R.remaining (device reader.old)) (W.contents (device writer.old)) clock.old))
+        (world is t (outside (R.remaining (device reader.new)) (W.contents (device writer.new)) clock.new)) false false [] [] []))) }
+    ensures goes { IfOk result (λ progress. Connected (spaces_of service.new) conn.namespace conn.number (LeavesSo progress (R.remaining (device reader.new)))) }
+    ensures err { IfErr result (λ e. At (spaces_of service.old) (spaces_of service.new) conn.namespace (λ was is. Goes conn.number was is (λ s t. Broken (config_of was) conn.number C.reads
+        (world was s (outside (R.remaining (device reader.old)) (W.contents (device writer.old)) clock.old))
+        (world is t (outside (R.remaining (device reader.new)) (W.contents (device writer.new)) clock.new)) false false e))) }
+    ensures left { OnErr result (Connected (spaces_of service.new) conn.namespace conn.number IsFed) }
+    ensures read { IsErrOf result RunError.Read → HasFailed (failures reader.old) (failures reader.new) }
+    ensures write { IsErrOf result RunError.Write → HasFailed (failures writer.old) (failures writer.new) }
+    ensures reads { failures reader.old ≤ failures reader.new }
+    ensures writes { failures writer.old ≤ failures writer.new }
+    ensures room { length buffer.new ≡ length buffer.old }
+{
+    let count = match reader.read(buffer) {
+        Ok(count) => count,
+        Err(error) => {
+            if error.kind() == ErrorKind::Interrupted {
+                return Ok(Progress::More);
+            }
+            return Err(RunError::Read);
+        }
+    };
+    if count == 0 {
+        return Ok(Progress::Over);
+    }
+    let moment = clock.now();
+    match deliver(service, conn, &buffer[..count], moment, writer) {
+        Ok(()) => Ok(progress_of(service, conn)),
+        Err(error) => Err(error),
+    }
+}

@@ -1,0 +1,33 @@
+//! A cache that is served by lines.
+#![tactic(auto)]
+
+use cache_devices::Watched;
+use cached_program::cached;
+use std::env::Env;
+use std::process::ExitCode;
+use std::{env, io};
+
+/// The program's words.
+fn gather_words<R: Env + Alloc>(rt: &R) -> io::Result<Vec<String<R::A>, R::A>> {
+    let mut words = Vec::new(rt.alloc());
+    for word in env::args(rt)? {
+        words.push(word)?;
+    }
+    Ok(words)
+}
+
+fn main(rt: HostRuntime) -> ExitCode {
+    let mut reader = Watched::new(rt.stdin());
+    let mut writer = Watched::new(rt.stdout());
+    let mut errors = rt.stderr();
+    match gather_words(&rt) {
+        Ok(words) => ExitCode::from(cached(
+            rt.alloc(),
+            &words,
+            &mut reader,
+            &mut writer,
+            &mut errors,
+        )),
+        Err(_) => ExitCode::from(2),
+    }
+}

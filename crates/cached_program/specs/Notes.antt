@@ -1,0 +1,21 @@
+-- The text of notes.
+use Rattle.std.specs.Prelude.{ℕ, List, [], ◌∷◌, ◌++◌, codes}
+use Rattle.std.specs.List.{flat_map}
+use Rattle.audit_model.specs.declared.transcript.Note.{Note}
+use Rattle.audit_model.specs.declared.transcript.RemovalCause.{RemovalCause}
+use Rattle.audit_model.specs.declared.transcript.RemovalCause.TheVariants.{Expired, Explicit, Replaced, Size}
+
+-- the word of a cause
+abbrev pub cause_text : RemovalCause → List ℕ
+cause_text Expired = codes "Expired"
+cause_text Explicit = codes "Explicit"
+cause_text Replaced = codes "Replaced"
+cause_text Size = codes "Size"
+
+-- the line of a note
+abbrev pub note_text : Note → List ℕ
+note_text note = codes "NOTE " ++ cause_text note.cause ++ 32 ∷ [] ++ note.key ++ 32 ∷ [] ++ note.value ++ 10 ∷ []
+
+-- the lines of notes, in order
+abbrev pub notes_text : List Note → List ℕ
+notes_text notes = flat_map note_text notes

@@ -1,0 +1,9 @@
+//! The program's words, and its run over standard streams.
+#![tactic(auto)]
+
+mod notes;
+mod program;
+mod sources;
+mod words;
+
+pub use program::cached;

@@ -1,0 +1,32 @@
+//! A clock that stands still, and a loader without values.
+use audit_model::Outcome;
+use cache_devices::{Clock, Loader};
+
+/// A clock that stands at 0.
+#[derive(Clone, Copy, Drop)]
+pub struct StillClock;
+
+impl Clock for StillClock {
+    ghost use Rattle.std.specs.Prelude.{◌≡◌};
+
+    ghost reads = { λ c t d. t ≡ 0 };
+
+    fn now(&mut self) -> u64 {
+        0
+    }
+}
+
+/// A loader that answers nothing.
+#[derive(Clone, Copy, Drop)]
+pub struct NoLoader;
+
+impl Loader for NoLoader {
+    ghost use Rattle.std.specs.Prelude.{◌≡◌, None};
+
+    ghost loads = { λ c key answer d. answer ≡ None };
+
+    fn load(&mut self, key: &[u8]) -> Option<Outcome> {
+        let _key = key;
+        None
+    }
+}
