@@ -1,5 +1,7 @@
 //! What is played.
-use audit_model::{Bytes, Config, Conn, EvictionPolicy, Input, Instant, LoadId, Outcome, Seq, ServiceError, Weight};
+use audit_model::{
+    Bytes, Config, Conn, EvictionPolicy, Input, Instant, LoadId, Outcome, Seq, ServiceError, Weight,
+};
 use cache_spaces::play;
 use std::alloc::{AllocError, Global};
 use std::test::Fail;
@@ -15,6 +17,7 @@ const PLAIN: Config = Config {
 };
 
 const START: Instant = Instant { nanos: 7 };
+
 const LATE: Instant = Instant { nanos: 1 << 63 };
 
 const CONN: Conn = Conn {
@@ -95,8 +98,14 @@ fn accepted_inputs_have_their_records(rt: HostRuntime) -> Result<(), Fail> {
 #[test]
 fn fails_as_a_new_service_does(rt: HostRuntime) -> Result<(), Fail> {
     let alloc = rt.alloc();
-    assert_eq!(rt; play(alloc, &[], START, &[]).err(), Some(ServiceError::Config));
-    assert_eq!(rt; play(alloc, &[], LATE, &[]).err(), Some(ServiceError::Moment));
+    assert_eq!(rt;
+        play(alloc, &[], START, &[]).err(),
+        Some(ServiceError::Config)
+    );
+    assert_eq!(rt;
+        play(alloc, &[], LATE, &[]).err(),
+        Some(ServiceError::Moment)
+    );
     let transcripts = play(alloc, &[PLAIN], START, &[])?;
     assert_eq!(rt; transcripts.len(), 1);
     Ok(())

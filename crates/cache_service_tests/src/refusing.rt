@@ -1,5 +1,7 @@
 //! What a service refuses, in which order, and what stands after it.
-use audit_model::{Closing, Config, Conn, EvictionPolicy, Instant, LoadId, Outcome, ServiceError, Weight};
+use audit_model::{
+    Closing, Config, Conn, EvictionPolicy, Instant, LoadId, Outcome, ServiceError, Weight,
+};
 use cache_spaces::{Fed, Service};
 use std::test::Fail;
 
@@ -19,6 +21,7 @@ const START: Instant = Instant { nanos: 0 };
 const LAST: Instant = Instant {
     nanos: (1 << 63) - 1,
 };
+
 const LATE: Instant = Instant { nanos: 1 << 63 };
 
 #[test]
@@ -28,10 +31,22 @@ fn configurations(rt: HostRuntime) -> Result<(), Fail> {
         capacity: Some(1),
         ..PLAIN
     };
-    assert_eq!(rt; Service::new(alloc, &[], START).err(), Some(ServiceError::Config));
-    assert_eq!(rt; Service::new(alloc, &[limited], START).err(), Some(ServiceError::Config));
-    assert_eq!(rt; Service::new(alloc, &[PLAIN, PLAIN], START).err(), Some(ServiceError::Config));
-    assert_eq!(rt; Service::new(alloc, &[limited], LATE).err(), Some(ServiceError::Moment));
+    assert_eq!(rt;
+        Service::new(alloc, &[], START).err(),
+        Some(ServiceError::Config)
+    );
+    assert_eq!(rt;
+        Service::new(alloc, &[limited], START).err(),
+        Some(ServiceError::Config)
+    );
+    assert_eq!(rt;
+        Service::new(alloc, &[PLAIN, PLAIN], START).err(),
+        Some(ServiceError::Config)
+    );
+    assert_eq!(rt;
+        Service::new(alloc, &[limited], LATE).err(),
+        Some(ServiceError::Moment)
+    );
     let _service = Service::new(alloc, &[PLAIN], LAST)?;
     Ok(())
 }
@@ -49,21 +64,42 @@ fn connections(rt: HostRuntime) -> Result<(), Fail> {
         number: 1,
     };
     assert_eq!(rt; service.open(1), Err(ServiceError::NoNamespace));
-    assert_eq!(rt; service.feed(nowhere, b"SYNC\n", LATE), Err(ServiceError::NoNamespace));
-    assert_eq!(rt; service.feed(unknown, b"SYNC\n", LATE), Err(ServiceError::NoConnection));
-    assert_eq!(rt; service.feed(conn, b"SYNC\n", LATE), Err(ServiceError::Moment));
+    assert_eq!(rt;
+        service.feed(nowhere, b"SYNC\n", LATE),
+        Err(ServiceError::NoNamespace)
+    );
+    assert_eq!(rt;
+        service.feed(unknown, b"SYNC\n", LATE),
+        Err(ServiceError::NoConnection)
+    );
+    assert_eq!(rt;
+        service.feed(conn, b"SYNC\n", LATE),
+        Err(ServiceError::Moment)
+    );
     assert_eq!(rt; service.feed(conn, b"SYNC\n", LAST), Ok(Fed::All));
     assert_eq!(rt; service.close(unknown), Err(ServiceError::NoConnection));
     assert_eq!(rt; service.close(nowhere), Err(ServiceError::NoNamespace));
     assert_eq!(rt; service.close(conn), Ok(()));
     assert_eq!(rt; service.close(conn), Err(ServiceError::Closed));
-    assert_eq!(rt; service.feed(conn, b"SYNC\n", LATE), Err(ServiceError::Closed));
+    assert_eq!(rt;
+        service.feed(conn, b"SYNC\n", LATE),
+        Err(ServiceError::Closed)
+    );
     assert_eq!(rt; service.closed(conn), Ok(Some(Closing::Asked)));
     assert_eq!(rt; service.closed(unknown), Err(ServiceError::NoConnection));
-    assert_eq!(rt; service.take_output(conn)?.as_slice(), b"SYNC 0 0\n".as_slice());
+    assert_eq!(rt;
+        service.take_output(conn)?.as_slice(),
+        b"SYNC 0 0\n".as_slice()
+    );
     assert_eq!(rt; service.take_output(conn)?.as_slice(), b"".as_slice());
-    assert_eq!(rt; service.take_output(unknown).err(), Some(ServiceError::NoConnection));
-    assert_eq!(rt; service.next_notice(1).err(), Some(ServiceError::NoNamespace));
+    assert_eq!(rt;
+        service.take_output(unknown).err(),
+        Some(ServiceError::NoConnection)
+    );
+    assert_eq!(rt;
+        service.next_notice(1).err(),
+        Some(ServiceError::NoNamespace)
+    );
     Ok(())
 }
 
@@ -88,13 +124,19 @@ fn loads(rt: HostRuntime) -> Result<(), Fail> {
         number: 1,
     };
     assert_eq!(rt; service.feed(conn, b"LOAD a\n", START), Ok(Fed::All));
-    assert_eq!(rt; service.take_output(conn)?.as_slice(), b"ERR command\n".as_slice());
+    assert_eq!(rt;
+        service.take_output(conn)?.as_slice(),
+        b"ERR command\n".as_slice()
+    );
     assert_eq!(rt; service.waiting(conn), Ok(false));
     assert_eq!(rt; service.loads_open(0), Ok(0));
     assert_eq!(rt; service.loads_open(1), Err(ServiceError::NoNamespace));
     assert!(rt; service.take_loads(0)?.is_empty());
     assert_eq!(rt; service.give_up(load, START), Err(ServiceError::NoLoad));
-    assert_eq!(rt; service.give_up(nowhere, START), Err(ServiceError::NoNamespace));
+    assert_eq!(rt;
+        service.give_up(nowhere, START),
+        Err(ServiceError::NoNamespace)
+    );
     match service.answer(load, Outcome::None, START) {
         Ok(()) => assert!(rt; false),
         Err(refused) => assert_eq!(rt; refused.error, ServiceError::NoLoad),

@@ -1,5 +1,7 @@
 //! What a service answers, whatever the cuts of its bytes.
-use audit_model::{Closing, Config, Conn, EvictionPolicy, Instant, RemovalCause, ServiceError, Weight};
+use audit_model::{
+    Closing, Config, Conn, EvictionPolicy, Instant, RemovalCause, ServiceError, Weight,
+};
 use cache_spaces::{Fed, Service};
 use std::alloc::Global;
 use std::test::Fail;
@@ -131,7 +133,14 @@ fn lines_in_pieces(rt: HostRuntime) -> Result<(), Fail> {
 #[test]
 fn one_carriage_return_goes(rt: HostRuntime) -> Result<(), Fail> {
     let (mut service, conn) = connected(rt.alloc())?;
-    assert!(rt; answers(&mut service, conn, b"SET a - 1\r\nGET a\r\n", b"OK\nVAL 1\n"));
+    assert!(rt;
+        answers(
+            &mut service,
+            conn,
+            b"SET a - 1\r\nGET a\r\n",
+            b"OK\nVAL 1\n"
+        )
+    );
     assert!(rt; answers(&mut service, conn, b"GET a\r\r\n", b"ERR syntax\n"));
     Ok(())
 }
@@ -171,7 +180,10 @@ fn lines_before_one_too_long_are_answered(rt: HostRuntime) -> Result<(), Fail> {
     assert_eq!(rt; service.feed(conn, b"\n", START)?, Fed::All);
     assert_eq!(rt; service.feed(conn, &line, START)?, Fed::All);
     assert!(rt; is_closed(&service, conn, Some(Closing::Long)));
-    assert_eq!(rt; service.take_output(conn)?.as_slice(), b"OK\nVAL 1\n".as_slice());
+    assert_eq!(rt;
+        service.take_output(conn)?.as_slice(),
+        b"OK\nVAL 1\n".as_slice()
+    );
     Ok(())
 }
 

@@ -55,10 +55,19 @@ fn each_line_is_answered_once(rt: HostRuntime) -> Result<(), Fail> {
     let mut service = service_at_last(rt.alloc())?;
     let conn = open_at_last(&mut service)?;
     assert_eq!(rt; conn.number, 1);
-    assert_eq!(rt; feed_at_last(&mut service, conn, b"SET a - 1\nSET a - 2\nGE")?, Fed::All);
-    assert_eq!(rt; feed_at_last(&mut service, conn, b"T a\nDEL a\nGET a\nSYNC\n")?, Fed::All);
+    assert_eq!(rt;
+        feed_at_last(&mut service, conn, b"SET a - 1\nSET a - 2\nGE")?,
+        Fed::All
+    );
+    assert_eq!(rt;
+        feed_at_last(&mut service, conn, b"T a\nDEL a\nGET a\nSYNC\n")?,
+        Fed::All
+    );
     let replies = service.take_output(conn)?;
-    assert_eq!(rt; replies.as_slice(), b"OK\nOK\nVAL 2\nOK\nNONE\nSYNC 0 0\n".as_slice());
+    assert_eq!(rt;
+        replies.as_slice(),
+        b"OK\nOK\nVAL 2\nOK\nNONE\nSYNC 0 0\n".as_slice()
+    );
     Ok(())
 }
 
@@ -66,7 +75,10 @@ fn each_line_is_answered_once(rt: HostRuntime) -> Result<(), Fail> {
 fn notices_are_told_once(rt: HostRuntime) -> Result<(), Fail> {
     let mut service = service_at_last(rt.alloc())?;
     let conn = open_at_last(&mut service)?;
-    assert_eq!(rt; feed_at_last(&mut service, conn, b"SET a - 1\nSET a - 2\nDEL a\n")?, Fed::All);
+    assert_eq!(rt;
+        feed_at_last(&mut service, conn, b"SET a - 1\nSET a - 2\nDEL a\n")?,
+        Fed::All
+    );
     let mut told = 0u64;
     for _ in 0..3 {
         if service.next_notice(0)?.is_some() {
@@ -79,10 +91,7 @@ fn notices_are_told_once(rt: HostRuntime) -> Result<(), Fail> {
 
 #[test]
 fn play_goes_on(rt: HostRuntime) -> Result<(), Fail> {
-    let inputs = [
-        Input::Open { namespace: 0 },
-        Input::Open { namespace: 0 },
-    ];
+    let inputs = [Input::Open { namespace: 0 }, Input::Open { namespace: 0 }];
     let transcripts = match play(rt.alloc(), &[PLAIN], START, &inputs) {
         Ok(transcripts) => transcripts,
         Err(ServiceError::OutOfMemory) => play(rt.alloc(), &[PLAIN], START, &inputs)?,

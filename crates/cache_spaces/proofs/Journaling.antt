@@ -197,6 +197,7 @@ played-left configs moment inputs i ts us old new e Cause played same refused =
     still : Refuses old new (namespace_of i) e Cause → HavePlayed configs moment inputs ts new
     still (inl none) = subst (λ xs. HavePlayed configs moment inputs ts xs) (sym none.2) played
     still (inr a) = same-played configs moment inputs ts old new (namespace_of i) Cause played a
+
     more : HavePlayed configs moment inputs ts new → HavePlayed configs moment (inputs ++ i ∷ []) ts new
     more h = record {
       count = h.count;
@@ -252,6 +253,7 @@ played-step configs moment inputs n i ts us old new answer lt at played taken re
     one-more =
         let e : n + 1 ≡ suc n = omega arith in
         ap (λ k. take k inputs) e ∙ take-suc inputs n i lt ∙ ap (λ x. take n inputs ++ x ∷ []) (sym at)
+
     go : {X : Type 0} (r : Result X ServiceError) → OnOk r (RecordsAt i ts us old new) → IfErr r (λ e. Refuses old new (namespace_of i) e (RefusedInput i e)) → OnErr r (us ≡ ts)
         → HavePlayed configs moment (take n inputs ++ i ∷ []) us new
     go (Ok u) taken refused same = played-on configs moment (take n inputs) i ts us old new played taken

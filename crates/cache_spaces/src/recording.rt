@@ -7,7 +7,9 @@ ghost use Rattle.cache_spaces.specs.Recorded.{IsQuiet, Records, RecordsInput, Re
 ghost use Rattle.cache_spaces.specs.Spaces.{connections_of};
 
 use crate::space::Space;
-use audit_model::{Bytes, Event, Input, Instant, Record, Seq, ServiceError, Step, Transcript, copy_bytes};
+use audit_model::{
+    Bytes, Event, Input, Instant, Record, Seq, ServiceError, Step, Transcript, copy_bytes,
+};
 use cache_namespace::Kept;
 use std::alloc::{AllocError, Global};
 use std::mem;

@@ -1,0 +1,27 @@
+use crate::{PLAIN, ask_once, play_plainly};
+use cache_service::Service;
+use moka_audit::{Input, Instant};
+use std::test::Fail;
+
+const START: Instant = Instant { nanos: 0 };
+
+#[test]
+fn replies_of_connections(rt: HostRuntime) -> Result<(), Fail> {
+    let mut service = Service::new(rt.alloc(), &[PLAIN], START)?;
+    let stored = ask_once(&mut service, b"SET session:7 - ada\n", START)?;
+    assert_eq!(rt; stored.as_slice(), b"OK\n".as_slice());
+    let found = ask_once(&mut service, b"GET session:7\nGET session:8\n", START)?;
+    assert_eq!(rt; found.as_slice(), b"VAL ada\nNONE\n".as_slice());
+    Ok(())
+}
+
+#[test]
+fn a_transcript(rt: HostRuntime) -> Result<(), Fail> {
+    let inputs = [Input::Open { namespace: 0 }];
+    let transcripts = play_plainly(rt.alloc(), START, &inputs)?;
+    let Some(transcript) = transcripts.first() else {
+        return Err(Fail::new("no transcript"));
+    };
+    assert_eq!(rt; transcript.records.len(), 1);
+    Ok(())
+}
