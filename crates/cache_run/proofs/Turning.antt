@@ -1,7 +1,9 @@
 -- One turn of a run.
-use Rattle.std.proofs.Common.{◌≢◌, ℕ, false, List, [], Option, refl, subst}
+use Rattle.std.proofs.Common.{◌≢◌, ℕ, ◌+◌, ◌≤◌, ◌⊎◌, ◌++◌, false, List, [], Option, refl, subst, inl, inr, arith, length-append}
 use Rattle.std.specs.Io.KnownBytes.{Consumes}
-use Rattle.cache_devices.proofs.Sending.{same_appends}
+use Rattle.cache_devices.proofs.Sending.{failed_after, failed_before, same_appends}
+use Rattle.cache_devices.specs.Failures.{HasFailed}
+use Rattle.cache_run.specs.Turns.{HasRead}
 use Rattle.cache_spaces.specs.Moves.{At}
 use Rattle.cache_spaces.specs.Spaces.{config_of, notices_of}
 use Rattle.cache_spaces.specs.declared.space.Space.{Space}
@@ -12,7 +14,7 @@ use Rattle.cache_run.specs.Goes.{Goes}
 use Rattle.cache_run.specs.Worlds.{Outside, outside, world}
 use Rattle.cache_run.specs.declared.errors.RunError.{RunError}
 use Rattle.cache_run.specs.declared.errors.RunError.TheVariants.{Moment}
-use Rattle.cache_run.proofs.Carrying.{broken-more, broken-one, carried-more, carried-none, carried-one, carried-same}
+use Rattle.cache_run.proofs.Carrying.{consumes_more, same_consumes, broken-more, broken-one, carried-more, carried-none, carried-one, carried-same}
 use Rattle.cache_run.proofs.Going.{at-goes-map, at-goes-more}
 use Rattle.cache_run.proofs.Placing.{at-same}
 
@@ -79,3 +81,17 @@ at-carried-start reads old n number a c =
       config = refl;
       others = λ other ne. (refl, refl);
     })
+
+-- the bytes of several turns, unless the reader failed
+pub turns-more : (f g h : ℕ) (a b c : Option (List ℕ)) (count : ℕ) → f ≤ g → g ≤ h → HasFailed f g ⊎ HasRead a b count → HasFailed g h ⊎ HasRead b c 1 → HasFailed f h ⊎ HasRead a c (count + 1)
+turns-more f g h a b c count early late (inl x) y = inl (failed_before f g h x late)
+turns-more f g h a b c count early late (inr x) (inl y) = inl (failed_after f g h early late y)
+turns-more f g h a b c count early late (inr x) (inr y) =
+    let most = x.2 in
+    let more = y.2 in
+    let both = length-append x.0 y.0 in
+    inr (x.0 ++ y.0, consumes_more a b c x.0 y.0 x.1 y.1, omega arith)
+
+-- no turn yet
+pub turns-none : (f : ℕ) (a : Option (List ℕ)) → HasFailed f f ⊎ HasRead a a 0
+turns-none f a = inr ([], same_consumes a, omega arith)

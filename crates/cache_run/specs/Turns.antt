@@ -1,5 +1,6 @@
 -- Whether a run goes on.
-use Rattle.std.specs.Prelude.{ℕ, List, Option}
+use Rattle.std.specs.Prelude.{ℕ, ◌≤◌, ◌^◌, List, length, Option}
+use Rattle.std.specs.Io.KnownBytes.{Consumes}
 use Rattle.cache_run.specs.Connected.{IsReady, IsOver}
 use Rattle.cache_run.specs.declared.turns.Progress.{Progress}
 use Rattle.cache_run.specs.declared.turns.Progress.TheVariants.{More, Over}
@@ -9,3 +10,11 @@ use Rattle.cache_spaces.specs.declared.space.Space.{Space}
 abbrev pub LeavesSo : Progress → Option (List ℕ) → ℕ → Space → Type 0
 LeavesSo More remaining number space = IsReady number space
 LeavesSo Over remaining number space = IsOver remaining number space
+
+-- at least so many bytes were read
+abbrev pub HasRead : Option (List ℕ) → Option (List ℕ) → ℕ → Type 0
+HasRead before after count = (bytes : List ℕ) × Consumes before after bytes × (count ≤ length bytes)
+
+-- the clock's last reading was a moment of 2 ^ 63 or more
+abbrev pub HasToldLate : {C : Type 0} → (C → ℕ → C → Type 0) → C → Type 0
+HasToldLate {C} reads clock = (before : C) × (moment : ℕ) × reads before moment clock × (2 ^ 63 ≤ moment)

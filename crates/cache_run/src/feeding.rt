@@ -54,7 +54,8 @@ fn answer_piece(
     ensures taken { OnOk result (Connected (spaces_of service.new) conn.namespace conn.number IsTaken) }
     ensures err { IfErr result (λ e. At (spaces_of service.old) (spaces_of service.new) conn.namespace (λ was is. Goes conn.number was is (λ s t. Unanswered (config_of was) conn.number piece.now moment s t (notices_of was) (notices_of is) e))) }
     ensures left { OnErr result (Connected (spaces_of service.new) conn.namespace conn.number IsFed) }
-    ensures causes { IfErr result (λ e. (e ≢ RunError.Read) × (e ≢ RunError.Write)) }
+    ensures causes { IfErr result (λ e. (e ≢ RunError.Read) × (e ≢ RunError.Write) × (e ≢ RunError.UsedUp)) }
+    ensures moment { IsErrOf result RunError.Moment → 2 ^ 63 ≤ moment }
 {
     match feed_piece(service, conn, piece, moment) {
         Ok(Fed::All) => Ok(take_replies(service, conn)),
@@ -77,6 +78,8 @@ pub fn deliver<W: Write>(
     ensures err { IfErr result (λ e. At (spaces_of service.old) (spaces_of service.new) conn.namespace (λ was is. Goes conn.number was is (λ s t. Undelivered (config_of was) conn.number piece.now moment s t (notices_of was) (notices_of is) (W.contents (device writer.old)) (W.contents (device writer.new)) e))) }
     ensures left { OnErr result (Connected (spaces_of service.new) conn.namespace conn.number IsFed) }
     ensures cause { IsErrOf result RunError.Write → HasFailed (failures writer.old) (failures writer.new) }
+    ensures used_up { IsErrOf result RunError.UsedUp → HasFailed (failures writer.old) (failures writer.new) }
+    ensures moment { IsErrOf result RunError.Moment → 2 ^ 63 ≤ moment }
     ensures count { failures writer.old ≤ failures writer.new }
     ensures causes { IfErr result (λ e. e ≢ RunError.Read) }
 {

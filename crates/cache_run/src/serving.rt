@@ -1,5 +1,5 @@
 //! One connection, from its opening to its closing.
-ghost use Rattle.std.specs.Prelude.{◌≡◌, ◌≤◌, ◌<◌, ◌⊎◌, ℕ, [], false, length, IfOk, IfErr, OnOk, OnErr, IsErrOf};
+ghost use Rattle.std.specs.Prelude.{◌≡◌, ◌≤◌, ◌<◌, ◌⊎◌, ◌^◌, ◌-◌, ℕ, [], false, length, IfOk, IfErr, OnOk, OnErr, IsErrOf};
 ghost use Rattle.audit_model.specs.declared.event.Event.TheVariants as event;
 ghost use Rattle.cache_devices.specs.Failures.{HasFailed};
 ghost use Rattle.cache_devices.specs.Watched.{device, failures};
@@ -11,6 +11,7 @@ ghost use Rattle.cache_run.specs.Carried.{Broken, Carried};
 ghost use Rattle.cache_run.specs.Connected.{Connected, IsFed, IsOver, IsReady};
 ghost use Rattle.cache_run.specs.Goes.{Goes};
 ghost use Rattle.cache_run.specs.Runs.{Closes, Quiet, ServesPartly, ServesWhole, next_number};
+ghost use Rattle.cache_run.specs.Turns.{HasRead, HasToldLate};
 ghost use Rattle.cache_run.specs.Worlds.{outside, world};
 
 use crate::errors::RunError;
@@ -70,6 +71,8 @@ fn converse<R: Read, W: Write, C: Clock>(
     ensures left { OnErr result (Connected (spaces_of service.new) conn.namespace conn.number IsFed) }
     ensures read { IsErrOf result RunError.Read → HasFailed (failures reader.old) (failures reader.new) }
     ensures write { IsErrOf result RunError.Write → HasFailed (failures writer.old) (failures writer.new) }
+    ensures moment { IsErrOf result RunError.Moment → HasToldLate C.reads clock.new }
+    ensures used_up { IsErrOf result RunError.UsedUp → HasFailed (failures writer.old) (failures writer.new) ⊎ (HasFailed (failures reader.old) (failures reader.new) ⊎ HasRead (R.remaining (device reader.old)) (R.remaining (device reader.new)) (2 ^ 64 - 1)) }
 {
     for _turn in 0..u64::MAX {
         match take_turn(service, conn, buffer, reader, writer, clock) {
@@ -107,6 +110,10 @@ pub fn run<R: Read, W: Write, C: Clock, L: Loader>(
         (outside (R.remaining (device reader.new)) (W.contents (device writer.new)) clock.new) e)) }
     ensures read { IsErrOf result RunError.Read → HasFailed (failures reader.old) (failures reader.new) }
     ensures write { IsErrOf result RunError.Write → HasFailed (failures writer.old) (failures writer.new) }
+    ensures moment { IsErrOf result RunError.Moment → HasToldLate C.reads clock.new }
+
+    // Numbers are used up only where a device failed or as many bytes were read as turns are counted.
+    ensures used_up { IsErrOf result RunError.UsedUp → HasFailed (failures writer.old) (failures writer.new) ⊎ (HasFailed (failures reader.old) (failures reader.new) ⊎ HasRead (R.remaining (device reader.old)) (R.remaining (device reader.new)) (2 ^ 64 - 1)) }
     ensures loader { loader.new ≡ loader.old }
 {
     let _loader = loader;

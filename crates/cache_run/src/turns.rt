@@ -1,5 +1,5 @@
 //! One turn of a run.
-ghost use Rattle.std.specs.Prelude.{◌≡◌, ◌≤◌, ◌<◌, ℕ, [], List, Option, false, length, IfOk, IfErr, OnOk, OnErr, IsErrOf};
+ghost use Rattle.std.specs.Prelude.{◌≡◌, ◌≤◌, ◌<◌, ◌⊎◌, ℕ, [], List, Option, false, length, IfOk, IfErr, OnOk, OnErr, IsErrOf};
 ghost use Rattle.cache_devices.specs.Failures.{HasFailed};
 ghost use Rattle.cache_devices.specs.Watched.{device, failures};
 ghost use Rattle.cache_spaces.specs.Moves.{At};
@@ -8,7 +8,7 @@ ghost use Rattle.cache_spaces.specs.Spaces.{config_of};
 ghost use Rattle.cache_run.specs.Carried.{Broken, Carried};
 ghost use Rattle.cache_run.specs.Connected.{Connected, IsFed, IsReady, IsTaken};
 ghost use Rattle.cache_run.specs.Goes.{Goes};
-ghost use Rattle.cache_run.specs.Turns.{LeavesSo};
+ghost use Rattle.cache_run.specs.Turns.{HasRead, HasToldLate, LeavesSo};
 ghost use Rattle.cache_run.specs.Worlds.{outside, world};
 
 use crate::errors::RunError;
@@ -60,6 +60,9 @@ pub fn take_turn<R: Read, W: Write, C: Clock>(
     ensures left { OnErr result (Connected (spaces_of service.new) conn.namespace conn.number IsFed) }
     ensures read { IsErrOf result RunError.Read → HasFailed (failures reader.old) (failures reader.new) }
     ensures write { IsErrOf result RunError.Write → HasFailed (failures writer.old) (failures writer.new) }
+    ensures used_up { IsErrOf result RunError.UsedUp → HasFailed (failures writer.old) (failures writer.new) }
+    ensures moment { IsErrOf result RunError.Moment → HasToldLate C.reads clock.new }
+    ensures more { IfOk result (λ progress. progress ≡ Progress.More → HasFailed (failures reader.old) (failures reader.new) ⊎ HasRead (R.remaining (device reader.old)) (R.remaining (device reader.new)) 1) }
     ensures reads { failures reader.old ≤ failures reader.new }
     ensures writes { failures writer.old ≤ failures writer.new }
     ensures room { length buffer.new ≡ length buffer.old }

@@ -2,7 +2,7 @@ use Rattle.std.proofs.Common.{◌≡◌, arith, inl}
 use Rattle.cache_run.specs.Connected.{IsFed, IsReady}
 use Rattle.cache_run.specs.declared.errors.RunError.TheVariants.{Moment, UsedUp}
 use Rattle.cache_run.proofs.Connecting.{connected-map}
-use Rattle.cache_run.proofs.Turning.{at-broken, at-broken-more, at-carried-more, at-carried-start}
+use Rattle.cache_run.proofs.Turning.{at-broken, at-broken-more, at-carried-more, at-carried-start, turns-more, turns-none}
 use Rattle.cache_run.proofs.serving.converse.Goals as goal
 
 pub loop-turn-init : goal.loop-turn-init
@@ -12,6 +12,7 @@ loop-turn-init g c = record {
   reads = omega arith;
   writes = omega arith;
   room = c.requires.room;
+  turns = turns-none _ _;
 }
 
 pub loop-turn-preserved : goal.loop-turn-preserved
@@ -21,6 +22,7 @@ loop-turn-preserved g c = record {
   reads = omega (arith, c.loop-turn.invariant.reads, c.in-Ok-More.ensures.reads);
   writes = omega (arith, c.loop-turn.invariant.writes, c.in-Ok-More.ensures.writes);
   room = omega (arith, c.loop-turn.invariant.room, c.in-Ok-More.ensures.room);
+  turns = turns-more _ _ _ _ _ _ c.loop-turn._turn c.loop-turn.invariant.reads c.in-Ok-More.ensures.reads c.loop-turn.invariant.turns (c.in-Ok-More.ensures.more c.in-Ok-More.field-0-is);
 }
 
 pub returns-in-Ok-Over-clause-ok : goal.returns-in-Ok-Over-clause-ok

@@ -1,4 +1,4 @@
-use Rattle.std.proofs.Common.{◌≤◌, ◌<◌, [], false, length}
+use Rattle.std.proofs.Common.{◌⊎◌, ◌≤◌, ◌<◌, [], false, length}
 use Rattle.cache_devices.specs.Watched.{device, failures}
 use Rattle.cache_spaces.specs.Moves.{At}
 use Rattle.cache_spaces.specs.Services.{spaces_of}
@@ -6,6 +6,8 @@ use Rattle.cache_spaces.specs.Spaces.{config_of}
 use Rattle.cache_run.specs.Carried.{Carried}
 use Rattle.cache_run.specs.Connected.{Connected, IsReady}
 use Rattle.cache_run.specs.Goes.{Goes}
+use Rattle.cache_run.specs.Turns.{HasRead}
+use Rattle.cache_devices.specs.Failures.{HasFailed}
 use Rattle.cache_run.specs.Worlds.{outside, world}
 use Rattle.cache_run.proofs.serving.converse.Given as goal
 
@@ -19,4 +21,5 @@ invariant-loop-turn g l = record {
   reads : failures l.fn.reader ≤ failures l.reader;
   writes : failures l.fn.writer ≤ failures l.writer;
   room : 0 < length l.buffer;
+  turns : HasFailed (failures l.fn.reader) (failures l.reader) ⊎ HasRead (g.R.Read.remaining (device l.fn.reader)) (g.R.Read.remaining (device l.reader)) l._turn;
 }
