@@ -1,8 +1,7 @@
 -- Where a namespace has one part, each accepted value is of that one.
-use Rattle.std.proofs.Common.{◌≡◌, refl, ap, ◌∙◌, sym, subst, ℕ, ◌<◌, arith, Bool, true, false, ◌&&◌, cond, List, [], ◌∷◌, ◌++◌, Option, Some, None, is_some, nat_lt}
-use Rattle.std.specs.Prelude.{IsTrue, ◌==◌}
+use Rattle.std.proofs.Common.{◌≡◌, refl, ap, ◌∙◌, sym, subst, ℕ, ◌<◌, arith, Bool, true, List, [], ◌∷◌, ◌++◌, Option, Some, None, is_some, nat_lt}
 use Rattle.std.specs.List.{list_all}
-use Rattle.std.specs.Option.{option_and_then, option_map, option_map_or}
+use Rattle.std.specs.Option.{option_and_then, option_map_or}
 use Rattle.std.proofs.lemmas.Bool.{and_parts, and_from, eq-eqb, ltb-true}
 use Rattle.std.proofs.lemmas.List.Elements.{filter_map-append}
 use Rattle.std.proofs.lemmas.List.Folds.{list_all-append}
@@ -10,7 +9,7 @@ use Rattle.std.proofs.lemmas.Option.{none-some, same_Some}
 use Rattle.audit_model.specs.Changes.{after_step}
 use Rattle.audit_model.specs.Follows.{after_steps, after_event, tasks_in, placed_step_in, after_record, after_records}
 use Rattle.audit_model.specs.History.{Value, part_count}
-use Rattle.audit_model.specs.Obeys.{accepted_values, agree_on_parts}
+use Rattle.audit_model.specs.Obeys.{accepted_values}
 use Rattle.audit_model.specs.Places.{due, first_due, left_after, placed_steps, steps_of}
 use Rattle.audit_model.specs.Replies.{Offer, offer_of, value_from}
 use Rattle.audit_model.specs.Situation.{Situation, empty_situation, may_run_in}
@@ -19,9 +18,8 @@ use Rattle.audit_model.specs.declared.config.Config.{Config}
 use Rattle.audit_model.specs.declared.transcript.Accepted.{Accepted}
 use Rattle.audit_model.specs.declared.transcript.Record.{Record}
 use Rattle.audit_model.specs.declared.transcript.Step.{Step}
-use Rattle.audit_model.specs.declared.transcript.Transcript.{Transcript}
 use Rattle.audit_laws.specs.Laws.{OnePartObeys}
-use Rattle.audit_laws.specs.Leading.{LeadsTo, is_parted}
+use Rattle.audit_laws.specs.Leading.{is_parted}
 use Rattle.audit_laws.specs.Placing.{placed_steps_in, placed_in, all_placed_in}
 use Rattle.audit_laws.proofs.Following.{passed}
 use Rattle.audit_laws.proofs.Journals.{parts-by, places_agree}

@@ -1,10 +1,10 @@
 -- What namespaces and their transcripts are, input by input.
-use Rattle.std.proofs.Common.{◌≡◌, ◌≢◌, ℕ, zero, suc, ◌<◌, ◌-◌, Bool, List, [], ◌∷◌, ◌++◌, length, Option, Some, None, refl, sym, ap, ◌∙◌, subst, inl, inr, arith, get_or, take, ◌+◌, length-append, ◌≤◌}
+use Rattle.std.proofs.Common.{◌≡◌, ◌≢◌, ℕ, zero, suc, ◌<◌, ◌-◌, List, [], ◌∷◌, ◌++◌, length, Some, None, refl, sym, ap, ◌∙◌, subst, inl, inr, arith, get_or, take, ◌+◌, length-append, ◌≤◌}
 use Rattle.std.specs.Prelude.{◌⊎◌, slice_set, Result, Ok, Err, OnOk, OnErr, IfErr, IsTrue, is_none, not}
 use Rattle.std.proofs.Math.Seq.{take-suc}
 use Rattle.std.specs.List.{slice_get}
 use Rattle.std.proofs.lemmas.List.{length-set, set-get_or, take_all}
-use Rattle.std.proofs.lemmas.Option.{slice_get-get_or, slice_get_within, none-some, same_Some}
+use Rattle.std.proofs.lemmas.Option.{slice_get_within, none-some, same_Some}
 use Rattle.audit_laws.proofs.Belonging.{belongs_on, belongs_step_by_step}
 use Rattle.audit_laws.proofs.OnePart.{one-part-obeys}
 use Rattle.audit_model.specs.Belongs.{event_in}
@@ -15,20 +15,17 @@ use Rattle.audit_model.specs.BelongsIn.{BelongsIn}
 use Rattle.audit_model.specs.Follows.{Follows}
 use Rattle.audit_model.specs.Situation.{Situation, empty_situation}
 use Rattle.audit_model.specs.declared.config.Config.{Config}
-use Rattle.audit_model.specs.declared.event.Event.{Event}
 use Rattle.audit_model.specs.declared.event.Instant.{Instant}
 use Rattle.audit_model.specs.declared.input.Input.{Input}
 use Rattle.audit_model.specs.declared.input.ServiceError.{ServiceError}
-use Rattle.audit_model.specs.declared.transcript.Record.{Record}
 use Rattle.audit_model.specs.declared.transcript.Transcript.{Transcript}
 use Rattle.cache_namespace.proofs.Places.{at-replaced}
 use Rattle.cache_namespace.specs.Taken.{text_at}
 use Rattle.cache_spaces.specs.Moves.{At}
-use Rattle.cache_spaces.specs.Played.{Plays, ArePlayed, HasPlayed, HavePlayed}
-use Rattle.cache_spaces.specs.Recorded.{IsQuiet, AreQuiet, AreEmpty, LeadsOnIn, Records, RecordsInput, RecordsAt, RefusedInput, namespace_of}
+use Rattle.cache_spaces.specs.Played.{ArePlayed, HasPlayed, HavePlayed}
+use Rattle.cache_spaces.specs.Recorded.{AreQuiet, AreEmpty, RecordsInput, RecordsAt, RefusedInput, namespace_of}
 use Rattle.cache_spaces.specs.Serves.{SameSpace}
 use Rattle.cache_spaces.specs.Services.{IsNew, AreNew, Refuses}
-use Rattle.cache_spaces.specs.Spaces.{Stands, config_of, connections_of}
 use Rattle.cache_spaces.specs.declared.space.Space.{Space}
 use Rattle.cache_spaces.proofs.Noting.{same-or-not}
 

@@ -19,7 +19,7 @@ use Rattle.cache_namespace.specs.Taken.{record_of}
 use Rattle.cache_namespace.specs.declared.connection.Connection.{Connection}
 use Rattle.cache_namespace.specs.declared.kept.Kept.{Kept}
 use Rattle.cache_spaces.specs.Moves.{Moves}
-use Rattle.cache_spaces.specs.Recorded.{IsQuiet, LeadsOnIn, Records, RecordsInput, Refused, RefusedInput, namespace_of}
+use Rattle.cache_spaces.specs.Recorded.{IsQuiet, Records, RecordsInput, Refused, RefusedInput, namespace_of}
 use Rattle.cache_spaces.specs.Spaces.{Stands, config_of, connections_of, notices_of, output_of, gathered_in}
 use Rattle.cache_spaces.specs.declared.space.Space.{Space}
 

@@ -1,4 +1,4 @@
-use Rattle.std.proofs.Common.{◌≡◌, ◌+◌, length, ap, sym, subst, ◌∙◌, arith}
+use Rattle.std.proofs.Common.{length, ap, sym, subst, arith}
 use Rattle.cache_spaces.specs.Recorded.{AreEmpty}
 use Rattle.cache_spaces.proofs.Journaling.{filled, none-empty, one-longer}
 use Rattle.cache_spaces.proofs.playing.empty_transcripts.Goals as goal

@@ -1,4 +1,4 @@
-use Rattle.std.proofs.Common.{◌≡◌, ◌+◌, length, sym, ◌∙◌, take}
+use Rattle.std.proofs.Common.{sym, ◌∙◌}
 use Rattle.cache_spaces.proofs.Journaling.{played-none, played-step, played-to-end, quiet-each}
 use Rattle.cache_spaces.proofs.playing.play.Goals as goal
 

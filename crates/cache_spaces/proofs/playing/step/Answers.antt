@@ -1,4 +1,4 @@
-use Rattle.std.proofs.Common.{arith, length}
+use Rattle.std.proofs.Common.{arith}
 use Rattle.cache_spaces.proofs.Journaling.{same-transcript, put-back}
 use Rattle.cache_spaces.proofs.Putting.{put-at, at-of, refuses-at}
 use Rattle.cache_spaces.proofs.playing.step.Goals as goal

@@ -1,11 +1,6 @@
-use Rattle.std.proofs.Common.{◌+◌, ◌≡◌, ◌++◌, ◌∷◌, [], length, refl, sym, ap, ◌∙◌, subst}
+use Rattle.std.proofs.Common.{subst}
 use Rattle.audit_model.specs.declared.event.Event.TheVariants as event
-use Rattle.audit_model.specs.Situation.{Situation}
-use Rattle.cache_namespace.specs.Gathered.{Gathered}
-use Rattle.cache_namespace.specs.Taken.{record_of}
-use Rattle.cache_spaces.specs.Moves.{Moves}
 use Rattle.cache_spaces.specs.Recorded.{Records}
-use Rattle.cache_spaces.specs.Spaces.{Stands, config_of, connections_of}
 use Rattle.cache_spaces.proofs.Noting.{recorded-still}
 use Rattle.cache_spaces.proofs.recording.record_open.Goals as goal
 
