@@ -1,7 +1,9 @@
 //! What is right of a cache that is served by lines: the types of configurations, events and transcripts.
 //!
-//! Contracts cite the definitions of `audit_model`; the laws that hold of them are the functions of `audit_laws`.
+//! Contracts cite the definitions of `audit_model`; the laws that hold of them are the functions of `laws`.
 #![tactic(auto)]
+
+pub mod laws;
 
 pub use audit_model::{
     Accepted, Bytes, Closing, Command, Config, Conn, Event, EvictionPolicy, Input, Instant,
