@@ -5,4 +5,4 @@ mod buffer;
 mod request;
 
 pub use buffer::{Buffer, MAX_LINE, Next};
-pub use request::{Request, fault_text, read_line};
+pub use request::{Request, read_line};

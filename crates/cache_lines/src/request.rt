@@ -3,7 +3,6 @@ ghost use Rattle.std.specs.Prelude.{◌≡◌, ◌≤◌, ℕ, List, IsTrue, IfS
 ghost use Rattle.std.specs.Str.Parse.{digits_value};
 ghost use Rattle.audit_model.specs.Bytewise.{cut_at, words, words_up_to};
 ghost use Rattle.audit_model.specs.Grammar.{is_key, is_key_byte, is_value, is_numeral, deadline_in, read_words, set, get, del, reading};
-ghost use Rattle.audit_model.specs.Replies.{fault_text};
 ghost use Rattle.audit_model.specs.declared.config.Config.{Config};
 ghost use Rattle.cache_lines.specs.Request.{said, IsFit, IsOwn, LacksKey};
 
@@ -62,18 +61,6 @@ pub fn read_line<'a>(config: &Config, line: &'a [u8]) -> Request<'a>
         }
     } else {
         Request::Fault(LineError::Command)
-    }
-}
-
-/// The reply to a line that cannot be read, with its line feed.
-pub fn fault_text(error: LineError) -> &'static [u8]
-    ensures { result.now ≡ fault_text error }
-{
-    match error {
-        LineError::Command => b"ERR command\n",
-        LineError::Syntax => b"ERR syntax\n",
-        LineError::Deadline => b"ERR deadline\n",
-        LineError::Number => b"ERR number\n",
     }
 }
 

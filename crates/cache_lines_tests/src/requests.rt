@@ -1,5 +1,5 @@
 use audit_model::{Config, EvictionPolicy, LineError, Weight};
-use cache_lines::{Request, fault_text, read_line};
+use cache_lines::{Request, read_line};
 use std::test::Fail;
 
 fn config(own_deadlines: bool) -> Config {
@@ -107,14 +107,5 @@ fn what_cannot_be_read(rt: HostRuntime) -> Result<(), Fail> {
     assert!(rt; fails(b"GET a ", false, LineError::Syntax));
     assert!(rt; fails(b"GET", false, LineError::Syntax));
     assert!(rt; fails(b"SYNC ", false, LineError::Syntax));
-    Ok(())
-}
-
-#[test]
-fn texts_of_faults(rt: HostRuntime) -> Result<(), Fail> {
-    assert!(rt; fault_text(LineError::Command) == b"ERR command\n".as_slice());
-    assert!(rt; fault_text(LineError::Syntax) == b"ERR syntax\n".as_slice());
-    assert!(rt; fault_text(LineError::Deadline) == b"ERR deadline\n".as_slice());
-    assert!(rt; fault_text(LineError::Number) == b"ERR number\n".as_slice());
     Ok(())
 }

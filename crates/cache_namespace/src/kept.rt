@@ -6,11 +6,9 @@ ghost use Rattle.cache_namespace.specs.Lines.{held_step};
 ghost use Rattle.cache_steps.specs.Right.{step_saying};
 
 use audit_model::{Accepted, Note, Seq, Step};
+use cache_lines::MAX_LINE;
 use std::alloc::{AllocError, Global};
 use std::mem;
-
-/// A line has at most this many bytes.
-const MAX_LINE: usize = 8192;
 
 /// The steps of a record, and room to hold a command back.
 #[derive(Drop)]
