@@ -1,14 +1,14 @@
 -- The loop that closes up the empty places.
-use Rattle.std.proofs.Common.{◌≡◌, ◌≢◌, ◌⊎◌, ℕ, zero, suc, ◌+◌, ◌-◌, ◌<◌, ◌≤◌, Bool, true, false, cond, List, [], ◌∷◌, ◌++◌, length, get_or, set, take, drop, Option, Some, None, is_some, refl, sym, ap, ◌∙◌, inl, inr, arith, subst}
-use Rattle.std.proofs.lemmas.Bool.{cases_lt, cases_eq}
-use Rattle.std.proofs.lemmas.List.{take_more_set, take-set-le, drop-set-lt, append_assoc, append-nil, length-set, length-append, get_or-set_same, get_or-set_other, drop_all, get_or-take, length-take, length-take-le}
+use Rattle.std.proofs.Common.{◌≡◌, ℕ, ◌+◌, ◌<◌, ◌≤◌, true, cond, List, [], ◌∷◌, ◌++◌, length, get_or, set, take, drop, Option, Some, None, is_some, refl, sym, ap, ◌∙◌, inl, inr, arith, subst}
+use Rattle.std.proofs.lemmas.Bool.{cases_eq}
+use Rattle.std.proofs.lemmas.List.{take_more_set, take-set-le, drop-set-lt, append_assoc, append-nil, length-set, length-append, get_or-set_same, get_or-set_other, drop_all, get_or-take, length-take}
 use Rattle.std.proofs.lemmas.List.Sums.{sum_by-set}
 use Rattle.std.proofs.lemmas.Option.{none-some, same_Some}
-use Rattle.slab.specs.Slab.{Slab, get, ContainsKey, with_value, slab_len}
-use Rattle.slab.proofs.SlabLemmas.{Updates-with_value, ContainsKey-within}
+use Rattle.slab.specs.Slab.{Slab, get, with_value, slab_len}
+use Rattle.slab.proofs.SlabLemmas.{Updates-with_value}
 use Rattle.policy_queue.specs.declared.places.Node.{Node}
-use Rattle.policy_queue.specs.Places.{live, IsStored, IsSound}
-use Rattle.policy_queue.proofs.Live.{within, live-append, live_push, live_drop_some, live_drop_none}
+use Rattle.policy_queue.specs.Places.{live, IsStored}
+use Rattle.policy_queue.proofs.Live.{within, live_push, live_drop_some, live_drop_none}
 
 -- a value in place of another counts the same
 pub slab_len-with_value : (s : Slab ℕ) (key old new : ℕ) → get s key ≡ Some old → slab_len (with_value s key new) ≡ slab_len s

@@ -1,12 +1,12 @@
 -- The first and the last node of an array of places.
-use Rattle.std.proofs.Common.{◌≡◌, ◌≢◌, ℕ, zero, suc, ◌+◌, ◌-◌, ◌<◌, ◌≤◌, Bool, true, false, List, [], ◌∷◌, ◌++◌, length, get_or, set, take, drop, min, Option, Some, None, is_some, refl, sym, ap, ◌∙◌, inl, inr, arith, subst}
+use Rattle.std.proofs.Common.{◌≡◌, ◌≢◌, ℕ, zero, suc, ◌+◌, ◌-◌, ◌<◌, ◌≤◌, true, false, List, [], ◌∷◌, ◌++◌, length, get_or, set, take, drop, min, Option, Some, None, is_some, refl, sym, ap, ◌∙◌, inl, inr, arith}
 use Rattle.std.proofs.lemmas.Bool.{cases_lt, cases_eq, true≢false}
-use Rattle.std.proofs.lemmas.List.{take_all, drop_all, length-set, length-take-le, get_or-set_same, get_or-set_other, get_or-take, get_or-drop, get_or_past, get_or_append_left, get_or_at, length_push, length-append, nil_from_length, drop_more}
+use Rattle.std.proofs.lemmas.List.{drop_all, length-set, length-take-le, get_or-set_same, get_or-set_other, get_or-take, get_or-drop, get_or_past, get_or_append_left, get_or_at, length_push}
 use Rattle.std.proofs.lemmas.Option.{none-some}
 use Rattle.policy_queue.specs.declared.places.Node.{Node}
 use Rattle.policy_queue.specs.Queue.{head, final, is_nonempty}
 use Rattle.policy_queue.specs.Places.{live, Ends, EndsBut}
-use Rattle.policy_queue.proofs.Live.{within, some_within, live_at, live_drop_some}
+use Rattle.policy_queue.proofs.Live.{some_within, live_at, live_drop_some}
 
 module _ {X : Type 0} where
   some_not_none : (o : Option X) → is_some o ≡ true → o ≡ None → ⊥

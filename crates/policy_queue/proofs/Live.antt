@@ -1,9 +1,8 @@
 -- Lemmas on places and on what stands in them.
-use Rattle.std.proofs.Common.{◌≡◌, ◌≢◌, ◌⊎◌, ℕ, zero, suc, ◌+◌, ◌-◌, ◌<◌, ◌≤◌, Bool, true, false, cond, List, [], ◌∷◌, ◌++◌, length, get_or, set, take, drop, Option, Some, None, is_some, refl, sym, ap, ◌∙◌, inl, inr, arith, add-zero, eqb, ◌&&◌}
+use Rattle.std.proofs.Common.{◌≡◌, ℕ, zero, suc, ◌+◌, ◌<◌, ◌≤◌, true, false, List, [], ◌∷◌, ◌++◌, length, get_or, set, take, drop, Option, Some, None, is_some, refl, sym, ap, ◌∙◌, inl, inr, arith}
 use Rattle.std.proofs.lemmas.Bool.{cases_lt, cases_Bool, and_parts, and_from, eqb-true, eq-eqb, true≢false, cond-true, cond-false, both_ways}
-use Rattle.std.proofs.lemmas.List.{take-append-drop, drop_more, drop-drop, get_or_past, set_split, append-nil, append_assoc, take_all, drop_all, length-set, get_or-set_same, get_or-set_other, length-append, length-take, get_or-take}
+use Rattle.std.proofs.lemmas.List.{take-append-drop, drop_more, get_or_past, set_split, length-take, get_or-take}
 use Rattle.std.proofs.lemmas.Option.{none-some, same_Some}
-use Rattle.std.proofs.lemmas.Grind.{common_steps}
 use Rattle.slab.specs.Slab.{Slab, get}
 use Rattle.policy_base.specs.declared.name.CacheRegion.{CacheRegion}
 use Rattle.policy_base.specs.declared.name.CacheRegion.TheVariants.{Window, MainProbation, MainProtected, Other}
@@ -11,7 +10,7 @@ use Rattle.policy_base.specs.declared.name.NodeId.{NodeId}
 use Rattle.policy_queue.specs.declared.places.Node.{Node}
 use Rattle.policy_base.specs.Region.{region_code}
 use Rattle.policy_queue.specs.Queue.{same_id, find, without, from_id}
-use Rattle.policy_queue.specs.Places.{live, IsStored, IsSound}
+use Rattle.policy_queue.specs.Places.{live, IsStored}
 
 module _ {X : Type 0} where
   -- what stands somewhere stands within the list
@@ -128,20 +127,20 @@ module _ {T : Type 0} where
 
   pub stale_past : (ps : List (Option (Node T))) (s : Slab ℕ) (id : NodeId) (k : ℕ) → IsStored ps s → get s id.slot ≡ Some k → length ps ≤ k → find id (live ps) ≡ None
   stale_past ps s id k stored e past = find_stale ps s id stored (λ j n there here same.
-    let one : j ≡ k = same_Some j k (sym there ∙ e) in
-    let lt = within ps j n here in
-    omega arith)
+      let one : j ≡ k = same_Some j k (sym there ∙ e) in
+      let lt = within ps j n here in
+      omega arith)
 
   pub stale_empty : (ps : List (Option (Node T))) (s : Slab ℕ) (id : NodeId) (k : ℕ) → IsStored ps s → get s id.slot ≡ Some k → get_or ps k None ≡ None → find id (live ps) ≡ None
   stale_empty ps s id k stored e empty = find_stale ps s id stored (λ j n there here same.
-    let one : j ≡ k = same_Some j k (sym there ∙ e) in
-    none-some n (sym empty ∙ ap (λ i. get_or ps i None) (sym one) ∙ here))
+      let one : j ≡ k = same_Some j k (sym there ∙ e) in
+      none-some n (sym empty ∙ ap (λ i. get_or ps i None) (sym one) ∙ here))
 
   pub stale_other : (ps : List (Option (Node T))) (s : Slab ℕ) (id : NodeId) (k : ℕ) (m : Node T) → IsStored ps s → get s id.slot ≡ Some k → get_or ps k None ≡ Some m → same_id m.id id ≡ false → find id (live ps) ≡ None
   stale_other ps s id k m stored e at_k differs = find_stale ps s id stored (λ j n there here same.
-    let one : j ≡ k = same_Some j k (sym there ∙ e) in
-    let both : m ≡ n = same_Some m n (sym at_k ∙ ap (λ i. get_or ps i None) (sym one) ∙ here) in
-    both_ways (same_id n.id id) (ap (λ (x : Node T). same_id x.id id) (sym both) ∙ differs) same)
+      let one : j ≡ k = same_Some j k (sym there ∙ e) in
+      let both : m ≡ n = same_Some m n (sym at_k ∙ ap (λ i. get_or ps i None) (sym one) ∙ here) in
+      both_ways (same_id n.id id) (ap (λ (x : Node T). same_id x.id id) (sym both) ∙ differs) same)
 
   -- the node at a place is the only one of its name before it
   pub NoneIs-before : (ps : List (Option (Node T))) (s : Slab ℕ) (k : ℕ) (n : Node T) (id : NodeId) → IsStored ps s → get_or ps k None ≡ Some n → same_id n.id id ≡ true → NoneIs id (live (take k ps))

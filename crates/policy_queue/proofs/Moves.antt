@@ -1,7 +1,7 @@
 -- A node that leaves its place, and one that comes to the back.
-use Rattle.std.proofs.Common.{◌≡◌, ◌≢◌, ◌⊎◌, ℕ, zero, suc, ◌+◌, ◌-◌, ◌<◌, ◌≤◌, Bool, true, false, cond, List, [], ◌∷◌, ◌++◌, length, get_or, set, take, drop, Option, Some, None, is_some, IsSomeAnd, MatchOption, option_map, min, refl, sym, ap, ◌∙◌, inl, inr, arith, subst}
+use Rattle.std.proofs.Common.{◌≡◌, ℕ, suc, ◌+◌, ◌-◌, ◌<◌, ◌≤◌, Bool, true, false, List, [], ◌∷◌, ◌++◌, length, get_or, set, take, drop, Option, Some, None, is_some, IsSomeAnd, MatchOption, option_map, min, refl, sym, ap, ◌∙◌, inl, inr, arith, subst}
 use Rattle.std.proofs.lemmas.Bool.{cases_lt, cases_eq}
-use Rattle.std.proofs.lemmas.List.{length-append, get_or-set_same, get_or-set_other, get_or_append_left, get_or_at, get_or_past, length_push, append-nil}
+use Rattle.std.proofs.lemmas.List.{length-append, get_or-set_same, get_or-set_other, get_or_append_left, get_or_at, length_push, append-nil}
 use Rattle.std.proofs.lemmas.Option.{none-some, same_Some}
 use Rattle.std.proofs.lemmas.Bool.{true≢false, cond-true, cond-false}
 use Rattle.slab.specs.Slab.{Slab, get, Updates, slab_len}
@@ -11,7 +11,7 @@ use Rattle.policy_base.specs.declared.name.NodeId.{NodeId}
 use Rattle.policy_queue.specs.declared.places.Cursor.{Cursor}
 use Rattle.policy_queue.specs.Queue.{same_id, find, without, from_id, tail, cursor_moved, cursor_without, moved_to_back, is_nonempty, head}
 use Rattle.std.specs.Option.{option_to_list}
-use Rattle.policy_queue.proofs.Live.{within, live-append, live_push, live_at, live_emptied, find_at, without_at, from_id_at, NoneIs-before, same_id-refl}
+use Rattle.policy_queue.proofs.Live.{within, live_push, live_at, live_emptied, find_at, without_at, from_id_at, NoneIs-before, same_id-refl}
 
 -- no more nodes than places
 pub length-live : {X : Type 0} (ps : List (Option X)) → length (live ps) ≤ length ps
@@ -43,17 +43,17 @@ module _ {T : Type 0} where
       let was = sound.counted in
       record {
         stored = λ j m at_j.
-          let inside : j < length (ps ++ Some n ∷ []) = within (ps ++ Some n ∷ []) j m at_j in
-          let size : length (ps ++ Some n ∷ []) ≡ length ps + 1 = length_push ps (Some n) in
-          elim (cases_lt j (length ps)) [
-            | inl lt ↦
-                let at_0 : get s m.id.slot ≡ Some j = sound.stored j m (sym (get_or_append_left ps (Some n ∷ []) None j lt) ∙ at_j) in
-                updates.others m.id.slot (λ f. none-some j (sym vacant ∙ ap (get s) (sym f) ∙ at_0)) ∙ at_0
-            | inr ge ↦
-                let e : j ≡ length ps = omega arith in
-                let same : n ≡ m = same_Some n m (sym (get_or_at ps (Some n) [] None j (sym e)) ∙ at_j) in
-                ap (λ (x : Node T). get s' x.id.slot) (sym same) ∙ updates.changed ∙ ap (λ i. Some i) (sym e)
-          ];
+            let inside : j < length (ps ++ Some n ∷ []) = within (ps ++ Some n ∷ []) j m at_j in
+            let size : length (ps ++ Some n ∷ []) ≡ length ps + 1 = length_push ps (Some n) in
+            elim (cases_lt j (length ps)) [
+              | inl lt ↦
+                  let at_0 : get s m.id.slot ≡ Some j = sound.stored j m (sym (get_or_append_left ps (Some n ∷ []) None j lt) ∙ at_j) in
+                  updates.others m.id.slot (λ f. none-some j (sym vacant ∙ ap (get s) (sym f) ∙ at_0)) ∙ at_0
+              | inr ge ↦
+                  let e : j ≡ length ps = omega arith in
+                  let same : n ≡ m = same_Some n m (sym (get_or_at ps (Some n) [] None j (sym e)) ∙ at_j) in
+                  ap (λ (x : Node T). get s' x.id.slot) (sym same) ∙ updates.changed ∙ ap (λ i. Some i) (sym e)
+            ];
         counted = omega arith;
       }
 

@@ -1,13 +1,12 @@
 -- Names of nodes, and walks.
-use Rattle.std.proofs.Common.{◌≡◌, ◌≢◌, ℕ, zero, suc, ◌+◌, ◌<◌, ◌≤◌, Bool, true, false, List, [], ◌∷◌, ◌++◌, length, map, Option, Some, None, refl, sym, ap, ap₂, ◌∙◌, inl, inr, arith, eqb, ◌&&◌, subst}
+use Rattle.std.proofs.Common.{◌≡◌, ◌≢◌, ℕ, suc, ◌+◌, ◌<◌, List, [], ◌∷◌, ◌++◌, length, map, Some, None, refl, sym, ap, ◌∙◌, inl, inr, arith, subst}
 use Rattle.std.proofs.lemmas.Bool.{cases_Bool, and_parts, eqb-true}
-use Rattle.std.proofs.lemmas.List.{append-nil, append_assoc}
+use Rattle.std.proofs.lemmas.List.{append_assoc}
 use Rattle.policy_base.specs.declared.name.CacheRegion.{CacheRegion}
 use Rattle.policy_base.specs.declared.name.NodeId.{NodeId}
 use Rattle.policy_queue.specs.declared.places.Node.{Node}
-use Rattle.policy_queue.specs.declared.places.Cursor.{Cursor}
-use Rattle.policy_queue.specs.declared.places.Cursor.TheVariants.{Unstarted, At, Done}
-use Rattle.policy_queue.specs.Queue.{same_id, head, from_id, cursor_at, cursor_past, to_give, given, walked, LacksSerial, AreNamed, WalksOnce}
+use Rattle.policy_queue.specs.declared.places.Cursor.TheVariants.{Unstarted}
+use Rattle.policy_queue.specs.Queue.{same_id, head, cursor_at, cursor_past, to_give, given, walked, LacksSerial, AreNamed, WalksOnce}
 use Rattle.policy_queue.proofs.Live.{NoneIs, from_id_at, same_id-refl}
 
 module _ {T : Type 0} where
@@ -57,10 +56,13 @@ module _ {T : Type 0} where
 
   NoneIs-serial : (ns : List (Node T)) (id : NodeId) → LacksSerial id.serial ns → NoneIs id ns
   NoneIs-serial [] id h = tt
-  NoneIs-serial (m ∷ ns) id h = (elim (cases_Bool (same_id m.id id)) [
-    | inl t ↦ absurd (h.0 (eqb-true _ _ (and_parts _ _ t).0))
-    | inr f ↦ f
-  ], NoneIs-serial ns id h.1)
+  NoneIs-serial (m ∷ ns) id h = (
+    elim (cases_Bool (same_id m.id id)) [
+      | inl t ↦ absurd (h.0 (eqb-true _ _ (and_parts _ _ t).0))
+      | inr f ↦ f
+    ],
+    NoneIs-serial ns id h.1,
+  )
 
   LacksSerial-front : (s : ℕ) (front : List (Node T)) (back : List (Node T)) → LacksSerial s (front ++ back) → LacksSerial s front
   LacksSerial-front s [] back h = tt

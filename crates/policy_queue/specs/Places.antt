@@ -1,5 +1,5 @@
 -- The array of places behind a queue.
-use Rattle.std.specs.Prelude.{◌≡◌, ℕ, ◌+◌, ◌-◌, ◌<◌, ◌≤◌, ◌^◌, ◌*◌, ◌/◌, ◌≢◌, IsSome, true, min, List, [], ◌∷◌, Option, Some, None, length, slice_index_or, vec_capacity, drop, IsSomeAnd}
+use Rattle.std.specs.Prelude.{◌≡◌, ℕ, ◌+◌, ◌-◌, ◌<◌, ◌≤◌, ◌^◌, ◌*◌, ◌/◌, ◌≢◌, IsSome, min, List, [], ◌∷◌, Option, Some, None, length, slice_index_or, drop, IsSomeAnd}
 use Rattle.slab.specs.Slab.{Slab, get, slab_len}
 use Rattle.policy_base.specs.declared.name.CacheRegion.{CacheRegion}
 use Rattle.policy_queue.specs.declared.places.Node.{Node}

@@ -4,8 +4,8 @@ ghost use Rattle.std.specs.Borrow.{sem};
 ghost use Rattle.policy_queue.specs.Queue.{find, from_id, head, final, tail, to_give, cursor_past, Leaves, Pushes, Stays, refused_element, RefusedWell, MovesToBack, AreNamed, WalksOnce};
 
 use crate::places::{
-    Cursor, Node, attach, cursor_from, cursor_leaving, detach, element_at, has_next, id_from, make_room, place_of,
-    walk_place,
+    Cursor, Node, attach, cursor_from, cursor_leaving, detach, element_at, has_next, id_from,
+    make_room, place_of, walk_place,
 };
 use policy_base::{CacheRegion, NodeId};
 use slab::Slab;
@@ -138,11 +138,11 @@ impl<T: Drop> Deque<T> {
         ensures stays { Stays self.old self.new }
         ensures used_up { (result ≡ Err ReserveError.UsedUp) ↔ (2 ^ 64 - 1 < self.old.next_serial + n) }
     {
-        if n == 0 {
-            return Ok(());
-        }
         if u64::MAX - self.next_serial < n as u64 {
             return Err(ReserveError::UsedUp);
+        }
+        if n == 0 {
+            return Ok(());
         }
         if make_room(&mut self.places, &mut self.slots, n).is_err() {
             return Err(ReserveError::OutOfMemory);
@@ -170,7 +170,12 @@ impl<T: Drop> Deque<T> {
             serial: self.next_serial,
             slot: self.slots.vacant_key(),
         };
-        attach(&mut self.places, &mut self.slots, &mut self.front, Node { id, element });
+        attach(
+            &mut self.places,
+            &mut self.slots,
+            &mut self.front,
+            Node { id, element },
+        );
         self.next_serial += 1;
         Ok(id)
     }
@@ -185,7 +190,12 @@ impl<T: Drop> Deque<T> {
             None => Err(Stale),
             Some(k) => {
                 self.cursor = cursor_leaving(self.cursor, id, self.places.as_slice(), k);
-                let Node { id: _, element } = detach(&mut self.places, &mut self.slots, &mut self.front, k);
+                let Node { id: _, element } = detach(
+                    &mut self.places,
+                    &mut self.slots,
+                    &mut self.front,
+                    k,
+                );
                 Ok(element)
             }
         }

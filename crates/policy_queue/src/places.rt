@@ -46,7 +46,11 @@ pub(crate) fn next_live<T>(places: &[Option<Node<T>>], from: usize) -> Option<us
 
 /// The place of the node of this name.
 #[tactic(auto, using(crate::proofs::Live::stale))]
-pub(crate) fn place_of<T>(places: &[Option<Node<T>>], slots: &Slab<usize>, id: NodeId) -> Option<usize>
+pub(crate) fn place_of<T>(
+    places: &[Option<Node<T>>],
+    slots: &Slab<usize>,
+    id: NodeId,
+) -> Option<usize>
     requires { IsStored places.now slots.now }
     ensures { MatchOption result (find id (live places.now) ≡ None) (λ k. IsSomeAnd (slice_index_or places.now k None) (λ n. same_id n.id id ≡ true)) }
 {
@@ -58,13 +62,7 @@ pub(crate) fn place_of<T>(places: &[Option<Node<T>>], slots: &Slab<usize>, id: N
                 return None;
             }
             match &places[k] {
-                Some(node) => {
-                    if is_same(node.id, id) {
-                        Some(k)
-                    } else {
-                        None
-                    }
-                }
+                Some(node) => { if is_same(node.id, id) { Some(k) } else { None } }
                 None => None,
             }
         }
@@ -192,7 +190,11 @@ pub(crate) fn detach<T: Drop>(
 }
 
 /// Closes up the places where none is free at the end.
-fn free_place<T: Drop>(places: &mut Vec<Option<Node<T>>>, slots: &mut Slab<usize>, front: &mut usize)
+fn free_place<T: Drop>(
+    places: &mut Vec<Option<Node<T>>>,
+    slots: &mut Slab<usize>,
+    front: &mut usize,
+)
     requires sound { IsSound places.old.items slots.old }
     requires ends { Ends places.old.items front.old }
     requires place { length (live places.old.items) < vec_capacity places.old }
@@ -298,7 +300,11 @@ pub(crate) fn cursor_from<T>(places: &[Option<Node<T>>], from: usize) -> Cursor
 }
 
 /// The place of the node that the walk gives next.
-pub(crate) fn walk_place<T>(cursor: Cursor, places: &[Option<Node<T>>], slots: &Slab<usize>) -> Option<usize>
+pub(crate) fn walk_place<T>(
+    cursor: Cursor,
+    places: &[Option<Node<T>>],
+    slots: &Slab<usize>,
+) -> Option<usize>
     requires { IsStored places.now slots.now }
     ensures { MatchOption result (to_give cursor (live places.now) ≡ []) (λ k. IsSomeAnd (slice_index_or places.now k None) (λ n. to_give cursor (live places.now) ≡ n ∷ live (drop (k + 1) places.now))) }
 {
@@ -324,7 +330,12 @@ pub(crate) fn element_at<T>(places: &[Option<Node<T>>], k: usize) -> &T
 }
 
 /// Where the cursor stands once the node in place `k` leaves.
-pub(crate) fn cursor_leaving<T>(cursor: Cursor, id: NodeId, places: &[Option<Node<T>>], k: usize) -> Cursor
+pub(crate) fn cursor_leaving<T>(
+    cursor: Cursor,
+    id: NodeId,
+    places: &[Option<Node<T>>],
+    k: usize,
+) -> Cursor
     requires { k < length places.now }
     ensures { result ≡ cursor_moved cursor id (live (drop (k + 1) places.now)) }
 {
@@ -340,4 +351,3 @@ pub(crate) fn cursor_leaving<T>(cursor: Cursor, id: NodeId, places: &[Option<Nod
         Cursor::Done => cursor,
     }
 }
-

@@ -1,4 +1,3 @@
-use Rattle.std.proofs.Common.{◌≡◌}
 use Rattle.policy_queue.proofs.Names.{walks_once}
 use Rattle.policy_queue.proofs.deque.walks_give_each_once.Goals as goal
 

@@ -1,6 +1,5 @@
-use Rattle.std.proofs.Common.{◌≡◌, ◌<◌, ◌+◌, ◌++◌, ◌∷◌, [], refl, sym, ap, ◌∙◌, Some, None, arith, length, subst}
-use Rattle.slab.specs.Slab.{Slab, get, Updates}
-use Rattle.policy_queue.specs.Places.{live, IsSound}
+use Rattle.std.proofs.Common.{◌≡◌, ◌++◌, ◌∷◌, [], sym, ap, ◌∙◌}
+use Rattle.slab.specs.Slab.{get}
 use Rattle.policy_queue.proofs.Live.{live_push}
 use Rattle.policy_queue.proofs.Moves.{IsSound-attached}
 use Rattle.policy_queue.proofs.places.attach.Goals as goal

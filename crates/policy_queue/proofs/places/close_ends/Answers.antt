@@ -1,4 +1,4 @@
-use Rattle.std.proofs.Common.{◌≡◌, sym, ap, ◌∙◌, length, arith, ◌≤◌, min, vec_len}
+use Rattle.std.proofs.Common.{◌≡◌, sym, ap, ◌∙◌, arith, min, vec_len}
 use Rattle.policy_queue.proofs.Ends.{live_take_all, Ends-trimmed}
 use Rattle.policy_queue.proofs.places.close_ends.Goals as goal
 

@@ -1,7 +1,6 @@
-use Rattle.std.proofs.Common.{◌≡◌, ◌<◌, ◌+◌, refl, sym, ap, ◌∙◌, Some, None, rules, arith, length, set, get_or, vec_capacity}
+use Rattle.std.proofs.Common.{◌≡◌, ◌<◌, sym, ap, ◌∙◌, None, arith, length, set}
 use Rattle.std.proofs.lemmas.List.{get_or_read, set-get_or}
-use Rattle.slab.specs.Slab.{slab_len}
-use Rattle.policy_queue.proofs.Closing.{Closing, Closing-some, Closing-none}
+use Rattle.policy_queue.proofs.Closing.{Closing-some, Closing-none}
 use Rattle.policy_queue.proofs.places.close_up.Goals as goal
 use Rattle.policy_queue.proofs.places.close_up.Goals.{in-Some, in-Some-1, in-None-1, in_default}
 

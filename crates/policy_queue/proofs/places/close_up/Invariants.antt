@@ -1,5 +1,4 @@
 use Rattle.std.proofs.Common.{◌≡◌, vec_capacity}
-use Rattle.slab.specs.Slab.{slab_len}
 use Rattle.policy_queue.proofs.Closing.{Closing}
 use Rattle.policy_queue.proofs.places.close_up.Given as goal
 

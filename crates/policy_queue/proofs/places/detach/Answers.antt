@@ -1,6 +1,5 @@
-use Rattle.std.proofs.Common.{◌≡◌, ◌<◌, ◌+◌, ◌++◌, refl, sym, ap, ◌∙◌, Some, None, arith, length, subst, take, vec_len}
-use Rattle.slab.specs.Slab.{slab_len}
-use Rattle.policy_queue.specs.Places.{live, IsSound}
+use Rattle.std.proofs.Common.{sym, ap, ◌∙◌, length}
+use Rattle.policy_queue.specs.Places.{live}
 use Rattle.policy_queue.proofs.Live.{live_emptied, some_within}
 use Rattle.policy_queue.proofs.Closing.{IsStored-take}
 use Rattle.policy_queue.proofs.places.detach.Goals as goal

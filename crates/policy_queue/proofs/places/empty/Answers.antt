@@ -1,5 +1,4 @@
-use Rattle.std.proofs.Common.{◌≡◌, ◌<◌, refl, sym, ap, ◌∙◌, Some, None, arith, length}
-use Rattle.policy_queue.specs.Places.{live, IsSound}
+use Rattle.std.proofs.Common.{◌<◌, sym, ◌∙◌, None, length}
 use Rattle.policy_queue.proofs.Live.{some_within}
 use Rattle.std.proofs.lemmas.List.{get_or_read}
 use Rattle.policy_queue.proofs.Moves.{IsSound-detached}

@@ -1,4 +1,4 @@
-use Rattle.std.proofs.Common.{◌≡◌, sym, ap, ◌∙◌, length}
+use Rattle.std.proofs.Common.{sym, ap, ◌∙◌, length}
 use Rattle.policy_queue.proofs.Ends.{Ends-full}
 use Rattle.policy_queue.proofs.places.free_place.Goals as goal
 

@@ -1,4 +1,4 @@
-use Rattle.std.proofs.Common.{◌≡◌, ◌<◌, ◌+◌, ltb, true, false, sym, ◌∙◌, arith, length, inl, inr}
+use Rattle.std.proofs.Common.{◌+◌, sym, ◌∙◌, arith, length, inl, inr}
 use Rattle.std.proofs.lemmas.Bool.{cases_lt, lt-ltb, le-ltb}
 use Rattle.policy_queue.proofs.Ends.{nonempty_behind, empty_behind}
 use Rattle.policy_queue.proofs.places.has_next.Goals as goal

@@ -1,4 +1,4 @@
-use Rattle.std.proofs.Common.{◌≡◌, ◌<◌, ◌≤◌, ℕ, None, get_or, length}
+use Rattle.std.proofs.Common.{◌≡◌, ◌≤◌, ℕ, None, get_or, length}
 use Rattle.policy_queue.proofs.places.occupied_len.Given as goal
 
 abbrev pub invariant-loop-len : goal.invariant-loop-len

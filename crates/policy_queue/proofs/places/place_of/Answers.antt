@@ -1,4 +1,4 @@
-use Rattle.std.proofs.Common.{◌≡◌, ◌<◌, refl, sym, ap, ◌∙◌, Some, None, get_or, length, arith}
+use Rattle.std.proofs.Common.{◌<◌, sym, ◌∙◌, None, length, arith}
 use Rattle.std.proofs.lemmas.List.{get_or_read}
 use Rattle.policy_queue.proofs.Live.{stale_past, stale_other}
 use Rattle.policy_queue.proofs.places.place_of.Goals as goal

@@ -1,5 +1,3 @@
-use Rattle.std.proofs.Common.{◌≡◌, refl}
-use Rattle.policy_queue.specs.Queue.{to_give}
 use Rattle.policy_queue.proofs.Moves.{from_some, from_none}
 use Rattle.policy_queue.proofs.places.walk_place.Goals as goal
 

@@ -1,5 +1,4 @@
-use Rattle.std.proofs.Common.{◌≡◌, ◌<◌, refl, sym, ap, ◌∙◌, Some, None, true, get_or, is_some}
-use Rattle.policy_queue.specs.Queue.{find, same_id}
+use Rattle.std.proofs.Common.{refl}
 use Rattle.policy_queue.proofs.Moves.{found_some}
 use Rattle.policy_queue.proofs.deque.Deque.contains.Goals as goal
 

@@ -1,10 +1,10 @@
-use Rattle.std.proofs.Common.{◌≡◌, ◌≤◌, ◌<◌, ◌+◌, ◌-◌, ◌^◌, ◌++◌, ◌∷◌, [], refl, sym, ap, ◌∙◌, Some, None, arith, length, option_map, drop, get_or, true, false, if◌then◌else◌, take, ◌*◌}
+use Rattle.std.proofs.Common.{◌≡◌, ◌+◌, ◌++◌, ◌∷◌, [], refl, sym, ap, ◌∙◌, None, arith, length, drop, get_or, true, take}
 use Rattle.std.proofs.lemmas.List.{length_push}
-use Rattle.policy_queue.specs.Places.{live, IsSound}
-use Rattle.policy_queue.specs.Queue.{find, same_id, cursor_moved, is_nonempty}
+use Rattle.policy_queue.specs.Places.{live}
+use Rattle.policy_queue.specs.Queue.{same_id, cursor_moved}
 use Rattle.policy_queue.proofs.Live.{live_at}
 use Rattle.policy_queue.proofs.Names.{AreNamed-moved}
-use Rattle.policy_queue.proofs.Moves.{found, found-moved, found-last, found-cursor, found-behind, found_some, last_some, IsSomeAnd-at, length-emptied}
+use Rattle.policy_queue.proofs.Moves.{found-moved, found-behind, found_some, last_some, IsSomeAnd-at, length-emptied}
 use Rattle.policy_queue.proofs.deque.Deque.move_to_back.Goals as goal
 
 pub returns-then-has_next-clause-found : goal.returns-then-has_next-clause-found

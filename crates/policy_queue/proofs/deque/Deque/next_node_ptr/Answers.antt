@@ -1,7 +1,3 @@
-use Rattle.std.proofs.Common.{◌≡◌, ◌+◌, refl, sym, ap, ◌∙◌, Some, None, true, get_or, drop, option_map, IsSomeAnd}
-use Rattle.policy_queue.specs.Queue.{find, same_id, head, tail, from_id}
-use Rattle.policy_queue.specs.Places.{live}
-use Rattle.policy_queue.specs.declared.places.Node.{Node}
 use Rattle.policy_queue.proofs.Moves.{found_some, behind_some}
 use Rattle.policy_queue.proofs.deque.Deque.next_node_ptr.Goals as goal
 

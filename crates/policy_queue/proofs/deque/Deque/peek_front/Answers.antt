@@ -1,4 +1,4 @@
-use Rattle.std.proofs.Common.{◌≡◌, ap, ◌∙◌, option_map, sym, ◌<◌, ◌-◌, arith, length}
+use Rattle.std.proofs.Common.{ap, ◌∙◌, option_map, sym, ◌<◌, arith, length}
 use Rattle.policy_queue.proofs.Ends.{head_front}
 use Rattle.policy_queue.proofs.deque.Deque.peek_front.Goals as goal
 

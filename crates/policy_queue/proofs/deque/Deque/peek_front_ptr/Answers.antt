@@ -1,4 +1,4 @@
-use Rattle.std.proofs.Common.{◌≡◌, ap, ◌∙◌, option_map}
+use Rattle.std.proofs.Common.{ap, ◌∙◌, option_map}
 use Rattle.policy_queue.specs.Queue.{head}
 use Rattle.policy_queue.proofs.Ends.{live_drop_front}
 use Rattle.policy_queue.proofs.deque.Deque.peek_front_ptr.Goals as goal

@@ -1,9 +1,7 @@
-use Rattle.std.proofs.Common.{◌≡◌, ◌≤◌, ◌<◌, ◌+◌, ◌-◌, ◌^◌, ◌++◌, ◌∷◌, [], refl, sym, ap, ◌∙◌, Some, None, arith, length, List, ℕ}
+use Rattle.std.proofs.Common.{◌+◌, refl, sym, ap, ◌∙◌, arith, length, ℕ}
 use Rattle.std.proofs.lemmas.List.{length_push}
-use Rattle.slab.specs.Slab.{Slab, slab_len, get}
-use Rattle.policy_queue.specs.declared.places.Node.{Node}
-use Rattle.policy_queue.specs.Places.{live, IsSound}
-use Rattle.policy_queue.specs.Queue.{find}
+use Rattle.slab.specs.Slab.{Slab, get}
+use Rattle.policy_queue.specs.Places.{live}
 use Rattle.policy_queue.proofs.Live.{stale_absent}
 use Rattle.policy_queue.proofs.Names.{AreNamed-push, AreNamed-more, LacksSerial-next}
 use Rattle.policy_queue.proofs.deque.Deque.push_back.Goals as goal

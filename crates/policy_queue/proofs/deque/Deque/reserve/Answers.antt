@@ -1,4 +1,4 @@
-use Rattle.std.proofs.Common.{◌≡◌, ◌<◌, ◌≤◌, ◌+◌, refl, sym, ap, ◌∙◌, arith, length}
+use Rattle.std.proofs.Common.{arith}
 use Rattle.policy_queue.proofs.deque.Deque.reserve.Goals as goal
 
 pub returns-then-is_err-clause-had_room : goal.returns-then-is_err-clause-had_room

@@ -1,9 +1,9 @@
-use Rattle.std.proofs.Common.{◌≡◌, ◌<◌, ◌+◌, ◌-◌, ◌^◌, ◌++◌, ◌∷◌, [], refl, sym, ap, ◌∙◌, Some, None, arith, length, option_map, drop, get_or, true, take}
+use Rattle.std.proofs.Common.{◌≡◌, ◌+◌, refl, sym, ap, ◌∙◌, None, arith, length, drop, get_or, true, take}
 use Rattle.policy_queue.proofs.Live.{live_at}
 use Rattle.policy_queue.proofs.Names.{AreNamed-remove}
-use Rattle.policy_queue.specs.Places.{live, IsSound}
-use Rattle.policy_queue.specs.Queue.{find, same_id, cursor_moved}
-use Rattle.policy_queue.proofs.Moves.{found, found-without, found-cursor, IsSomeAnd-at, length-emptied, room_left}
+use Rattle.policy_queue.specs.Places.{live}
+use Rattle.policy_queue.specs.Queue.{same_id, cursor_moved}
+use Rattle.policy_queue.proofs.Moves.{found, found-without, found-cursor, IsSomeAnd-at, length-emptied}
 use Rattle.policy_queue.proofs.deque.Deque.unlink.Goals as goal
 
 pub returns-in-Some-clause-value : goal.returns-in-Some-clause-value
