@@ -1,5 +1,6 @@
 -- Numbers and names of regions.
-use Rattle.std.specs.Prelude.{ℕ, List, codes}
+use Rattle.std.specs.Prelude.{ℕ, List, codes, Bool, ◌&&◌, eqb}
+use Rattle.policy_base.specs.declared.name.NodeId.{NodeId}
 use Rattle.policy_base.specs.declared.name.CacheRegion.{CacheRegion}
 use Rattle.policy_base.specs.declared.name.CacheRegion.TheVariants.{Window, MainProbation, MainProtected, Other}
 
@@ -16,3 +17,7 @@ name_of Window = codes "window"
 name_of MainProbation = codes "main probation"
 name_of MainProtected = codes "main protected"
 name_of Other = codes "other"
+
+-- the two name the same node
+abbrev pub same_id : NodeId → NodeId → Bool
+same_id a b = eqb a.serial b.serial && (eqb a.slot b.slot && eqb (region_code a.queue) (region_code b.queue))

@@ -1,6 +1,6 @@
 //! Names of queues and of what stands in them.
 ghost use Rattle.std.specs.Prelude.{◌≡◌, ◌≤◌, ℕ, ◌↔◌, IsTrue, codes};
-ghost use Rattle.policy_base.specs.Region.{region_code, name_of};
+ghost use Rattle.policy_base.specs.Region.{region_code, name_of, same_id};
 
 /// Which queue of a cache a node stands in.
 #[derive(Clone, Copy, Debug, PartialEq, Eq)]
@@ -64,4 +64,15 @@ pub struct NodeId {
     pub serial: u64,
     /// Where the queue looks the node up. A later serial may have it again.
     pub slot: usize,
+}
+
+impl NodeId {
+    /// Whether the two are one name.
+    pub fn is_same(self, other: NodeId) -> bool
+        ensures test { result ≡ same_id self other }
+        ensures same { IsTrue result ↔ (self ≡ other) }
+    {
+        self.serial == other.serial
+            && (self.slot == other.slot && self.queue.number() == other.queue.number())
+    }
 }

@@ -1,15 +1,14 @@
 -- Lemmas on places and on what stands in them.
 use Rattle.std.proofs.Common.{◌≡◌, ℕ, zero, suc, ◌+◌, ◌<◌, ◌≤◌, true, false, List, [], ◌∷◌, ◌++◌, length, get_or, set, take, drop, Option, Some, None, is_some, refl, sym, ap, ◌∙◌, inl, inr, arith}
-use Rattle.std.proofs.lemmas.Bool.{cases_lt, cases_Bool, and_parts, and_from, eqb-true, eq-eqb, true≢false, cond-true, cond-false, both_ways}
+use Rattle.std.proofs.lemmas.Bool.{cases_lt, cases_Bool, true≢false, cond-true, cond-false, both_ways}
 use Rattle.std.proofs.lemmas.List.{take-append-drop, drop_more, get_or_past, set_split, length-take, get_or-take}
 use Rattle.std.proofs.lemmas.Option.{none-some, same_Some}
 use Rattle.slab.specs.Slab.{Slab, get}
-use Rattle.policy_base.specs.declared.name.CacheRegion.{CacheRegion}
-use Rattle.policy_base.specs.declared.name.CacheRegion.TheVariants.{Window, MainProbation, MainProtected, Other}
 use Rattle.policy_base.specs.declared.name.NodeId.{NodeId}
 use Rattle.policy_queue.specs.declared.places.Node.{Node}
-use Rattle.policy_base.specs.Region.{region_code}
-use Rattle.policy_queue.specs.Queue.{same_id, find, without, from_id}
+use Rattle.policy_base.specs.Region.{same_id}
+use Rattle.policy_base.proofs.Names.{same_id-slot}
+use Rattle.policy_queue.specs.Queue.{find, without, from_id}
 use Rattle.policy_queue.specs.Places.{live, IsStored}
 
 module _ {X : Type 0} where
@@ -44,48 +43,6 @@ module _ {X : Type 0} where
 
   pub live_push : (ps : List (Option X)) (x : X) → live (ps ++ Some x ∷ []) ≡ live ps ++ x ∷ []
   live_push ps x = live-append ps (Some x ∷ [])
-
--- a name is itself, and no other
-pub same_id-refl : (a : NodeId) → same_id a a ≡ true
-same_id-refl a = and_from _ _ (eq-eqb a.serial a.serial refl) (and_from _ _ (eq-eqb a.slot a.slot refl) (eq-eqb (region_code a.queue) (region_code a.queue) refl))
-
-region_code_injective : (a b : CacheRegion) → region_code a ≡ region_code b → a ≡ b
-region_code_injective Window Window e = refl
-region_code_injective Window MainProbation e = absurd (omega arith)
-region_code_injective Window MainProtected e = absurd (omega arith)
-region_code_injective Window Other e = absurd (omega arith)
-region_code_injective MainProbation Window e = absurd (omega arith)
-region_code_injective MainProbation MainProbation e = refl
-region_code_injective MainProbation MainProtected e = absurd (omega arith)
-region_code_injective MainProbation Other e = absurd (omega arith)
-region_code_injective MainProtected Window e = absurd (omega arith)
-region_code_injective MainProtected MainProbation e = absurd (omega arith)
-region_code_injective MainProtected MainProtected e = refl
-region_code_injective MainProtected Other e = absurd (omega arith)
-region_code_injective Other Window e = absurd (omega arith)
-region_code_injective Other MainProbation e = absurd (omega arith)
-region_code_injective Other MainProtected e = absurd (omega arith)
-region_code_injective Other Other e = refl
-
-pub same_id-slot : (a b : NodeId) → same_id a b ≡ true → a.slot ≡ b.slot
-same_id-slot a b e =
-    let p = and_parts _ _ e in
-    let q = and_parts _ _ p.1 in
-    eqb-true _ _ q.0
-
-same_parts : (a b : NodeId) → a.queue ≡ b.queue → a.serial ≡ b.serial → a.slot ≡ b.slot → a ≡ b
-same_parts a b queue serial slot =
-    let mk : CacheRegion → ℕ → ℕ → NodeId = λ q s t. record { queue = q; serial = s; slot = t } in
-    ap (λ q. mk q a.serial a.slot) queue ∙ ap (λ s. mk b.queue s a.slot) serial ∙ ap (λ t. mk b.queue b.serial t) slot
-
-pub same_id-equal : (a b : NodeId) → same_id a b ≡ true → a ≡ b
-same_id-equal a b e =
-    let p = and_parts _ _ e in
-    let q = and_parts _ _ p.1 in
-    let serial : a.serial ≡ b.serial = eqb-true _ _ p.0 in
-    let slot : a.slot ≡ b.slot = eqb-true _ _ q.0 in
-    let queue : a.queue ≡ b.queue = region_code_injective a.queue b.queue (eqb-true _ _ q.1) in
-    same_parts a b queue serial slot
 
 module _ {T : Type 0} where
   -- no node of the list has this name

@@ -9,9 +9,11 @@ use Rattle.policy_queue.specs.declared.places.Node.{Node}
 use Rattle.policy_queue.specs.Places.{live, IsStored, IsSound}
 use Rattle.policy_base.specs.declared.name.NodeId.{NodeId}
 use Rattle.policy_queue.specs.declared.places.Cursor.{Cursor}
-use Rattle.policy_queue.specs.Queue.{same_id, find, without, from_id, tail, cursor_moved, cursor_without, moved_to_back, is_nonempty, head}
+use Rattle.policy_queue.specs.Queue.{find, without, from_id, tail, cursor_moved, cursor_without, moved_to_back, is_nonempty, head}
+use Rattle.policy_base.specs.Region.{same_id}
 use Rattle.std.specs.Option.{option_to_list}
-use Rattle.policy_queue.proofs.Live.{within, live_push, live_at, live_emptied, find_at, without_at, from_id_at, NoneIs-before, same_id-refl}
+use Rattle.policy_queue.proofs.Live.{within, live_push, live_at, live_emptied, find_at, without_at, from_id_at, NoneIs-before}
+use Rattle.policy_base.proofs.Names.{same_id-refl}
 
 -- no more nodes than places
 pub length-live : {X : Type 0} (ps : List (Option X)) → length (live ps) ≤ length ps

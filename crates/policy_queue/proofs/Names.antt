@@ -6,8 +6,10 @@ use Rattle.policy_base.specs.declared.name.CacheRegion.{CacheRegion}
 use Rattle.policy_base.specs.declared.name.NodeId.{NodeId}
 use Rattle.policy_queue.specs.declared.places.Node.{Node}
 use Rattle.policy_queue.specs.declared.places.Cursor.TheVariants.{Unstarted}
-use Rattle.policy_queue.specs.Queue.{same_id, head, cursor_at, cursor_past, to_give, given, walked, LacksSerial, AreNamed, WalksOnce}
-use Rattle.policy_queue.proofs.Live.{NoneIs, from_id_at, same_id-refl}
+use Rattle.policy_queue.specs.Queue.{head, cursor_at, cursor_past, to_give, given, walked, LacksSerial, AreNamed, WalksOnce}
+use Rattle.policy_base.specs.Region.{same_id}
+use Rattle.policy_queue.proofs.Live.{NoneIs, from_id_at}
+use Rattle.policy_base.proofs.Names.{same_id-refl}
 
 module _ {T : Type 0} where
   LacksSerial-remove : (s : ℕ) (front : List (Node T)) (n : Node T) (back : List (Node T)) → LacksSerial s (front ++ n ∷ back) → LacksSerial s (front ++ back)

@@ -1,9 +1,9 @@
 -- A queue as its callers see it: a list of nodes from front to back, and a cursor.
-use Rattle.std.specs.Prelude.{◌≡◌, ℕ, ◌+◌, ◌-◌, ◌≢◌, ◌<◌, ◌≤◌, ◌^◌, zero, suc, length, map, Bool, true, false, ◌&&◌, eqb, List, [], ◌∷◌, ◌++◌, Option, Some, None, if◌then◌else◌}
+use Rattle.std.specs.Prelude.{◌≡◌, ℕ, ◌+◌, ◌-◌, ◌≢◌, ◌<◌, ◌≤◌, ◌^◌, zero, suc, length, map, Bool, true, false, List, [], ◌∷◌, ◌++◌, Option, Some, None, if◌then◌else◌}
 use Rattle.std.specs.Option.{option_to_list}
 use Rattle.policy_base.specs.declared.name.CacheRegion.{CacheRegion}
 use Rattle.policy_base.specs.declared.name.NodeId.{NodeId}
-use Rattle.policy_base.specs.Region.{region_code}
+use Rattle.policy_base.specs.Region.{same_id}
 use Rattle.policy_queue.specs.declared.places.Node.{Node}
 use Rattle.policy_queue.specs.declared.deque.PushError.{PushError}
 use Rattle.policy_queue.specs.declared.deque.PushError.TheVariants.{OutOfMemory, UsedUp}
@@ -17,10 +17,6 @@ pub record Queue (T : Type 0) : Type 0 where
   pub cursor : Cursor
   pub next_serial : ℕ
   pub room : ℕ
-
--- the two name the same node
-abbrev pub same_id : NodeId → NodeId → Bool
-same_id a b = eqb a.serial b.serial && (eqb a.slot b.slot && eqb (region_code a.queue) (region_code b.queue))
 
 -- the node of this name
 abbrev pub find : {T : Type 0} → NodeId → List (Node T) → Option (Node T)

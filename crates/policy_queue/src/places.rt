@@ -2,7 +2,8 @@
 //! places are closed up.
 ghost use Rattle.std.specs.Prelude.{◌≡◌, ◌≢◌, ℕ, ◌+◌, ◌-◌, ◌*◌, ◌^◌, ◌<◌, ◌≤◌, ◌↔◌, true, false, List, [], ◌∷◌, ◌++◌, length, drop, take, IsTrue, IsSome, IsSomeAnd, IsOk, IfOk, IfErr, OnOk, OnErr, MatchOption, MatchResult, option_map, Some, None, slice_index_or, slice_set, vec_len, vec_capacity};
 ghost use Rattle.slab.specs.Slab.{slab_len, get, ContainsKey, HasRoomFor};
-ghost use Rattle.policy_queue.specs.Queue.{same_id, find, head, to_give, cursor_at, cursor_moved, is_nonempty};
+ghost use Rattle.policy_queue.specs.Queue.{find, head, to_give, cursor_at, cursor_moved, is_nonempty};
+ghost use Rattle.policy_base.specs.Region.{same_id};
 ghost use Rattle.policy_queue.specs.Places.{live, IsStored, IsSound, StandsAt, Ends, EndsBut};
 
 use policy_base::NodeId;
@@ -22,12 +23,6 @@ pub enum Cursor {
     Unstarted,
     At(NodeId),
     Done,
-}
-
-fn is_same(a: NodeId, b: NodeId) -> bool
-    ensures { result ≡ same_id a b }
-{
-    a.serial == b.serial && (a.slot == b.slot && a.queue.number() == b.queue.number())
 }
 
 /// The first place from `from` on that is not empty.
@@ -62,7 +57,7 @@ pub(crate) fn place_of<T>(
                 return None;
             }
             match &places[k] {
-                Some(node) => { if is_same(node.id, id) { Some(k) } else { None } }
+                Some(node) => { if node.id.is_same(id) { Some(k) } else { None } }
                 None => None,
             }
         }
@@ -341,7 +336,7 @@ pub(crate) fn cursor_leaving<T>(
 {
     match cursor {
         Cursor::At(at) => {
-            if is_same(at, id) {
+            if at.is_same(id) {
                 cursor_from(places, k + 1)
             } else {
                 cursor

@@ -10,4 +10,4 @@ pub returns-else-is_same : goal.returns-else-is_same
 returns-else-is_same g c =
     let lt : c.in-Some.at.now < length c.args.places.now = omega arith in
     let there = sym (get_or_read _ _ _ lt c.index-places-k.is None) ∙ c.in-Some-places.is in
-    stale_other _ c.args.slots.now c.args.id c.in-Some.at.now c.in-Some-places.node c.requires (sym c.in-Some.ensures) there (sym c.is_same.ensures ∙ c.if-is_same.false)
+    stale_other _ c.args.slots.now c.args.id c.in-Some.at.now c.in-Some-places.node c.requires (sym c.in-Some.ensures) there (sym c.is_same.ensures.test ∙ c.if-is_same.false)

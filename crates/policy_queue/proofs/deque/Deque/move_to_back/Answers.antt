@@ -1,7 +1,8 @@
 use Rattle.std.proofs.Common.{◌≡◌, ◌+◌, ◌++◌, ◌∷◌, [], refl, sym, ap, ◌∙◌, None, arith, length, drop, get_or, true, take}
 use Rattle.std.proofs.lemmas.List.{length_push}
 use Rattle.policy_queue.specs.Places.{live}
-use Rattle.policy_queue.specs.Queue.{same_id, cursor_moved}
+use Rattle.policy_queue.specs.Queue.{cursor_moved}
+use Rattle.policy_base.specs.Region.{same_id}
 use Rattle.policy_queue.proofs.Live.{live_at}
 use Rattle.policy_queue.proofs.Names.{AreNamed-moved}
 use Rattle.policy_queue.proofs.Moves.{found-moved, found-behind, found_some, last_some, IsSomeAnd-at, length-emptied}

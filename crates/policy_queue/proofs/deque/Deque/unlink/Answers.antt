@@ -2,7 +2,8 @@ use Rattle.std.proofs.Common.{◌≡◌, ◌+◌, refl, sym, ap, ◌∙◌, None
 use Rattle.policy_queue.proofs.Live.{live_at}
 use Rattle.policy_queue.proofs.Names.{AreNamed-remove}
 use Rattle.policy_queue.specs.Places.{live}
-use Rattle.policy_queue.specs.Queue.{same_id, cursor_moved}
+use Rattle.policy_queue.specs.Queue.{cursor_moved}
+use Rattle.policy_base.specs.Region.{same_id}
 use Rattle.policy_queue.proofs.Moves.{found, found-without, found-cursor, IsSomeAnd-at, length-emptied}
 use Rattle.policy_queue.proofs.deque.Deque.unlink.Goals as goal
 
