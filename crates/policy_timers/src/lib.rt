@@ -1,13 +1,9 @@
-// A library with one function.
+//! Timers: one array in rising order of their times.
 #![tactic(auto)]
 
-ghost use Rattle.std.specs.Prelude.{◌≡◌};
-ghost use Rattle.policy_timers.specs.Echo.{echo_of};
+mod array;
+mod entries;
+mod wheel;
 
-// The `ensures` clause is the contract: what `echo` returns is `echo_of` of its argument, a definition
-// in `specs/Echo.antt`, which a caller's clause can cite too.
-pub fn echo(x: usize) -> usize
-    ensures { result ≡ echo_of x }
-{
-    x
-}
+pub use array::{Timer, TimerNode};
+pub use wheel::{ReschedulingResult, ScheduleError, StaleTimer, TimerWheel};
