@@ -6,9 +6,13 @@ use Rattle.policy_base.specs.declared.records.Slot.{Slot}
 use Rattle.policy_timers.specs.declared.array.Due.{Due}
 use Rattle.policy_timers.specs.declared.array.Timer.{Timer}
 
+-- when it is due, if it is there and has a time
+abbrev pub due_at : {K : Type 0} → Option (Slot K) → Option Due
+due_at slot = option_and_then (λ s. option_map (λ t. record { time = t; expiry_gen = s.info.expiry_gen }) s.info.expiration_time) slot
+
 -- when an entry is due: its own expiration with its generation, if it is there and has one
 abbrev pub due_of : {K : Type 0} → Slab (Slot K) → ℕ → Option Due
-due_of entries entry = option_and_then (λ s. option_map (λ t. record { time = t; expiry_gen = s.info.expiry_gen }) s.info.expiration_time) (get entries entry)
+due_of entries entry = due_at (get entries entry)
 
 -- the time of an entry
 abbrev pub time_of : {K : Type 0} → Slab (Slot K) → ℕ → Option ℕ

@@ -3,7 +3,9 @@
 
 mod array;
 mod entries;
+mod events;
 mod wheel;
 
 pub use array::{Timer, TimerNode};
+pub use events::{TimerEvent, TimerEventsIter};
 pub use wheel::{ReschedulingResult, ScheduleError, StaleTimer, TimerWheel};
