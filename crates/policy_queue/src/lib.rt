@@ -4,5 +4,5 @@
 mod deque;
 mod places;
 
-pub use deque::{Deque, PushError, ReserveError, Stale};
+pub use deque::{Deque, PushError, ReserveError, Stale, names_stand, walks_give_each_once};
 pub use places::{Cursor, Node};

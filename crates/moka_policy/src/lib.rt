@@ -1,0 +1,13 @@
+//! The structures behind a cache's policy: moments, records, queues, a frequency sketch and timers.
+#![tactic(auto)]
+
+pub use policy_base::{
+    AccessTime, CacheRegion, DeqNode, DeqNodes, EntryInfo, HousekeeperConfig, Instant, KeyHash, KeyHashDate, KvEntry,
+    MAX_NANOS, NodeId, OldEntryInfo, ReadOp, Slot, UsedUp, ValueEntry, WriteOp, duration_to_saturating_nanoseconds,
+    sketch_capacity,
+};
+pub use policy_queue::{Cursor, Deque, Node, PushError, ReserveError, Stale, names_stand, walks_give_each_once};
+pub use policy_sketch::{FrequencySketch, own_counts_stand};
+pub use policy_timers::{
+    ReschedulingResult, ScheduleError, StaleTimer, Timer, TimerEvent, TimerEventsIter, TimerNode, TimerWheel,
+};
