@@ -4,6 +4,7 @@
 mod array;
 mod entries;
 mod events;
+pub mod laws;
 mod wheel;
 
 pub use array::{Timer, TimerNode};
