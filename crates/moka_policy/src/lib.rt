@@ -2,14 +2,15 @@
 #![tactic(auto)]
 
 pub use policy_base::{
-    AccessTime, CacheRegion, DeqNode, DeqNodes, EntryInfo, HousekeeperConfig, Instant, KeyHash, KeyHashDate, KvEntry,
-    MAX_NANOS, NodeId, OldEntryInfo, ReadOp, Slot, UsedUp, ValueEntry, WriteOp, duration_to_saturating_nanoseconds,
-    sketch_capacity,
+    AccessTime, CacheRegion, DeqNode, DeqNodes, EntryInfo, HousekeeperConfig, Instant, KeyHash,
+    KeyHashDate, KvEntry, MAX_NANOS, NodeId, OldEntryInfo, ReadOp, Slot, UsedUp, ValueEntry,
+    WriteOp, duration_to_saturating_nanoseconds, sketch_capacity,
 };
 pub use policy_queue::{Cursor, Deque, Node, PushError, ReserveError, Stale};
 pub use policy_sketch::FrequencySketch;
 pub use policy_timers::{
-    ReschedulingResult, ScheduleError, StaleTimer, Timer, TimerEvent, TimerEventsIter, TimerNode, TimerWheel,
+    ReschedulingResult, ScheduleError, StaleTimer, Timer, TimerEvent, TimerEventsIter, TimerNode,
+    TimerWheel,
 };
 
 /// Functions whose contracts are laws.

@@ -1,5 +1,7 @@
 //! Moments, regions and entries.
-use moka_policy::{CacheRegion, EntryInfo, HousekeeperConfig, Instant, KeyHash, MAX_NANOS, sketch_capacity};
+use moka_policy::{
+    CacheRegion, EntryInfo, HousekeeperConfig, Instant, KeyHash, MAX_NANOS, sketch_capacity,
+};
 use std::sync::Arc;
 use std::test::Fail;
 use std::time::Duration;
@@ -7,19 +9,37 @@ use std::time::Duration;
 #[test]
 fn moments_saturate(rt: HostRuntime) {
     let last = Instant::from_nanos(MAX_NANOS);
-    assert_eq!(rt; last.saturating_add(Duration::from_nanos(1)).as_nanos(), 18446744073709551614);
-    assert_eq!(rt; Instant::from_nanos(5).saturating_add(Duration::from_nanos(7)).as_nanos(), 12);
-    assert_eq!(rt; Instant::from_nanos(5).saturating_duration_since(Instant::from_nanos(7)), Duration::ZERO);
+    assert_eq!(rt;
+        last.saturating_add(Duration::from_nanos(1)).as_nanos(),
+        18446744073709551614
+    );
+    assert_eq!(rt;
+        Instant::from_nanos(5)
+            .saturating_add(Duration::from_nanos(7))
+            .as_nanos(),
+        12
+    );
+    assert_eq!(rt;
+        Instant::from_nanos(5).saturating_duration_since(Instant::from_nanos(7)),
+        Duration::ZERO
+    );
 }
 
 #[test]
 fn own_expirations_are_rounded_down(rt: HostRuntime) -> Result<(), Fail> {
     let key = Arc::new(rt.alloc(), 1u8)?;
     let mut entry = EntryInfo::new(KeyHash::new(key, 7), Instant::from_nanos(3), 1);
-    for (set, read) in [(5000u64, 4096u64), (4095, 0), (18446744073709551614, 18446744073709543424)] {
+    for (set, read) in [
+        (5000u64, 4096u64),
+        (4095, 0),
+        (18446744073709551614, 18446744073709543424),
+    ] {
         let moment = if set <= MAX_NANOS { set } else { 0 };
         entry.set_expiration_time(Some(Instant::from_nanos(moment)));
-        assert_eq!(rt; entry.expiration_time().map(|time| time.as_nanos()), Some(read));
+        assert_eq!(rt;
+            entry.expiration_time().map(|time| time.as_nanos()),
+            Some(read)
+        );
     }
     entry.set_expiration_time(None);
     assert_eq!(rt; entry.expiration_time().is_none(), true);

@@ -18,7 +18,11 @@ fn schedule(wheel: &mut TimerWheel<u8>, entry: usize, entries: &Slab<Slot<u8>>) 
     wheel.is_enabled() && wheel.schedule(entry, entries).is_ok()
 }
 
-fn next_event(wheel: &mut TimerWheel<u8>, now: u64, entries: &mut Slab<Slot<u8>>) -> Option<TimerEvent> {
+fn next_event(
+    wheel: &mut TimerWheel<u8>,
+    now: u64,
+    entries: &mut Slab<Slot<u8>>,
+) -> Option<TimerEvent> {
     if !wheel.is_enabled() {
         return None;
     }
@@ -82,8 +86,14 @@ fn a_thousand_timers_in_falling_order(rt: HostRuntime) -> Result<(), Fail> {
         assert_eq!(rt; schedule(&mut wheel, entry, &entries), true);
     }
     for tick in 1..1001u64 {
-        assert_eq!(rt; next_event(&mut wheel, tick * TICK, &mut entries).is_some(), true);
-        assert_eq!(rt; next_event(&mut wheel, tick * TICK, &mut entries).is_none(), true);
+        assert_eq!(rt;
+            next_event(&mut wheel, tick * TICK, &mut entries).is_some(),
+            true
+        );
+        assert_eq!(rt;
+            next_event(&mut wheel, tick * TICK, &mut entries).is_none(),
+            true
+        );
     }
     assert_eq!(rt; wheel.len(), 0);
     Ok(())
