@@ -1,0 +1,54 @@
+//! What a cache is made with.
+ghost use Rattle.std.specs.Prelude.{◌≡◌, ℕ, ◌≤◌, ◌-◌, ◌^◌, min, max};
+ghost use Rattle.std.specs.Duration.{as_nanos};
+
+use std::time::Duration;
+
+/// How maintenance runs are made: for how long, how often the pending operations are gone through, and how many
+/// records are looked at in one batch.
+#[derive(Clone, Copy, Debug, PartialEq, Eq)]
+pub struct HousekeeperConfig {
+    pub maintenance_task_timeout: Duration,
+    pub max_log_sync_repeats: u32,
+    pub eviction_batch_size: u32,
+    pub ghost has_batch: { 1 ≤ eviction_batch_size },
+}
+
+impl HousekeeperConfig {
+    pub fn new(
+        maintenance_task_timeout: Duration,
+        max_log_sync_repeats: u32,
+        eviction_batch_size: u32,
+    ) -> Self
+        requires { 1 ≤ eviction_batch_size }
+        ensures timeout { result.maintenance_task_timeout ≡ maintenance_task_timeout }
+        ensures repeats { result.max_log_sync_repeats ≡ max_log_sync_repeats }
+        ensures batch { result.eviction_batch_size ≡ eviction_batch_size }
+    {
+        HousekeeperConfig {
+            maintenance_task_timeout,
+            max_log_sync_repeats,
+            eviction_batch_size,
+        }
+    }
+}
+
+impl Default for HousekeeperConfig {
+    ghost is_default = { λ c. (as_nanos c.maintenance_task_timeout ≡ 100_000_000) × (c.max_log_sync_repeats ≡ 4) × (c.eviction_batch_size ≡ 500) };
+
+    /// A tenth of a second, 4 and 500.
+    fn default() -> Self {
+        HousekeeperConfig {
+            maintenance_task_timeout: Duration::from_millis(100),
+            max_log_sync_repeats: 4,
+            eviction_batch_size: 500,
+        }
+    }
+}
+
+/// How many hashes a sketch is made for, where a cache holds so many.
+pub fn sketch_capacity(capacity: u64) -> u32
+    ensures { result ≡ min (max capacity 128) (2 ^ 32 - 1) }
+{
+    capacity.max(128).min(u32::MAX as u64) as u32
+}

@@ -1,0 +1,17 @@
+//! What queues, sketch, timers and the cache above them share: moments, names of nodes, entries and their records.
+#![tactic(auto)]
+
+mod config;
+mod entry_info;
+mod moment;
+mod name;
+mod records;
+
+pub use config::{HousekeeperConfig, sketch_capacity};
+pub use entry_info::{EntryInfo, UsedUp};
+pub use moment::{AccessTime, Instant, MAX_NANOS, duration_to_saturating_nanoseconds};
+pub use name::{CacheRegion, NodeId};
+pub use records::{
+    DeqNode, DeqNodes, KeyHash, KeyHashDate, KvEntry, OldEntryInfo, ReadOp, Slot, ValueEntry,
+    WriteOp,
+};

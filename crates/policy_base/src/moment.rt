@@ -1,0 +1,106 @@
+//! Moments.
+ghost use Rattle.std.specs.Prelude.{◌≡◌, ℕ, ◌+◌, ◌-◌, ◌^◌, ◌<◌, ◌≤◌, min};
+ghost use Rattle.std.specs.Duration.{as_nanos};
+
+use std::marker::Model;
+use std::time::Duration;
+
+/// The last moment, in nanoseconds.
+pub const MAX_NANOS: u64 = u64::MAX - 1;
+
+/// A moment: nanoseconds from the clock's start, up to `MAX_NANOS`.
+#[derive(Clone, Copy, PartialEq, Eq, PartialOrd, Ord)]
+pub struct Instant {
+    nanos: u64,
+}
+
+impl Model for Instant {
+    ghost Value = { ℕ };
+
+    ghost view = { λ i. i.nanos };
+
+    ghost invariant = { λ i. i.nanos < 2 ^ 64 - 1 };
+
+    ghost inverse = { λ n. record { nanos = n } };
+}
+
+impl Instant {
+    /// The moment of this number.
+    pub fn from_nanos(nanos: u64) -> Self
+        requires { nanos ≤ MAX_NANOS }
+        ensures { result ≡ nanos }
+    {
+        Instant { nanos }
+    }
+
+    /// The moment that comes so long after the clock's start, or the last moment where there is no later one.
+    pub fn from_duration_since_clock_start(duration: Duration) -> Self
+        ensures { result ≡ min (as_nanos duration) MAX_NANOS }
+    {
+        Instant {
+            nanos: duration_to_saturating_nanoseconds(duration),
+        }
+    }
+
+    /// The moment's number.
+    pub fn as_nanos(self) -> u64
+        ensures nanos { result ≡ self }
+        ensures in_range { result ≤ MAX_NANOS }
+    {
+        self.nanos
+    }
+
+    /// The moment that comes so much later, or the last moment where there is no later one.
+    pub fn saturating_add(self, duration: Duration) -> Self
+        ensures { result ≡ min (self + as_nanos duration) MAX_NANOS }
+    {
+        let later = self
+            .nanos
+            .saturating_add(duration_to_saturating_nanoseconds(duration));
+        Instant {
+            nanos: later.min(MAX_NANOS),
+        }
+    }
+
+    /// How long after an earlier moment this one comes, and nothing where it does not.
+    pub fn saturating_duration_since(self, earlier: Instant) -> Duration
+        ensures { as_nanos result ≡ self - earlier }
+    {
+        Duration::from_nanos(self.nanos.saturating_sub(earlier.nanos))
+    }
+}
+
+/// The nanoseconds of a duration, or the last moment's where there are more.
+pub fn duration_to_saturating_nanoseconds(duration: Duration) -> u64
+    ensures { result ≡ min (as_nanos duration) MAX_NANOS }
+{
+    let nanos = duration.as_nanos();
+    if nanos < MAX_NANOS as u128 {
+        nanos as u64
+    } else {
+        MAX_NANOS
+    }
+}
+
+/// What knows when it was last used and last written.
+pub trait AccessTime {
+    /// The moment of the last use.
+    ghost accessed: { Self → ℕ };
+
+    /// The moment of the last write.
+    ghost modified: { Self → ℕ };
+
+    fn last_accessed(&self) -> Instant
+        ensures { result ≡ accessed self.now };
+
+    fn last_modified(&self) -> Instant
+        ensures { result ≡ modified self.now };
+
+    fn set_last_accessed(&mut self, moment: Instant)
+        ensures accessed { accessed self.new ≡ moment }
+        ensures modified { modified self.new ≡ modified self.old };
+
+    fn set_last_modified(&mut self, moment: Instant)
+        ensures accessed { accessed self.new ≡ accessed self.old }
+        ensures modified { modified self.new ≡ moment };
+}

@@ -1,0 +1,78 @@
+//! Names of queues and of what stands in them.
+ghost use Rattle.std.specs.Prelude.{◌≡◌, ◌≤◌, ℕ, ◌↔◌, IsTrue, codes};
+ghost use Rattle.policy_base.specs.Region.{region_code, name_of, same_id};
+
+/// Which queue of a cache a node stands in.
+#[derive(Clone, Copy, Debug, PartialEq, Eq)]
+pub enum CacheRegion {
+    Window,
+    MainProbation,
+    MainProtected,
+    Other,
+}
+
+impl CacheRegion {
+    /// The region of a number.
+    pub fn from_number(number: usize) -> Self
+        requires { number ≤ 3 }
+        ensures { region_code result ≡ number }
+    {
+        match number {
+            0 => CacheRegion::Window,
+            1 => CacheRegion::MainProbation,
+            2 => CacheRegion::MainProtected,
+            _ => CacheRegion::Other,
+        }
+    }
+
+    /// The region's number.
+    pub fn number(self) -> usize
+        ensures { result ≡ region_code self }
+    {
+        match self {
+            CacheRegion::Window => 0,
+            CacheRegion::MainProbation => 1,
+            CacheRegion::MainProtected => 2,
+            CacheRegion::Other => 3,
+        }
+    }
+
+    /// Whether this is the region of the number.
+    pub fn is_number(self, number: usize) -> bool
+        ensures { IsTrue result ↔ (region_code self ≡ number) }
+    {
+        self.number() == number
+    }
+
+    /// The region's name.
+    pub fn name(self) -> &'static str
+        ensures { result.now ≡ name_of self }
+    {
+        match self {
+            CacheRegion::Window => "window",
+            CacheRegion::MainProbation => "main probation",
+            CacheRegion::MainProtected => "main protected",
+            CacheRegion::Other => "other",
+        }
+    }
+}
+
+/// The name of a node or of a timer: its queue, and a serial that no other of that queue ever has.
+#[derive(Clone, Copy, Debug, PartialEq, Eq)]
+pub struct NodeId {
+    pub queue: CacheRegion,
+    pub serial: u64,
+    /// Where the queue looks the node up. A later serial may have it again.
+    pub slot: usize,
+}
+
+impl NodeId {
+    /// Whether the two are one name.
+    pub fn is_same(self, other: NodeId) -> bool
+        ensures test { result ≡ same_id self other }
+        ensures same { IsTrue result ↔ (self ≡ other) }
+    {
+        self.serial == other.serial
+            && (self.slot == other.slot && self.queue.number() == other.queue.number())
+    }
+}

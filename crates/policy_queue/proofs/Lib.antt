@@ -1,0 +1,5 @@
+pub mod Live
+pub mod Closing
+pub mod Moves
+pub mod Ends
+pub mod Names

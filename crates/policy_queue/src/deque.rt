@@ -1,0 +1,330 @@
+//! Queues of elements with stable names.
+ghost use Rattle.std.specs.Prelude.{◌≡◌, ◌≢◌, ℕ, ◌+◌, ◌-◌, ◌^◌, ◌<◌, ◌≤◌, ◌↔◌, true, false, List, [], ◌∷◌, ◌++◌, length, IsTrue, IsSome, IsOk, IfOk, IfErr, OnOk, OnErr, MatchOption, MatchResult, option_map, option_copied, Some, None};
+ghost use Rattle.std.specs.Borrow.{sem};
+ghost use Rattle.policy_queue.specs.Queue.{find, from_id, head, final, tail, to_give, cursor_past, Leaves, Pushes, Stays, refused_element, RefusedWell, MovesToBack, AreNamed, WalksOnce};
+
+use crate::places::{
+    Cursor, Node, attach, cursor_from, cursor_leaving, detach, element_at, has_next, id_from,
+    make_room, place_of, walk_place,
+};
+use policy_base::{CacheRegion, NodeId};
+use slab::Slab;
+use std::alloc::Global;
+use std::marker::Model;
+
+/// A call named a node that the queue does not have.
+#[derive(Clone, Copy, Debug, PartialEq, Eq)]
+pub struct Stale;
+
+/// Why a push was refused, with the element.
+#[derive(Drop)]
+pub enum PushError<T> {
+    OutOfMemory(T),
+    UsedUp(T),
+}
+
+/// Why room was refused.
+#[derive(Clone, Copy, Debug, PartialEq, Eq)]
+pub enum ReserveError {
+    OutOfMemory,
+    UsedUp,
+}
+
+/// A queue of elements with stable names.
+#[derive(Drop)]
+pub struct Deque<T> {
+    region: CacheRegion,
+    places: Vec<Option<Node<T>>>,
+    slots: Slab<usize>,
+    front: usize,
+    cursor: Cursor,
+    next_serial: u64,
+}
+
+impl<T> Model for Deque<T> {
+    ghost use Rattle.policy_queue.specs.Queue.{Queue};
+
+    ghost Value = { Queue T };
+
+    ghost use Rattle.std.specs.Prelude.{vec_capacity};
+    ghost use Rattle.policy_queue.specs.Places.{live, room_of, IsQueue};
+
+    ghost view = { λ d. record {
+      region = d.region;
+      nodes = live d.places.items;
+      cursor = d.cursor;
+      next_serial = d.next_serial;
+      room = room_of d.places.items (vec_capacity d.places) d.slots d.next_serial;
+    } };
+
+    ghost invariant = { λ d. IsQueue d.region d.places.items (vec_capacity d.places) d.slots d.front d.next_serial };
+}
+
+impl<T: Drop> Deque<T> {
+    ghost use Rattle.policy_queue.specs.Walks.{walks};
+
+    /// An empty queue, which takes no memory.
+    pub fn new(alloc: Global, region: CacheRegion) -> Self
+        ensures nodes { result.nodes ≡ [] }
+        ensures region { result.region ≡ region }
+        ensures cursor { result.cursor ≡ Cursor.Unstarted }
+        ensures next_serial { result.next_serial ≡ 0 }
+    {
+        Deque {
+            region,
+            places: Vec::new(alloc),
+            slots: Slab::new(alloc),
+            front: 0,
+            cursor: Cursor::Unstarted,
+            next_serial: 0,
+        }
+    }
+
+    /// How many nodes the queue has.
+    pub fn len(&self) -> usize
+        ensures { result ≡ length self.now.nodes }
+    {
+        self.slots.len()
+    }
+
+    /// Whether the queue has the node.
+    pub fn contains(&self, id: NodeId) -> bool
+        ensures { IsTrue result ↔ IsSome (find id self.now.nodes) }
+    {
+        match place_of(self.places.as_slice(), &self.slots, id) {
+            Some(_) => true,
+            None => false,
+        }
+    }
+
+    /// The queue's region.
+    pub fn region(&self) -> CacheRegion
+        ensures { result ≡ self.now.region }
+    {
+        self.region
+    }
+
+    /// The first element.
+    pub fn peek_front(&self) -> Option<&T>
+        ensures { option_copied result ≡ option_map (λ n. n.element) (head self.now.nodes) }
+    {
+        if self.places.len() == 0 {
+            return None;
+        }
+        Some(element_at(self.places.as_slice(), self.front))
+    }
+
+    /// The name of the first node.
+    pub fn peek_front_ptr(&self) -> Option<NodeId>
+        ensures { result ≡ option_map (λ n. n.id) (head self.now.nodes) }
+    {
+        id_from(self.places.as_slice(), self.front)
+    }
+
+    /// The last element.
+    pub fn peek_back(&self) -> Option<&T>
+        ensures { option_copied result ≡ option_map (λ n. n.element) (final self.now.nodes) }
+    {
+        if self.places.len() == 0 {
+            return None;
+        }
+        Some(element_at(self.places.as_slice(), self.places.len() - 1))
+    }
+
+    /// Makes room for `n` pushes, which then need no memory.
+    pub fn reserve(&mut self, n: usize) -> Result<(), ReserveError>
+        ensures room { OnOk result (n ≤ self.new.room) }
+        ensures had_room { n ≤ self.old.room → IsOk result }
+        ensures stays { Stays self.old self.new }
+        ensures used_up { (result ≡ Err ReserveError.UsedUp) ↔ (2 ^ 64 - 1 < self.old.next_serial + n) }
+    {
+        if u64::MAX - self.next_serial < n as u64 {
+            return Err(ReserveError::UsedUp);
+        }
+        if n == 0 {
+            return Ok(());
+        }
+        if make_room(&mut self.places, &mut self.slots, n).is_err() {
+            return Err(ReserveError::OutOfMemory);
+        }
+        Ok(())
+    }
+
+    /// Puts an element behind all others, or hands it back.
+    pub fn push_back(&mut self, element: T) -> Result<NodeId, PushError<T>>
+        ensures pushes { IfOk result (λ id. Pushes self.old self.new id element) }
+        ensures had_room { 0 < self.old.room → IsOk result }
+        ensures stays { OnErr result (Stays self.old self.new) }
+        ensures handed_back { IfErr result (λ e. refused_element e ≡ element) }
+        ensures why { IfErr result (RefusedWell self.old) }
+    {
+        if self.next_serial == u64::MAX {
+            return Err(PushError::UsedUp(element));
+        }
+        match make_room(&mut self.places, &mut self.slots, 1) {
+            Ok(()) => {}
+            Err(_) => return Err(PushError::OutOfMemory(element)),
+        }
+        let id = NodeId {
+            queue: self.region,
+            serial: self.next_serial,
+            slot: self.slots.vacant_key(),
+        };
+        attach(
+            &mut self.places,
+            &mut self.slots,
+            &mut self.front,
+            Node { id, element },
+        );
+        self.next_serial += 1;
+        Ok(id)
+    }
+
+    /// Takes a node out.
+    pub fn unlink(&mut self, id: NodeId) -> Result<T, Stale>
+        ensures value { MatchResult result (λ x. option_map (λ n. n.element) (find id self.old.nodes) ≡ Some x) (λ _. find id self.old.nodes ≡ None) }
+        ensures leaves { OnOk result (Leaves self.old self.new id) }
+        ensures stale { OnErr result (self.new ≡ self.old) }
+    {
+        match place_of(self.places.as_slice(), &self.slots, id) {
+            None => Err(Stale),
+            Some(k) => {
+                self.cursor = cursor_leaving(self.cursor, id, self.places.as_slice(), k);
+                let Node { id: _, element } = detach(
+                    &mut self.places,
+                    &mut self.slots,
+                    &mut self.front,
+                    k,
+                );
+                Ok(element)
+            }
+        }
+    }
+
+    /// Takes a node out and drops its element.
+    pub fn unlink_and_drop(&mut self, id: NodeId) -> Result<(), Stale>
+        ensures found { IsOk result ↔ IsSome (find id self.old.nodes) }
+        ensures leaves { OnOk result (Leaves self.old self.new id) }
+        ensures stale { OnErr result (self.new ≡ self.old) }
+    {
+        match self.unlink(id) {
+            Ok(_) => Ok(()),
+            Err(stale) => Err(stale),
+        }
+    }
+
+    /// Puts a node behind all others. It keeps its name.
+    pub fn move_to_back(&mut self, id: NodeId) -> Result<(), Stale>
+        ensures found { IsOk result ↔ IsSome (find id self.old.nodes) }
+        ensures moves { OnOk result (MovesToBack self.old self.new id) }
+        ensures stale { OnErr result (self.new ≡ self.old) }
+    {
+        match place_of(self.places.as_slice(), &self.slots, id) {
+            None => Err(Stale),
+            Some(k) => {
+                if has_next(self.places.as_slice(), k) {
+                    self.cursor = cursor_leaving(self.cursor, id, self.places.as_slice(), k);
+                    let node = detach(&mut self.places, &mut self.slots, &mut self.front, k);
+                    attach(&mut self.places, &mut self.slots, &mut self.front, node);
+                }
+                Ok(())
+            }
+        }
+    }
+
+    /// Takes the first node out.
+    pub fn pop_front(&mut self) -> Option<T>
+        ensures value { result ≡ option_map (λ n. n.element) (head self.old.nodes) }
+        ensures leaves { MatchOption (head self.old.nodes) (self.new ≡ self.old) (λ n. Leaves self.old self.new n.id) }
+    {
+        match self.peek_front_ptr() {
+            None => None,
+            Some(id) => match self.unlink(id) {
+                Ok(element) => Some(element),
+                Err(_) => unreachable!(),
+            },
+        }
+    }
+
+    /// Puts the first node behind all others.
+    pub fn move_front_to_back(&mut self)
+        ensures { MatchOption (head self.old.nodes) (self.new ≡ self.old) (λ n. MovesToBack self.old self.new n.id) }
+    {
+        match self.peek_front_ptr() {
+            None => {}
+            Some(id) => match self.move_to_back(id) {
+                Ok(()) => {}
+                Err(_) => unreachable!(),
+            },
+        }
+    }
+
+    /// Starts the walk again.
+    pub fn reset_cursor(&mut self)
+        ensures { self.new ≡ record self.old { cursor = Cursor.Unstarted } }
+    {
+        self.cursor = Cursor::Unstarted;
+    }
+
+    /// The next element of the walk, from the front on; `None` past the last one, and then from the front again.
+    pub fn next(&mut self) -> Option<&T>
+        ensures* stays { sem 𝓛 (walks T.row self.entry) }
+        ensures value { option_copied result ≡ option_map (λ n. n.element) (head (to_give self.old.cursor self.old.nodes)) }
+    {
+        let at = walk_place(self.cursor, self.places.as_slice(), &self.slots);
+        match at {
+            None => {
+                self.cursor = Cursor::Unstarted;
+                None
+            }
+            Some(k) => {
+                self.cursor = cursor_from(self.places.as_slice(), k + 1);
+                Some(element_at(self.places.as_slice(), k))
+            }
+        }
+    }
+
+    /// The name of the node behind this one.
+    pub fn next_node_ptr(&self, id: NodeId) -> Result<Option<NodeId>, Stale>
+        ensures { MatchResult result (λ next. IsSome (find id self.now.nodes) × (next ≡ option_map (λ n. n.id) (head (tail (from_id id self.now.nodes))))) (λ _. find id self.now.nodes ≡ None) }
+    {
+        match place_of(self.places.as_slice(), &self.slots, id) {
+            None => Err(Stale),
+            Some(k) => Ok(id_from(self.places.as_slice(), k + 1)),
+        }
+    }
+
+    /// The next node of the walk, by its name.
+    pub fn next_id(&mut self) -> Option<NodeId>
+        ensures value { result ≡ option_map (λ n. n.id) (head (to_give self.old.cursor self.old.nodes)) }
+        ensures cursor { self.new ≡ record self.old { cursor = cursor_past (to_give self.old.cursor self.old.nodes) } }
+    {
+        match walk_place(self.cursor, self.places.as_slice(), &self.slots) {
+            None => {
+                self.cursor = Cursor::Unstarted;
+                None
+            }
+            Some(k) => {
+                self.cursor = cursor_from(self.places.as_slice(), k + 1);
+                match &self.places[k] {
+                    Some(node) => Some(node.id),
+                    None => unreachable!(),
+                }
+            }
+        }
+    }
+}
+
+/// The nodes of a queue have its region and serials below its next one, each its own.
+pub fn names_stand<T>(queue: &Deque<T>)
+    ensures { AreNamed queue.now.region queue.now.next_serial queue.now.nodes }
+{
+    let _ = &queue.places;
+}
+
+/// A walk of a queue that does not change gives each node once, in order, then ends, and starts again.
+pub fn walks_give_each_once<T>(queue: &Deque<T>)
+    ensures { WalksOnce queue.now.nodes }
+{
+    let _ = &queue.places;
+}

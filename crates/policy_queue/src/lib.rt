@@ -1,0 +1,8 @@
+//! Queues with stable numbers: arrays of places from front to back.
+#![tactic(auto)]
+
+mod deque;
+mod places;
+
+pub use deque::{Deque, PushError, ReserveError, Stale, names_stand, walks_give_each_once};
+pub use places::{Cursor, Node};

@@ -1,0 +1,3 @@
+pub mod Nibbles
+pub mod Steps
+pub mod Own

@@ -1,0 +1,11 @@
+//! Tests of the policy's structures.
+#![tactic(auto)]
+
+#[cfg(test)]
+mod queues;
+#[cfg(test)]
+mod records;
+#[cfg(test)]
+mod sketches;
+#[cfg(test)]
+mod timers;

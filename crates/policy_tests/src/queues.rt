@@ -1,0 +1,72 @@
+//! Queues.
+use moka_policy::{CacheRegion, Deque, NodeId};
+use std::test::Fail;
+
+fn push(queue: &mut Deque<u64>, element: u64) -> Result<NodeId, &'static str> {
+    match queue.push_back(element) {
+        Ok(id) => Ok(id),
+        Err(_) => Err("no room"),
+    }
+}
+
+#[test]
+fn walks_past_nodes_that_move_or_leave(rt: HostRuntime) -> Result<(), Fail> {
+    let mut queue: Deque<u64> = Deque::new(rt.alloc(), CacheRegion::MainProbation);
+    push(&mut queue, 0)?;
+    let b = push(&mut queue, 1)?;
+    push(&mut queue, 2)?;
+    assert_eq!(rt; queue.peek_back().copied(), Some(2));
+    assert_eq!(rt; queue.next().copied(), Some(0));
+    assert_eq!(rt; queue.move_to_back(b).is_ok(), true);
+    assert_eq!(rt; queue.next().copied(), Some(2));
+    assert_eq!(rt; queue.next().copied(), Some(1));
+    assert_eq!(rt; queue.next().copied(), None);
+    assert_eq!(rt; queue.next().copied(), Some(0));
+    assert_eq!(rt; queue.peek_back().copied(), Some(1));
+    Ok(())
+}
+
+#[test]
+fn a_node_that_left_is_stale(rt: HostRuntime) -> Result<(), Fail> {
+    let mut queue: Deque<u64> = Deque::new(rt.alloc(), CacheRegion::Other);
+    push(&mut queue, 0)?;
+    let b = push(&mut queue, 1)?;
+    push(&mut queue, 2)?;
+    assert_eq!(rt; queue.next().copied(), Some(0));
+    assert_eq!(rt; queue.unlink_and_drop(b).is_ok(), true);
+    assert_eq!(rt; queue.next().copied(), Some(2));
+    assert_eq!(rt; queue.next().copied(), None);
+    assert_eq!(rt; queue.unlink_and_drop(b).is_ok(), false);
+    assert_eq!(rt; queue.len(), 2);
+    Ok(())
+}
+
+#[test]
+fn moves_ten_thousand_times(rt: HostRuntime) -> Result<(), Fail> {
+    let mut queue: Deque<u64> = Deque::new(rt.alloc(), CacheRegion::Other);
+    let mut ids: Vec<NodeId> = Vec::new(rt.alloc());
+    for element in 0..1000 {
+        ids.push(push(&mut queue, element)?)?;
+    }
+    for _ in 0..10000 {
+        queue.move_front_to_back();
+    }
+    assert_eq!(rt; queue.peek_front().copied(), Some(0));
+    assert_eq!(rt; queue.len(), 1000);
+    for id in &ids {
+        assert_eq!(rt; queue.contains(*id), true);
+    }
+    Ok(())
+}
+
+#[test]
+fn pushes_within_a_reservation(rt: HostRuntime) -> Result<(), Fail> {
+    let mut queue: Deque<u64> = Deque::new(rt.alloc(), CacheRegion::Other);
+    assert_eq!(rt; queue.reserve(2).is_ok(), true);
+    push(&mut queue, 1)?;
+    push(&mut queue, 2)?;
+    assert_eq!(rt; queue.pop_front(), Some(1));
+    assert_eq!(rt; queue.pop_front(), Some(2));
+    assert_eq!(rt; queue.pop_front(), None);
+    Ok(())
+}

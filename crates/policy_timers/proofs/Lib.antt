@@ -1,0 +1,4 @@
+pub mod Arrays
+pub mod Wheels
+pub mod Advance
+pub mod Draining

@@ -1,0 +1,48 @@
+-- The array of timers behind a wheel.
+use Rattle.std.specs.Prelude.{◌≡◌, ◌≢◌, ℕ, ◌+◌, ◌*◌, ◌^◌, ◌<◌, List, [], ◌∷◌, length, Some}
+use Rattle.std.specs.List.Sorted.{IsNonDecreasingBy}
+use Rattle.slab.specs.Slab.{Slab, get, slab_len}
+use Rattle.policy_timers.specs.declared.array.Timer.{Timer}
+
+-- the number by which timers are in order
+abbrev pub key_at : ℕ → ℕ → ℕ
+key_at placed serial = placed * 18446744073709551616 + serial
+
+abbrev pub key_of : Timer → ℕ
+key_of t = key_at t.placed t.id.serial
+
+-- the timers are in order
+abbrev pub IsRising : List Timer → Type 0
+IsRising ts = IsNonDecreasingBy key_of ts
+
+-- no timer has this serial
+abbrev pub LacksSerial : ℕ → List Timer → Type 0
+LacksSerial serial [] = Unit {0}
+LacksSerial serial (t ∷ rest) = (t.id.serial ≢ serial) × LacksSerial serial rest
+
+-- each timer has a serial of its own
+abbrev pub AreApart : List Timer → Type 0
+AreApart [] = Unit {0}
+AreApart (t ∷ rest) = (t.id.serial < 2 ^ 64) × LacksSerial t.id.serial rest × AreApart rest
+
+-- each timer's serial is below the next one
+abbrev pub AreBelow : ℕ → List Timer → Type 0
+AreBelow next [] = Unit {0}
+AreBelow next (t ∷ rest) = (t.id.serial < next) × AreBelow next rest
+
+-- the slab says of each timer's name which its key is
+abbrev pub AreStored : Slab ℕ → List Timer → Type 0
+AreStored slots [] = Unit {0}
+AreStored slots (t ∷ rest) = (get slots t.id.slot ≡ Some (key_of t)) × AreStored slots rest
+
+-- array and slab fit together
+pub record IsArranged (timers : List Timer) (slots : Slab ℕ) : Type 0 where
+  pub rising : IsRising timers
+  pub apart : AreApart timers
+  pub stored : AreStored slots timers
+  pub counted : slab_len slots ≡ length timers
+
+-- the array of a wheel
+pub record IsWheel (timers : List Timer) (slots : Slab ℕ) (next : ℕ) : Type 0 where
+  pub arranged : IsArranged timers slots
+  pub below : AreBelow next timers

@@ -1,0 +1,12 @@
+//! Timers: one array in rising order of their times.
+#![tactic(auto)]
+
+mod array;
+mod entries;
+mod events;
+pub mod laws;
+mod wheel;
+
+pub use array::{Timer, TimerNode};
+pub use events::{TimerEvent, TimerEventsIter};
+pub use wheel::{ReschedulingResult, ScheduleError, StaleTimer, TimerWheel};

@@ -1,0 +1,279 @@
+//! Timers of a cache's entries.
+ghost use Rattle.std.specs.Prelude.{◌≡◌, ◌≢◌, ℕ, ◌+◌, ◌-◌, ◌^◌, ◌<◌, ◌≤◌, ◌↔◌, true, false, List, [], ◌∷◌, length, IsTrue, IsOk, IfOk, IfErr, OnOk, OnErr, MatchOption, Some, None, slice_index_or};
+ghost use Rattle.std.specs.List.{All};
+ghost use Rattle.std.specs.List.Sorted.{IsPermutation};
+ghost use Rattle.slab.specs.Slab.{get};
+ghost use Rattle.policy_timers.specs.Entries.{due_of};
+ghost use Rattle.policy_timers.specs.Timers.{TheTimer, moved, Keeps, Stays, ScheduledWell, RefusedWell, Leaves, RescheduledWell, Schedules};
+
+use crate::array::{Due, Timer, TimerNode, add, find, move_timer, take};
+use crate::entries::due_of;
+use policy_base::{CacheRegion, Instant, NodeId, Slot};
+use slab::Slab;
+use std::alloc::{AllocError, Global};
+use std::collections::VecDeque;
+use std::marker::{Model, PhantomData};
+
+/// What became of a timer whose entry's time may have changed.
+#[derive(Clone, Copy, Debug, PartialEq, Eq)]
+pub enum ReschedulingResult {
+    /// It stands at the entry's time.
+    Rescheduled,
+    /// It left, since the entry has no time.
+    Removed(TimerNode),
+}
+
+/// Why a timer, or room for timers, was refused.
+#[derive(Clone, Copy, Debug, PartialEq, Eq)]
+pub enum ScheduleError {
+    OutOfMemory,
+    UsedUp,
+}
+
+/// A call named a timer that the wheel does not have.
+#[derive(Clone, Copy, Debug, PartialEq, Eq)]
+pub struct StaleTimer;
+
+/// Timers by rising time.
+#[derive(Drop)]
+pub struct TimerWheel<K> {
+    is_enabled: bool,
+    origin: Instant,
+    moment: Instant,
+    next_serial: u64,
+    timers: VecDeque<Timer>,
+    slots: Slab<u128>,
+    keys: PhantomData<K>,
+}
+
+impl<K> Model for TimerWheel<K> {
+    ghost use Rattle.std.specs.Prelude.{◌-◌, ◌^◌, min};
+    ghost use Rattle.std.specs.VecDeque.{deque_len, deque_capacity};
+    ghost use Rattle.slab.specs.Slab.{slab_len};
+    ghost use Rattle.policy_timers.specs.Timers.{Timers};
+    ghost use Rattle.policy_timers.specs.Array.{IsWheel};
+
+    ghost Value = { Timers };
+
+    ghost view = { λ w. record {
+      is_enabled = w.is_enabled;
+      origin = w.origin;
+      moment = w.moment;
+      timers = w.timers.items;
+      next_serial = w.next_serial;
+      room = min (deque_capacity w.timers - deque_len w.timers) (min (w.slots.capacity - slab_len w.slots) (2 ^ 64 - 1 - w.next_serial));
+    } };
+
+    ghost invariant = { λ w. IsWheel w.timers.items w.slots w.next_serial };
+}
+
+impl<K> TimerWheel<K> {
+    /// A wheel without timers, not yet enabled. It takes no memory.
+    pub fn new(alloc: Global, moment: Instant) -> Self
+        ensures is_enabled { result.is_enabled ≡ false }
+        ensures origin { result.origin ≡ moment }
+        ensures moment { result.moment ≡ moment }
+        ensures timers { result.timers ≡ [] }
+        ensures next_serial { result.next_serial ≡ 0 }
+    {
+        TimerWheel {
+            is_enabled: false,
+            origin: moment,
+            moment,
+            next_serial: 0,
+            timers: VecDeque::new(alloc),
+            slots: Slab::new(alloc),
+            keys: PhantomData,
+        }
+    }
+
+    /// Whether timers may be scheduled.
+    pub fn is_enabled(&self) -> bool
+        ensures { result ≡ self.now.is_enabled }
+    {
+        self.is_enabled
+    }
+
+    /// Lets timers be scheduled.
+    pub fn enable(&mut self)
+        requires { self.old.is_enabled ≡ false }
+        ensures { self.new ≡ record self.old { is_enabled = true } }
+    {
+        self.is_enabled = true;
+    }
+
+    /// How many timers there are.
+    pub fn len(&self) -> usize
+        ensures { result ≡ length self.now.timers }
+    {
+        self.timers.len()
+    }
+
+    /// The moment up to which timers were given.
+    pub fn moment(&self) -> Instant
+        ensures { result ≡ self.now.moment }
+    {
+        self.moment
+    }
+
+    /// The moment of the wheel's making.
+    pub fn origin(&self) -> Instant
+        ensures { result ≡ self.now.origin }
+    {
+        self.origin
+    }
+
+    /// Makes room for `n` more timers, which then need no memory.
+    pub fn reserve(&mut self, n: usize) -> Result<(), ScheduleError>
+        ensures room { OnOk result (n ≤ self.new.room) }
+        ensures had_room { n ≤ self.old.room → IsOk result }
+        ensures stays { Stays self.old self.new }
+        ensures used_up { (result ≡ Err ScheduleError.UsedUp) ↔ (2 ^ 64 - 1 < self.old.next_serial + n) }
+    {
+        if u64::MAX - self.next_serial < n as u64 {
+            return Err(ScheduleError::UsedUp);
+        }
+        if n == 0 {
+            return Ok(());
+        }
+        if self.timers.reserve(n).is_err() {
+            return Err(ScheduleError::OutOfMemory);
+        }
+        if self.slots.reserve(n).is_err() {
+            return Err(ScheduleError::OutOfMemory);
+        }
+        Ok(())
+    }
+
+    /// Adds a timer for an entry at its time, if it has one, and answers the timer's name.
+    pub fn schedule(
+        &mut self,
+        entry: usize,
+        entries: &Slab<Slot<K>>,
+    ) -> Result<Option<NodeId>, ScheduleError>
+        requires { self.old.is_enabled ≡ true }
+        ensures scheduled { IfOk result (ScheduledWell entries.now self.old self.new entry) }
+        ensures had_room { 0 < self.old.room → IsOk result }
+        ensures without_time { due_of entries.now entry ≡ None → IsOk result }
+        ensures stays { OnErr result (Stays self.old self.new) }
+        ensures why { IfErr result (RefusedWell self.old) }
+    {
+        let due = match due_of(entries, entry) {
+            Some(due) => due,
+            None => return Ok(None),
+        };
+        match self.reserve(1) {
+            Ok(()) => Ok(Some(self.place(entry, due))),
+            Err(error) => Err(error),
+        }
+    }
+
+    /// Adds a timer. There is room.
+    fn place(&mut self, entry: usize, due: Due) -> NodeId
+        requires { 0 < self.old.room }
+        ensures { Schedules self.old self.new entry result due }
+    {
+        let id = NodeId {
+            queue: CacheRegion::Other,
+            serial: self.next_serial,
+            slot: self.slots.vacant_key(),
+        };
+        let node = TimerNode {
+            entry_info: entry,
+            expiry_gen: due.expiry_gen,
+        };
+        let timer = Timer {
+            placed: due.time,
+            id,
+            node,
+        };
+        add(&mut self.timers, &mut self.slots, timer);
+        self.next_serial += 1;
+        id
+    }
+
+    /// Puts a timer at its entry's present time, or takes it out where the entry has none. It keeps its name.
+    pub fn reschedule(
+        &mut self,
+        id: NodeId,
+        entries: &Slab<Slot<K>>,
+    ) -> Result<ReschedulingResult, StaleTimer>
+        requires { self.old.is_enabled ≡ true }
+        ensures rescheduled { IfOk result (RescheduledWell entries.now self.old.timers self.new.timers id) }
+        ensures keeps { OnOk result (Keeps self.old self.new) }
+        ensures stale { OnErr result (All (λ t. t.id ≢ id) self.old.timers) }
+        ensures unchanged { OnErr result (self.new ≡ self.old) }
+    {
+        match find(&self.timers, &self.slots, id) {
+            None => Err(StaleTimer),
+            Some(k) => match due_of(entries, self.timers[k].node.entry_info) {
+                None => {
+                    let timer = take(&mut self.timers, &mut self.slots, k);
+                    Ok(ReschedulingResult::Removed(timer.node))
+                }
+                Some(due) => {
+                    move_timer(&mut self.timers, &mut self.slots, k, due);
+                    Ok(ReschedulingResult::Rescheduled)
+                }
+            },
+        }
+    }
+
+    /// Takes a timer out.
+    pub fn deschedule(&mut self, id: NodeId) -> Result<TimerNode, StaleTimer>
+        requires { self.old.is_enabled ≡ true }
+        ensures leaves { IfOk result (Leaves self.old.timers self.new.timers id) }
+        ensures keeps { OnOk result (Keeps self.old self.new) }
+        ensures stale { OnErr result (All (λ t. t.id ≢ id) self.old.timers) }
+        ensures unchanged { OnErr result (self.new ≡ self.old) }
+    {
+        match find(&self.timers, &self.slots, id) {
+            None => Err(StaleTimer),
+            Some(k) => {
+                let timer = take(&mut self.timers, &mut self.slots, k);
+                Ok(timer.node)
+            }
+        }
+    }
+
+    /// The first timer, where it was placed at or before `now`.
+    pub(crate) fn first_due(&self, now: Instant) -> Option<Timer>
+        ensures { MatchOption result (All (λ t. now < t.placed) self.now.timers) (λ t. (0 < length self.now.timers) × (t ≡ slice_index_or self.now.timers 0 t) × (t.placed ≤ now)) }
+    {
+        match self.timers.front() {
+            Some(first) => {
+                if first.placed.as_nanos() <= now.as_nanos() {
+                    Some(*first)
+                } else {
+                    None
+                }
+            }
+            None => None,
+        }
+    }
+
+    /// Takes the first timer out.
+    pub(crate) fn pop_first(&mut self)
+        requires { 0 < length self.old.timers }
+        ensures first { (t : TheTimer) × (self.old.timers ≡ t ∷ self.new.timers) }
+        ensures keeps { Keeps self.old self.new }
+    {
+        let _timer = take(&mut self.timers, &mut self.slots, 0);
+    }
+
+    /// Puts the first timer at another time.
+    pub(crate) fn move_first(&mut self, due: Due)
+        requires { 0 < length self.old.timers }
+        ensures first { (t : TheTimer) × (rest : List TheTimer) × (self.old.timers ≡ t ∷ rest) × IsPermutation (moved t due.time due.expiry_gen ∷ rest) self.new.timers }
+        ensures keeps { Keeps self.old self.new }
+    {
+        move_timer(&mut self.timers, &mut self.slots, 0, due);
+    }
+
+    /// Sets the moment up to which timers were given.
+    pub(crate) fn set_moment(&mut self, now: Instant)
+        ensures { self.new ≡ record self.old { moment = now } }
+    {
+        self.moment = now;
+    }
+}
