@@ -161,6 +161,7 @@ impl Service {
         ensures closing { IfOk result (λ closing. (space : Seen) → IsSpace (spaces_of self.now) conn.namespace space → closing ≡ closing_of space conn.number) }
         ensures refused { IfErr result (λ e. ((e ≡ ServiceError.NoNamespace) × (length (spaces_of self.now) ≤ conn.namespace)) ⊎ ((space : Seen) → IsSpace (spaces_of self.now) conn.namespace space → IsUnknown space conn.number e)) }
         ensures known { OnOk result ((space : Seen) → IsSpace (spaces_of self.now) conn.namespace space → (known (connections_of space)).was_opened conn.number ≡ true) }
+        ensures found { OnOk result (conn.namespace < length (spaces_of self.now)) }
     {
         let index = match self.index_of(conn.namespace) {
             Ok(index) => index,
@@ -177,6 +178,8 @@ impl Service {
     /// `NoConnection`.
     pub fn waiting(&self, conn: Conn) -> Result<bool, ServiceError>
         ensures none { IfOk result (λ waits. waits ≡ false) }
+        ensures known { OnOk result ((space : Seen) → IsSpace (spaces_of self.now) conn.namespace space → (known (connections_of space)).was_opened conn.number ≡ true) }
+        ensures found { OnOk result (conn.namespace < length (spaces_of self.now)) }
         ensures refused { IfErr result (λ e. ((e ≡ ServiceError.NoNamespace) × (length (spaces_of self.now) ≤ conn.namespace)) ⊎ ((space : Seen) → IsSpace (spaces_of self.now) conn.namespace space → IsUnknown space conn.number e)) }
     {
         match self.closed(conn) {
