@@ -40,9 +40,14 @@ fn configurations(rt: HostRuntime) -> Result<(), Fail> {
         Some(ServiceError::Config)
     );
     assert_eq!(rt;
-        Service::new(alloc, &[PLAIN, PLAIN], START).err(),
+        Service::new(alloc, &[PLAIN, limited], START).err(),
         Some(ServiceError::Config)
     );
+    assert_eq!(rt;
+        Service::new(alloc, &[PLAIN; 17], START).err(),
+        Some(ServiceError::Config)
+    );
+    let _most = Service::new(alloc, &[PLAIN; 16], START)?;
     assert_eq!(rt;
         Service::new(alloc, &[limited], LATE).err(),
         Some(ServiceError::Moment)

@@ -1,6 +1,6 @@
 -- What is seen of a service.
-use Rattle.std.specs.Prelude.{◌≡◌, ℕ, ◌≤◌, Bool, true, false, List, [], ◌∷◌, length, ◌⊎◌, Some, IsTrue}
-use Rattle.std.specs.List.{slice_get}
+use Rattle.std.specs.Prelude.{◌≡◌, ℕ, ◌≤◌, ◌&&◌, nat_le, Bool, true, false, List, [], length, ◌⊎◌, Some, IsTrue}
+use Rattle.std.specs.List.{list_all, slice_get}
 use Rattle.cache_spaces.specs.Moves.{At}
 use Rattle.cache_spaces.specs.Serves.{SameSpace}
 use Rattle.audit_model.specs.declared.input.ServiceError.{ServiceError}
@@ -18,11 +18,9 @@ use Rattle.cache_spaces.specs.declared.space.Space.{Space}
 abbrev pub spaces_of : Service → List Space
 spaces_of service = service.spaces.items
 
--- the configurations that a service is made with: one namespace, of plain configuration
+-- the configurations that a service is made with: 1 to 16, each plain
 abbrev pub are_taken : List Config → Bool
-are_taken [] = false
-are_taken (config ∷ []) = is_plain config
-are_taken (config ∷ next ∷ configs) = false
+are_taken configs = nat_le 1 (length configs) && nat_le (length configs) 16 && list_all is_plain configs
 
 -- a namespace just made
 pub record IsNew (space : Space) (config : Config) (made : ℕ) : Type 0 where
@@ -33,10 +31,10 @@ pub record IsNew (space : Space) (config : Config) (made : ℕ) : Type 0 where
   pub notices : notices_of space ≡ []
 
 -- each namespace is new, of its configuration
-abbrev pub AreNew : List Space → List Config → ℕ → Type 0
-AreNew [] [] made = Unit {0}
-AreNew (space ∷ spaces) (config ∷ configs) made = IsNew space config made × AreNew spaces configs made
-AreNew spaces configs made = ⊥
+pub record AreNew (spaces : List Space) (configs : List Config) (made : ℕ) : Type 0 where
+  pub count : length spaces ≡ length configs
+  pub each : (namespace : ℕ) (config : Config) (space : Space)
+      → slice_get configs namespace ≡ Some config → slice_get spaces namespace ≡ Some space → IsNew space config made
 
 abbrev pub is_held : Fed → Bool
 is_held All = false
