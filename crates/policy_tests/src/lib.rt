@@ -11,3 +11,5 @@ mod regions;
 mod sketches;
 #[cfg(test)]
 mod timers;
+#[cfg(test)]
+mod wanting;
