@@ -6,6 +6,7 @@ pub use policy_base::{
     KeyHashDate, KvEntry, MAX_NANOS, NodeId, OldEntryInfo, ReadOp, Slot, UsedUp, ValueEntry,
     WriteOp, duration_to_saturating_nanoseconds, sketch_capacity,
 };
+pub use policy_deques::Deques;
 pub use policy_queue::{Cursor, Deque, Node, PushError, ReserveError, Stale};
 pub use policy_sketch::FrequencySketch;
 pub use policy_timers::{
@@ -15,7 +16,8 @@ pub use policy_timers::{
 
 /// Functions whose contracts are laws.
 pub mod laws {
-    pub use policy_queue::{names_stand, walks_give_each_once};
+    pub use policy_deques::Deques;
+pub use policy_queue::{names_stand, walks_give_each_once};
     pub use policy_sketch::own_counts_stand;
     pub use policy_timers::laws::{advances_give_the_due, next_event};
 }

@@ -6,6 +6,10 @@ mod queues;
 #[cfg(test)]
 mod records;
 #[cfg(test)]
+mod regions;
+#[cfg(test)]
 mod sketches;
 #[cfg(test)]
 mod timers;
+#[cfg(test)]
+mod wanting;

@@ -1,0 +1,3 @@
+pub mod Queues
+pub mod Nodes
+pub mod Lending

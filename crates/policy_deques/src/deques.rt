@@ -1,0 +1,359 @@
+//! The queues.
+ghost use Rattle.std.specs.Prelude.{◌≡◌, ◌≢◌, ℕ, ◌+◌, ◌^◌, ◌<◌, ◌≤◌, ◌↔◌, ◌⊎◌, length, Some, None, IsTrue, IsSome, IsOk, IfErr, OnOk, OnErr, MatchOption, option_map, option_copied};
+ghost use Rattle.std.specs.Borrow.{sem};
+ghost use Rattle.policy_queue.specs.Queue.{find, head, final, to_give, cursor_past, Leaves, Stays, MovesToBack, refused_element, RefusedWell};
+ghost use Rattle.policy_base.specs.declared.name.CacheRegion.{CacheRegion as TheRegion};
+ghost use Rattle.policy_deques.specs.Queues.{queue_of, with_queue, access_nodes, IsNew, Changes, HasNode, MovesNode, LosesNode, HasAccessNode, MovesAccessNode, LosesAccessNode, AllStay, HaveRoom, LackSerials};
+ghost use Rattle.policy_deques.specs.Nodes.{access_node, write_node, with_access_node, with_write_node, PushesEntry, forgets};
+
+use crate::nodes::{access_node, set_access_node, set_write_node, write_node};
+use policy_base::{CacheRegion, KeyHashDate, NodeId, Slot};
+use policy_queue::{Cursor, Deque, PushError, ReserveError, Stale};
+use slab::Slab;
+use std::alloc::Global;
+use std::marker::{Model, PhantomData};
+
+/// The queues of a cache's entries: those of the window and of the main space hold them in order of use, the last one
+/// in order of writes. An entry knows its nodes by their names.
+#[derive(Drop)]
+pub struct Deques<K> {
+    window: Deque<KeyHashDate>,
+    probation: Deque<KeyHashDate>,
+    protected: Deque<KeyHashDate>,
+    write_order: Deque<KeyHashDate>,
+    keys: PhantomData<K>,
+}
+
+impl<K> Model for Deques<K> {
+    ghost use Rattle.policy_deques.specs.Queues.{Queues};
+
+    ghost Value = { Queues };
+
+    ghost view = { λ d. record { window = d.window; probation = d.probation; protected = d.protected; write_order = d.write_order } };
+}
+
+impl<K> Deques<K> {
+    ghost use Rattle.policy_deques.specs.Lending.{lends_queue};
+
+    /// Empty queues, which take no memory.
+    pub fn default(alloc: Global) -> Self
+        ensures { (region : TheRegion) → IsNew region (queue_of region result) }
+    {
+        Deques {
+            window: Deque::new(alloc, CacheRegion::Window),
+            probation: Deque::new(alloc, CacheRegion::MainProbation),
+            protected: Deque::new(alloc, CacheRegion::MainProtected),
+            write_order: Deque::new(alloc, CacheRegion::Other),
+            keys: PhantomData,
+        }
+    }
+
+    /// The queue of a region; that of `Other` is the one in order of writes.
+    pub fn select(&self, region: CacheRegion) -> &Deque<KeyHashDate>
+        ensures { result.now ≡ queue_of region self.now }
+    {
+        match region {
+            CacheRegion::Window => &self.window,
+            CacheRegion::MainProbation => &self.probation,
+            CacheRegion::MainProtected => &self.protected,
+            CacheRegion::Other => &self.write_order,
+        }
+    }
+
+    /// The queue of a region, to be changed. (The Rust gives the queue in order of writes beside it.)
+    pub fn select_mut(&mut self, region: CacheRegion) -> &mut Deque<KeyHashDate>
+        ensures* lends { sem 𝓛 (lends_queue K.row region self.entry result) }
+        ensures value { result.now ≡ queue_of region self.old }
+    {
+        match region {
+            CacheRegion::Window => &mut self.window,
+            CacheRegion::MainProbation => &mut self.probation,
+            CacheRegion::MainProtected => &mut self.protected,
+            CacheRegion::Other => &mut self.write_order,
+        }
+    }
+
+    /// How many entries the queue of a region has.
+    pub fn len(&self, region: CacheRegion) -> usize
+        ensures { result ≡ length (queue_of region self.now).nodes }
+    {
+        self.select(region).len()
+    }
+
+    /// The first entry of a region.
+    pub fn peek_front(&self, region: CacheRegion) -> Option<&KeyHashDate>
+        ensures { option_copied result ≡ option_map (λ n. n.element) (head (queue_of region self.now).nodes) }
+    {
+        self.select(region).peek_front()
+    }
+
+    /// The last entry of a region.
+    pub fn peek_back(&self, region: CacheRegion) -> Option<&KeyHashDate>
+        ensures { option_copied result ≡ option_map (λ n. n.element) (final (queue_of region self.now).nodes) }
+    {
+        self.select(region).peek_back()
+    }
+
+    /// Takes the first entry of a region out of its queue. What the entry knows of its node is stale from then on.
+    pub fn pop_front(&mut self, region: CacheRegion) -> Option<KeyHashDate>
+        ensures value { result ≡ option_map (λ n. n.element) (head (queue_of region self.old).nodes) }
+        ensures leaves { MatchOption (head (queue_of region self.old).nodes) (self.new ≡ self.old) (λ n. Changes region (λ before after. Leaves before after n.id) self.old self.new) }
+    {
+        self.select_mut(region).pop_front()
+    }
+
+    /// The next entry of the walk through a region, from the front on; `None` past the last one, and then from the
+    /// front again.
+    pub fn next(&mut self, region: CacheRegion) -> Option<KeyHashDate>
+        ensures value { result ≡ option_map (λ n. n.element) (head (to_give (queue_of region self.old).cursor (queue_of region self.old).nodes)) }
+        ensures cursor { Changes region (λ before after. after ≡ record before { cursor = cursor_past (to_give before.cursor before.nodes) }) self.old self.new }
+    {
+        self.select_mut(region).next().copied()
+    }
+
+    /// Starts the walk through a region again.
+    pub fn reset_cursor(&mut self, region: CacheRegion)
+        ensures { Changes region (λ before after. after ≡ record before { cursor = Cursor.Unstarted }) self.old self.new }
+    {
+        self.select_mut(region).reset_cursor();
+    }
+
+    /// Makes room for `n` pushes on each queue, which then need no memory.
+    pub fn reserve(&mut self, n: usize) -> Result<(), ReserveError>
+        ensures room { OnOk result (HaveRoom n self.new) }
+        ensures had_room { HaveRoom n self.old → IsOk result }
+        ensures stays { AllStay self.old self.new }
+        ensures used_up { (result ≡ Err ReserveError.UsedUp) ↔ LackSerials n self.old }
+    {
+        let first = self.window.reserve(n);
+        let second = self.probation.reserve(n);
+        let third = self.protected.reserve(n);
+        let fourth = self.write_order.reserve(n);
+        both(both(first, second), both(third, fourth))
+    }
+
+    /// Puts an entry behind all others of a region other than `Other`, and lets it know its node; or hands it back.
+    pub fn push_back_ao(
+        &mut self,
+        region: CacheRegion,
+        node: KeyHashDate,
+        entries: &mut Slab<Slot<K>>,
+    ) -> Result<(), PushError<KeyHashDate>>
+        requires { region ≢ CacheRegion.Other }
+        ensures pushes { OnOk result (PushesEntry with_access_node region node self.old self.new entries.old entries.new) }
+        ensures had_room { 0 < (queue_of region self.old).room → IsOk result }
+        ensures stays { OnErr result (Changes region Stays self.old self.new) }
+        ensures entries { OnErr result (entries.new ≡ entries.old) }
+        ensures handed_back { IfErr result (λ e. refused_element e ≡ node) }
+        ensures why { IfErr result (RefusedWell (queue_of region self.old)) }
+    {
+        match self.select_mut(region).push_back(node) {
+            Ok(id) => {
+                set_access_node(entries, node.entry, Some(id));
+                Ok(())
+            }
+            Err(error) => Err(error),
+        }
+    }
+
+    /// Puts an entry behind all others in order of writes, and lets it know its node; or hands it back.
+    pub fn push_back_wo(
+        &mut self,
+        node: KeyHashDate,
+        entries: &mut Slab<Slot<K>>,
+    ) -> Result<(), PushError<KeyHashDate>>
+        ensures pushes { OnOk result (PushesEntry with_write_node CacheRegion.Other node self.old self.new entries.old entries.new) }
+        ensures had_room { 0 < self.old.write_order.room → IsOk result }
+        ensures stays { OnErr result (Changes CacheRegion.Other Stays self.old self.new) }
+        ensures entries { OnErr result (entries.new ≡ entries.old) }
+        ensures handed_back { IfErr result (λ e. refused_element e ≡ node) }
+        ensures why { IfErr result (RefusedWell self.old.write_order) }
+    {
+        match self.write_order.push_back(node) {
+            Ok(id) => {
+                set_write_node(entries, node.entry, Some(id));
+                Ok(())
+            }
+            Err(error) => Err(error),
+        }
+    }
+
+    /// Puts an entry behind all others of its region. One that stands in none stays.
+    pub fn move_to_back_ao(&mut self, entry: usize, entries: &Slab<Slot<K>>) -> Result<(), Stale>
+        ensures found { IsOk result ↔ HasAccessNode (access_node entries.now entry) self.old }
+        ensures moves { OnOk result (MovesAccessNode (access_node entries.now entry) self.old self.new) }
+        ensures stale { OnErr result (self.new ≡ self.old) }
+    {
+        match access_node(entries, entry) {
+            None => Ok(()),
+            Some(id) => self.move_node_ao(id),
+        }
+    }
+
+    /// Puts a node behind all others of its region.
+    fn move_node_ao(&mut self, id: NodeId) -> Result<(), Stale>
+        ensures found { IsOk result ↔ IsSome (find id (access_nodes id.queue self.old)) }
+        ensures moves { OnOk result (Changes id.queue (λ before after. MovesToBack before after id) self.old self.new) }
+        ensures stale { OnErr result (self.new ≡ self.old) }
+    {
+        match id.queue {
+            CacheRegion::Window => self.window.move_to_back(id),
+            CacheRegion::MainProbation => self.probation.move_to_back(id),
+            CacheRegion::MainProtected => self.protected.move_to_back(id),
+            CacheRegion::Other => Err(Stale),
+        }
+    }
+
+    /// Puts an entry behind all others in order of writes. One that stands nowhere there stays.
+    pub fn move_to_back_wo(&mut self, entry: usize, entries: &Slab<Slot<K>>) -> Result<(), Stale>
+        ensures found { IsOk result ↔ HasNode (write_node entries.now entry) self.old.write_order }
+        ensures moves { OnOk result (Changes CacheRegion.Other (MovesNode (write_node entries.now entry)) self.old self.new) }
+        ensures stale { OnErr result (self.new ≡ self.old) }
+    {
+        move_node(&mut self.write_order, write_node(entries, entry))
+    }
+
+    /// Puts an entry behind all others of this queue, by its node in order of use. One that stands nowhere stays.
+    pub fn move_to_back_ao_in_deque(
+        queue: &mut Deque<KeyHashDate>,
+        entry: usize,
+        entries: &Slab<Slot<K>>,
+    ) -> Result<(), Stale>
+        ensures found { IsOk result ↔ HasNode (access_node entries.now entry) queue.old }
+        ensures moves { OnOk result (MovesNode (access_node entries.now entry) queue.old queue.new) }
+        ensures stale { OnErr result (queue.new ≡ queue.old) }
+    {
+        move_node(queue, access_node(entries, entry))
+    }
+
+    /// Puts an entry behind all others of this queue, by its node in order of writes. One that stands nowhere stays.
+    pub fn move_to_back_wo_in_deque(
+        queue: &mut Deque<KeyHashDate>,
+        entry: usize,
+        entries: &Slab<Slot<K>>,
+    ) -> Result<(), Stale>
+        ensures found { IsOk result ↔ HasNode (write_node entries.now entry) queue.old }
+        ensures moves { OnOk result (MovesNode (write_node entries.now entry) queue.old queue.new) }
+        ensures stale { OnErr result (queue.new ≡ queue.old) }
+    {
+        move_node(queue, write_node(entries, entry))
+    }
+
+    /// Takes an entry out of its region, and lets it forget its node. One that stands in none stays.
+    pub fn unlink_ao(&mut self, entry: usize, entries: &mut Slab<Slot<K>>) -> Result<(), Stale>
+        ensures found { IsOk result ↔ HasAccessNode (access_node entries.old entry) self.old }
+        ensures leaves { OnOk result (LosesAccessNode (access_node entries.old entry) self.old self.new) }
+        ensures forgets { OnOk result (entries.new ≡ forgets with_access_node entry (access_node entries.old entry) entries.old) }
+        ensures stale { OnErr result ((self.new ≡ self.old) × (entries.new ≡ entries.old)) }
+    {
+        match access_node(entries, entry) {
+            None => Ok(()),
+            Some(id) => match self.unlink_node_ao(id) {
+                Ok(()) => {
+                    set_access_node(entries, entry, None);
+                    Ok(())
+                }
+                Err(stale) => Err(stale),
+            },
+        }
+    }
+
+    /// Takes an entry out of this queue by its node in order of writes, and lets it forget that. One that stands
+    /// nowhere stays.
+    pub fn unlink_wo(
+        queue: &mut Deque<KeyHashDate>,
+        entry: usize,
+        entries: &mut Slab<Slot<K>>,
+    ) -> Result<(), Stale>
+        ensures found { IsOk result ↔ HasNode (write_node entries.old entry) queue.old }
+        ensures leaves { OnOk result (LosesNode (write_node entries.old entry) queue.old queue.new) }
+        ensures forgets { OnOk result (entries.new ≡ forgets with_write_node entry (write_node entries.old entry) entries.old) }
+        ensures stale { OnErr result ((queue.new ≡ queue.old) × (entries.new ≡ entries.old)) }
+    {
+        match write_node(entries, entry) {
+            None => Ok(()),
+            Some(id) => match queue.unlink_and_drop(id) {
+                Ok(()) => {
+                    set_write_node(entries, entry, None);
+                    Ok(())
+                }
+                Err(stale) => Err(stale),
+            },
+        }
+    }
+
+    /// Takes an entry out of this queue by its node in order of use, and lets it forget that. One that stands nowhere
+    /// stays.
+    pub fn unlink_ao_from_deque(
+        queue: &mut Deque<KeyHashDate>,
+        entry: usize,
+        entries: &mut Slab<Slot<K>>,
+    ) -> Result<(), Stale>
+        ensures found { IsOk result ↔ HasNode (access_node entries.old entry) queue.old }
+        ensures leaves { OnOk result (LosesNode (access_node entries.old entry) queue.old queue.new) }
+        ensures forgets { OnOk result (entries.new ≡ forgets with_access_node entry (access_node entries.old entry) entries.old) }
+        ensures stale { OnErr result ((queue.new ≡ queue.old) × (entries.new ≡ entries.old)) }
+    {
+        match access_node(entries, entry) {
+            None => Ok(()),
+            Some(id) => match queue.unlink_and_drop(id) {
+                Ok(()) => {
+                    set_access_node(entries, entry, None);
+                    Ok(())
+                }
+                Err(stale) => Err(stale),
+            },
+        }
+    }
+
+    /// Takes a node out of its region. What its entry knows of it is stale from then on.
+    pub fn unlink_node_ao(&mut self, id: NodeId) -> Result<(), Stale>
+        ensures found { IsOk result ↔ IsSome (find id (access_nodes id.queue self.old)) }
+        ensures leaves { OnOk result (Changes id.queue (λ before after. Leaves before after id) self.old self.new) }
+        ensures stale { OnErr result (self.new ≡ self.old) }
+    {
+        match id.queue {
+            CacheRegion::Window => self.window.unlink_and_drop(id),
+            CacheRegion::MainProbation => self.probation.unlink_and_drop(id),
+            CacheRegion::MainProtected => self.protected.unlink_and_drop(id),
+            CacheRegion::Other => Err(Stale),
+        }
+    }
+
+    /// Takes a node out of this queue. What its entry knows of it is stale from then on.
+    pub fn unlink_node_wo(queue: &mut Deque<KeyHashDate>, id: NodeId) -> Result<(), Stale>
+        ensures found { IsOk result ↔ IsSome (find id queue.old.nodes) }
+        ensures leaves { OnOk result (Leaves queue.old queue.new id) }
+        ensures stale { OnErr result (queue.new ≡ queue.old) }
+    {
+        queue.unlink_and_drop(id)
+    }
+}
+
+/// Puts a node, if there is one, behind all others of its queue.
+fn move_node(queue: &mut Deque<KeyHashDate>, node: Option<NodeId>) -> Result<(), Stale>
+    ensures found { IsOk result ↔ HasNode node queue.old }
+    ensures moves { OnOk result (MovesNode node queue.old queue.new) }
+    ensures stale { OnErr result (queue.new ≡ queue.old) }
+{
+    match node {
+        None => Ok(()),
+        Some(id) => queue.move_to_back(id),
+    }
+}
+
+/// The refusal of two, want of serials before want of memory.
+fn both(
+    first: Result<(), ReserveError>,
+    second: Result<(), ReserveError>,
+) -> Result<(), ReserveError>
+    ensures ok { IsOk result ↔ (IsOk first × IsOk second) }
+    ensures used_up { (result ≡ Err ReserveError.UsedUp) ↔ ((first ≡ Err ReserveError.UsedUp) ⊎ (second ≡ Err ReserveError.UsedUp)) }
+{
+    match (first, second) {
+        (Err(ReserveError::UsedUp), _) => first,
+        (_, Err(ReserveError::UsedUp)) => second,
+        (Err(ReserveError::OutOfMemory), _) => first,
+        (Ok(()), _) => second,
+    }
+}
