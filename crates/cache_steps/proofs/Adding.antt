@@ -1,5 +1,5 @@
 -- The steps of an `ADD`.
-use Rattle.std.proofs.Common.{◌≡◌, ℕ, ◌+◌, ◌<◌, ◌^◌, Bool, true, false, not, ◌&&◌, List, ◌∷◌, ◌++◌, map, Option, Some, None, if◌then◌else◌, refl, sym, ap, ◌∙◌, subst}
+use Rattle.std.proofs.Common.{◌≡◌, ℕ, ◌<◌, Bool, true, false, not, ◌&&◌, List, ◌++◌, map, Option, Some, None, if◌then◌else◌, refl, sym, ap, ◌∙◌, subst}
 use Rattle.std.specs.Prelude.{codes, decimal, is_some, nat_lt, option_map}
 use Rattle.std.proofs.lemmas.Bool.{lt-ltb}
 use Rattle.audit_model.specs.Bytewise.{text_line}
@@ -7,7 +7,7 @@ use Rattle.audit_model.specs.Changes.{all_held_after}
 use Rattle.audit_model.specs.Commands.{Deed}
 use Rattle.audit_model.specs.History.{Running, Value, accepts_values, part_count}
 use Rattle.audit_model.specs.Notes.{are_true_notes, candidates_of}
-use Rattle.audit_model.specs.Replies.{Offer, offered, offer_of, taken_where, value_from, sum_with, sum_or_error}
+use Rattle.audit_model.specs.Replies.{Offer, offer_of, taken_where, value_from, sum_with, sum_or_error}
 use Rattle.audit_model.specs.Situation.{Situation, HeldValue, live_at, candidate_at, view_in}
 use Rattle.audit_model.specs.declared.command.Command.TheVariants as says
 use Rattle.audit_model.specs.declared.config.Config.{Config}

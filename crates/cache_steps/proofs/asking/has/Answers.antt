@@ -1,5 +1,5 @@
-use Rattle.std.proofs.Common.{◌≡◌, ℕ, Some, None, sym, ap, subst, ◌∙◌}
-use Rattle.std.specs.Prelude.{codes, option_map}
+use Rattle.std.proofs.Common.{◌≡◌, sym, subst}
+use Rattle.std.specs.Prelude.{codes}
 use Rattle.audit_model.specs.Replies.{yes_or_no}
 use Rattle.audit_model.specs.Situation.{live_at}
 use Rattle.cache_steps.proofs.Answering.{answers-has, yes-found, no-found}

@@ -1,4 +1,4 @@
-use Rattle.std.proofs.Common.{◌≡◌, ◌++◌, sym, ap, subst, refl}
+use Rattle.std.proofs.Common.{◌≡◌, ◌++◌, sym, subst, refl}
 use Rattle.std.specs.Prelude.{codes, decimal}
 use Rattle.audit_model.specs.Replies.{keys_listed}
 use Rattle.audit_model.specs.Situation.{live_keys_at}
