@@ -26,9 +26,11 @@ use Rattle.cache_lines.proofs.Lines.{IsLine-first_line, IsPartial-first_line, Is
 use Rattle.cache_steps.specs.Right.{step_saying, placed_by, held_when_run}
 use Rattle.cache_steps.proofs.Answering.{same-refl, none_succeeded}
 use Rattle.cache_store.specs.Promises.{no_deed}
+use Rattle.cache_namespace.specs.Drawing.{Identifiers}
 use Rattle.cache_namespace.specs.Gathered.{Gathered, gather}
 use Rattle.cache_namespace.specs.Lines.{ArePartedIn, Runs, IsThere, ended, ends_quit, held_step, holding, placed_in, ready, says_quit, set_in, with_drops}
 use Rattle.cache_namespace.specs.Ran.{RanOne, RanLines, RanReady, RanFeed, ends_held}
+use Rattle.cache_namespace.proofs.Drawn.{draws-first, draws-more, held-draws, spends-same}
 use Rattle.cache_namespace.proofs.Placing.{found-there}
 use Rattle.cache_namespace.specs.Whole.{held_line}
 use Rattle.cache_namespace.proofs.Running.{runs-more, ends-quit-more, may-run, line-due, line-fits, gather-more}
@@ -151,10 +153,10 @@ starts-quit config x (y ∷ ys) quit one e = e
 -- ---- lines of a connection that is ready
 
 -- lines ran until less than one, or too long a one, was left, or a `QUIT` ran
-pub ready-stopped : (config : Config) (base : Situation) (number : ℕ) (part_of : List ℕ → ℕ) (held : List HeldValue) (bytes : List ℕ) (quit : Bool) (rest : List ℕ) (Stands : List HeldValue → Type 0) (dropped : Bool) (old new : Gathered)
-    → (r : RanLines config base number part_of held bytes quit rest Stands dropped old new) → may_run_in (ended quit (with_drops dropped base) r.left (ready number rest)) number ≡ false
-    → RanReady config base number part_of held bytes quit false rest Stands dropped old new
-ready-stopped config base number part_of held bytes quit rest Stands dropped old new r stops = record {
+pub ready-stopped : (config : Config) (base : Situation) (number : ℕ) (part_of : List ℕ → ℕ) (held : List HeldValue) (bytes : List ℕ) (quit : Bool) (rest : List ℕ) (Stands : List HeldValue → Type 0) (dropped : Bool) (drawn drawing : Identifiers) (old new : Gathered)
+    → (r : RanLines config base number part_of held bytes quit rest Stands dropped drawn drawing old new) → may_run_in (ended quit (with_drops dropped base) r.left (ready number rest)) number ≡ false
+    → RanReady config base number part_of held bytes quit false rest Stands dropped drawn drawing old new
+ready-stopped config base number part_of held bytes quit rest Stands dropped drawn drawing old new r stops = record {
   steps = r.steps;
   left = r.left;
   stands = r.stands;
@@ -162,15 +164,16 @@ ready-stopped config base number part_of held bytes quit rest Stands dropped old
   parted = runs-parted config number part_of r.steps _ _ r.runs;
   ends = ends-none r.steps r.none_held;
   quits = r.quits;
+  draws = r.draws;
   gathered = r.gathered;
 }
 
 -- lines ran until memory was wanted for one
-pub ready-held : (config : Config) (base : Situation) (number : ℕ) (part_of : List ℕ → ℕ) (held : List HeldValue) (bytes rest line : List ℕ) (n : ℕ) (Stands : List HeldValue → Type 0) (dropped : Bool) (old middle new : Gathered)
-    → IsThere number base → (r : RanLines config base number part_of held bytes false rest Stands dropped old middle) → IsLine rest n → line ≡ without_return (take n rest)
+pub ready-held : (config : Config) (base : Situation) (number : ℕ) (part_of : List ℕ → ℕ) (held : List HeldValue) (bytes rest line : List ℕ) (n : ℕ) (Stands : List HeldValue → Type 0) (dropped : Bool) (drawn drawing : Identifiers) (old middle new : Gathered)
+    → IsThere number base → (r : RanLines config base number part_of held bytes false rest Stands dropped drawn drawing old middle) → IsLine rest n → line ≡ without_return (take n rest)
     → Stands (all_held_after config base.latest r.left no_deed []) → new ≡ gather middle (held_step number line ∷ [])
-    → RanReady config base number part_of held bytes false true rest Stands dropped old new
-ready-held config base number part_of held bytes rest line n Stands dropped old middle new there r at said stands gathers =
+    → RanReady config base number part_of held bytes false true rest Stands dropped drawn drawing old new
+ready-held config base number part_of held bytes rest line n Stands dropped drawn drawing old middle new there r at said stands gathers =
     let from = with_drops dropped base in
     let left = all_held_after config base.latest r.left no_deed [] in
     let runs = runs-held config from number part_of _ r.steps r.left rest line n there at said r.runs in
@@ -184,16 +187,17 @@ ready-held config base number part_of held bytes rest line n Stands dropped old 
       parted = runs-parted config number part_of (r.steps ++ held_step number line ∷ []) _ _ runs;
       ends = ends-held r.steps number line;
       quits = ends-quit-more config r.steps (held_step number line) false refl;
+      draws = draws-more config r.steps (held_step number line) drawn drawing drawing r.draws (held-draws config number line drawing);
       gathered = gathers ∙ ap (λ g. gather g (held_step number line ∷ [])) r.gathered ∙ gather-more old r.steps (held_step number line ∷ []);
     }
 
 -- ---- feeds
 
 -- a feed of a connection that is ready
-pub feeds-ready : (config : Config) (base : Situation) (number : ℕ) (part_of : List ℕ → ℕ) (held : List HeldValue) (bytes piece : List ℕ) (quit is_held : Bool) (rest : List ℕ) (Stands : List HeldValue → Type 0) (dropped : Bool) (old new : Gathered)
-    → RanReady config base number part_of held (bytes ++ piece) quit is_held rest Stands dropped old new → RanFeed config base number part_of held false bytes piece quit is_held rest Stands dropped old new
-feeds-ready config base number part_of held bytes piece quit is_held rest Stands dropped old new r =
-    record { steps = r.steps; left = r.left; stands = r.stands; after = r.after; parted = r.parted; ends = r.ends; quits = r.quits; gathered = r.gathered }
+pub feeds-ready : (config : Config) (base : Situation) (number : ℕ) (part_of : List ℕ → ℕ) (held : List HeldValue) (bytes piece : List ℕ) (quit is_held : Bool) (rest : List ℕ) (Stands : List HeldValue → Type 0) (dropped : Bool) (drawn drawing : Identifiers) (old new : Gathered)
+    → RanReady config base number part_of held (bytes ++ piece) quit is_held rest Stands dropped drawn drawing old new → RanFeed config base number part_of held false bytes piece quit is_held rest Stands dropped drawn drawing old new
+feeds-ready config base number part_of held bytes piece quit is_held rest Stands dropped drawn drawing old new r =
+    record { steps = r.steps; left = r.left; stands = r.stands; after = r.after; parted = r.parted; ends = r.ends; quits = r.quits; draws = r.draws; gathered = r.gathered }
 
 -- a connection that holds a line back, fed a piece
 abbrev held_with : Situation → List HeldValue → ℕ → List ℕ → List ℕ → Situation
@@ -204,36 +208,36 @@ abbrev step_released : ℕ → List ℕ → List ℕ → Option Accepted → Lis
 step_released number bytes reply accepted told = step_saying number (held_line bytes) reply accepted told
 
 -- it is right
-right-released : (config : Config) (base : Situation) (number : ℕ) (part_of : List ℕ → ℕ) (held : List HeldValue) (bytes piece : List ℕ) (quit : Bool) (Stood : List HeldValue → Type 0) (dropped : Bool) (old new : Gathered) → IsThere number base
-    → (one : RanOne config (held_with base held number bytes piece) number part_of (held_line bytes) quit Stood dropped old new)
+right-released : (config : Config) (base : Situation) (number : ℕ) (part_of : List ℕ → ℕ) (held : List HeldValue) (bytes piece : List ℕ) (quit : Bool) (Stood : List HeldValue → Type 0) (dropped : Bool) (drawn drawing : Identifiers) (old new : Gathered) → IsThere number base
+    → (one : RanOne config (held_with base held number bytes piece) number part_of (held_line bytes) quit Stood dropped drawn drawing old new)
     → is_right config (placed_step_in config (held_with base held number bytes piece) (Some (RunHeld number)) (step_released number bytes one.reply one.accepted one.told)) ≡ true
-right-released config base number part_of held bytes piece quit Stood dropped old new there one =
+right-released config base number part_of held bytes piece quit Stood dropped drawn drawing old new there one =
     subst (λ d. is_right config (placed_by config (held_with base held number bytes piece) (Some (RunHeld number)) d (action_by (reading config (held_line bytes))) (step_released number bytes one.reply one.accepted one.told)) ≡ true)
     (sym (ap (line_in (Some (RunHeld number))) (found-there base held number (holding number (held_line bytes) (behind_lines 1 bytes ++ piece)) there refl)))
     (right-in-turn config (held_with base held number bytes piece) (RunHeld number) number (held_line bytes) one.reply one.accepted one.told one.right (eq-eqb number number refl))
 
 -- what it leaves
-after-released : (config : Config) (base : Situation) (number : ℕ) (part_of : List ℕ → ℕ) (held : List HeldValue) (bytes piece : List ℕ) (quit : Bool) (Stood : List HeldValue → Type 0) (dropped : Bool) (old new : Gathered) → IsThere number base
-    → (one : RanOne config (held_with base held number bytes piece) number part_of (held_line bytes) quit Stood dropped old new)
+after-released : (config : Config) (base : Situation) (number : ℕ) (part_of : List ℕ → ℕ) (held : List HeldValue) (bytes piece : List ℕ) (quit : Bool) (Stood : List HeldValue → Type 0) (dropped : Bool) (drawn drawing : Identifiers) (old new : Gathered) → IsThere number base
+    → (one : RanOne config (held_with base held number bytes piece) number part_of (held_line bytes) quit Stood dropped drawn drawing old new)
     → after_step config (held_with base held number bytes piece) (Some (RunHeld number)) (step_released number bytes one.reply one.accepted one.told)
     (effect_in config (view_in config (held_with base held number bytes piece)) (action_by (reading config (held_line bytes))) (step_released number bytes one.reply one.accepted one.told))
     ≡ ended quit (with_drops dropped base) (held_when_run config (held_with base held number bytes piece) (action_by (reading config (held_line bytes))) (step_saying 0 [] one.reply one.accepted one.told)) (ready number (behind_lines 1 bytes ++ piece))
-after-released config base number part_of held bytes piece quit Stood dropped old new there one =
+after-released config base number part_of held bytes piece quit Stood dropped drawn drawing old new there one =
     after-held config base held number (holding number (held_line bytes) (behind_lines 1 bytes ++ piece)) (held_line bytes) one.reply one.accepted one.told quit there refl one.plain
     ∙ ap (λ b. ended quit (with_drops b base) (held_when_run config (held_with base held number bytes piece) (action_by (reading config (held_line bytes))) (step_saying 0 [] one.reply one.accepted one.told)) (ready number (behind_lines 1 bytes ++ piece))) (sym one.dropped_is)
 
 -- a feed of a connection that holds a command back: that command runs first
-pub feeds-held : (config : Config) (base : Situation) (number : ℕ) (part_of : List ℕ → ℕ) (held : List HeldValue) (bytes piece : List ℕ) (quit is_held : Bool) (rest : List ℕ) (Stood Stands : List HeldValue → Type 0) (was dropped : Bool) (old middle new : Gathered)
+pub feeds-held : (config : Config) (base : Situation) (number : ℕ) (part_of : List ℕ → ℕ) (held : List HeldValue) (bytes piece : List ℕ) (quit is_held : Bool) (rest : List ℕ) (Stood Stands : List HeldValue → Type 0) (was dropped : Bool) (drawn middling drawing : Identifiers) (old middle new : Gathered)
     → IsThere number base
-    → (one : RanOne config (held_with base held number bytes piece) number part_of (held_line bytes) false Stood was old middle)
-    → RanReady config (with_drops was base) number part_of (held_when_run config (held_with base held number bytes piece) (action_by (reading config (held_line bytes))) (step_saying 0 [] one.reply one.accepted one.told)) (behind_lines 1 bytes ++ piece) quit is_held rest Stands dropped middle new
-    → RanFeed config base number part_of held true bytes piece quit is_held rest Stands dropped old new
-feeds-held config base number part_of held bytes piece quit is_held rest Stood Stands was dropped old middle new there one r =
+    → (one : RanOne config (held_with base held number bytes piece) number part_of (held_line bytes) false Stood was drawn middling old middle)
+    → RanReady config (with_drops was base) number part_of (held_when_run config (held_with base held number bytes piece) (action_by (reading config (held_line bytes))) (step_saying 0 [] one.reply one.accepted one.told)) (behind_lines 1 bytes ++ piece) quit is_held rest Stands dropped middling drawing middle new
+    → RanFeed config base number part_of held true bytes piece quit is_held rest Stands dropped drawn drawing old new
+feeds-held config base number part_of held bytes piece quit is_held rest Stood Stands was dropped drawn middling drawing old middle new there one r =
     let s = held_with base held number bytes piece in
     let step = step_released number bytes one.reply one.accepted one.told in
     let effect = effect_in config (view_in config s) (action_by (reading config (held_line bytes))) step in
-    let right = right-released config base number part_of held bytes piece false Stood was old middle there one in
-    let after = after-released config base number part_of held bytes piece false Stood was old middle there one in
+    let right = right-released config base number part_of held bytes piece false Stood was drawn middling old middle there one in
+    let after = after-released config base number part_of held bytes piece false Stood was drawn middling old middle there one in
     record {
       steps = step ∷ r.steps;
       left = r.left;
@@ -244,6 +248,7 @@ feeds-held config base number part_of held bytes piece quit is_held rest Stood S
       parted = cons-parted part_of effect.value _ one.parted (ap (λ x. list_all (is_parted part_of) (accepted_values (placed_steps_in config x (RunLines number ∷ []) r.steps))) after ∙ r.parted);
       ends = starts step r.steps is_held refl r.ends;
       quits = starts-quit config step r.steps quit one.says r.quits;
+      draws = draws-first config step r.steps drawn middling drawing one.draws r.draws;
       gathered = r.gathered ∙ ap (λ g. gather g r.steps) one.gathered ∙ gather-more old (step ∷ []) r.steps;
     }
   where
@@ -252,10 +257,10 @@ feeds-held config base number part_of held bytes piece quit is_held rest Stood S
     starts x (y ∷ ys) b e h = h
 
 -- a feed of a connection that holds a `QUIT` back: nothing runs behind it
-pub feeds-quit : (config : Config) (base : Situation) (number : ℕ) (part_of : List ℕ → ℕ) (held : List HeldValue) (bytes piece rest : List ℕ) (Stands : List HeldValue → Type 0) (dropped : Bool) (old new : Gathered)
-    → IsThere number base → RanOne config (held_with base held number bytes piece) number part_of (held_line bytes) true Stands dropped old new
-    → RanFeed config base number part_of held true bytes piece true false rest Stands dropped old new
-feeds-quit config base number part_of held bytes piece rest Stands dropped old new there one =
+pub feeds-quit : (config : Config) (base : Situation) (number : ℕ) (part_of : List ℕ → ℕ) (held : List HeldValue) (bytes piece rest : List ℕ) (Stands : List HeldValue → Type 0) (dropped : Bool) (drawn drawing : Identifiers) (old new : Gathered)
+    → IsThere number base → RanOne config (held_with base held number bytes piece) number part_of (held_line bytes) true Stands dropped drawn drawing old new
+    → RanFeed config base number part_of held true bytes piece true false rest Stands dropped drawn drawing old new
+feeds-quit config base number part_of held bytes piece rest Stands dropped drawn drawing old new there one =
     let s = held_with base held number bytes piece in
     let step = step_released number bytes one.reply one.accepted one.told in
     let effect = effect_in config (view_in config s) (action_by (reading config (held_line bytes))) step in
@@ -266,11 +271,12 @@ feeds-quit config base number part_of held bytes piece rest Stands dropped old n
       left = left;
       stands = one.left;
       after =
-          ap (λ b. if b then after_steps config (after_step config s (Some (RunHeld number)) step effect) (RunLines number ∷ []) [] else None) (right-released config base number part_of held bytes piece true Stands dropped old new there one)
-          ∙ ap (λ x. after_steps config x (RunLines number ∷ []) []) (after-released config base number part_of held bytes piece true Stands dropped old new there one)
+          ap (λ b. if b then after_steps config (after_step config s (Some (RunHeld number)) step effect) (RunLines number ∷ []) [] else None) (right-released config base number part_of held bytes piece true Stands dropped drawn drawing old new there one)
+          ∙ ap (λ x. after_steps config x (RunLines number ∷ []) []) (after-released config base number part_of held bytes piece true Stands dropped drawn drawing old new there one)
           ∙ ap (λ b. if is_empty (due_if b number) then Some last else None) (stops-quit (with_drops dropped base) left number (ready number (behind_lines 1 bytes ++ piece)) refl);
       parted = cons-parted part_of effect.value [] one.parted refl;
       ends = refl;
       quits = one.says;
+      draws = draws-first config step [] drawn drawing drawing one.draws (spends-same drawing);
       gathered = one.gathered;
     }

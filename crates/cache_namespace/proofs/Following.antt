@@ -17,6 +17,7 @@ use Rattle.audit_model.specs.declared.config.Config.{Config}
 use Rattle.audit_model.specs.declared.command.Closing.{Closing}
 use Rattle.audit_model.specs.declared.event.Event.TheVariants as event
 use Rattle.audit_model.specs.declared.input.ServiceError.TheVariants as error
+use Rattle.cache_namespace.specs.Drawing.{Identifiers}
 use Rattle.cache_namespace.specs.Gathered.{Gathered}
 use Rattle.cache_namespace.specs.Lines.{set_in, ready}
 use Rattle.cache_namespace.specs.Ran.{standing_with, with_piece}
@@ -24,6 +25,7 @@ use Rattle.cache_namespace.specs.Shown.{shown, is_listed, is_open_with, open_fro
 use Rattle.cache_namespace.specs.Taken.{is_quit, FeedsConnection, Takes, fed, known, holds_at}
 use Rattle.cache_namespace.specs.Whole.{is_long_line}
 use Rattle.cache_namespace.specs.declared.connection.Connection.{Connection}
+use Rattle.cache_namespace.proofs.Drawn.{spends-same}
 use Rattle.cache_namespace.proofs.Running.{gather-none}
 use Rattle.cache_namespace.proofs.Table.{found-at, swapped-at, dropped-at, opened-last}
 
@@ -77,11 +79,11 @@ known-open latest m i c cs dropped x e lt at listed =
     (and_from (nat_lt 0 m) (nat_le m (length cs)) (lt-ltb 0 m (omega arith)) (le-leb m (length cs) (omega arith)), ap is_some (found-open m i c cs e lt at listed))
 
 -- a feed's record follows
-pub follows-feed : (config : Config) (part_of : List ℕ → ℕ) (latest m i moment : ℕ) (old new : Connection) (cs : List Connection) (dropped dropping : Bool) (x : List HeldValue) (piece : List ℕ) (is_held : Bool) (Stands : List HeldValue → Type 0) (was is : Gathered)
+pub follows-feed : (config : Config) (part_of : List ℕ → ℕ) (latest m i moment : ℕ) (old new : Connection) (cs : List Connection) (dropped dropping : Bool) (x : List HeldValue) (piece : List ℕ) (is_held : Bool) (Stands : List HeldValue → Type 0) (drawn drawing : Identifiers) (was is : Gathered)
     → m ≡ suc i → i < length cs → get_or cs i old ≡ old → is_listed m old ≡ true → moment < 2 ^ 63
-    → FeedsConnection config (situation (max moment latest) cs dropped x) m part_of x old piece new is_held Stands dropping was is
-    → Takes config part_of (situation latest cs dropped x) (fed m piece moment) is_held (is_quit new.closing) Stands (situation (max moment latest) (slice_set cs i new) dropping) was is
-follows-feed config part_of latest m i moment old new cs dropped dropping x piece is_held Stands was is e lt at listed low f =
+    → FeedsConnection config (situation (max moment latest) cs dropped x) m part_of x old piece new is_held Stands dropping drawn drawing was is
+    → Takes config part_of (situation latest cs dropped x) (fed m piece moment) is_held (is_quit new.closing) Stands (situation (max moment latest) (slice_set cs i new) dropping) drawn drawing was is
+follows-feed config part_of latest m i moment old new cs dropped dropping x piece is_held Stands drawn drawing was is e lt at listed low f =
     let s = situation latest cs dropped x in
     let known = known-open latest m i old cs dropped x e lt at listed in
     let found = found-open m i old cs e lt at listed in
@@ -105,6 +107,7 @@ follows-feed config part_of latest m i moment old new cs dropped dropping x piec
           ∙ f.parted;
       ends = f.ends;
       quits = f.quits;
+      draws = f.draws;
       gathered = f.gathered;
     }
 
@@ -122,10 +125,10 @@ listed-open m c = go c.closing c.held c.unread.bytes c.short
     go None false bytes h = not-long (is_long_line bytes) h
 
 -- a new connection's record follows
-pub follows-open : (config : Config) (part_of : List ℕ → ℕ) (latest m : ℕ) (new : Connection) (cs : List Connection) (dropped : Bool) (x : List HeldValue) (Stands : List HeldValue → Type 0) (was : Gathered)
+pub follows-open : (config : Config) (part_of : List ℕ → ℕ) (latest m : ℕ) (new : Connection) (cs : List Connection) (dropped : Bool) (x : List HeldValue) (Stands : List HeldValue → Type 0) (drawn : Identifiers) (was : Gathered)
     → m ≡ suc (length cs) → new.closing ≡ None → new.held ≡ false → new.unread.bytes ≡ [] → Stands x
-    → Takes config part_of (situation latest cs dropped x) (event.Open m) false false Stands (situation latest (cs ++ new ∷ []) dropped) was was
-follows-open config part_of latest m new cs dropped x Stands was e is_open free empty stands =
+    → Takes config part_of (situation latest cs dropped x) (event.Open m) false false Stands (situation latest (cs ++ new ∷ []) dropped) drawn drawn was was
+follows-open config part_of latest m new cs dropped x Stands drawn was e is_open free empty stands =
     let n_is : 1 + length cs ≡ m = omega arith in
     record {
       steps = [];
@@ -140,14 +143,15 @@ follows-open config part_of latest m new cs dropped x Stands was e is_open free 
       parted = refl;
       ends = refl;
       quits = refl;
+      draws = spends-same drawn;
       gathered = sym (gather-none was);
     }
 
 -- a closing's record follows
-pub follows-close : (config : Config) (part_of : List ℕ → ℕ) (latest m i : ℕ) (old new : Connection) (cs : List Connection) (dropped : Bool) (x : List HeldValue) (by : Closing) (Stands : List HeldValue → Type 0) (was : Gathered)
+pub follows-close : (config : Config) (part_of : List ℕ → ℕ) (latest m i : ℕ) (old new : Connection) (cs : List Connection) (dropped : Bool) (x : List HeldValue) (by : Closing) (Stands : List HeldValue → Type 0) (drawn : Identifiers) (was : Gathered)
     → m ≡ suc i → i < length cs → get_or cs i old ≡ old → old.closing ≡ None → new.closing ≡ Some by → Stands x
-    → Takes config part_of (situation latest cs dropped x) (event.Close m) false false Stands (situation latest (slice_set cs i new) dropped) was was
-follows-close config part_of latest m i old new cs dropped x by Stands was e lt at is_open closed stands =
+    → Takes config part_of (situation latest cs dropped x) (event.Close m) false false Stands (situation latest (slice_set cs i new) dropped) drawn drawn was was
+follows-close config part_of latest m i old new cs dropped x by Stands drawn was e lt at is_open closed stands =
     let s = situation latest cs dropped x in
     let known = known-open latest m i old cs dropped x e lt at (listed-open m old ∙ ap is_none is_open) in
     let rest : Option Situation = Some (without_connection m s) in
@@ -163,6 +167,7 @@ follows-close config part_of latest m i old new cs dropped x by Stands was e lt 
       parted = refl;
       ends = refl;
       quits = refl;
+      draws = spends-same drawn;
       gathered = sym (gather-none was);
     }
 

@@ -19,9 +19,11 @@ use Rattle.audit_model.specs.declared.transcript.Step.{Step}
 use Rattle.cache_lines.specs.Next.{IsLine}
 use Rattle.cache_lines.proofs.Lines.{IsLine-first_line, IsLine-behind_lines, IsLine-not_long}
 use Rattle.cache_steps.specs.Right.{step_saying, placed_by, held_when_run}
+use Rattle.cache_namespace.specs.Drawing.{Identifiers, Spends}
 use Rattle.cache_namespace.specs.Gathered.{Gathered, IsFresh, gather, reply_in}
 use Rattle.cache_namespace.specs.Lines.{Runs, IsThere, ended, ends_quit, has_its_part, placed_in, ready, says_quit, set_in, with_drops}
 use Rattle.cache_namespace.specs.Ran.{RanOne, RanLines}
+use Rattle.cache_namespace.proofs.Drawn.{draws-more, draws-spend, spends-same}
 use Rattle.cache_namespace.proofs.Placing.{found-there}
 use Rattle.cache_namespace.proofs.Stepping.{right-in-turn, after-line}
 
@@ -88,11 +90,11 @@ all-more : (p : Step → Bool) (xs : List Step) (x : Step) → list_all p xs ≡
 all-more p xs x all one = list_all-append p xs (x ∷ []) ∙ and_from (list_all p xs) (p x && true) all (and_from (p x) true one refl)
 
 -- one more line ran
-pub ran-more : (config : Config) (base : Situation) (number : ℕ) (part_of : List ℕ → ℕ) (held : List HeldValue) (bytes mid rest line : List ℕ) (n : ℕ) (quit : Bool) (Stood Stands : List HeldValue → Type 0) (was dropped : Bool) (old middle new : Gathered)
-    → IsThere number base → (r : RanLines config base number part_of held bytes false mid Stood was old middle) → IsLine mid n → line ≡ without_return (take n mid) → (quit ≡ false → rest ≡ drop (n + 1) mid)
-    → RanOne config (set_in (with_drops was base) r.left (ready number mid)) number part_of line quit Stands dropped middle new
-    → RanLines config base number part_of held bytes quit rest Stands dropped old new
-ran-more config base number part_of held bytes mid rest line n quit Stood Stands was dropped old middle new there r at said after one =
+pub ran-more : (config : Config) (base : Situation) (number : ℕ) (part_of : List ℕ → ℕ) (held : List HeldValue) (bytes mid rest line : List ℕ) (n : ℕ) (quit : Bool) (Stood Stands : List HeldValue → Type 0) (was dropped : Bool) (drawn middling drawing : Identifiers) (old middle new : Gathered)
+    → IsThere number base → (r : RanLines config base number part_of held bytes false mid Stood was drawn middling old middle) → IsLine mid n → line ≡ without_return (take n mid) → (quit ≡ false → rest ≡ drop (n + 1) mid)
+    → RanOne config (set_in (with_drops was base) r.left (ready number mid)) number part_of line quit Stands dropped middling drawing middle new
+    → RanLines config base number part_of held bytes quit rest Stands dropped drawn drawing old new
+ran-more config base number part_of held bytes mid rest line n quit Stood Stands was dropped drawn middling drawing old middle new there r at said after one =
     let from = with_drops was base in
     let s = set_in from r.left (ready number mid) in
     let step = step_saying number line one.reply one.accepted one.told in
@@ -111,6 +113,7 @@ ran-more config base number part_of held bytes mid rest line n quit Stood Stands
           ∙ ended-rest quit (λ e. IsLine-behind_lines mid n at ∙ sym (after e)) (held_when_run config s action step));
       none_held = all-more (λ (x : Step). not x.held) r.steps step r.none_held refl;
       quits = ends-quit-more config r.steps step quit one.says;
+      draws = draws-more config r.steps step drawn middling drawing r.draws one.draws;
       gathered = one.gathered ∙ ap (λ g. gather g (step ∷ [])) r.gathered ∙ gather-more old r.steps (step ∷ []);
     }
   where
@@ -120,23 +123,23 @@ ran-more config base number part_of held bytes mid rest line n quit Stood Stands
     ended-rest false is left = ap (λ b. set_in (with_drops dropped base) left (ready number b)) (is refl)
 
 -- the same, with the parts and the end in other words
-pub ran-as : (config : Config) (s : Situation) (number : ℕ) (part_of parting : List ℕ → ℕ) (line : List ℕ) (quit quits : Bool) (Stands : List HeldValue → Type 0) (dropped : Bool) (old new : Gathered)
-    → part_of ≡ parting → quit ≡ quits → RanOne config s number part_of line quit Stands dropped old new → RanOne config s number parting line quits Stands dropped old new
-ran-as config s number part_of parting line quit quits Stands dropped old new parts ends one =
-    subst (λ b. RanOne config s number parting line b Stands dropped old new) ends
-    (subst (λ (p : List ℕ → ℕ). RanOne config s number p line quit Stands dropped old new) parts one)
+pub ran-as : (config : Config) (s : Situation) (number : ℕ) (part_of parting : List ℕ → ℕ) (line : List ℕ) (quit quits : Bool) (Stands : List HeldValue → Type 0) (dropped : Bool) (drawn drawing : Identifiers) (old new : Gathered)
+    → part_of ≡ parting → quit ≡ quits → RanOne config s number part_of line quit Stands dropped drawn drawing old new → RanOne config s number parting line quits Stands dropped drawn drawing old new
+ran-as config s number part_of parting line quit quits Stands dropped drawn drawing old new parts ends one =
+    subst (λ b. RanOne config s number parting line b Stands dropped drawn drawing old new) ends
+    (subst (λ (p : List ℕ → ℕ). RanOne config s number p line quit Stands dropped drawn drawing old new) parts one)
 
 -- no line ran yet
-pub ran-none : (config : Config) (base : Situation) (number : ℕ) (part_of : List ℕ → ℕ) (held : List HeldValue) (bytes : List ℕ) (Stands : List HeldValue → Type 0) (dropped : Bool) (old : Gathered)
-    → Stands held → base.dropped ≡ dropped → RanLines config base number part_of held bytes false bytes Stands dropped old old
-ran-none config base number part_of held bytes Stands dropped old m same =
-    record { steps = []; left = held; stands = m; runs = ap (λ b. set_in (with_drops b base) held (ready number bytes)) (sym same); none_held = refl; quits = refl; gathered = sym (gather-none old) }
+pub ran-none : (config : Config) (base : Situation) (number : ℕ) (part_of : List ℕ → ℕ) (held : List HeldValue) (bytes : List ℕ) (Stands : List HeldValue → Type 0) (dropped : Bool) (drawn : Identifiers) (old : Gathered)
+    → Stands held → base.dropped ≡ dropped → RanLines config base number part_of held bytes false bytes Stands dropped drawn drawn old old
+ran-none config base number part_of held bytes Stands dropped drawn old m same =
+    record { steps = []; left = held; stands = m; runs = ap (λ b. set_in (with_drops b base) held (ready number bytes)) (sym same); none_held = refl; quits = refl; draws = spends-same drawn; gathered = sym (gather-none old) }
 
 -- a line that was refused changed nothing
-pub ran-kept : (config : Config) (base : Situation) (number : ℕ) (part_of : List ℕ → ℕ) (held : List HeldValue) (bytes rest : List ℕ) (Stood Stands : List HeldValue → Type 0) (was dropped : Bool) (old middle new : Gathered)
-    → RanLines config base number part_of held bytes false rest Stood was old middle → ((left : List HeldValue) → Stood left → Stands left) → dropped ≡ was → new ≡ middle
-    → RanLines config base number part_of held bytes false rest Stands dropped old new
-ran-kept config base number part_of held bytes rest Stood Stands was dropped old middle new r stays kept same =
+pub ran-kept : (config : Config) (base : Situation) (number : ℕ) (part_of : List ℕ → ℕ) (held : List HeldValue) (bytes rest : List ℕ) (Stood Stands : List HeldValue → Type 0) (was dropped : Bool) (drawn middling drawing : Identifiers) (old middle new : Gathered)
+    → RanLines config base number part_of held bytes false rest Stood was drawn middling old middle → ((left : List HeldValue) → Stood left → Stands left) → dropped ≡ was → Spends middling drawing → new ≡ middle
+    → RanLines config base number part_of held bytes false rest Stands dropped drawn drawing old new
+ran-kept config base number part_of held bytes rest Stood Stands was dropped drawn middling drawing old middle new r stays kept spends same =
     record {
       steps = r.steps;
       left = r.left;
@@ -144,6 +147,7 @@ ran-kept config base number part_of held bytes rest Stood Stands was dropped old
       runs = subst (λ b. Runs config number part_of (set_in base held (ready number bytes)) r.steps (set_in (with_drops b base) r.left (ready number rest))) (sym kept) r.runs;
       none_held = r.none_held;
       quits = r.quits;
+      draws = draws-spend config r.steps drawn middling drawing r.draws spends;
       gathered = same ∙ r.gathered;
     }
 

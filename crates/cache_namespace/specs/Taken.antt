@@ -18,6 +18,7 @@ use Rattle.audit_model.specs.declared.input.ServiceError.TheVariants as error
 use Rattle.audit_model.specs.declared.transcript.Record.{Record}
 use Rattle.audit_model.specs.declared.transcript.Step.{Step}
 use Rattle.cache_store.specs.Promises.{Frame}
+use Rattle.cache_namespace.specs.Drawing.{Identifiers, StepsDraw}
 use Rattle.cache_namespace.specs.Gathered.{Gathered, gather}
 use Rattle.cache_namespace.specs.Lines.{ArePartedIn, ends_quit, set_in, with_drops}
 use Rattle.cache_namespace.specs.Ran.{ends_held, with_piece}
@@ -37,7 +38,7 @@ is_quit (Some by.Quit) = true
 is_quit other = false
 
 -- The steps of a connection's feed ran, and may have closed it.
-pub record FeedsConnection (config : Config) (base : Situation) (number : ℕ) (part_of : List ℕ → ℕ) (values : List HeldValue) (old : Connection) (piece : List ℕ) (new : Connection) (is_held : Bool) (Stands : List HeldValue → Type 0) (dropped : Bool) (was is : Gathered) : Type 0 where
+pub record FeedsConnection (config : Config) (base : Situation) (number : ℕ) (part_of : List ℕ → ℕ) (values : List HeldValue) (old : Connection) (piece : List ℕ) (new : Connection) (is_held : Bool) (Stands : List HeldValue → Type 0) (dropped : Bool) (drawn drawing : Identifiers) (was is : Gathered) : Type 0 where
   pub steps : List Step
   pub left : List HeldValue
   pub stands : Stands left
@@ -45,11 +46,12 @@ pub record FeedsConnection (config : Config) (base : Situation) (number : ℕ) (
   pub parted : ArePartedIn config part_of (set_in base values (with_piece piece (shown number old))) (tasks_to_feed number old.held) steps
   pub ends : ends_held steps ≡ is_held
   pub quits : ends_quit config steps ≡ is_quit new.closing
+  pub draws : StepsDraw config steps drawn drawing
   pub gathered : is ≡ gather was steps
 
 -- The event's record followed, with these steps, of which the last one may be held or a `QUIT`; each value that they accept stands in its
--- key's part; their replies, steps and notes were gathered.
-pub record Takes (config : Config) (part_of : List ℕ → ℕ) (s : Situation) (happened : Event) (is_held quit : Bool) (Stands : List HeldValue → Type 0) (situated : List HeldValue → Situation) (was is : Gathered) : Type 0 where
+-- key's part; identifiers were drawn as they say; their replies, steps and notes were gathered.
+pub record Takes (config : Config) (part_of : List ℕ → ℕ) (s : Situation) (happened : Event) (is_held quit : Bool) (Stands : List HeldValue → Type 0) (situated : List HeldValue → Situation) (drawn drawing : Identifiers) (was is : Gathered) : Type 0 where
   pub steps : List Step
   pub left : List HeldValue
   pub stands : Stands left
@@ -57,6 +59,7 @@ pub record Takes (config : Config) (part_of : List ℕ → ℕ) (s : Situation) 
   pub parted : IsTrue (list_all (is_parted part_of) (accepted_in config s (record_of happened steps)))
   pub ends : ends_held steps ≡ is_held
   pub quits : ends_quit config steps ≡ quit
+  pub draws : StepsDraw config steps drawn drawing
   pub gathered : is ≡ gather was steps
 
 -- the replies of the connection at a place that were not taken

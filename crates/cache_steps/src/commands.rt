@@ -5,6 +5,7 @@ ghost use Rattle.audit_model.specs.Replies.{fault_text};
 ghost use Rattle.audit_model.specs.Situation.{Situation};
 ghost use Rattle.audit_model.specs.declared.command.Command.TheVariants as says;
 ghost use Rattle.cache_store.specs.Handing.{Hands};
+ghost use Rattle.cache_store.specs.Identifiers.{KeepsIdentifiers};
 ghost use Rattle.cache_store.specs.Promises.{IsUnchanged};
 ghost use Rattle.cache_steps.specs.Right.{Answers, KeepsFrame};
 
@@ -28,6 +29,7 @@ pub fn get<S: Store>(
     ensures ok { OnOk result ((s : Situation) → s.latest ≡ now → s.dropped ≡ (S.frame store.old).dropped → S.stands store.old s.held → Answers (S.frame store.old).config s (Running (says.Get key.now)) None (S.stands store.new) (S.frame store.new).dropped (Hands (S.frame store.old).part_of (S.untaken store.old) (S.untaken store.new)) output.old.items output.new.items) }
     ensures frame { OnOk result (KeepsFrame (S.frame store.old) (S.frame store.new) now) }
     ensures few { length (S.untaken store.new) ≤ length (S.untaken store.old) + S.count store.old + 1 }
+    ensures identifiers { KeepsIdentifiers (S.stream store.old) (S.stream store.new) (S.registered store.old) (S.registered store.new) }
     ensures unchanged { OnErr result (IsUnchanged (S.stands store.old) (S.stands store.new) (S.frame store.old) (S.frame store.new) (S.untaken store.old) (S.untaken store.new)) }
     ensures unwritten { OnErr result (output.new.items ≡ output.old.items) }
 {
@@ -71,6 +73,7 @@ pub fn set<S: Store>(
     ensures part { IfOk result (λ accepted. IfSome accepted (λ a. a.part ≡ (S.frame store.old).part_of key.now)) }
     ensures frame { OnOk result (KeepsFrame (S.frame store.old) (S.frame store.new) now) }
     ensures few { length (S.untaken store.new) ≤ length (S.untaken store.old) + S.count store.old + 1 }
+    ensures identifiers { KeepsIdentifiers (S.stream store.old) (S.stream store.new) (S.registered store.old) (S.registered store.new) }
     ensures unchanged { OnErr result (IsUnchanged (S.stands store.old) (S.stands store.new) (S.frame store.old) (S.frame store.new) (S.untaken store.old) (S.untaken store.new)) }
     ensures unwritten { OnErr result (output.new.items ≡ output.old.items) }
 {
@@ -105,6 +108,7 @@ pub fn del<S: Store>(
     ensures ok { OnOk result ((s : Situation) → s.latest ≡ now → s.dropped ≡ (S.frame store.old).dropped → S.stands store.old s.held → Answers (S.frame store.old).config s (Running (says.Del key.now)) None (S.stands store.new) (S.frame store.new).dropped (Hands (S.frame store.old).part_of (S.untaken store.old) (S.untaken store.new)) output.old.items output.new.items) }
     ensures frame { OnOk result (KeepsFrame (S.frame store.old) (S.frame store.new) now) }
     ensures few { length (S.untaken store.new) ≤ length (S.untaken store.old) + S.count store.old + 1 }
+    ensures identifiers { KeepsIdentifiers (S.stream store.old) (S.stream store.new) (S.registered store.old) (S.registered store.new) }
     ensures unchanged { OnErr result (IsUnchanged (S.stands store.old) (S.stands store.new) (S.frame store.old) (S.frame store.new) (S.untaken store.old) (S.untaken store.new)) }
     ensures unwritten { OnErr result (output.new.items ≡ output.old.items) }
 {
@@ -120,6 +124,7 @@ pub fn sync<S: Store>(store: &mut S, now: u64, output: &mut Vec<u8>) -> Result<(
     ensures ok { OnOk result ((s : Situation) → s.latest ≡ now → s.dropped ≡ (S.frame store.old).dropped → S.stands store.old s.held → Answers (S.frame store.old).config s (Running says.Sync) None (S.stands store.new) (S.frame store.new).dropped (Hands (S.frame store.old).part_of (S.untaken store.old) (S.untaken store.new)) output.old.items output.new.items) }
     ensures frame { OnOk result (KeepsFrame (S.frame store.old) (S.frame store.new) now) }
     ensures few { length (S.untaken store.new) ≤ length (S.untaken store.old) + S.count store.old + 1 }
+    ensures identifiers { KeepsIdentifiers (S.stream store.old) (S.stream store.new) (S.registered store.old) (S.registered store.new) }
     ensures unchanged { OnErr result (IsUnchanged (S.stands store.old) (S.stands store.new) (S.frame store.old) (S.frame store.new) (S.untaken store.old) (S.untaken store.new)) }
     ensures unwritten { OnErr result (output.new.items ≡ output.old.items) }
 {

@@ -4,8 +4,9 @@ ghost use Rattle.audit_model.specs.History.{Running, part_count};
 ghost use Rattle.audit_model.specs.Situation.{Situation};
 ghost use Rattle.audit_model.specs.declared.command.Command.TheVariants as says;
 ghost use Rattle.cache_store.specs.Handing.{Hands};
-ghost use Rattle.cache_store.specs.Identifiers.{AreUsedUp};
+ghost use Rattle.cache_store.specs.Identifiers.{KeepsIdentifiers, DrawsAlone, AreUsedUp};
 ghost use Rattle.cache_store.specs.Promises.{IsUnchanged};
+ghost use Rattle.cache_steps.specs.Drawing.{Draws};
 ghost use Rattle.cache_steps.specs.Right.{Answers, KeepsFrame};
 
 use crate::commands::SHORT;
@@ -19,6 +20,7 @@ pub fn clear<S: Store>(store: &mut S, now: u64, output: &mut Vec<u8>) -> Result<
     ensures ok { OnOk result ((s : Situation) → s.latest ≡ now → s.dropped ≡ (S.frame store.old).dropped → S.stands store.old s.held → Answers (S.frame store.old).config s (Running says.Clear) None (S.stands store.new) (S.frame store.new).dropped (Hands (S.frame store.old).part_of (S.untaken store.old) (S.untaken store.new)) output.old.items output.new.items) }
     ensures frame { OnOk result (KeepsFrame (S.frame store.old) (S.frame store.new) now) }
     ensures few { length (S.untaken store.new) ≤ length (S.untaken store.old) + S.count store.old + 1 }
+    ensures identifiers { KeepsIdentifiers (S.stream store.old) (S.stream store.new) (S.registered store.old) (S.registered store.new) }
     ensures unchanged { OnErr result (IsUnchanged (S.stands store.old) (S.stands store.new) (S.frame store.old) (S.frame store.new) (S.untaken store.old) (S.untaken store.new)) }
     ensures unwritten { OnErr result (output.new.items ≡ output.old.items) }
 {
@@ -40,6 +42,8 @@ pub fn drop_prefix<S: Store>(
     ensures in_use { OnOk result (output.new.items ≡ output.old.items ++ codes "ERR id\n" → AreUsedUp (part_count (S.frame store.old).config) (S.stream store.old) (S.stream store.new) (S.registered store.old)) }
     ensures frame { OnOk result (KeepsFrame (S.frame store.old) (S.frame store.new) now) }
     ensures few { length (S.untaken store.new) ≤ length (S.untaken store.old) + S.count store.old + 1 }
+    ensures draws { OnOk result (Draws (S.stream store.old) (S.stream store.new) (S.registered store.old) (S.registered store.new)) }
+    ensures spends { OnErr result (DrawsAlone (S.stream store.old) (S.stream store.new) (S.registered store.old) (S.registered store.new)) }
     ensures unchanged { OnErr result (IsUnchanged (S.stands store.old) (S.stands store.new) (S.frame store.old) (S.frame store.new) (S.untaken store.old) (S.untaken store.new)) }
     ensures unwritten { OnErr result (output.new.items ≡ output.old.items) }
 {

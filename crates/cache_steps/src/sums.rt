@@ -4,6 +4,7 @@ ghost use Rattle.audit_model.specs.History.{Running, accepts_values};
 ghost use Rattle.audit_model.specs.Situation.{Situation, HeldValue};
 ghost use Rattle.audit_model.specs.declared.command.Command.TheVariants as says;
 ghost use Rattle.cache_store.specs.Handing.{Hands};
+ghost use Rattle.cache_store.specs.Identifiers.{KeepsIdentifiers};
 ghost use Rattle.cache_store.specs.Promises.{Done, IsUnchanged, accepting, using, value_of};
 ghost use Rattle.cache_steps.specs.Right.{Answers, KeepsFrame};
 ghost use Rattle.cache_steps.specs.Sums.{sum_of_bytes};
@@ -35,6 +36,7 @@ pub fn add<S: Store>(
     ensures part { IfOk result (λ accepted. IfSome accepted (λ a. a.part ≡ (S.frame store.old).part_of key.now)) }
     ensures frame { OnOk result (KeepsFrame (S.frame store.old) (S.frame store.new) now) }
     ensures few { length (S.untaken store.new) ≤ length (S.untaken store.old) + S.count store.old + 1 }
+    ensures identifiers { KeepsIdentifiers (S.stream store.old) (S.stream store.new) (S.registered store.old) (S.registered store.new) }
     ensures unchanged { OnErr result (IsUnchanged (S.stands store.old) (S.stands store.new) (S.frame store.old) (S.frame store.new) (S.untaken store.old) (S.untaken store.new)) }
     ensures unwritten { OnErr result (output.new.items ≡ output.old.items) }
 {
@@ -81,6 +83,7 @@ fn use_value<S: Store>(
     ensures done { OnOk result ((held : List HeldValue) → S.stands store.old held → Done (S.frame store.old).config now (using key.now) held (S.stands store.new) (Hands (S.frame store.old).part_of (S.untaken store.old) (S.untaken store.new))) }
     ensures frame { OnOk result (S.frame store.new ≡ record (S.frame store.old) { latest = now }) }
     ensures few { length (S.untaken store.new) ≤ length (S.untaken store.old) + S.count store.old + 1 }
+    ensures identifiers { KeepsIdentifiers (S.stream store.old) (S.stream store.new) (S.registered store.old) (S.registered store.new) }
     ensures unchanged { OnErr result (IsUnchanged (S.stands store.old) (S.stands store.new) (S.frame store.old) (S.frame store.new) (S.untaken store.old) (S.untaken store.new)) }
     ensures unwritten { OnErr result (output.new.items ≡ output.old.items) }
 {
@@ -111,6 +114,7 @@ fn accept_sum<S: Store>(
     ensures done { OnOk result ((held : List HeldValue) → S.stands store.old held → Done (S.frame store.old).config now (accepting (Some key.now) (value_of (S.frame store.old) now key.now (decimal sum) milliseconds)) held (S.stands store.new) (Hands (S.frame store.old).part_of (S.untaken store.old) (S.untaken store.new))) }
     ensures frame { OnOk result (S.frame store.new ≡ record (S.frame store.old) { latest = now }) }
     ensures few { length (S.untaken store.new) ≤ length (S.untaken store.old) + S.count store.old + 1 }
+    ensures identifiers { KeepsIdentifiers (S.stream store.old) (S.stream store.new) (S.registered store.old) (S.registered store.new) }
     ensures unchanged { OnErr result (IsUnchanged (S.stands store.old) (S.stands store.new) (S.frame store.old) (S.frame store.new) (S.untaken store.old) (S.untaken store.new)) }
     ensures unwritten { OnErr result (output.new.items ≡ output.old.items) }
 {
