@@ -6,3 +6,4 @@ pub mod Values
 pub mod Sizes
 pub mod Deadlines
 pub mod Belonging
+pub mod Commands

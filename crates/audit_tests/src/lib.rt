@@ -4,6 +4,7 @@
 ghost use Rattle.audit_tests.specs.Lines.{GoodLines, BrokenLines};
 ghost use Rattle.audit_tests.specs.Connections.{GoodConnections, BrokenConnections};
 ghost use Rattle.audit_tests.specs.Values.{GoodValues, BrokenValues};
+ghost use Rattle.audit_tests.specs.Commands.{GoodCommands, BrokenCommands};
 ghost use Rattle.audit_tests.specs.Sizes.{GoodSizes, BrokenSizes};
 ghost use Rattle.audit_tests.specs.Belonging.{GoodBelonging, BrokenBelonging};
 ghost use Rattle.audit_tests.specs.Deadlines.{GoodDeadlines, BrokenDeadlines};
@@ -24,6 +25,12 @@ pub fn rows_of_connections()
 pub fn rows_of_values()
     ensures good { GoodValues }
     ensures broken { BrokenValues }
+{}
+
+/// What each command answers and does: asking without use, sums, coverage, keys in order, quitting.
+pub fn rows_of_commands()
+    ensures good { GoodCommands }
+    ensures broken { BrokenCommands }
 {}
 
 /// Who is told `Size` where there is a capacity.

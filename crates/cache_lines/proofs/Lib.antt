@@ -3,5 +3,4 @@ pub mod Returns
 pub mod Lines
 pub mod Keys
 pub mod Values
-pub mod Digits
 pub mod Words

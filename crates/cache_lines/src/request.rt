@@ -1,19 +1,16 @@
 //! What a line says, with its words where they stand in it.
-ghost use Rattle.std.specs.Prelude.{◌≡◌, ◌≤◌, ℕ, List, IsTrue, IfSome, MatchOption, option_map, position, not, if◌then◌else◌};
-ghost use Rattle.std.specs.Str.Parse.{digits_value};
+ghost use Rattle.std.specs.Prelude.{◌≡◌, ◌≤◌, ℕ, List, [], IsTrue, IfSome, MatchOption, option_map, position, not};
 ghost use Rattle.audit_model.specs.Bytewise.{cut_at, words, words_up_to};
-ghost use Rattle.audit_model.specs.Grammar.{is_key, is_key_byte, is_value, is_numeral, deadline_in, read_words, set, get, del, reading};
+ghost use Rattle.audit_model.specs.Grammar.{is_key, is_key_byte, is_value, deadline_in, read_words, read_verb, words_behind, set, get, has, del, add, dropif, verb_in, reading};
 ghost use Rattle.audit_model.specs.declared.config.Config.{Config};
-ghost use Rattle.cache_lines.specs.Request.{said, IsFit, IsOwn, LacksKey};
+ghost use Rattle.cache_lines.specs.Request.{said, verb_of, IsFit, IsOwn, LacksKey};
 
 use audit_model::{Config, LineError, key_fits};
+use cache_numbers::{milliseconds, number};
 use memchr::{memchr, memchr2};
 
 /// A key has at most this many bytes.
 const MAX_KEY: usize = 250;
-
-/// A deadline has at most this many digits.
-const MAX_DIGITS: usize = 12;
 
 /// A line that was read, with its words where they stand in the line, or its first fault.
 #[derive(Clone, Copy)]
@@ -26,11 +23,40 @@ pub enum Request<'a> {
     Get {
         key: &'a [u8],
     },
+    Has {
+        key: &'a [u8],
+    },
     Del {
         key: &'a [u8],
     },
+    Add {
+        key: &'a [u8],
+        deadline: Option<u64>,
+        number: u64,
+    },
+    Clear,
+    DropIf {
+        prefix: &'a [u8],
+    },
+    Keys,
     Sync,
+    Quit,
     Fault(LineError),
+}
+
+/// A command's word.
+#[derive(Clone, Copy)]
+pub enum Word {
+    Set,
+    Get,
+    Has,
+    Del,
+    Add,
+    Clear,
+    DropIf,
+    Keys,
+    Sync,
+    Quit,
 }
 
 /// What a line says.
@@ -39,28 +65,76 @@ pub fn read_line<'a>(config: &Config, line: &'a [u8]) -> Request<'a>
     ensures fit { IsFit config.now line.now result }
 {
     let (word, rest) = cut(line);
-    if word == b"SET".as_slice() {
-        match rest {
-            Some(rest) => read_set(config, rest),
-            None => Request::Fault(LineError::Syntax),
-        }
-    } else if word == b"GET".as_slice() {
-        match rest {
-            Some(rest) => read_get(rest),
-            None => Request::Fault(LineError::Syntax),
-        }
-    } else if word == b"DEL".as_slice() {
-        match rest {
-            Some(rest) => read_del(rest),
-            None => Request::Fault(LineError::Syntax),
-        }
-    } else if word == b"SYNC".as_slice() {
-        match rest {
-            Some(_) => Request::Fault(LineError::Syntax),
-            None => Request::Sync,
-        }
+    match word_of(word) {
+        Some(word) => match rest {
+            Some(rest) => read_behind(config, word, rest),
+            None => read_alone(word),
+        },
+        None => Request::Fault(LineError::Command),
+    }
+}
+
+/// The command's word that the bytes are.
+fn word_of(bytes: &[u8]) -> Option<Word>
+    ensures { option_map verb_of result ≡ verb_in bytes.now }
+{
+    if bytes == b"SET".as_slice() {
+        Some(Word::Set)
+    } else if bytes == b"GET".as_slice() {
+        Some(Word::Get)
+    } else if bytes == b"HAS".as_slice() {
+        Some(Word::Has)
+    } else if bytes == b"DEL".as_slice() {
+        Some(Word::Del)
+    } else if bytes == b"ADD".as_slice() {
+        Some(Word::Add)
+    } else if bytes == b"CLEAR".as_slice() {
+        Some(Word::Clear)
+    } else if bytes == b"DROPIF".as_slice() {
+        Some(Word::DropIf)
+    } else if bytes == b"KEYS".as_slice() {
+        Some(Word::Keys)
+    } else if bytes == b"SYNC".as_slice() {
+        Some(Word::Sync)
+    } else if bytes == b"QUIT".as_slice() {
+        Some(Word::Quit)
     } else {
-        Request::Fault(LineError::Command)
+        None
+    }
+}
+
+/// Reads a line that is a command's word alone.
+fn read_alone<'a>(word: Word) -> Request<'a>
+    ensures said { (config : Config) → said result ≡ read_words config (verb_of word) [] }
+    ensures fit { (config : Config) (line : List ℕ) → IsFit config line result }
+{
+    match word {
+        Word::Clear => Request::Clear,
+        Word::Keys => Request::Keys,
+        Word::Sync => Request::Sync,
+        Word::Quit => Request::Quit,
+        Word::Set | Word::Get | Word::Has | Word::Del | Word::Add | Word::DropIf => {
+            Request::Fault(LineError::Syntax)
+        }
+    }
+}
+
+/// Reads what stands behind a command's word and a space.
+fn read_behind<'a>(config: &Config, word: Word, rest: &'a [u8]) -> Request<'a>
+    ensures said { said result ≡ read_words config.now (verb_of word) (words_behind (verb_of word) (Some rest.now)) }
+    ensures fit { IsFit config.now rest.now result }
+{
+    match word {
+        Word::Set => read_set(config, rest),
+        Word::Get => read_get(rest),
+        Word::Has => read_has(rest),
+        Word::Del => read_del(rest),
+        Word::Add => read_add(config, rest),
+        Word::DropIf => read_dropif(rest),
+        Word::Clear => Request::Fault(LineError::Syntax),
+        Word::Keys => Request::Fault(LineError::Syntax),
+        Word::Sync => Request::Fault(LineError::Syntax),
+        Word::Quit => Request::Fault(LineError::Syntax),
     }
 }
 
@@ -89,6 +163,35 @@ fn read_set<'a>(config: &Config, rest: &'a [u8]) -> Request<'a>
     }
 }
 
+/// Reads what stands behind the word `ADD`.
+fn read_add<'a>(config: &Config, rest: &'a [u8]) -> Request<'a>
+    ensures said { said result ≡ read_words config.now add (words rest.now) }
+    ensures fit { (line : List ℕ) → IsFit config.now line result }
+{
+    let Some((key, rest)) = cut_key(rest) else {
+        return Request::Fault(LineError::Syntax);
+    };
+    let (deadline, rest) = cut(rest);
+    let Some(rest) = rest else {
+        return Request::Fault(LineError::Syntax);
+    };
+    let (digits, more) = cut(rest);
+    if more.is_some() {
+        return Request::Fault(LineError::Syntax);
+    }
+    let Some(deadline) = read_deadline(config, deadline) else {
+        return Request::Fault(LineError::Deadline);
+    };
+    match number(digits) {
+        Some(number) => Request::Add {
+            key,
+            deadline,
+            number,
+        },
+        None => Request::Fault(LineError::Number),
+    }
+}
+
 /// Reads the key behind the word `GET`.
 fn read_get(rest: &[u8]) -> Request<'_>
     ensures said { (config : Config) → said result ≡ read_words config get (words rest.now) }
@@ -101,6 +204,18 @@ fn read_get(rest: &[u8]) -> Request<'_>
     }
 }
 
+/// Reads the key behind the word `HAS`.
+fn read_has(rest: &[u8]) -> Request<'_>
+    ensures said { (config : Config) → said result ≡ read_words config has (words rest.now) }
+    ensures fit { (config : Config) (line : List ℕ) → IsFit config line result }
+{
+    if key_fits(rest) {
+        Request::Has { key: rest }
+    } else {
+        Request::Fault(LineError::Syntax)
+    }
+}
+
 /// Reads the key behind the word `DEL`.
 fn read_del(rest: &[u8]) -> Request<'_>
     ensures said { (config : Config) → said result ≡ read_words config del (words rest.now) }
@@ -108,6 +223,18 @@ fn read_del(rest: &[u8]) -> Request<'_>
 {
     if key_fits(rest) {
         Request::Del { key: rest }
+    } else {
+        Request::Fault(LineError::Syntax)
+    }
+}
+
+/// Reads the prefix behind the word `DROPIF`.
+fn read_dropif(rest: &[u8]) -> Request<'_>
+    ensures said { (config : Config) → said result ≡ read_words config dropif (words rest.now) }
+    ensures fit { (config : Config) (line : List ℕ) → IsFit config line result }
+{
+    if key_fits(rest) {
+        Request::DropIf { prefix: rest }
     } else {
         Request::Fault(LineError::Syntax)
     }
@@ -169,22 +296,4 @@ fn read_deadline(config: &Config, word: &[u8]) -> Option<Option<u64>>
         Some(ms) => Some(Some(ms)),
         None => None,
     }
-}
-
-/// The number that at most twelve digits write.
-fn milliseconds(word: &[u8]) -> Option<u64>
-    ensures said { result ≡ (if is_numeral 12 word.now then Some (digits_value 10 word.now) else None) }
-    ensures small { IfSome result (λ ms. ms ≤ 999999999999) }
-{
-    if word.is_empty() || word.len() > MAX_DIGITS {
-        return None;
-    }
-    let mut value: u64 = 0;
-    for digit in word {
-        if !digit.is_ascii_digit() {
-            return None;
-        }
-        value = value * 10 + u64::from(*digit - b'0');
-    }
-    Some(value)
 }

@@ -74,6 +74,21 @@ fn a_line_too_long(rt: HostRuntime) -> Result<(), Fail> {
 }
 
 #[test]
+fn a_value_of_8184_bytes_and_one_of_8185(rt: HostRuntime) -> Result<(), Fail> {
+    let mut buffer = Buffer::new(rt.alloc());
+    feed(&mut buffer, b"SET a - ")?;
+    feed(&mut buffer, &[b'v'; 8184])?;
+    feed(&mut buffer, b"\n")?;
+    assert_eq!(rt; buffer.next(), Next::Line(8192));
+    let mut buffer = Buffer::new(rt.alloc());
+    feed(&mut buffer, b"SET a - ")?;
+    feed(&mut buffer, &[b'v'; 8185])?;
+    feed(&mut buffer, b"\n")?;
+    assert_eq!(rt; buffer.next(), Next::TooLong);
+    Ok(())
+}
+
+#[test]
 fn a_piece_after_a_refusal(rt: HostRuntime) -> Result<(), Fail> {
     let mut buffer = Buffer::new(rt.alloc());
     feed(&mut buffer, b"one\ntw")?;

@@ -32,6 +32,17 @@ fn gets(line: &[u8], key: &[u8]) -> bool {
     }
 }
 
+fn adds(line: &[u8], own_deadlines: bool, key: &[u8], deadline: Option<u64>, number: u64) -> bool {
+    match read_line(&config(own_deadlines), line) {
+        Request::Add {
+            key: k,
+            deadline: d,
+            number: n,
+        } => k == key && d == deadline && n == number,
+        _ => false,
+    }
+}
+
 fn fails(line: &[u8], own_deadlines: bool, error: LineError) -> bool {
     match read_line(&config(own_deadlines), line) {
         Request::Fault(e) => e == error,
@@ -46,7 +57,17 @@ fn each_command(rt: HostRuntime) -> Result<(), Fail> {
     assert!(rt;
         matches!(read_line(&config(false), b"DEL ab"), Request::Del { key } if key == b"ab".as_slice())
     );
+    assert!(rt;
+        matches!(read_line(&config(false), b"HAS ab"), Request::Has { key } if key == b"ab".as_slice())
+    );
+    assert!(rt; adds(b"ADD n - 7", false, b"n", None, 7));
+    assert!(rt;
+        matches!(read_line(&config(false), b"DROPIF ab"), Request::DropIf { prefix } if prefix == b"ab".as_slice())
+    );
+    assert!(rt; matches!(read_line(&config(false), b"CLEAR"), Request::Clear));
+    assert!(rt; matches!(read_line(&config(false), b"KEYS"), Request::Keys));
     assert!(rt; matches!(read_line(&config(false), b"SYNC"), Request::Sync));
+    assert!(rt; matches!(read_line(&config(false), b"QUIT"), Request::Quit));
     Ok(())
 }
 
@@ -80,6 +101,36 @@ fn deadlines(rt: HostRuntime) -> Result<(), Fail> {
 }
 
 #[test]
+fn numbers(rt: HostRuntime) -> Result<(), Fail> {
+    assert!(rt; adds(b"ADD n 5 007", true, b"n", Some(5), 7));
+    assert!(rt; adds(b"ADD n - 18446744073709551615", false, b"n", None, u64::MAX));
+    assert!(rt; adds(b"ADD n - 00000000000000000001", false, b"n", None, 1));
+    assert!(rt; fails(b"ADD n - 000000000000000000001", false, LineError::Number));
+    assert!(rt; fails(b"ADD n - 18446744073709551616", false, LineError::Number));
+    assert!(rt; fails(b"ADD n - 99999999999999999999", false, LineError::Number));
+    assert!(rt; fails(b"ADD n - 1x", false, LineError::Number));
+    assert!(rt; fails(b"ADD n - +1", false, LineError::Number));
+    assert!(rt; fails(b"ADD n - ", false, LineError::Number));
+    assert!(rt; fails(b"ADD n - 1\r", false, LineError::Number));
+    assert!(rt; fails(b"ADD n 5 1x", false, LineError::Deadline));
+    assert!(rt; fails(b"ADD n 5 1 2", false, LineError::Syntax));
+    assert!(rt; fails(b"ADD n - 1 ", false, LineError::Syntax));
+    assert!(rt; fails(b"ADD n -", false, LineError::Syntax));
+    assert!(rt; fails(b"ADD n", false, LineError::Syntax));
+    assert!(rt; fails(b"ADD  - 1", false, LineError::Syntax));
+    Ok(())
+}
+
+#[test]
+fn the_longest_values(rt: HostRuntime) -> Result<(), Fail> {
+    let mut line = [b'v'; 8192];
+    line[..8].copy_from_slice(b"SET a - ");
+    assert!(rt; sets(&line, false, b"a", None, &[b'v'; 8184]));
+    assert!(rt; sets(b"SET a 00 x", true, b"a", Some(0), b"x"));
+    Ok(())
+}
+
+#[test]
 fn the_longest_key(rt: HostRuntime) -> Result<(), Fail> {
     let mut line = [b'k'; 254];
     line[..4].copy_from_slice(b"GET ");
@@ -106,6 +157,17 @@ fn what_cannot_be_read(rt: HostRuntime) -> Result<(), Fail> {
     assert!(rt; fails(b"GET  a", false, LineError::Syntax));
     assert!(rt; fails(b"GET a ", false, LineError::Syntax));
     assert!(rt; fails(b"GET", false, LineError::Syntax));
-    assert!(rt; fails(b"SYNC ", false, LineError::Syntax));
+    assert!(rt; fails(b"GET a\r", false, LineError::Syntax));
+    assert!(rt; fails(b"LOAD a", false, LineError::Command));
+    for line in [
+        b"CLEAR ".as_slice(),
+        b"KEYS a",
+        b"SYNC ",
+        b"QUIT x",
+        b"HAS",
+        b"DROPIF a b",
+    ] {
+        assert!(rt; fails(line, false, LineError::Syntax));
+    }
     Ok(())
 }

@@ -1,4 +1,5 @@
 pub mod Draining
+pub mod Drawn
 pub mod FeedSteps
 pub mod FeedTaken
 pub mod Following

@@ -3,8 +3,8 @@ use Rattle.std.proofs.Common.{◌≡◌, ℕ, Bool, true, false, not, ◌==◌, 
 use Rattle.std.specs.Prelude.{is_some}
 use Rattle.std.specs.List.{find}
 use Rattle.std.proofs.lemmas.Bool.{eq-eqb}
-use Rattle.audit_model.specs.Situation.{Situation, Connection, HeldValue, connection_in, without_number, without_waiting, is_overlong}
-use Rattle.cache_namespace.specs.Lines.{set_in, IsThere}
+use Rattle.audit_model.specs.Situation.{Situation, Connection, HeldValue, connection_in, with_connection, without_number, without_waiting, is_overlong}
+use Rattle.cache_namespace.specs.Lines.{ended, set_in, IsThere}
 
 -- the connection under that number
 abbrev pub numbered : ℕ → Connection → Connection
@@ -78,3 +78,20 @@ set-again base held left n c d fits =
       connections = if is_overlong (numbered n d) then without_number n base.connections else ks;
       pending = if is_overlong (numbered n d) then map (without_waiting n) base.pending else base.pending;
     }) (swapped-again n c d base.connections)
+
+-- nor where it closes
+pub quit-again : (base : Situation) (held left : List HeldValue) (n : ℕ) (c d : Connection) → is_overlong (numbered n c) ≡ false
+    → with_connection true (numbered n d) (record (set_in base held (numbered n c)) { held = left }) ≡ ended true base left (numbered n d)
+quit-again base held left n c d fits =
+    ap (λ b. record base {
+      held = left;
+      connections = without_number n (if b then without_number n base.connections else map (swap n c) base.connections);
+      pending = map (without_waiting n) (if b then map (without_waiting n) base.pending else base.pending);
+    }) fits
+    ∙ ap (λ ks. record base { held = left; connections = ks; pending = map (without_waiting n) base.pending }) (dropped-swapped n c base.connections)
+
+-- as it now is, or closed by a `QUIT`
+pub ended-again : (base : Situation) (held left : List HeldValue) (n : ℕ) (c d : Connection) (quit : Bool) → is_overlong (numbered n c) ≡ false
+    → with_connection quit (numbered n d) (record (set_in base held (numbered n c)) { held = left }) ≡ ended quit base left (numbered n d)
+ended-again base held left n c d true fits = quit-again base held left n c d fits
+ended-again base held left n c d false fits = set-again base held left n c d fits

@@ -1,5 +1,6 @@
 -- A line that ran while a record is made.
-use Rattle.std.proofs.Common.{◌≡◌, ℕ, List, [], ◌∷◌, ◌++◌, Option, Some, sym, ap, ◌∙◌, subst}
+use Rattle.std.proofs.Common.{◌≡◌, ℕ, Bool, true, List, [], ◌∷◌, ◌++◌, Option, Some, None, refl, sym, ap, ◌∙◌, subst}
+use Rattle.std.proofs.lemmas.List.{append-nil}
 use Rattle.audit_model.specs.Grammar.{reading}
 use Rattle.audit_model.specs.Situation.{Situation, HeldValue}
 use Rattle.audit_model.specs.Steps.{action_by}
@@ -9,15 +10,25 @@ use Rattle.audit_model.specs.declared.transcript.Note.{Note}
 use Rattle.audit_model.specs.declared.transcript.Step.{Step}
 use Rattle.cache_store.specs.Handing.{Hands, ArePartByPart}
 use Rattle.cache_steps.specs.Right.{Answers, step_saying}
-use Rattle.cache_namespace.specs.Ran.{RanOne, IsPlainLine}
+use Rattle.std.specs.Prelude.{codes}
+use Rattle.audit_model.specs.History.{part_count}
+use Rattle.cache_store.specs.Identifiers.{KeepsIdentifiers, AreUsedUp}
+use Rattle.cache_steps.specs.Drawing.{Draws}
+use Rattle.cache_namespace.specs.Drawing.{Identifiers, says_drop}
+use Rattle.cache_namespace.specs.Lines.{says_quit}
+use Rattle.cache_namespace.proofs.Drawn.{step-drawn, step-kept}
+use Rattle.cache_namespace.specs.Ran.{RanOne, IsPlainLine, HasItsPart}
 
-pub ran-kept : (config : Config) (s : Situation) (number : ℕ) (line copy old_text new_text last_text : List ℕ) (accepted : Option Accepted) (before steps : List Step) (notes waiting drained last : List Note)
-    (part_of : List ℕ → ℕ) (Stands Stays : List HeldValue → Type 0)
-    → Answers config s (action_by (reading config line)) accepted Stands (Hands part_of waiting drained) old_text new_text
-    → IsPlainLine config line → (old_text ≡ []) × (waiting ≡ []) → ((held : List HeldValue) → Stands held → Stays held)
+pub ran-kept : (config : Config) (s : Situation) (number : ℕ) (line copy old_text new_text last_text : List ℕ) (accepted : Option Accepted) (quit : Bool) (before steps : List Step) (notes waiting drained last : List Note)
+    (part_of : List ℕ → ℕ) (Stands Stays : List HeldValue → Type 0) (dropped dropping : Bool) (drawn drawing left : Identifiers)
+    → Answers config s (action_by (reading config line)) accepted Stands dropped (Hands part_of waiting drained) old_text new_text
+    → IsPlainLine config line quit → says_quit (reading config line) ≡ quit → HasItsPart config part_of line accepted → Draws drawn.stream drawing.stream drawn.registered drawing.registered
+    → (says_drop (reading config line) ≡ true → new_text ≡ old_text ++ codes "ERR id\n" → AreUsedUp (part_count config) drawn.stream drawing.stream drawn.registered)
+    → KeepsIdentifiers drawing.stream left.stream drawing.registered left.registered
+    → (old_text ≡ []) × (waiting ≡ []) → ((held : List HeldValue) → Stands held → Stays held) → dropping ≡ dropped
     → (ArePartByPart part_of drained → notes ≡ drained) → copy ≡ line → steps ≡ before ++ step_saying number copy new_text accepted notes ∷ [] → last ≡ [] → last_text ≡ []
-    → RanOne config s number line Stays (record { text = old_text; kept = Some before; waiting = waiting }) (record { text = last_text; kept = Some steps; waiting = last })
-ran-kept config s number line copy old_text new_text last_text accepted before steps notes waiting drained last part_of Stands Stays a plain fresh stays taken same pushed none empty =
+    → RanOne config s number part_of line quit Stays dropping drawn left (record { text = old_text; kept = Some before; waiting = waiting }) (record { text = last_text; kept = Some steps; waiting = last })
+ran-kept config s number line copy old_text new_text last_text accepted quit before steps notes waiting drained last part_of Stands Stays dropped dropping drawn drawing left a plain says parted draws used keeps fresh stays kept taken same pushed none empty =
     let reply : new_text ≡ a.reply = a.written ∙ ap (λ t. t ++ a.reply) fresh.0 in
     let told : drained ≡ a.told = a.handed.added ∙ ap (λ ns. ns ++ a.told) fresh.1 in
     let noted : notes ≡ a.told = taken (subst (ArePartByPart part_of) (sym told) a.handed.by_part) ∙ told in
@@ -27,11 +38,39 @@ ran-kept config s number line copy old_text new_text last_text accepted before s
       told = a.told;
       right = a.right;
       plain = plain s (step_saying number line a.reply accepted a.told);
+      says = says;
+      parted = parted s (step_saying number line a.reply accepted a.told) refl;
       left = stays _ a.left;
+      dropped_is = kept ∙ a.dropped_is;
+      draws = step-kept config _ drawn drawing left (step-drawn config number line a.reply old_text new_text accepted a.told drawn drawing draws used a.written) keeps;
       gathered =
           ap (λ t. record { text = t; kept = Some steps; waiting = last }) (empty ∙ sym fresh.0)
           ∙ ap (λ w. record { text = old_text; kept = Some steps; waiting = w }) (none ∙ sym fresh.1)
           ∙ ap (λ ss. record { text = old_text; kept = Some ss; waiting = waiting })
           (pushed ∙ ap (λ l. before ++ step_saying number l new_text accepted notes ∷ []) same ∙ ap (λ r. before ++ step_saying number line r accepted notes ∷ []) reply
           ∙ ap (λ ns. before ++ step_saying number line a.reply accepted ns ∷ []) noted);
+    }
+
+-- a line that ran while none is made
+pub ran-loose : (config : Config) (s : Situation) (number : ℕ) (line old_text new_text : List ℕ) (accepted : Option Accepted) (quit : Bool) (waiting drained : List Note)
+    (part_of : List ℕ → ℕ) (Stands : List HeldValue → Type 0) (dropped : Bool) (drawn drawing : Identifiers)
+    → Answers config s (action_by (reading config line)) accepted Stands dropped (Hands part_of waiting drained) old_text new_text
+    → IsPlainLine config line quit → says_quit (reading config line) ≡ quit → HasItsPart config part_of line accepted → Draws drawn.stream drawing.stream drawn.registered drawing.registered
+    → (says_drop (reading config line) ≡ true → new_text ≡ old_text ++ codes "ERR id\n" → AreUsedUp (part_count config) drawn.stream drawing.stream drawn.registered)
+    → RanOne config s number part_of line quit Stands dropped drawn drawing (record { text = old_text; kept = None; waiting = waiting }) (record { text = new_text; kept = None; waiting = drained })
+ran-loose config s number line old_text new_text accepted quit waiting drained part_of Stands dropped drawn drawing a plain says parted draws used =
+    record {
+      reply = a.reply;
+      accepted = accepted;
+      told = a.told;
+      right = a.right;
+      plain = plain s (step_saying number line a.reply accepted a.told);
+      says = says;
+      parted = parted s (step_saying number line a.reply accepted a.told) refl;
+      left = a.left;
+      dropped_is = a.dropped_is;
+      draws = step-drawn config number line a.reply old_text new_text accepted a.told drawn drawing draws used a.written;
+      gathered =
+          ap (λ t. record { text = t; kept = None; waiting = drained }) (a.written ∙ ap (λ r. old_text ++ r) (sym (append-nil a.reply)))
+          ∙ ap (λ w. record { text = old_text ++ (a.reply ++ []); kept = None; waiting = w }) (a.handed.added ∙ ap (λ n. waiting ++ n) (sym (append-nil a.told)));
     }

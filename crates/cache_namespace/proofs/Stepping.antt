@@ -15,8 +15,8 @@ use Rattle.audit_model.specs.declared.transcript.Accepted.{Accepted}
 use Rattle.audit_model.specs.declared.transcript.Note.{Note}
 use Rattle.cache_steps.specs.Right.{DoesRight, step_saying, placed_by, held_when_run}
 use Rattle.cache_steps.proofs.Answering.{same-refl}
-use Rattle.cache_namespace.specs.Lines.{IsPlain, IsThere, set_in}
-use Rattle.cache_namespace.proofs.Placing.{found-there, set-again, numbered}
+use Rattle.cache_namespace.specs.Lines.{IsPlain, IsThere, ended, set_in, with_drops}
+use Rattle.cache_namespace.proofs.Placing.{found-there, ended-again, numbered}
 
 -- the effect of a step of a line
 abbrev pub effect_saying : Config → Situation → ℕ → List ℕ → List ℕ → Option Accepted → List Note → Effect
@@ -31,25 +31,20 @@ right-in-turn config s task conn line reply accepted told r turn =
     let placed = placed_by config s (Some task) (Some line) (action_by (reading config line)) (step_saying conn line reply accepted told) in
     and_from _ _ (and_from _ _ (and_from _ _ (and_from _ _ (and_from _ _ (and_from _ _ (and_from _ _ (and_from (is_in_turn placed) (is_held_rightly placed) turn refl) (same-refl line)) r.replies) r.loads) r.accepts) r.tells) r.silent) r.within
 
-or-false : (b : Bool) → (b || false) ≡ b
-or-false true = refl
-or-false false = refl
-
--- a plain step puts its connection in its place again
-pub placed-again : (base : Situation) (held left : List HeldValue) (n : ℕ) (c d : Connection) (effect : Effect) (after : Connection → Connection)
-    → IsThere n base → is_overlong (numbered n c) ≡ false → quits effect ≡ false → drops effect ≡ false → key_loaded effect.action ≡ None → after (numbered n c) ≡ numbered n d
+-- a plain step puts its connection in its place again, or closes it
+pub placed-again : (base : Situation) (held left : List HeldValue) (n : ℕ) (c d : Connection) (effect : Effect) (after : Connection → Connection) (quit : Bool)
+    → IsThere n base → is_overlong (numbered n c) ≡ false → quits effect ≡ quit → key_loaded effect.action ≡ None → after (numbered n c) ≡ numbered n d
     → (let s = record (set_in base held (numbered n c)) { held = left; dropped = base.dropped || drops effect } in
     option_map_or (λ k. with_connection (quits effect) (after k) (join_load n effect s)) (connection_in n s) s)
-    ≡ set_in base left (numbered n d)
-placed-again base held left n c d effect after there fits stays keeps alone e =
+    ≡ ended quit (with_drops (base.dropped || drops effect) base) left (numbered n d)
+placed-again base held left n c d effect after quit there fits stays alone e =
     let put = set_in base held (numbered n c) in
     let s = record put { held = left; dropped = base.dropped || drops effect } in
     ap (λ o. option_map_or (λ k. with_connection (quits effect) (after k) (join_load n effect s)) o s) (found-there base held n c there fits)
     ∙ ap (λ b. with_connection b (after (numbered n c)) (join_load n effect s)) stays
-    ∙ ap (λ key. with_connection false (after (numbered n c)) (join_by n (is_waiting effect) key effect.load s)) alone
-    ∙ ap (λ k. with_connection false k s) e
-    ∙ ap (λ b. with_connection false (numbered n d) (record put { held = left; dropped = b })) (ap (λ b. base.dropped || b) keeps ∙ or-false base.dropped)
-    ∙ set-again base held left n c d fits
+    ∙ ap (λ key. with_connection quit (after (numbered n c)) (join_by n (is_waiting effect) key effect.load s)) alone
+    ∙ ap (λ k. with_connection quit k s) e
+    ∙ ended-again (with_drops (base.dropped || drops effect) base) held left n c d quit fits
 
 -- the connection that runs lines, without its first line
 abbrev pub beyond : Connection → Connection
@@ -60,25 +55,27 @@ abbrev pub released : Connection → Connection
 released c = record { number = c.number; unread = c.unread; standing = Ready; waited = 0 }
 
 -- what a plain step of a line leaves of the situation
-pub after-line : (config : Config) (base : Situation) (held : List HeldValue) (n : ℕ) (c : Connection) (line reply : List ℕ) (accepted : Option Accepted) (told : List Note)
-    → IsThere n base → is_overlong (numbered n c) ≡ false → IsPlain (effect_saying config (set_in base held (numbered n c)) n line reply accepted told)
+pub after-line : (config : Config) (base : Situation) (held : List HeldValue) (n : ℕ) (c : Connection) (line reply : List ℕ) (accepted : Option Accepted) (told : List Note) (quit : Bool)
+    → IsThere n base → is_overlong (numbered n c) ≡ false → IsPlain (effect_saying config (set_in base held (numbered n c)) n line reply accepted told) quit
     → after_step config (set_in base held (numbered n c)) (Some (RunLines n)) (step_saying n line reply accepted told) (effect_saying config (set_in base held (numbered n c)) n line reply accepted told)
-    ≡ set_in base (held_when_run config (set_in base held (numbered n c)) (action_by (reading config line)) (step_saying n line reply accepted told)) (numbered n (beyond c))
-after-line config base held n c line reply accepted told there fits plain =
+    ≡ ended quit (with_drops (base.dropped || drops (effect_saying config (set_in base held (numbered n c)) n line reply accepted told)) base)
+    (held_when_run config (set_in base held (numbered n c)) (action_by (reading config line)) (step_saying n line reply accepted told)) (numbered n (beyond c))
+after-line config base held n c line reply accepted told quit there fits plain =
     let s = set_in base held (numbered n c) in
     let effect = effect_saying config s n line reply accepted told in
     placed-again base held (held_when_run config s (action_by (reading config line)) (step_saying n line reply accepted told)) n c (beyond c) effect
-    (connection_after (Some (RunLines n)) (step_saying n line reply accepted told) effect) there fits plain.quits plain.drops plain.loads
+    (connection_after (Some (RunLines n)) (step_saying n line reply accepted told) effect) quit there fits plain.quits plain.loads
     (ap (λ b. record { number = n; unread = behind_lines 1 c.unread; standing = if b then Held line else Ready; waited = 0 }) plain.stays)
 
 -- what a plain step of a held command leaves of the situation
-pub after-held : (config : Config) (base : Situation) (held : List HeldValue) (n : ℕ) (c : Connection) (line reply : List ℕ) (accepted : Option Accepted) (told : List Note)
-    → IsThere n base → is_overlong (numbered n c) ≡ false → IsPlain (effect_saying config (set_in base held (numbered n c)) n line reply accepted told)
+pub after-held : (config : Config) (base : Situation) (held : List HeldValue) (n : ℕ) (c : Connection) (line reply : List ℕ) (accepted : Option Accepted) (told : List Note) (quit : Bool)
+    → IsThere n base → is_overlong (numbered n c) ≡ false → IsPlain (effect_saying config (set_in base held (numbered n c)) n line reply accepted told) quit
     → after_step config (set_in base held (numbered n c)) (Some (RunHeld n)) (step_saying n line reply accepted told) (effect_saying config (set_in base held (numbered n c)) n line reply accepted told)
-    ≡ set_in base (held_when_run config (set_in base held (numbered n c)) (action_by (reading config line)) (step_saying n line reply accepted told)) (numbered n (released c))
-after-held config base held n c line reply accepted told there fits plain =
+    ≡ ended quit (with_drops (base.dropped || drops (effect_saying config (set_in base held (numbered n c)) n line reply accepted told)) base)
+    (held_when_run config (set_in base held (numbered n c)) (action_by (reading config line)) (step_saying n line reply accepted told)) (numbered n (released c))
+after-held config base held n c line reply accepted told quit there fits plain =
     let s = set_in base held (numbered n c) in
     let effect = effect_saying config s n line reply accepted told in
     placed-again base held (held_when_run config s (action_by (reading config line)) (step_saying n line reply accepted told)) n c (released c) effect
-    (connection_after (Some (RunHeld n)) (step_saying n line reply accepted told) effect) there fits plain.quits plain.drops plain.loads
+    (connection_after (Some (RunHeld n)) (step_saying n line reply accepted told) effect) quit there fits plain.quits plain.loads
     (ap (λ b. record { number = n; unread = c.unread; standing = if b then Held line else Ready; waited = 0 }) plain.stays)

@@ -1,3 +1,4 @@
+pub mod Drawing
 pub mod Gathered
 pub mod Kept
 pub mod Lines

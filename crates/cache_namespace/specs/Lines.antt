@@ -1,13 +1,20 @@
 -- A connection's lines, run one after another.
-use Rattle.std.specs.Prelude.{◌≡◌, ℕ, false, true, List, [], ◌∷◌, Some, None, IsTrue, is_some}
-use Rattle.audit_model.specs.Commands.{drops, quits}
+use Rattle.std.specs.Prelude.{◌≡◌, ℕ, Bool, false, true, not, ◌&&◌, List, [], ◌∷◌, Some, None, Ok, IsTrue, is_some, if◌then◌else◌}
+use Rattle.std.specs.List.{list_all}
+use Rattle.std.specs.Option.{option_map_or}
+use Rattle.audit_laws.specs.Leading.{is_parted}
+use Rattle.audit_laws.specs.Placing.{placed_steps_in}
+use Rattle.audit_model.specs.Commands.{quits}
 use Rattle.audit_model.specs.Follows.{placed_step_in}
 use Rattle.audit_model.specs.Changes.{after_step}
+use Rattle.audit_model.specs.Grammar.{Reading, reading}
 use Rattle.audit_model.specs.History.{Effect}
 use Rattle.audit_model.specs.Loads.{key_loaded}
-use Rattle.audit_model.specs.Situation.{Situation, Connection, HeldValue, Ready, Held, connection_in, may_run_in, with_connection}
-use Rattle.audit_model.specs.Steps.{RunLines, is_right}
+use Rattle.audit_model.specs.Obeys.{accepted_values}
+use Rattle.audit_model.specs.Situation.{Situation, Connection, HeldValue, Ready, Held, connection_in, may_run_in, with_connection, without_connection}
+use Rattle.audit_model.specs.Steps.{Task, RunLines, is_right}
 use Rattle.audit_model.specs.Stream.{is_held}
+use Rattle.audit_model.specs.declared.command.Command.TheVariants as says
 use Rattle.audit_model.specs.declared.config.Config.{Config}
 use Rattle.audit_model.specs.declared.transcript.Step.{Step}
 
@@ -23,6 +30,14 @@ holding number line bytes = record { number = number; unread = bytes; standing =
 abbrev pub set_in : Situation → List HeldValue → Connection → Situation
 set_in base held connection = with_connection false connection (record base { held = held })
 
+-- the situation with a `DROPIF` accepted, or none
+abbrev pub with_drops : Bool → Situation → Situation
+with_drops dropped s = record s { dropped = dropped }
+
+-- the situation, but with those values held and that connection as it now is, or closed by a `QUIT`
+abbrev pub ended : Bool → Situation → List HeldValue → Connection → Situation
+ended quit base held connection = if quit then without_connection connection.number (record base { held = held }) else set_in base held connection
+
 -- the connection is open there
 abbrev pub IsThere : ℕ → Situation → Type 0
 IsThere number s = IsTrue (is_some (connection_in number s))
@@ -30,19 +45,38 @@ IsThere number s = IsTrue (is_some (connection_in number s))
 abbrev pub placed_in : Config → ℕ → Situation → Step → Effect
 placed_in config number s step = (placed_step_in config s (Some (RunLines number)) step).effect
 
--- these steps of the connection's lines ran, each in its turn and right
-abbrev pub Runs : Config → ℕ → Situation → List Step → Situation → Type 0
-Runs config number s [] t = t ≡ s
-Runs config number s (step ∷ steps) t =
-    IsTrue (may_run_in s number) × IsTrue (is_right config (placed_step_in config s (Some (RunLines number)) step))
-    × Runs config number (after_step config s (Some (RunLines number)) step (placed_in config number s step)) steps t
+-- the value that the step accepts, if any, stands in its key's part
+abbrev pub has_its_part : (List ℕ → ℕ) → Effect → Bool
+has_its_part part_of effect = option_map_or (is_parted part_of) effect.value true
 
--- a step that does nothing but to values
-pub record IsPlain (effect : Effect) : Type 0 where
+-- each value that these steps accept stands in its key's part
+abbrev pub ArePartedIn : Config → (List ℕ → ℕ) → Situation → List Task → List Step → Type 0
+ArePartedIn config part_of s tasks steps = IsTrue (list_all (is_parted part_of) (accepted_values (placed_steps_in config s tasks steps)))
+
+-- these steps of the connection's lines ran, each in its turn and right, and each value in its key's part
+abbrev pub Runs : Config → ℕ → (List ℕ → ℕ) → Situation → List Step → Situation → Type 0
+Runs config number part_of s [] t = t ≡ s
+Runs config number part_of s (step ∷ steps) t =
+    IsTrue (may_run_in s number) × IsTrue (is_right config (placed_step_in config s (Some (RunLines number)) step))
+    × IsTrue (has_its_part part_of (placed_in config number s step))
+    × Runs config number part_of (after_step config s (Some (RunLines number)) step (placed_in config number s step)) steps t
+
+-- a step that does nothing but to values, and may close its connection
+pub record IsPlain (effect : Effect) (quit : Bool) : Type 0 where
   pub stays : is_held effect ≡ false
-  pub quits : quits effect ≡ false
-  pub drops : drops effect ≡ false
+  pub quits : quits effect ≡ quit
   pub loads : key_loaded effect.action ≡ None
+
+-- the line is a `QUIT`
+abbrev pub says_quit : Reading → Bool
+says_quit (Ok says.Quit) = true
+says_quit other = false
+
+-- a `QUIT` that ran comes last
+abbrev pub ends_quit : Config → List Step → Bool
+ends_quit config [] = false
+ends_quit config (step ∷ []) = not step.held && says_quit (reading config step.line)
+ends_quit config (step ∷ next ∷ steps) = ends_quit config (next ∷ steps)
 
 -- a command held back
 abbrev pub held_step : ℕ → List ℕ → Step

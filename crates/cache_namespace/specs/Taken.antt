@@ -1,7 +1,9 @@
 -- What an event does to a namespace.
-use Rattle.std.specs.Prelude.{◌≡◌, ℕ, ◌≤◌, ◌<◌, ◌^◌, Bool, true, false, List, [], Option, Some, None, MatchOption, ◌⊎◌, slice_set}
-use Rattle.std.specs.List.{slice_get}
+use Rattle.std.specs.Prelude.{◌≡◌, ℕ, ◌≤◌, ◌<◌, ◌^◌, Bool, true, false, List, [], Option, Some, None, MatchOption, ◌⊎◌, IsTrue, slice_set}
+use Rattle.std.specs.List.{slice_get, list_all}
 use Rattle.std.specs.Option.{option_map_or}
+use Rattle.audit_laws.specs.Leading.{is_parted}
+use Rattle.audit_laws.specs.Placing.{accepted_in}
 use Rattle.audit_model.specs.Belongs.{Known, refusal_of}
 use Rattle.audit_model.specs.Follows.{Follows, after_steps, known_in}
 use Rattle.audit_model.specs.Places.{tasks_to_feed}
@@ -16,8 +18,9 @@ use Rattle.audit_model.specs.declared.input.ServiceError.TheVariants as error
 use Rattle.audit_model.specs.declared.transcript.Record.{Record}
 use Rattle.audit_model.specs.declared.transcript.Step.{Step}
 use Rattle.cache_store.specs.Promises.{Frame}
+use Rattle.cache_namespace.specs.Drawing.{Identifiers, StepsDraw}
 use Rattle.cache_namespace.specs.Gathered.{Gathered, gather}
-use Rattle.cache_namespace.specs.Lines.{set_in}
+use Rattle.cache_namespace.specs.Lines.{ArePartedIn, ends_quit, set_in, with_drops}
 use Rattle.cache_namespace.specs.Ran.{ends_held, with_piece}
 use Rattle.cache_namespace.specs.Shown.{shown, put_in, situation}
 use Rattle.cache_namespace.specs.declared.connection.Connection.{Connection}
@@ -29,22 +32,34 @@ record_of happened steps = record { event = happened; own = None; notices = []; 
 abbrev pub fed : ℕ → List ℕ → ℕ → Event
 fed conn piece moment = event.Feed conn piece (record { nanos = moment })
 
+-- it is closed by a `QUIT`
+abbrev pub is_quit : Option Closing → Bool
+is_quit (Some by.Quit) = true
+is_quit other = false
+
 -- The steps of a connection's feed ran, and may have closed it.
-pub record FeedsConnection (config : Config) (base : Situation) (number : ℕ) (values : List HeldValue) (old : Connection) (piece : List ℕ) (new : Connection) (is_held : Bool) (Stands : List HeldValue → Type 0) (was is : Gathered) : Type 0 where
+pub record FeedsConnection (config : Config) (base : Situation) (number : ℕ) (part_of : List ℕ → ℕ) (values : List HeldValue) (old : Connection) (piece : List ℕ) (new : Connection) (is_held : Bool) (Stands : List HeldValue → Type 0) (dropped : Bool) (drawn drawing : Identifiers) (was is : Gathered) : Type 0 where
   pub steps : List Step
   pub left : List HeldValue
   pub stands : Stands left
-  pub after : after_steps config (set_in base values (with_piece piece (shown number old))) (tasks_to_feed number old.held) steps ≡ Some (put_in base left number new)
+  pub after : after_steps config (set_in base values (with_piece piece (shown number old))) (tasks_to_feed number old.held) steps ≡ Some (put_in (with_drops dropped base) left number new)
+  pub parted : ArePartedIn config part_of (set_in base values (with_piece piece (shown number old))) (tasks_to_feed number old.held) steps
   pub ends : ends_held steps ≡ is_held
+  pub quits : ends_quit config steps ≡ is_quit new.closing
+  pub draws : StepsDraw config steps drawn drawing
   pub gathered : is ≡ gather was steps
 
--- The event's record followed, with these steps; their replies, steps and notes were gathered.
-pub record Takes (config : Config) (s : Situation) (happened : Event) (is_held : Bool) (Stands : List HeldValue → Type 0) (situated : List HeldValue → Situation) (was is : Gathered) : Type 0 where
+-- The event's record followed, with these steps, of which the last one may be held or a `QUIT`; each value that they accept stands in its
+-- key's part; identifiers were drawn as they say; their replies, steps and notes were gathered.
+pub record Takes (config : Config) (part_of : List ℕ → ℕ) (s : Situation) (happened : Event) (is_held quit : Bool) (Stands : List HeldValue → Type 0) (situated : List HeldValue → Situation) (drawn drawing : Identifiers) (was is : Gathered) : Type 0 where
   pub steps : List Step
   pub left : List HeldValue
   pub stands : Stands left
   pub follows : Follows config s (record_of happened steps) (situated left)
+  pub parted : IsTrue (list_all (is_parted part_of) (accepted_in config s (record_of happened steps)))
   pub ends : ends_held steps ≡ is_held
+  pub quits : ends_quit config steps ≡ quit
+  pub draws : StepsDraw config steps drawn drawing
   pub gathered : is ≡ gather was steps
 
 -- the replies of the connection at a place that were not taken
@@ -74,9 +89,9 @@ holds_at connections number = is_holding_in (situation 0 connections false []) n
 abbrev pub closing_at : List Connection → ℕ → Option Closing
 closing_at connections index = option_map_or (λ c. c.closing) (slice_get connections index) None
 
--- open, or closed for too long a line
-abbrev pub IsOpenOrLong : Option Closing → Type 0
-IsOpenOrLong closing = (closing ≡ None) ⊎ (closing ≡ Some by.Long)
+-- open, or closed for what it was fed: too long a line, or a `QUIT`
+abbrev pub IsOpenOrEnded : Option Closing → Type 0
+IsOpenOrEnded closing = (closing ≡ None) ⊎ (closing ≡ Some by.Long) ⊎ (closing ≡ Some by.Quit)
 
 -- one connection was put in the place of another
 pub record ReplacedAt (old new : List Connection) (index : ℕ) : Type 0 where

@@ -2,13 +2,15 @@
 ghost use Rattle.std.specs.Prelude.{◌≡◌, ◌<◌, ◌≤◌, ◌^◌, ◌++◌, ◌∷◌, ◌||◌, [], true, not, Bool, List, ℕ, IfOk, OnErr, IsErrOf, IsTrue, length};
 ghost use Rattle.audit_model.specs.Situation.{Situation, HeldValue};
 ghost use Rattle.audit_model.specs.declared.transcript.Note.{Note};
+ghost use Rattle.cache_store.specs.Identifiers.{DrawsAlone};
 ghost use Rattle.cache_store.specs.Promises.{IsUnchanged};
+ghost use Rattle.cache_namespace.specs.Drawing.{identifiers};
 ghost use Rattle.cache_steps.specs.Right.{KeepsFrame};
 ghost use Rattle.cache_namespace.specs.Gathered.{IsFresh, gather};
 ghost use Rattle.cache_namespace.specs.Kept.{IsReadyToHold, gathered};
 ghost use Rattle.cache_namespace.specs.Lines.{IsThere, held_step};
 ghost use Rattle.cache_namespace.specs.Ran.{RanReady, RanFeed};
-ghost use Rattle.cache_namespace.specs.Stops.{StopsFor, holds_back};
+ghost use Rattle.cache_namespace.specs.Stops.{StopsFor, holds_back, is_quit};
 ghost use Rattle.cache_namespace.specs.Whole.{has_line};
 
 use crate::kept::Kept;
@@ -57,7 +59,7 @@ fn run_ready<S: Store>(
     requires fresh { IsFresh (gathered text.old.items kept.old (S.untaken store.old)) }
     requires ready { IsReadyToHold kept.old }
     requires room { length piece.now ≤ unread.old.room }
-    ensures ran { (base : Situation) (held : List HeldValue) → base.latest ≡ now → IsThere number base → S.stands store.old held → RanReady config.now base number held (unread.old.bytes ++ piece.now) (holds_back result) unread.new.bytes (S.stands store.new) (gathered text.old.items kept.old (S.untaken store.old)) (gathered text.new.items kept.new (S.untaken store.new)) }
+    ensures ran { (base : Situation) (held : List HeldValue) → base.latest ≡ now → base.dropped ≡ (S.frame store.old).dropped → IsThere number base → S.stands store.old held → RanReady config.now base number (S.frame store.old).part_of held (unread.old.bytes ++ piece.now) (is_quit result) (holds_back result) unread.new.bytes (S.stands store.new) (S.frame store.new).dropped (identifiers (S.stream store.old) (S.registered store.old)) (identifiers (S.stream store.new) (S.registered store.new)) (gathered text.old.items kept.old (S.untaken store.old)) (gathered text.new.items kept.new (S.untaken store.new)) }
     ensures stops { StopsFor result unread.new.bytes }
     ensures frame { KeepsFrame (S.frame store.old) (S.frame store.new) now }
     ensures fresh { IsFresh (gathered text.new.items kept.new (S.untaken store.new)) }
@@ -66,6 +68,7 @@ fn run_ready<S: Store>(
     match run_lines(store, alloc, config, now, number, unread, text, kept) {
         Stop::More => Stop::More,
         Stop::TooLong => Stop::TooLong,
+        Stop::Quit => Stop::Quit,
         Stop::Held(len) => {
             hold_back(kept, alloc, number, unread.line(len));
             Stop::Held(len)
@@ -92,12 +95,13 @@ pub fn feed_lines<S: Store>(
     requires fresh { IsFresh (gathered text.old.items kept.old (S.untaken store.old)) }
     requires ready { IsReadyToHold kept.old }
     requires whole { IsTrue (not held || has_line unread.old.bytes) }
-    ensures ran { IfOk result (λ stop. (base : Situation) (values : List HeldValue) → base.latest ≡ now → IsThere number base → S.stands store.old values → RanFeed config.now base number values held unread.old.bytes piece.now (holds_back stop) unread.new.bytes (S.stands store.new) (gathered text.old.items kept.old (S.untaken store.old)) (gathered text.new.items kept.new (S.untaken store.new))) }
+    ensures ran { IfOk result (λ stop. (base : Situation) (values : List HeldValue) → base.latest ≡ now → base.dropped ≡ (S.frame store.old).dropped → IsThere number base → S.stands store.old values → RanFeed config.now base number (S.frame store.old).part_of values held unread.old.bytes piece.now (is_quit stop) (holds_back stop) unread.new.bytes (S.stands store.new) (S.frame store.new).dropped (identifiers (S.stream store.old) (S.registered store.old)) (identifiers (S.stream store.new) (S.registered store.new)) (gathered text.old.items kept.old (S.untaken store.old)) (gathered text.new.items kept.new (S.untaken store.new))) }
     ensures stops { IfOk result (λ stop. StopsFor stop unread.new.bytes) }
     ensures frame { KeepsFrame (S.frame store.old) (S.frame store.new) now }
     ensures fresh { IsFresh (gathered text.new.items kept.new (S.untaken store.new)) }
     ensures unread { OnErr result (unread.new.bytes ≡ unread.old.bytes) }
     ensures unchanged { OnErr result (IsUnchanged (S.stands store.old) (S.stands store.new) (S.frame store.old) (S.frame store.new) (S.untaken store.old) (S.untaken store.new)) }
+    ensures spends { OnErr result (DrawsAlone (S.stream store.old) (S.stream store.new) (S.registered store.old) (S.registered store.new)) }
     ensures ungathered { OnErr result (gathered text.new.items kept.new (S.untaken store.new) ≡ gathered text.old.items kept.old (S.untaken store.old)) }
     ensures again { IsErrOf result FeedError.HeldAgain → held ≡ true }
 {
@@ -108,7 +112,8 @@ pub fn feed_lines<S: Store>(
         return Ok(run_ready(store, alloc, config, now, number, unread, text, piece, kept));
     }
     match release(store, alloc, config, now, number, unread, text, kept) {
-        Ok(()) => Ok(run_ready(store, alloc, config, now, number, unread, text, piece, kept)),
+        Ok(false) => Ok(run_ready(store, alloc, config, now, number, unread, text, piece, kept)),
+        Ok(true) => Ok(Stop::Quit),
         Err(_) => Err(FeedError::HeldAgain),
     }
 }

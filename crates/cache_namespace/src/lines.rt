@@ -1,16 +1,20 @@
 //! A connection's lines, run one after another.
-ghost use Rattle.std.specs.Prelude.{◌≡◌, ◌<◌, ◌≤◌, ◌^◌, ◌+◌, ◌++◌, ◌∷◌, [], IfOk, OnOk, OnErr, IsSome, List, length, option_map, vec_len, vec_capacity};
+ghost use Rattle.std.specs.Prelude.{◌≡◌, ◌<◌, ◌≤◌, ◌^◌, ◌+◌, ◌++◌, ◌∷◌, [], IfOk, OnOk, OnErr, IsSome, List, length, option_map, codes, true, vec_len, vec_capacity};
 ghost use Rattle.audit_model.specs.Grammar.{reading};
+ghost use Rattle.audit_model.specs.History.{part_count};
 ghost use Rattle.audit_model.specs.Situation.{Situation, HeldValue};
 ghost use Rattle.audit_model.specs.Steps.{action_by};
 ghost use Rattle.cache_store.specs.Handing.{Hands, ArePartByPart};
+ghost use Rattle.cache_store.specs.Identifiers.{KeepsIdentifiers, DrawsAlone, AreUsedUp};
 ghost use Rattle.cache_store.specs.Promises.{IsUnchanged};
+ghost use Rattle.cache_steps.specs.Drawing.{Draws};
 ghost use Rattle.cache_steps.specs.Right.{Answers, KeepsFrame};
+ghost use Rattle.cache_namespace.specs.Drawing.{identifiers, says_drop};
 ghost use Rattle.cache_namespace.specs.Gathered.{IsFresh};
 ghost use Rattle.cache_namespace.specs.Kept.{IsReadyToHold, gathered};
-ghost use Rattle.cache_namespace.specs.Lines.{IsThere};
-ghost use Rattle.cache_namespace.specs.Ran.{RanOne, RanLines, IsPlainLine};
-ghost use Rattle.cache_namespace.specs.Stops.{StopsFor};
+ghost use Rattle.cache_namespace.specs.Lines.{IsThere, says_quit};
+ghost use Rattle.cache_namespace.specs.Ran.{RanOne, RanLines, IsPlainLine, HasItsPart};
+ghost use Rattle.cache_namespace.specs.Stops.{StopsFor, is_quit};
 ghost use Rattle.cache_namespace.specs.Whole.{has_line, held_line};
 ghost use Rattle.audit_model.specs.Stream.{behind_lines};
 ghost use Rattle.std.specs.Prelude.{IsTrue};
@@ -18,9 +22,16 @@ ghost use Rattle.std.specs.Prelude.{IsTrue};
 use crate::kept::Kept;
 use audit_model::{Accepted, Config, Note};
 use cache_lines::{Buffer, Next, Request, read_line};
-use cache_steps::{del, fault, get, set, sync};
+use cache_steps::{add, clear, del, drop_prefix, fault, get, has, keys, quit, set, sync};
 use cache_store::Store;
 use std::alloc::{AllocError, Global};
+
+/// What a line did besides its reply: which part took its value, and whether it closes its connection.
+#[derive(Clone, Copy, Drop)]
+struct Ran {
+    accepted: Option<Accepted>,
+    quits: bool,
+}
 
 /// Runs a line: its reply stands behind `text`.
 fn run_line<S: Store>(
@@ -29,13 +40,18 @@ fn run_line<S: Store>(
     now: u64,
     line: &[u8],
     text: &mut Vec<u8>,
-) -> Result<Option<Accepted>, AllocError>
+) -> Result<Ran, AllocError>
     requires config { (S.frame store.old).config ≡ config.now }
     requires in_time { (S.frame store.old).latest ≤ now }
     requires moment { now < 2 ^ 63 }
     requires short { length line.now ≤ 8192 }
-    ensures ok { IfOk result (λ accepted. (s : Situation) → s.latest ≡ now → S.stands store.old s.held → Answers config.now s (action_by (reading config.now line.now)) accepted (S.stands store.new) (Hands (S.frame store.old).part_of (S.untaken store.old) (S.untaken store.new)) text.old.items text.new.items) }
-    ensures plain { IsPlainLine config.now line.now }
+    ensures ok { IfOk result (λ ran. (s : Situation) → s.latest ≡ now → s.dropped ≡ (S.frame store.old).dropped → S.stands store.old s.held → Answers config.now s (action_by (reading config.now line.now)) ran.accepted (S.stands store.new) (S.frame store.new).dropped (Hands (S.frame store.old).part_of (S.untaken store.old) (S.untaken store.new)) text.old.items text.new.items) }
+    ensures plain { IfOk result (λ ran. IsPlainLine config.now line.now ran.quits) }
+    ensures says { IfOk result (λ ran. says_quit (reading config.now line.now) ≡ ran.quits) }
+    ensures parted { IfOk result (λ ran. HasItsPart config.now (S.frame store.old).part_of line.now ran.accepted) }
+    ensures draws { OnOk result (Draws (S.stream store.old) (S.stream store.new) (S.registered store.old) (S.registered store.new)) }
+    ensures used_up { OnOk result (says_drop (reading config.now line.now) ≡ true → text.new.items ≡ text.old.items ++ codes "ERR id\n" → AreUsedUp (part_count config.now) (S.stream store.old) (S.stream store.new) (S.registered store.old)) }
+    ensures spends { OnErr result (DrawsAlone (S.stream store.old) (S.stream store.new) (S.registered store.old) (S.registered store.new)) }
     ensures few { length (S.untaken store.new) ≤ length (S.untaken store.old) + S.count store.old + 1 }
     ensures frame { OnOk result (KeepsFrame (S.frame store.old) (S.frame store.new) now) }
     ensures unchanged { OnErr result (IsUnchanged (S.stands store.old) (S.stands store.new) (S.frame store.old) (S.frame store.new) (S.untaken store.old) (S.untaken store.new)) }
@@ -46,21 +62,85 @@ fn run_line<S: Store>(
             key,
             deadline,
             value,
-        } => { set(store, config.capacity, key, deadline, value, now, text) }
+        } => match set(store, config.capacity, key, deadline, value, now, text) {
+            Ok(accepted) => Ok(Ran {
+                accepted,
+                quits: false,
+            }),
+            Err(error) => Err(error),
+        },
         Request::Get { key } => match get(store, key, now, text) {
-            Ok(()) => Ok(None),
+            Ok(()) => Ok(Ran {
+                accepted: None,
+                quits: false,
+            }),
+            Err(error) => Err(error),
+        },
+        Request::Has { key } => match has(store, key, now, text) {
+            Ok(()) => Ok(Ran {
+                accepted: None,
+                quits: false,
+            }),
             Err(error) => Err(error),
         },
         Request::Del { key } => match del(store, key, now, text) {
-            Ok(()) => Ok(None),
+            Ok(()) => Ok(Ran {
+                accepted: None,
+                quits: false,
+            }),
+            Err(error) => Err(error),
+        },
+        Request::Add {
+            key,
+            deadline,
+            number,
+        } => match add(store, config.capacity, key, deadline, number, now, text) {
+            Ok(accepted) => Ok(Ran {
+                accepted,
+                quits: false,
+            }),
+            Err(error) => Err(error),
+        },
+        Request::Clear => match clear(store, now, text) {
+            Ok(()) => Ok(Ran {
+                accepted: None,
+                quits: false,
+            }),
+            Err(error) => Err(error),
+        },
+        Request::DropIf { prefix } => match drop_prefix(store, prefix, now, text) {
+            Ok(()) => Ok(Ran {
+                accepted: None,
+                quits: false,
+            }),
+            Err(error) => Err(error),
+        },
+        Request::Keys => match keys(store, now, text) {
+            Ok(()) => Ok(Ran {
+                accepted: None,
+                quits: false,
+            }),
             Err(error) => Err(error),
         },
         Request::Sync => match sync(store, now, text) {
-            Ok(()) => Ok(None),
+            Ok(()) => Ok(Ran {
+                accepted: None,
+                quits: false,
+            }),
+            Err(error) => Err(error),
+        },
+        Request::Quit => match quit(store, text) {
+            Ok(()) => Ok(Ran {
+                accepted: None,
+                quits: true,
+            }),
             Err(error) => Err(error),
         },
         Request::Fault(error) => match fault(store, error, text) {
-            Ok(()) => Ok(None),
+            Ok(()) => Ok(Ran {
+                accepted: None,
+                quits: false,
+            }),
             Err(error) => Err(error),
         },
     }
@@ -73,6 +153,7 @@ fn drain<S: Store>(store: &mut S, notes: &mut Vec<Note>)
     ensures none { S.untaken store.new ≡ [] }
     ensures stands { (held : List HeldValue) → S.stands store.old held → S.stands store.new held }
     ensures frame { S.frame store.new ≡ S.frame store.old }
+    ensures identifiers { KeepsIdentifiers (S.stream store.old) (S.stream store.new) (S.registered store.old) (S.registered store.new) }
 {
     while let Some(note) = store.next_notice() {
         push_within(notes, note);
@@ -91,7 +172,8 @@ fn push_within(notes: &mut Vec<Note>, note: Note)
     };
 }
 
-/// Runs a line, and gathers its reply, its step where a record is made, and its notes. An `Err` changes nothing.
+/// Runs a line, gathers its reply, its step where a record is made, and its notes, and answers whether it closes its connection.
+/// An `Err` changes nothing.
 fn run_one<S: Store>(
     store: &mut S,
     alloc: Global,
@@ -101,32 +183,33 @@ fn run_one<S: Store>(
     line: &[u8],
     text: &mut Vec<u8>,
     kept: &mut Option<Kept>,
-) -> Result<(), AllocError>
+) -> Result<bool, AllocError>
     requires config { (S.frame store.old).config ≡ config.now }
     requires in_time { (S.frame store.old).latest ≤ now }
     requires moment { now < 2 ^ 63 }
     requires short { length line.now ≤ 8192 }
     requires fresh { IsFresh (gathered text.old.items kept.old (S.untaken store.old)) }
     requires ready { IsReadyToHold kept.old }
-    ensures ok { OnOk result ((s : Situation) → s.latest ≡ now → S.stands store.old s.held → RanOne config.now s number line.now (S.stands store.new) (gathered text.old.items kept.old (S.untaken store.old)) (gathered text.new.items kept.new (S.untaken store.new))) }
+    ensures ok { IfOk result (λ quits. (s : Situation) → s.latest ≡ now → s.dropped ≡ (S.frame store.old).dropped → S.stands store.old s.held → RanOne config.now s number (S.frame store.old).part_of line.now quits (S.stands store.new) (S.frame store.new).dropped (identifiers (S.stream store.old) (S.registered store.old)) (identifiers (S.stream store.new) (S.registered store.new)) (gathered text.old.items kept.old (S.untaken store.old)) (gathered text.new.items kept.new (S.untaken store.new))) }
     ensures fresh { IsFresh (gathered text.new.items kept.new (S.untaken store.new)) }
     ensures ready { IsReadyToHold kept.new }
     ensures frame { OnOk result (KeepsFrame (S.frame store.old) (S.frame store.new) now) }
     ensures unchanged { OnErr result (IsUnchanged (S.stands store.old) (S.stands store.new) (S.frame store.old) (S.frame store.new) (S.untaken store.old) (S.untaken store.new)) }
+    ensures spends { OnErr result (DrawsAlone (S.stream store.old) (S.stream store.new) (S.registered store.old) (S.registered store.new)) }
     ensures ungathered { OnErr result (gathered text.new.items kept.new (S.untaken store.new) ≡ gathered text.old.items kept.old (S.untaken store.old)) }
 {
     match kept {
         None => {
-            run_line(store, config, now, line, text)?;
-            Ok(())
+            let ran = run_line(store, config, now, line, text)?;
+            Ok(ran.quits)
         }
         Some(kept) => {
             let most = store.len() + 1;
             let mut draft = kept.begin(alloc, line, most)?;
-            let accepted = run_line(store, config, now, line, text)?;
+            let ran = run_line(store, config, now, line, text)?;
             drain(store, &mut draft.notes);
-            kept.end(alloc, draft, number, accepted, text);
-            Ok(())
+            kept.end(alloc, draft, number, ran.accepted, text);
+            Ok(ran.quits)
         }
     }
 }
@@ -140,9 +223,11 @@ pub enum Stop {
     TooLong,
     /// Memory was wanted for the line of that many bytes.
     Held(usize),
+    /// A `QUIT` ran.
+    Quit,
 }
 
-/// Runs the connection's lines until no whole one is left, or memory is wanted for one.
+/// Runs the connection's lines until no whole one is left, memory is wanted for one, or a `QUIT` ran.
 pub fn run_lines<S: Store>(
     store: &mut S,
     alloc: Global,
@@ -158,7 +243,7 @@ pub fn run_lines<S: Store>(
     requires moment { now < 2 ^ 63 }
     requires fresh { IsFresh (gathered text.old.items kept.old (S.untaken store.old)) }
     requires ready { IsReadyToHold kept.old }
-    ensures ran { (base : Situation) (held : List HeldValue) → base.latest ≡ now → IsThere number base → S.stands store.old held → RanLines config.now base number held unread.old.bytes unread.new.bytes (S.stands store.new) (gathered text.old.items kept.old (S.untaken store.old)) (gathered text.new.items kept.new (S.untaken store.new)) }
+    ensures ran { (base : Situation) (held : List HeldValue) → base.latest ≡ now → base.dropped ≡ (S.frame store.old).dropped → IsThere number base → S.stands store.old held → RanLines config.now base number (S.frame store.old).part_of held unread.old.bytes (is_quit result) unread.new.bytes (S.stands store.new) (S.frame store.new).dropped (identifiers (S.stream store.old) (S.registered store.old)) (identifiers (S.stream store.new) (S.registered store.new)) (gathered text.old.items kept.old (S.untaken store.old)) (gathered text.new.items kept.new (S.untaken store.new)) }
     ensures stops { StopsFor result unread.new.bytes }
     ensures frame { KeepsFrame (S.frame store.old) (S.frame store.new) now }
     ensures fresh { IsFresh (gathered text.new.items kept.new (S.untaken store.new)) }
@@ -171,7 +256,8 @@ pub fn run_lines<S: Store>(
             Next::Line(len) => {
                 let line = unread.line(len);
                 match run_one(store, alloc, config, now, number, line, text, kept) {
-                    Ok(()) => unread.skip(len),
+                    Ok(false) => unread.skip(len),
+                    Ok(true) => return Stop::Quit,
                     Err(_) => return Stop::Held(len),
                 }
             }
@@ -179,7 +265,7 @@ pub fn run_lines<S: Store>(
     }
 }
 
-/// Runs the command that is held back, and takes its line. An `Err` changes nothing.
+/// Runs the command that is held back, takes its line, and answers whether it closes its connection. An `Err` changes nothing.
 pub fn release<S: Store>(
     store: &mut S,
     alloc: Global,
@@ -189,14 +275,14 @@ pub fn release<S: Store>(
     unread: &mut Buffer,
     text: &mut Vec<u8>,
     kept: &mut Option<Kept>,
-) -> Result<(), AllocError>
+) -> Result<bool, AllocError>
     requires config { (S.frame store.old).config ≡ config.now }
     requires in_time { (S.frame store.old).latest ≤ now }
     requires moment { now < 2 ^ 63 }
     requires fresh { IsFresh (gathered text.old.items kept.old (S.untaken store.old)) }
     requires ready { IsReadyToHold kept.old }
     requires whole { IsTrue (has_line unread.old.bytes) }
-    ensures ok { OnOk result ((s : Situation) → s.latest ≡ now → S.stands store.old s.held → RanOne config.now s number (held_line unread.old.bytes) (S.stands store.new) (gathered text.old.items kept.old (S.untaken store.old)) (gathered text.new.items kept.new (S.untaken store.new))) }
+    ensures ok { IfOk result (λ quits. (s : Situation) → s.latest ≡ now → s.dropped ≡ (S.frame store.old).dropped → S.stands store.old s.held → RanOne config.now s number (S.frame store.old).part_of (held_line unread.old.bytes) quits (S.stands store.new) (S.frame store.new).dropped (identifiers (S.stream store.old) (S.registered store.old)) (identifiers (S.stream store.new) (S.registered store.new)) (gathered text.old.items kept.old (S.untaken store.old)) (gathered text.new.items kept.new (S.untaken store.new))) }
     ensures rest { OnOk result (unread.new.bytes ≡ behind_lines 1 unread.old.bytes) }
     ensures room { unread.new.room ≡ unread.old.room }
     ensures fresh { IsFresh (gathered text.new.items kept.new (S.untaken store.new)) }
@@ -204,14 +290,15 @@ pub fn release<S: Store>(
     ensures frame { OnOk result (KeepsFrame (S.frame store.old) (S.frame store.new) now) }
     ensures unread { OnErr result (unread.new ≡ unread.old) }
     ensures unchanged { OnErr result (IsUnchanged (S.stands store.old) (S.stands store.new) (S.frame store.old) (S.frame store.new) (S.untaken store.old) (S.untaken store.new)) }
+    ensures spends { OnErr result (DrawsAlone (S.stream store.old) (S.stream store.new) (S.registered store.old) (S.registered store.new)) }
     ensures ungathered { OnErr result (gathered text.new.items kept.new (S.untaken store.new) ≡ gathered text.old.items kept.old (S.untaken store.old)) }
 {
     match unread.next() {
         Next::Line(len) => {
             let line = unread.line(len);
-            run_one(store, alloc, config, now, number, line, text, kept)?;
+            let quits = run_one(store, alloc, config, now, number, line, text, kept)?;
             unread.skip(len);
-            Ok(())
+            Ok(quits)
         }
         Next::More => unreachable!(),
         Next::TooLong => unreachable!(),

@@ -1,11 +1,11 @@
 -- What a store's clauses say, in the words of the definition of steps.
 use Rattle.std.proofs.Common.{◌≡◌, ℕ, Bool, true, false, not, ◌&&◌, ◌||◌, List, [], ◌∷◌, ◌++◌, map, Option, Some, None, if◌then◌else◌, refl, sym, ap, ◌∙◌, subst, append_assoc}
-use Rattle.std.specs.Prelude.{codes}
+use Rattle.std.specs.Prelude.{codes, option_map}
 use Rattle.std.proofs.lemmas.Bool.{eq-eqb, lt-ltb}
 use Rattle.audit_model.specs.Bytewise.{same, text_line}
 use Rattle.audit_model.specs.History.{Running, Value}
 use Rattle.std.specs.Prelude.{take, nat_lt, length, decimal, IsTrue}
-use Rattle.std.specs.List.{sum_by, list_all}
+use Rattle.std.specs.List.{sum_by, list_all, concat}
 use Rattle.std.proofs.Common.{◌<◌, ◌+◌}
 use Rattle.std.proofs.lemmas.List.{length-map}
 use Rattle.std.specs.List.{fold}
@@ -17,11 +17,11 @@ use Rattle.audit_model.specs.Commands.{Deed}
 use Rattle.audit_model.specs.Changes.{held_after, left_held}
 use Rattle.audit_model.specs.History.{Faulting, accepts_values, part_count}
 use Rattle.audit_model.specs.Notes.{is_within, is_succeeded, are_true_notes, candidates_of}
-use Rattle.audit_model.specs.Replies.{value_or_none, ok_or_off, fault_text, counts_of, offer_of, taken_where, value_from}
+use Rattle.audit_model.specs.Replies.{value_or_none, yes_or_no, keys_listed, ok_or_off, fault_text, counts_of, offer_of, taken_where, value_from}
 use Rattle.audit_model.specs.declared.command.LineError.{LineError}
 use Rattle.cache_store.specs.Handing.{Hands}
 use Rattle.cache_store.specs.Promises.{Frame, no_deed, accepting, syncing, value_of}
-use Rattle.audit_model.specs.Situation.{Situation, HeldValue, live_at, candidate_at, view_in}
+use Rattle.audit_model.specs.Situation.{Situation, HeldValue, live_at, live_keys_at, candidate_at, view_in}
 use Rattle.audit_model.specs.View.{Candidate}
 use Rattle.audit_model.specs.declared.command.Command.TheVariants as says
 use Rattle.audit_model.specs.declared.config.Config.{Config}
@@ -37,53 +37,62 @@ pub same-of : (a b : List ℕ) → a ≡ b → same a b ≡ true
 same-of a b e = subst (λ c. same a c ≡ true) e (same-refl a)
 
 -- a reply that is the one owed
-said : (a b : List ℕ) (other : Bool) → a ≡ b → (same a b || other) ≡ true
+pub said : (a b : List ℕ) (other : Bool) → a ≡ b → (same a b || other) ≡ true
 said a b other e = ap (λ t. t || other) (same-of a b e)
 
 and-false : (b : Bool) → (b && false) ≡ false
 and-false true = refl
 and-false false = refl
 
+or-false : (b : Bool) → (b || false) ≡ b
+or-false true = refl
+or-false false = refl
+
+-- a step that accepts no `DROPIF`
+pub undropped : (s : Situation) (dropped : Bool) → dropped ≡ s.dropped → dropped ≡ (s.dropped || false)
+undropped s dropped same = same ∙ sym (or-false s.dropped)
+
 -- a step that neither writes nor deletes has no older value to tell
 pub none_succeeded : (cs : List Candidate) → list_all (λ c. not (is_succeeded no_deed c)) cs ≡ true
 none_succeeded [] = refl
 none_succeeded (c ∷ cs) = ap (λ b. not (b || false) && list_all (λ d. not (is_succeeded no_deed d)) cs) (and-false (not c.new)) ∙ none_succeeded cs
 
-pub answers-get : (config : Config) (s : Situation) (key reply old new : List ℕ) (Stands : List HeldValue → Type 0) (Handed : List Note → Type 0)
-    → new ≡ old ++ reply → reply ≡ value_or_none (live_at config s.latest s.held key) → Done config s.latest (using key) s.held Stands Handed
-    → Answers config s (Running (says.Get key)) None Stands Handed old new
-answers-get config s key reply old new Stands Handed w r d = record {
+pub answers-get : (config : Config) (s : Situation) (key reply old new : List ℕ) (Stands : List HeldValue → Type 0) (dropped : Bool) (Handed : List Note → Type 0)
+    → new ≡ old ++ reply → reply ≡ value_or_none (live_at config s.latest s.held key) → Done config s.latest (using key) s.held Stands Handed → dropped ≡ s.dropped
+    → Answers config s (Running (says.Get key)) None Stands dropped Handed old new
+answers-get config s key reply old new Stands dropped Handed w r d kept = record {
   told = d.told;
   reply = reply;
   written = w;
   right = record { replies = said reply (value_or_none (live_at config s.latest s.held key)) _ r; loads = refl; accepts = refl; tells = d.right; silent = refl; within = refl };
   left = d.left;
+  dropped_is = undropped s dropped kept;
   handed = d.handed;
 }
 
 -- a `GET` that finds a value
-pub answers-found : (config : Config) (s : Situation) (now : ℕ) (key old before middle new : List ℕ) (found : Bool) (Stands : List HeldValue → Type 0) (Handed : List Note → Type 0)
+pub answers-found : (config : Config) (s : Situation) (now : ℕ) (key old before middle new : List ℕ) (found : Bool) (Stands : List HeldValue → Type 0) (dropped : Bool) (Handed : List Note → Type 0)
     → s.latest ≡ now → found ≡ true → before ≡ old ++ codes "VAL " → Finds (live_at config now s.held key) found before middle → new ≡ middle ++ 10 ∷ []
-    → Done config now (using key) s.held Stands Handed → Answers config s (Running (says.Get key)) None Stands Handed old new
-answers-found config s now key old before middle new found Stands Handed at is_found b f w d = go (live_at config now s.held key) refl f
+    → Done config now (using key) s.held Stands Handed → dropped ≡ s.dropped → Answers config s (Running (says.Get key)) None Stands dropped Handed old new
+answers-found config s now key old before middle new found Stands dropped Handed at is_found b f w d kept = go (live_at config now s.held key) refl f
   where
-    go : (v : Option Value) → live_at config now s.held key ≡ v → Finds v found before middle → Answers config s (Running (says.Get key)) None Stands Handed old new
+    go : (v : Option Value) → live_at config now s.held key ≡ v → Finds v found before middle → Answers config s (Running (says.Get key)) None Stands dropped Handed old new
     go None e g = let h : true ≡ false = sym is_found ∙ g.0 in cc
     go (Some v) e g =
-        answers-get config s key (codes "VAL " ++ v.bytes ++ 10 ∷ []) old new Stands Handed
+        answers-get config s key (codes "VAL " ++ v.bytes ++ 10 ∷ []) old new Stands dropped Handed
         (w ∙ ap (λ m. m ++ 10 ∷ []) (g.1 ∙ ap (λ k. k ++ v.bytes) b) ∙ append_assoc (old ++ codes "VAL ") v.bytes (10 ∷ []) ∙ append_assoc old (codes "VAL ") (v.bytes ++ 10 ∷ []) ∙ ap (λ m. old ++ m) (sym (append_assoc (codes "VAL ") v.bytes (10 ∷ []))))
-        (ap value_or_none (sym e ∙ ap (λ n. live_at config n s.held key) (sym at))) (subst (λ n. Done config n (using key) s.held Stands Handed) (sym at) d)
+        (ap value_or_none (sym e ∙ ap (λ n. live_at config n s.held key) (sym at))) (subst (λ n. Done config n (using key) s.held Stands Handed) (sym at) d) kept
 
 -- a `GET` that finds none
-pub answers-none : (config : Config) (s : Situation) (now : ℕ) (key old before after new : List ℕ) (found : Bool) (Stands : List HeldValue → Type 0) (Handed : List Note → Type 0)
+pub answers-none : (config : Config) (s : Situation) (now : ℕ) (key old before after new : List ℕ) (found : Bool) (Stands : List HeldValue → Type 0) (dropped : Bool) (Handed : List Note → Type 0)
     → s.latest ≡ now → found ≡ false → before ≡ old ++ codes "VAL " → Finds (live_at config now s.held key) found before after → new ≡ take (length old) after ++ codes "NONE\n"
-    → Done config now (using key) s.held Stands Handed → Answers config s (Running (says.Get key)) None Stands Handed old new
-answers-none config s now key old before after new found Stands Handed at is_found b f w d = go (live_at config now s.held key) refl f
+    → Done config now (using key) s.held Stands Handed → dropped ≡ s.dropped → Answers config s (Running (says.Get key)) None Stands dropped Handed old new
+answers-none config s now key old before after new found Stands dropped Handed at is_found b f w d kept = go (live_at config now s.held key) refl f
   where
-    go : (v : Option Value) → live_at config now s.held key ≡ v → Finds v found before after → Answers config s (Running (says.Get key)) None Stands Handed old new
+    go : (v : Option Value) → live_at config now s.held key ≡ v → Finds v found before after → Answers config s (Running (says.Get key)) None Stands dropped Handed old new
     go None e g =
-        answers-get config s key (codes "NONE\n") old new Stands Handed (w ∙ ap (λ k. take (length old) k ++ codes "NONE\n") (g.1 ∙ b) ∙ ap (λ k. k ++ codes "NONE\n") (take-append_seam old (codes "VAL ")))
-        (ap value_or_none (sym e ∙ ap (λ n. live_at config n s.held key) (sym at))) (subst (λ n. Done config n (using key) s.held Stands Handed) (sym at) d)
+        answers-get config s key (codes "NONE\n") old new Stands dropped Handed (w ∙ ap (λ k. take (length old) k ++ codes "NONE\n") (g.1 ∙ b) ∙ ap (λ k. k ++ codes "NONE\n") (take-append_seam old (codes "VAL ")))
+        (ap value_or_none (sym e ∙ ap (λ n. live_at config n s.held key) (sym at))) (subst (λ n. Done config n (using key) s.held Stands Handed) (sym at) d) kept
     go (Some v) e g = let h : false ≡ true = sym is_found ∙ g.0 in cc
 
 pub taken-back : (old before after : List ℕ) → before ≡ old ++ codes "VAL " → after ≡ before → take (length old) after ≡ old
@@ -106,11 +115,11 @@ value_set-some frame s key bytes ms part a p =
     ∙ ap (λ n. Some (record (value_of frame s.latest key bytes ms) { part = n })) p
 
 -- a `SET` whose value is accepted
-pub answers-set : (frame : Frame) (s : Situation) (now : ℕ) (key bytes : List ℕ) (ms : Option ℕ) (part : ℕ) (old new : List ℕ) (Stands : List HeldValue → Type 0) (Handed : List Note → Type 0)
+pub answers-set : (frame : Frame) (s : Situation) (now : ℕ) (key bytes : List ℕ) (ms : Option ℕ) (part : ℕ) (old new : List ℕ) (Stands : List HeldValue → Type 0) (dropped : Bool) (Handed : List Note → Type 0)
     → s.latest ≡ now → accepts_values frame.config.capacity ≡ true → part ≡ frame.part_of key → frame.part_of key < part_count frame.config → new ≡ old ++ codes "OK\n"
-    → Done frame.config now (accepting None (value_of frame now key bytes ms)) s.held Stands Handed
-    → Answers frame.config s (Running (says.Set key ms bytes)) (Some (record { part = part })) Stands Handed old new
-answers-set frame s now key bytes ms part old new Stands Handed at a p in_range w d =
+    → Done frame.config now (accepting None (value_of frame now key bytes ms)) s.held Stands Handed → dropped ≡ s.dropped
+    → Answers frame.config s (Running (says.Set key ms bytes)) (Some (record { part = part })) Stands dropped Handed old new
+answers-set frame s now key bytes ms part old new Stands dropped Handed at a p in_range w d kept =
     let config = frame.config in
     let done : Done config s.latest (accepting None (value_of frame s.latest key bytes ms)) s.held Stands Handed =
     subst (λ n. Done config n (accepting None (value_of frame n key bytes ms)) s.held Stands Handed) (sym at) d in
@@ -129,14 +138,15 @@ answers-set frame s now key bytes ms part old new Stands Handed at a p in_range 
         within = refl;
       };
       left = subst Stands (sym (ap (λ v. all_held_after config s.latest s.held (writing v) done.told) is)) done.left;
+      dropped_is = undropped s dropped kept;
       handed = done.handed;
     }
 
 -- a `SET` at capacity 0
-pub answers-off : (config : Config) (s : Situation) (key bytes : List ℕ) (ms : Option ℕ) (old new : List ℕ) (part_of : List ℕ → ℕ) (untaken : List Note) (Stands : List HeldValue → Type 0)
-    → accepts_values config.capacity ≡ false → new ≡ old ++ codes "OFF\n" → Stands (all_held_after config s.latest s.held no_deed [])
-    → Answers config s (Running (says.Set key ms bytes)) None Stands (Hands part_of untaken untaken) old new
-answers-off config s key bytes ms old new part_of untaken Stands a w m =
+pub answers-off : (config : Config) (s : Situation) (key bytes : List ℕ) (ms : Option ℕ) (old new : List ℕ) (part_of : List ℕ → ℕ) (untaken : List Note) (Stands : List HeldValue → Type 0) (dropped : Bool)
+    → accepts_values config.capacity ≡ false → new ≡ old ++ codes "OFF\n" → Stands (all_held_after config s.latest s.held no_deed []) → dropped ≡ s.dropped
+    → Answers config s (Running (says.Set key ms bytes)) None Stands dropped (Hands part_of untaken untaken) old new
+answers-off config s key bytes ms old new part_of untaken Stands dropped a w m kept =
     record {
       told = [];
       reply = codes "OFF\n";
@@ -150,6 +160,7 @@ answers-off config s key bytes ms old new part_of untaken Stands a w m =
         within = refl;
       };
       left = m;
+      dropped_is = undropped s dropped kept;
       handed = record { added = sym (append-nil untaken); by_part = tt };
     }
 
@@ -173,11 +184,11 @@ weigh-values hs = weigh-from 0 hs
 abbrev counts_text : ℕ → ℕ → List ℕ
 counts_text number weight = codes "SYNC " ++ decimal number ++ codes " " ++ decimal weight ++ codes "\n"
 
-pub answers-sync : (config : Config) (s : Situation) (now number weight : ℕ) (old new : List ℕ) (Stands : List HeldValue → Type 0) (Handed : List Note → Type 0)
+pub answers-sync : (config : Config) (s : Situation) (now number weight : ℕ) (old new : List ℕ) (Stands : List HeldValue → Type 0) (dropped : Bool) (Handed : List Note → Type 0)
     → s.latest ≡ now → new ≡ old ++ counts_text number weight
-    → Done config now syncing s.held (λ left. Stands left × IsTrue (is_within config (map (λ (h : HeldValue). h.value) left)) × (number ≡ length left) × (weight ≡ sum_by (λ (h : HeldValue). h.value.weight) left)) Handed
-    → Answers config s (Running says.Sync) None Stands Handed old new
-answers-sync config s now number weight old new Stands Handed at w d0 =
+    → Done config now syncing s.held (λ left. Stands left × IsTrue (is_within config (map (λ (h : HeldValue). h.value) left)) × (number ≡ length left) × (weight ≡ sum_by (λ (h : HeldValue). h.value.weight) left)) Handed → dropped ≡ s.dropped
+    → Answers config s (Running says.Sync) None Stands dropped Handed old new
+answers-sync config s now number weight old new Stands dropped Handed at w d0 kept =
     let d = subst (λ n. Done config n syncing s.held (λ left. Stands left × IsTrue (is_within config (map (λ (h : HeldValue). h.value) left)) × (number ≡ length left) × (weight ≡ sum_by (λ (h : HeldValue). h.value.weight) left)) Handed) (sym at) d0 in
     let left = left_held s.held syncing d.told in
     let after = all_held_after config s.latest s.held syncing d.told in
@@ -198,21 +209,121 @@ answers-sync config s now number weight old new Stands Handed at w d0 =
         within = subst (λ vs. is_within config vs ≡ true) values d.left.1;
       };
       left = d.left.0;
+      dropped_is = undropped s dropped kept;
       handed = d.handed;
     }
 
 -- ---- a line that cannot be read
 
 -- a step that does nothing to values
-pub answers-fault : (config : Config) (s : Situation) (error : LineError) (old new : List ℕ) (part_of : List ℕ → ℕ) (untaken : List Note) (Stands : List HeldValue → Type 0)
-    → new ≡ old ++ fault_text error → Stands (all_held_after config s.latest s.held no_deed [])
-    → Answers config s (Faulting error) None Stands (Hands part_of untaken untaken) old new
-answers-fault config s error old new part_of untaken Stands w m =
+pub answers-fault : (config : Config) (s : Situation) (error : LineError) (old new : List ℕ) (part_of : List ℕ → ℕ) (untaken : List Note) (Stands : List HeldValue → Type 0) (dropped : Bool)
+    → new ≡ old ++ fault_text error → Stands (all_held_after config s.latest s.held no_deed []) → dropped ≡ s.dropped
+    → Answers config s (Faulting error) None Stands dropped (Hands part_of untaken untaken) old new
+answers-fault config s error old new part_of untaken Stands dropped w m kept =
     record {
       told = [];
       reply = fault_text error;
       written = w;
       right = record { replies = said (fault_text error) (fault_text error) _ refl; loads = refl; accepts = refl; tells = none_succeeded (map (candidate_at config s.latest) s.held ++ []); silent = refl; within = refl };
       left = m;
+      dropped_is = undropped s dropped kept;
       handed = record { added = sym (append-nil untaken); by_part = tt };
     }
+
+-- ---- commands that ask
+
+-- a `HAS`
+pub answers-has : (config : Config) (s : Situation) (key reply : List ℕ) (old new : List ℕ) (part_of : List ℕ → ℕ) (untaken : List Note) (Stands : List HeldValue → Type 0) (dropped : Bool)
+    → new ≡ old ++ reply → reply ≡ yes_or_no (live_at config s.latest s.held key) → Stands (all_held_after config s.latest s.held no_deed []) → dropped ≡ s.dropped
+    → Answers config s (Running (says.Has key)) None Stands dropped (Hands part_of untaken untaken) old new
+answers-has config s key reply old new part_of untaken Stands dropped w r m kept =
+    record {
+      told = [];
+      reply = reply;
+      written = w;
+      right = record { replies = said reply (yes_or_no (live_at config s.latest s.held key)) _ r; loads = refl; accepts = refl; tells = none_succeeded (map (candidate_at config s.latest) s.held ++ []); silent = refl; within = refl };
+      left = m;
+      dropped_is = undropped s dropped kept;
+      handed = record { added = sym (append-nil untaken); by_part = tt };
+    }
+
+-- a `KEYS`
+pub answers-keys : (config : Config) (s : Situation) (reply : List ℕ) (old new : List ℕ) (part_of : List ℕ → ℕ) (untaken : List Note) (Stands : List HeldValue → Type 0) (dropped : Bool)
+    → new ≡ old ++ reply → reply ≡ keys_listed (live_keys_at config s.latest s.held) → Stands (all_held_after config s.latest s.held no_deed []) → dropped ≡ s.dropped
+    → Answers config s (Running says.Keys) None Stands dropped (Hands part_of untaken untaken) old new
+answers-keys config s reply old new part_of untaken Stands dropped w r m kept =
+    record {
+      told = [];
+      reply = reply;
+      written = w;
+      right = record { replies = said reply (keys_listed (live_keys_at config s.latest s.held)) _ r; loads = refl; accepts = refl; tells = none_succeeded (map (candidate_at config s.latest) s.held ++ []); silent = refl; within = refl };
+      left = m;
+      dropped_is = undropped s dropped kept;
+      handed = record { added = sym (append-nil untaken); by_part = tt };
+    }
+
+-- a `QUIT`
+pub answers-quit : (config : Config) (s : Situation) (old new : List ℕ) (part_of : List ℕ → ℕ) (untaken : List Note) (Stands : List HeldValue → Type 0) (dropped : Bool)
+    → new ≡ old ++ codes "OK\n" → Stands (all_held_after config s.latest s.held no_deed []) → dropped ≡ s.dropped
+    → Answers config s (Running says.Quit) None Stands dropped (Hands part_of untaken untaken) old new
+answers-quit config s old new part_of untaken Stands dropped w m kept =
+    record {
+      told = [];
+      reply = codes "OK\n";
+      written = w;
+      right = record { replies = refl; loads = refl; accepts = refl; tells = none_succeeded (map (candidate_at config s.latest) s.held ++ []); silent = refl; within = refl };
+      left = m;
+      dropped_is = undropped s dropped kept;
+      handed = record { added = sym (append-nil untaken); by_part = tt };
+    }
+
+-- what a look-up without a use found, as an answer of yes or no
+pub yes-found : (config : Config) (now : ℕ) (held : List HeldValue) (key : List ℕ) (bytes : List ℕ) → Some bytes ≡ option_map (λ (v : Value). v.bytes) (live_at config now held key) → codes "YES\n" ≡ yes_or_no (live_at config now held key)
+yes-found config now held key bytes found = go (live_at config now held key) found
+  where
+    go : (o : Option Value) → Some bytes ≡ option_map (λ (v : Value). v.bytes) o → codes "YES\n" ≡ yes_or_no o
+    go None e = cc
+    go (Some v) e = refl
+
+pub no-found : (config : Config) (now : ℕ) (held : List HeldValue) (key : List ℕ) → None ≡ option_map (λ (v : Value). v.bytes) (live_at config now held key) → codes "NO\n" ≡ yes_or_no (live_at config now held key)
+no-found config now held key found = go (live_at config now held key) found
+  where
+    go : (o : Option Value) → None ≡ option_map (λ (v : Value). v.bytes) o → codes "NO\n" ≡ yes_or_no o
+    go None e = refl
+    go (Some v) e = cc
+
+-- the number of the keys and their lines
+pub keys-written : (keys : List (List ℕ)) (number : ℕ) (old before new : List ℕ) → number ≡ length keys → before ≡ old ++ (codes "KEYS " ++ decimal number ++ codes "\n") → new ≡ before ++ concat (map text_line keys)
+    → new ≡ old ++ keys_listed keys
+keys-written keys number old before new n b w =
+    w ∙ ap (λ k. k ++ concat (map text_line keys)) (b ∙ ap (λ m. old ++ (codes "KEYS " ++ decimal m ++ codes "\n")) n)
+    ∙ append_assoc old (codes "KEYS " ++ decimal (length keys) ++ codes "\n") (concat (map text_line keys))
+    ∙ ap (λ k. old ++ (k ++ concat (map text_line keys))) (sym (append_assoc (codes "KEYS ") (decimal (length keys)) (codes "\n")))
+
+-- ---- a `DROPIF` that is refused
+
+-- where one was accepted before, it covers nothing
+pub answers-refused : (config : Config) (s : Situation) (prefix old new : List ℕ) (part_of : List ℕ → ℕ) (waited untaken : List Note) (Stands : List HeldValue → Type 0) (dropped : Bool)
+    → s.dropped ≡ true → new ≡ old ++ codes "ERR id\n" → Stands (all_held_after config s.latest s.held no_deed []) → dropped ≡ s.dropped → untaken ≡ waited
+    → Answers config s (Running (says.DropIf prefix)) None Stands dropped (Hands part_of waited untaken) old new
+answers-refused config s prefix old new part_of waited untaken Stands dropped before w m kept same =
+    record {
+      told = [];
+      reply = codes "ERR id\n";
+      written = w;
+      right = record { replies = ap (λ b. b && true) before; loads = refl; accepts = refl; tells = none_succeeded (map (candidate_at config s.latest) s.held ++ []); silent = refl; within = refl };
+      left = m;
+      dropped_is = undropped s dropped kept;
+      handed = record { added = same ∙ sym (append-nil waited); by_part = tt };
+    }
+
+-- ---- sums
+
+take-whole : (xs : List ℕ) → take (length xs) xs ≡ xs
+take-whole [] = refl
+take-whole (x ∷ xs) = ap (λ ys. x ∷ ys) (take-whole xs)
+
+-- what a look-up writes stands behind
+pub found-behind : (o : Option Value) (is_found : Bool) (old new : List ℕ) → Finds o is_found old new → take (length old) new ≡ old
+found-behind None is_found old new f = ap (take (length old)) f.1 ∙ take-whole old
+found-behind (Some v) is_found old new f = ap (take (length old)) f.1 ∙ take-append_seam old v.bytes

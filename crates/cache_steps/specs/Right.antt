@@ -1,7 +1,7 @@
 -- What is owed of one command, but for whose turn it is and which line is due.
-use Rattle.std.specs.Prelude.{◌≡◌, ℕ, ◌≤◌, false, List, [], ◌++◌, map, Option, Some, None, IsTrue}
+use Rattle.std.specs.Prelude.{◌≡◌, ℕ, ◌≤◌, ◌||◌, Bool, false, List, [], ◌++◌, map, Option, Some, None, IsTrue}
 use Rattle.audit_model.specs.Changes.{left_held, all_held_after}
-use Rattle.audit_model.specs.Commands.{deed_of}
+use Rattle.audit_model.specs.Commands.{deed_of, drops}
 use Rattle.audit_model.specs.History.{Action}
 use Rattle.audit_model.specs.Situation.{Situation, HeldValue, view_in}
 use Rattle.audit_model.specs.Steps.{Task, PlacedStep, effect_in, has_right_reply, has_right_load, has_right_acceptance, has_right_notes, is_quiet_where_silent, keeps_shares}
@@ -26,6 +26,10 @@ placed_by config s task line action step =
 abbrev pub held_when_run : Config → Situation → Action → Step → List HeldValue
 held_when_run config s action step = all_held_after config s.latest s.held (deed_of (effect_in config (view_in config s) action step)) step.notices
 
+-- whether a `DROPIF` was accepted when the step has run
+abbrev pub dropped_when_run : Config → Situation → Action → Step → Bool
+dropped_when_run config s action step = s.dropped || drops (effect_in config (view_in config s) action step)
+
 -- the step is right but for its turn and its line
 pub record DoesRight (config : Config) (s : Situation) (action : Action) (step : Step) : Type 0 where
   pub replies : IsTrue (has_right_reply config (placed_by config s None None action step))
@@ -36,15 +40,16 @@ pub record DoesRight (config : Config) (s : Situation) (action : Action) (step :
   pub within : IsTrue (keeps_shares config (placed_by config s None None action step))
 
 -- the reply stands behind what was written, and its step, with such notes, is right
-pub record Answers (config : Config) (s : Situation) (action : Action) (accepted : Option Accepted) (Stands : List HeldValue → Type 0) (Handed : List Note → Type 0) (old new : List ℕ) : Type 0 where
+pub record Answers (config : Config) (s : Situation) (action : Action) (accepted : Option Accepted) (Stands : List HeldValue → Type 0) (dropped : Bool) (Handed : List Note → Type 0) (old new : List ℕ) : Type 0 where
   pub told : List Note
   pub reply : List ℕ
   pub written : new ≡ old ++ reply
   pub right : DoesRight config s action (step_saying 0 [] reply accepted told)
   pub left : Stands (held_when_run config s action (step_saying 0 [] reply accepted told))
+  pub dropped_is : dropped ≡ dropped_when_run config s action (step_saying 0 [] reply accepted told)
   pub handed : Handed told
 
--- the latest moment is this one or an earlier one, and the rest is as it was
+-- the latest moment is this one or an earlier one, a `DROPIF` may have been accepted, and the rest is as it was
 pub record KeepsFrame (old new : Frame) (now : ℕ) : Type 0 where
-  pub rest : new ≡ record old { latest = new.latest }
+  pub rest : new ≡ record old { dropped = new.dropped; latest = new.latest }
   pub latest : new.latest ≤ now

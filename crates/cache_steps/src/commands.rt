@@ -5,6 +5,7 @@ ghost use Rattle.audit_model.specs.Replies.{fault_text};
 ghost use Rattle.audit_model.specs.Situation.{Situation};
 ghost use Rattle.audit_model.specs.declared.command.Command.TheVariants as says;
 ghost use Rattle.cache_store.specs.Handing.{Hands};
+ghost use Rattle.cache_store.specs.Identifiers.{KeepsIdentifiers};
 ghost use Rattle.cache_store.specs.Promises.{IsUnchanged};
 ghost use Rattle.cache_steps.specs.Right.{Answers, KeepsFrame};
 
@@ -14,8 +15,8 @@ use cache_store::{Counts, Store};
 use itoa::Buffer;
 use std::alloc::AllocError;
 
-/// Room for each text of a reply that has no value in it.
-const SHORT: usize = 96;
+/// Room for each text of a reply that has no value and no key in it.
+pub const SHORT: usize = 96;
 
 /// Answers a `GET`.
 pub fn get<S: Store>(
@@ -25,9 +26,10 @@ pub fn get<S: Store>(
     output: &mut Vec<u8>,
 ) -> Result<(), AllocError>
     requires { (S.frame store.old).latest ≤ now }
-    ensures ok { OnOk result ((s : Situation) → s.latest ≡ now → S.stands store.old s.held → Answers (S.frame store.old).config s (Running (says.Get key.now)) None (S.stands store.new) (Hands (S.frame store.old).part_of (S.untaken store.old) (S.untaken store.new)) output.old.items output.new.items) }
+    ensures ok { OnOk result ((s : Situation) → s.latest ≡ now → s.dropped ≡ (S.frame store.old).dropped → S.stands store.old s.held → Answers (S.frame store.old).config s (Running (says.Get key.now)) None (S.stands store.new) (S.frame store.new).dropped (Hands (S.frame store.old).part_of (S.untaken store.old) (S.untaken store.new)) output.old.items output.new.items) }
     ensures frame { OnOk result (KeepsFrame (S.frame store.old) (S.frame store.new) now) }
     ensures few { length (S.untaken store.new) ≤ length (S.untaken store.old) + S.count store.old + 1 }
+    ensures identifiers { KeepsIdentifiers (S.stream store.old) (S.stream store.new) (S.registered store.old) (S.registered store.new) }
     ensures unchanged { OnErr result (IsUnchanged (S.stands store.old) (S.stands store.new) (S.frame store.old) (S.frame store.new) (S.untaken store.old) (S.untaken store.new)) }
     ensures unwritten { OnErr result (output.new.items ≡ output.old.items) }
 {
@@ -67,10 +69,11 @@ pub fn set<S: Store>(
     requires short { length value.now ≤ 8192 }
     requires brief { IfSome milliseconds (λ m. m ≤ 999999999999) }
     requires timed { IsSome milliseconds → IsTrue (S.frame store.old).config.own_deadlines }
-    ensures ok { IfOk result (λ accepted. (s : Situation) → s.latest ≡ now → S.stands store.old s.held → Answers (S.frame store.old).config s (Running (says.Set key.now milliseconds value.now)) accepted (S.stands store.new) (Hands (S.frame store.old).part_of (S.untaken store.old) (S.untaken store.new)) output.old.items output.new.items) }
+    ensures ok { IfOk result (λ accepted. (s : Situation) → s.latest ≡ now → s.dropped ≡ (S.frame store.old).dropped → S.stands store.old s.held → Answers (S.frame store.old).config s (Running (says.Set key.now milliseconds value.now)) accepted (S.stands store.new) (S.frame store.new).dropped (Hands (S.frame store.old).part_of (S.untaken store.old) (S.untaken store.new)) output.old.items output.new.items) }
     ensures part { IfOk result (λ accepted. IfSome accepted (λ a. a.part ≡ (S.frame store.old).part_of key.now)) }
     ensures frame { OnOk result (KeepsFrame (S.frame store.old) (S.frame store.new) now) }
     ensures few { length (S.untaken store.new) ≤ length (S.untaken store.old) + S.count store.old + 1 }
+    ensures identifiers { KeepsIdentifiers (S.stream store.old) (S.stream store.new) (S.registered store.old) (S.registered store.new) }
     ensures unchanged { OnErr result (IsUnchanged (S.stands store.old) (S.stands store.new) (S.frame store.old) (S.frame store.new) (S.untaken store.old) (S.untaken store.new)) }
     ensures unwritten { OnErr result (output.new.items ≡ output.old.items) }
 {
@@ -85,7 +88,7 @@ pub fn set<S: Store>(
 }
 
 /// Whether values are accepted at that capacity.
-fn accepts(capacity: Option<u64>) -> bool
+pub fn accepts(capacity: Option<u64>) -> bool
     ensures { result ≡ accepts_values capacity }
 {
     match capacity {
@@ -102,9 +105,10 @@ pub fn del<S: Store>(
     output: &mut Vec<u8>,
 ) -> Result<(), AllocError>
     requires { (S.frame store.old).latest ≤ now }
-    ensures ok { OnOk result ((s : Situation) → s.latest ≡ now → S.stands store.old s.held → Answers (S.frame store.old).config s (Running (says.Del key.now)) None (S.stands store.new) (Hands (S.frame store.old).part_of (S.untaken store.old) (S.untaken store.new)) output.old.items output.new.items) }
+    ensures ok { OnOk result ((s : Situation) → s.latest ≡ now → s.dropped ≡ (S.frame store.old).dropped → S.stands store.old s.held → Answers (S.frame store.old).config s (Running (says.Del key.now)) None (S.stands store.new) (S.frame store.new).dropped (Hands (S.frame store.old).part_of (S.untaken store.old) (S.untaken store.new)) output.old.items output.new.items) }
     ensures frame { OnOk result (KeepsFrame (S.frame store.old) (S.frame store.new) now) }
     ensures few { length (S.untaken store.new) ≤ length (S.untaken store.old) + S.count store.old + 1 }
+    ensures identifiers { KeepsIdentifiers (S.stream store.old) (S.stream store.new) (S.registered store.old) (S.registered store.new) }
     ensures unchanged { OnErr result (IsUnchanged (S.stands store.old) (S.stands store.new) (S.frame store.old) (S.frame store.new) (S.untaken store.old) (S.untaken store.new)) }
     ensures unwritten { OnErr result (output.new.items ≡ output.old.items) }
 {
@@ -117,9 +121,10 @@ pub fn del<S: Store>(
 /// Answers a `SYNC`.
 pub fn sync<S: Store>(store: &mut S, now: u64, output: &mut Vec<u8>) -> Result<(), AllocError>
     requires { (S.frame store.old).latest ≤ now }
-    ensures ok { OnOk result ((s : Situation) → s.latest ≡ now → S.stands store.old s.held → Answers (S.frame store.old).config s (Running says.Sync) None (S.stands store.new) (Hands (S.frame store.old).part_of (S.untaken store.old) (S.untaken store.new)) output.old.items output.new.items) }
+    ensures ok { OnOk result ((s : Situation) → s.latest ≡ now → s.dropped ≡ (S.frame store.old).dropped → S.stands store.old s.held → Answers (S.frame store.old).config s (Running says.Sync) None (S.stands store.new) (S.frame store.new).dropped (Hands (S.frame store.old).part_of (S.untaken store.old) (S.untaken store.new)) output.old.items output.new.items) }
     ensures frame { OnOk result (KeepsFrame (S.frame store.old) (S.frame store.new) now) }
     ensures few { length (S.untaken store.new) ≤ length (S.untaken store.old) + S.count store.old + 1 }
+    ensures identifiers { KeepsIdentifiers (S.stream store.old) (S.stream store.new) (S.registered store.old) (S.registered store.new) }
     ensures unchanged { OnErr result (IsUnchanged (S.stands store.old) (S.stands store.new) (S.frame store.old) (S.frame store.new) (S.untaken store.old) (S.untaken store.new)) }
     ensures unwritten { OnErr result (output.new.items ≡ output.old.items) }
 {
@@ -145,7 +150,7 @@ fn write_counts(output: &mut Vec<u8>, counts: Counts)
 
 /// Answers a line that cannot be read.
 pub fn fault<S: Store>(store: &S, error: LineError, output: &mut Vec<u8>) -> Result<(), AllocError>
-    ensures ok { OnOk result ((s : Situation) → S.stands store.now s.held → Answers (S.frame store.now).config s (Faulting error) None (S.stands store.now) (Hands (S.frame store.now).part_of (S.untaken store.now) (S.untaken store.now)) output.old.items output.new.items) }
+    ensures ok { OnOk result ((s : Situation) → s.dropped ≡ (S.frame store.now).dropped → S.stands store.now s.held → Answers (S.frame store.now).config s (Faulting error) None (S.stands store.now) (S.frame store.now).dropped (Hands (S.frame store.now).part_of (S.untaken store.now) (S.untaken store.now)) output.old.items output.new.items) }
     ensures unwritten { OnErr result (output.new.items ≡ output.old.items) }
 {
     output.try_reserve(SHORT)?;

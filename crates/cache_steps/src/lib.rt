@@ -1,7 +1,13 @@
-//! What each command does, over any store: its reply, and one call of the store at most.
+//! What each command does, over any store: its reply, and one changing call of the store at most.
 #![tactic(auto)]
 
+mod asking;
 mod commands;
+mod covering;
+mod sums;
 mod writing;
 
+pub use asking::{has, keys, quit};
 pub use commands::{del, fault, get, set, sync};
+pub use covering::{clear, drop_prefix};
+pub use sums::add;

@@ -27,3 +27,8 @@ pub record TakesOne (part_of : List ℕ → ℕ) (old new : List Note) (note : N
 abbrev pub Takes : (List ℕ → ℕ) → List Note → List Note → Option Note → Type 0
 Takes part_of old new None = (old ≡ []) × (new ≡ [])
 Takes part_of old new (Some note) = TakesOne part_of old new note
+
+-- no note is told
+pub record TellsNone (old new told : List Note) : Type 0 where
+  pub none : told ≡ []
+  pub same : new ≡ old

@@ -1,2 +1,5 @@
 pub mod Promises
 pub mod Handing
+pub mod Running
+pub mod Recency
+pub mod Identifiers

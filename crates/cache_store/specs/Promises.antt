@@ -1,7 +1,7 @@
 -- What a call of a store does to the values held, and which of them it tells.
 use Rattle.std.specs.Prelude.{◌≡◌, ℕ, Bool, true, false, List, ◌++◌, map, Option, Some, None, IsTrue}
 use Rattle.audit_model.specs.Changes.{all_held_after}
-use Rattle.audit_model.specs.Commands.{Deed, Nothing}
+use Rattle.audit_model.specs.Commands.{Deed, Covering, Nothing}
 use Rattle.audit_model.specs.History.{Value, weight_of}
 use Rattle.audit_model.specs.Notes.{are_true_notes, candidates_of}
 use Rattle.audit_model.specs.Situation.{HeldValue, candidate_at}
@@ -9,10 +9,11 @@ use Rattle.audit_model.specs.Values.{own_deadline_from}
 use Rattle.audit_model.specs.declared.config.Config.{Config}
 use Rattle.audit_model.specs.declared.transcript.Note.{Note}
 
--- what a store was made with, whether a `DROPIF` was accepted, and the latest moment handed in
+-- what a store was made with and when, whether a `DROPIF` was accepted, and the latest moment handed in
 pub record Frame : Type 0 where
   pub config : Config
   pub part_of : List ℕ → ℕ
+  pub made : ℕ
   pub dropped : Bool
   pub latest : ℕ
 
@@ -32,6 +33,10 @@ accepting used value = record no_deed { uses = used; value = Some value }
 -- the key's value is deleted
 abbrev pub deleting : List ℕ → Deed
 deleting key = record no_deed { deletes = Some key }
+
+-- these keys are covered
+abbrev pub covering : Covering → Deed
+covering which = record no_deed { covers = which }
 
 -- all parts run
 abbrev pub syncing : Deed

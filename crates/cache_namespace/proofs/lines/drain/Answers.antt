@@ -2,6 +2,7 @@ use Rattle.std.proofs.Common.{◌++◌, ap, subst, ◌∙◌, arith}
 use Rattle.cache_store.specs.Handing.{TakesOne}
 use Rattle.cache_store.specs.Promises.{Frame}
 use Rattle.cache_namespace.proofs.Draining.{taken-next, fewer}
+use Rattle.cache_namespace.proofs.Drawn.{keeps-more}
 use Rattle.cache_namespace.proofs.lines.drain.Goals as goal
 
 pub loop-note-preserved : goal.loop-note-preserved
@@ -14,4 +15,5 @@ loop-note-preserved g c =
       order = λ sorted. let t = taken-next part_of (g.S.Store.untaken c.loop-note.store) (g.S.Store.untaken c.next_notice.new.self) c.loop-note.notes.items c.in-Some.note _ taken ((i.order sorted).1) ((i.order sorted).0) in (ap (λ ns. ns ++ g.S.Store.untaken c.next_notice.new.self) c.push_within.ensures.items ∙ t.0, t.1);
       stands = λ held m. c.next_notice.ensures.stands held (i.stands held m);
       frame = c.next_notice.ensures.frame ∙ i.frame;
+      identifiers = keeps-more _ _ _ _ _ _ i.identifiers c.next_notice.ensures.identifiers;
     }

@@ -1,7 +1,7 @@
 use Rattle.std.proofs.Common.{◌≡◌, ◌≤◌, length, take}
 use Rattle.std.specs.Str.Parse.{digits_value}
-use Rattle.cache_lines.proofs.Digits.{AreDigits}
-use Rattle.cache_lines.proofs.request.milliseconds.Given as goal
+use Rattle.cache_numbers.proofs.Digits.{AreDigits}
+use Rattle.cache_numbers.proofs.numbers.milliseconds.Given as goal
 
 abbrev pub invariant-loop-digit : goal.invariant-loop-digit
 invariant-loop-digit l = record {

@@ -2,8 +2,8 @@ use Rattle.std.proofs.Common.{◌≡◌, ◌+◌, ◌*◌, true, take, get_or, s
 use Rattle.std.specs.Str.Parse.{digits_value}
 use Rattle.std.proofs.lemmas.List.{take_all}
 use Rattle.audit_model.specs.Grammar.{is_digit}
-use Rattle.cache_lines.proofs.Digits.{AreDigits, digits_more, digits_value_more, digits_value_front, digits_value_whole}
-use Rattle.cache_lines.proofs.request.milliseconds.Goals as goal
+use Rattle.cache_numbers.proofs.Digits.{AreDigits, digits_more, digits_value_more, digits_value_front, digits_value_whole}
+use Rattle.cache_numbers.proofs.numbers.milliseconds.Goals as goal
 
 pub overflow_mul-value : goal.overflow_mul-value
 overflow_mul-value c =
