@@ -3,6 +3,8 @@ use audit_model::{
     Config, Conn, EvictionPolicy, Input, Instant, LoadId, Seq, ServiceError, Weight,
 };
 use cache_spaces::{Output, RecordedService, Refusal};
+use rand_core::SeedableRng;
+use rand_xoshiro::Xoshiro256PlusPlus;
 use std::alloc::{AllocError, Global};
 use std::test::Fail;
 
@@ -15,6 +17,11 @@ const PLAIN: Config = Config {
     idle_ms: None,
     own_deadlines: false,
 };
+
+/// A generator.
+fn generator() -> Xoshiro256PlusPlus {
+    Xoshiro256PlusPlus::seed_from_u64(1)
+}
 
 /// A feed of these bytes at so many nanoseconds.
 fn feed(alloc: Global, conn: Conn, bytes: &[u8], nanos: u64) -> Result<Input, AllocError> {
@@ -45,7 +52,12 @@ fn record_count(recorded: &RecordedService, namespace: u64) -> Result<usize, Ser
 #[test]
 fn two_namespaces_at_different_moments(rt: HostRuntime) -> Result<(), Fail> {
     let alloc = rt.alloc();
-    let mut recorded = RecordedService::new(alloc, &[PLAIN, PLAIN], Instant { nanos: 0 })?;
+    let mut recorded = RecordedService::new(
+        alloc,
+        &[PLAIN, PLAIN],
+        generator(),
+        Instant { nanos: 0 },
+    )?;
     let first = Conn {
         namespace: 0,
         number: 1,
@@ -90,7 +102,7 @@ fn two_namespaces_at_different_moments(rt: HostRuntime) -> Result<(), Fail> {
 #[test]
 fn a_refused_input_is_handed_back(rt: HostRuntime) -> Result<(), Fail> {
     let alloc = rt.alloc();
-    let mut recorded = RecordedService::new(alloc, &[PLAIN], Instant { nanos: 0 })?;
+    let mut recorded = RecordedService::new(alloc, &[PLAIN], generator(), Instant { nanos: 0 })?;
     let load = LoadId {
         namespace: 0,
         number: 1,

@@ -68,9 +68,9 @@ filled made [] empty (suc k) t e = absent e
 filled made (x ∷ ts) empty zero t e = empty zero t e
 filled made (x ∷ ts) empty (suc k) t e = filled made ts (λ j u at. empty (suc j) u at) k t e
 
-pub played-none : (configs : List Config) (moment : Instant) (transcripts : List Transcript) (spaces : List Space)
-    → AreNew spaces configs moment.nanos → length transcripts ≡ length configs → AreEmpty moment transcripts → HavePlayed configs moment [] transcripts spaces
-played-none configs moment transcripts spaces new count empty = record {
+pub played-none : (configs : List Config) (generator : List ℕ) (moment : Instant) (transcripts : List Transcript) (spaces : List Space)
+    → AreNew spaces configs generator moment.nanos → length transcripts ≡ length configs → AreEmpty moment transcripts → HavePlayed configs moment [] transcripts spaces
+played-none configs generator moment transcripts spaces new count empty = record {
   count = count;
   spaces_count = new.count;
   each = λ k config transcript space c t s.

@@ -9,6 +9,7 @@ use crate::outputs::{Output, last_output};
 use crate::playing::{empty_transcripts, namespace_of, step_in};
 use crate::service::Service;
 use audit_model::{Config, Input, Instant, ServiceError, Transcript};
+use rand_xoshiro::Xoshiro256PlusPlus;
 use std::alloc::Global;
 
 /// An input that was refused, handed back.
@@ -41,15 +42,16 @@ impl RecordedService {
     pub fn new(
         alloc: Global,
         configs: &[Config],
+        generator: Xoshiro256PlusPlus,
         moment: Instant,
     ) -> Result<RecordedService, ServiceError>
-        ensures made { IfOk result (λ recorded. AreNew (spaces_of (service_of recorded)) configs.now moment.nanos) }
+        ensures made { IfOk result (λ recorded. AreNew (spaces_of (service_of recorded)) configs.now generator moment.nanos) }
         ensures empty { IfOk result (λ recorded. AreEmpty moment (journals_of recorded) × (length (journals_of recorded) ≡ length configs.now)) }
         ensures moment { IsErrOf result ServiceError.Moment ↔ (2 ^ 63 ≤ moment.nanos) }
         ensures config { IsErrOf result ServiceError.Config ↔ ((moment.nanos < 2 ^ 63) × (are_taken configs.now ≡ false)) }
         ensures memory { IfErr result (λ e. (e ≡ ServiceError.Moment) ⊎ (e ≡ ServiceError.Config) ⊎ (e ≡ ServiceError.OutOfMemory)) }
     {
-        let service = match Service::new(alloc, configs, moment) {
+        let service = match Service::new(alloc, configs, generator, moment) {
             Ok(service) => service,
             Err(error) => return Err(error),
         };

@@ -7,6 +7,8 @@ ghost use Rattle.cache_spaces.specs.Services.{are_taken, AreNew};
 use crate::space::Space;
 use audit_model::Config;
 use plain_store::is_plain;
+use rand_core::SeedableRng;
+use rand_xoshiro::Xoshiro256PlusPlus;
 use std::alloc::{AllocError, Global};
 
 /// The most namespaces that a service has.
@@ -34,15 +36,21 @@ fn are_plain(configs: &[Config]) -> bool
     true
 }
 
-/// New namespaces of these configurations, in their order.
-pub fn new_spaces(alloc: Global, configs: &[Config], made: u64) -> Result<Vec<Space>, AllocError>
+/// New namespaces of these configurations, in their order, each with a fork of the generator.
+pub fn new_spaces(
+    alloc: Global,
+    configs: &[Config],
+    generator: Xoshiro256PlusPlus,
+    made: u64,
+) -> Result<Vec<Space>, AllocError>
     requires configs { IsTrue (list_all is_plain configs.now) }
     requires moment { made < 2 ^ 63 }
-    ensures { IfOk result (λ spaces. AreNew spaces.items configs.now made) }
+    ensures { IfOk result (λ spaces. AreNew spaces.items configs.now generator made) }
 {
+    let mut generator = generator;
     let mut spaces = Vec::with_capacity(alloc, configs.len())?;
     for config in configs {
-        spaces.push(Space::new(alloc, *config, made))?;
+        spaces.push(Space::new(alloc, *config, generator.fork(), made))?;
     }
     Ok(spaces)
 }

@@ -8,6 +8,7 @@ use crate::journals::RecordedService;
 use crate::recording::record_input;
 use crate::service::Service;
 use audit_model::{Config, Input, Instant, Seq, ServiceError, Transcript};
+use rand_xoshiro::Xoshiro256PlusPlus;
 use std::alloc::{AllocError, Global};
 
 /// The transcripts of the inputs, one a configuration, in their order.
@@ -16,6 +17,7 @@ use std::alloc::{AllocError, Global};
 pub fn play(
     alloc: Global,
     configs: &[Config],
+    generator: Xoshiro256PlusPlus,
     moment: Instant,
     inputs: &[Input],
 ) -> Result<Vec<Transcript>, ServiceError>
@@ -24,7 +26,7 @@ pub fn play(
     ensures config { IsErrOf result ServiceError.Config ↔ ((moment.nanos < 2 ^ 63) × (are_taken configs.now ≡ false)) }
     ensures memory { IfErr result (λ e. (e ≡ ServiceError.Moment) ⊎ (e ≡ ServiceError.Config) ⊎ (e ≡ ServiceError.OutOfMemory)) }
 {
-    let mut recorded = match RecordedService::new(alloc, configs, moment) {
+    let mut recorded = match RecordedService::new(alloc, configs, generator, moment) {
         Ok(recorded) => recorded,
         Err(error) => return Err(error),
     };

@@ -11,6 +11,7 @@ ghost use Rattle.cache_spaces.specs.Spaces.{config_of, connections_of, closing_o
 use crate::making::{are_taken, new_spaces};
 use crate::space::Space;
 use audit_model::{Bytes, Closing, Config, Conn, Instant, LoadId, Note, Outcome, ServiceError};
+use rand_xoshiro::Xoshiro256PlusPlus;
 use std::alloc::{AllocError, Global};
 
 /// Namespaces, each with its connections and values.
@@ -50,12 +51,17 @@ impl Service {
     ghost use Rattle.cache_spaces.specs.Services.{AreNew, Refuses, IsSpace, spaces_of, is_held};
     ghost use Rattle.cache_spaces.specs.Spaces.{config_of, connections_of, notices_of, output_of, closing_of};
 
-    /// A service of these configurations, made at that moment.
+    /// A service of these configurations, made at that moment. Each namespace has a generator of its own, a fork of the one given.
     ///
     /// Refused with `Moment` above 2^63 - 1 nanoseconds, then with `Config` where there are not 1 to 16 of them or one is not
     /// served, then with `OutOfMemory`.
-    pub fn new(alloc: Global, configs: &[Config], moment: Instant) -> Result<Service, ServiceError>
-        ensures made { IfOk result (λ service. AreNew (spaces_of service) configs.now moment.nanos) }
+    pub fn new(
+        alloc: Global,
+        configs: &[Config],
+        generator: Xoshiro256PlusPlus,
+        moment: Instant,
+    ) -> Result<Service, ServiceError>
+        ensures made { IfOk result (λ service. AreNew (spaces_of service) configs.now generator moment.nanos) }
         ensures moment { IsErrOf result ServiceError.Moment ↔ (2 ^ 63 ≤ moment.nanos) }
         ensures config { IsErrOf result ServiceError.Config ↔ ((moment.nanos < 2 ^ 63) × (are_taken configs.now ≡ false)) }
         ensures memory { IfErr result (λ e. (e ≡ ServiceError.Moment) ⊎ (e ≡ ServiceError.Config) ⊎ (e ≡ ServiceError.OutOfMemory)) }
@@ -66,7 +72,7 @@ impl Service {
         if !are_taken(configs) {
             return Err(ServiceError::Config);
         }
-        match new_spaces(alloc, configs, moment.nanos) {
+        match new_spaces(alloc, configs, generator, moment.nanos) {
             Ok(spaces) => Ok(Service { alloc, spaces }),
             Err(_) => Err(ServiceError::OutOfMemory),
         }

@@ -61,10 +61,10 @@ module _ {C : Type 0} (input rest output written errors told : Option (List ℕ)
         notes = subst (λ l. Appends errors told (notes_text l)) (c.notices ∙ ap (λ l. l ++ flat_map notes_in c.feeds) none) notes;
       }
 
-  pub script-served : (old new : List Space) → AreNew old (script_config ∷ []) 0
+  pub script-served : (old new : List Space) (generator : List ℕ) → AreNew old (script_config ∷ []) generator 0
       → At old new 0 (λ was is. ServesWhole stands_still was is (outside input output clock) (outside rest written after))
       → Appends errors told (notes_text (notices_at new 0)) → ServesScript input rest output written errors told
-  script-served old new made a notes =
+  script-served old new generator made a notes =
       let begun = made.each 0 script_config a.was refl a.at in
       let w = a.fact in
       let s = w.goes.each (empty_situation 0) begun.stands in

@@ -10,6 +10,8 @@ use audit_model::{Config, EvictionPolicy, Instant, Weight};
 use cache_devices::{SendError, Watched, send};
 use cache_run::{RunError, run};
 use cache_spaces::Service;
+use rand_core::SeedableRng;
+use rand_xoshiro::Xoshiro256PlusPlus;
 use std::alloc::Global;
 use std::convert::AsStr;
 use std::io::{ErrorKind, Read, Write};
@@ -111,7 +113,8 @@ fn run_script<R: Read, W: Write, E: Write>(
         return fail(errors, OUT_OF_MEMORY);
     };
     let made = Instant { nanos: 0 };
-    let mut service = match Service::new(alloc, &[PLAIN], made) {
+    let generator = Xoshiro256PlusPlus::seed_from_u64(0);
+    let mut service = match Service::new(alloc, &[PLAIN], generator, made) {
         Ok(service) => service,
         Err(_) => return fail(errors, OUT_OF_MEMORY),
     };

@@ -12,8 +12,10 @@ use std::sync::Arc;
 /// What to do.
 #[derive(Clone, Copy, Debug, PartialEq, Eq)]
 pub enum Work {
-    /// Moves to the back of a queue.
+    /// Moves of drawn nodes to the back of a queue.
     Moves,
+    /// Moves of the first node to the back of a queue.
+    Fronts,
     /// Timers that are scheduled in rising order and then all expire.
     Rising,
     /// Timers that are scheduled in no order and then all expire.
@@ -29,6 +31,7 @@ impl Work {
     pub fn from_word(word: &str) -> Option<Work> {
         match word {
             "moves" => Some(Work::Moves),
+            "fronts" => Some(Work::Fronts),
             "rising" => Some(Work::Rising),
             "random" => Some(Work::Random),
             "counts" => Some(Work::Counts),
@@ -42,6 +45,7 @@ impl Work {
 pub fn run(alloc: Global, work: Work, size: usize, rounds: u64) -> Option<u64> {
     match work {
         Work::Moves => moves(alloc, size, rounds),
+        Work::Fronts => fronts(alloc, size, rounds),
         Work::Rising => timers(alloc, size, true),
         Work::Random => timers(alloc, size, false),
         Work::Counts => counts(alloc, size, rounds),
@@ -80,7 +84,16 @@ fn filled(alloc: Global, size: usize) -> Option<(Deque<u64>, Vec<NodeId>)> {
     Some((queue, ids))
 }
 
-/// Moves nodes of a queue to the back.
+/// Moves the first node of a queue to the back.
+fn fronts(alloc: Global, size: usize, rounds: u64) -> Option<u64> {
+    let (mut queue, _ids) = filled(alloc, size)?;
+    for _ in 0..rounds {
+        queue.move_front_to_back();
+    }
+    queue.peek_front().copied()
+}
+
+/// Moves drawn nodes of a queue to the back.
 fn moves(alloc: Global, size: usize, rounds: u64) -> Option<u64> {
     let (mut queue, ids) = filled(alloc, size)?;
     if ids.is_empty() {

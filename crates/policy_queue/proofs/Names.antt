@@ -1,14 +1,15 @@
 -- Names of nodes, and walks.
-use Rattle.std.proofs.Common.{◌≡◌, ◌≢◌, ℕ, suc, ◌+◌, ◌<◌, List, [], ◌∷◌, ◌++◌, length, map, Some, None, refl, sym, ap, ◌∙◌, inl, inr, arith, subst}
-use Rattle.std.proofs.lemmas.Bool.{cases_Bool, and_parts, eqb-true}
+use Rattle.std.proofs.Common.{◌≡◌, ◌≢◌, ℕ, Bool, true, false, suc, ◌+◌, ◌<◌, List, [], ◌∷◌, ◌++◌, length, map, Some, None, refl, sym, ap, ◌∙◌, inl, inr, arith, subst}
+use Rattle.std.proofs.lemmas.Bool.{cases_Bool, and_parts, eqb-true, cond-true, cond-false}
+use Rattle.std.proofs.lemmas.Option.{none-some}
 use Rattle.std.proofs.lemmas.List.{append_assoc}
 use Rattle.policy_base.specs.declared.name.CacheRegion.{CacheRegion}
 use Rattle.policy_base.specs.declared.name.NodeId.{NodeId}
 use Rattle.policy_queue.specs.declared.places.Node.{Node}
 use Rattle.policy_queue.specs.declared.places.Cursor.TheVariants.{Unstarted}
-use Rattle.policy_queue.specs.Queue.{head, cursor_at, cursor_past, to_give, given, walked, LacksSerial, AreNamed, WalksOnce}
+use Rattle.policy_queue.specs.Queue.{find, without, StaysStale, head, cursor_at, cursor_past, to_give, given, walked, LacksSerial, AreNamed, WalksOnce}
 use Rattle.policy_base.specs.Region.{same_id}
-use Rattle.policy_queue.proofs.Live.{NoneIs, from_id_at}
+use Rattle.policy_queue.proofs.Live.{NoneIs, find_none, from_id_at}
 use Rattle.policy_base.proofs.Names.{same_id-refl}
 
 module _ {T : Type 0} where
@@ -102,6 +103,35 @@ module _ {T : Type 0} where
     where
       subst-named : {ms ns : List (Node T)} → ns ≡ ms → AreNamed r x ns → AreNamed r x ms
       subst-named {ms} {ns} e h = subst (λ ks. AreNamed r x ks) e h
+
+  -- a name that left is gone
+  pub find_gone : (r : CacheRegion) (x : ℕ) (id : NodeId) (ns : List (Node T)) → AreNamed r x ns → find id (without id ns) ≡ None
+  find_gone r x id [] h = refl
+  find_gone r x id (n ∷ rest) h = go (same_id n.id id) refl (find_gone r x id rest h.3)
+    where
+      go : (b : Bool) → same_id n.id id ≡ b → find id (without id rest) ≡ None → find id (without id (n ∷ rest)) ≡ None
+      go true s more =
+          let serial : n.id.serial ≡ id.serial = eqb-true _ _ (and_parts _ _ s).0 in
+          ap (find id) (cond-true (same_id n.id id) _ _ s) ∙ find_none id rest (NoneIs-serial rest id (subst (λ (k : ℕ). LacksSerial k rest) serial h.2))
+      go false s more = ap (find id) (cond-false (same_id n.id id) _ _ s) ∙ cond-false (same_id n.id id) _ _ s ∙ more
+
+  -- a push under another serial does not bring it back
+  pub find_pushed : (id : NodeId) (ns : List (Node T)) (new : Node T) → find id ns ≡ None → new.id.serial ≢ id.serial → find id (ns ++ new ∷ []) ≡ None
+  find_pushed id [] new e d = elim (cases_Bool (same_id new.id id)) [
+    | inl t ↦ absurd (d (eqb-true _ _ (and_parts _ _ t).0))
+    | inr f ↦ cond-false (same_id new.id id) _ _ f
+  ]
+  find_pushed id (n ∷ rest) new e d = go (same_id n.id id) refl (λ h. find_pushed id rest new h d)
+    where
+      go : (b : Bool) → same_id n.id id ≡ b → (find id rest ≡ None → find id (rest ++ new ∷ []) ≡ None) → find id (n ∷ (rest ++ new ∷ [])) ≡ None
+      go true s more = absurd (none-some n (sym e ∙ cond-true (same_id n.id id) _ _ s))
+      go false s more = cond-false (same_id n.id id) _ _ s ∙ more (sym (cond-false (same_id n.id id) _ _ s) ∙ e)
+
+  pub stays_stale : (r : CacheRegion) (id : NodeId) (x : ℕ) (ns : List (Node T)) → AreNamed r x ns → StaysStale id x ns
+  stays_stale r id x ns h = record {
+    left = find_gone r x id ns h;
+    pushed = λ new lt e same. find_pushed id ns new e (λ f. absurd (omega (arith, f, same, lt)));
+  }
 
   -- a walk gives each node once
   pub walks_once : (r : CacheRegion) (x : ℕ) (nodes : List (Node T)) → AreNamed r x nodes → WalksOnce nodes

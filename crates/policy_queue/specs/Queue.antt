@@ -150,3 +150,12 @@ walked (suc k) cursor nodes = walked k (cursor_past (to_give cursor nodes)) node
 pub record WalksOnce {T : Type 0} (nodes : List (Node T)) : Type 0 where
   pub gives : given (suc (length nodes)) Unstarted nodes ≡ map (λ n. Some n) nodes ++ None ∷ []
   pub starts_again : walked (suc (length nodes)) Unstarted nodes ≡ Unstarted
+
+-- a name that left is stale, and stays so: no push gives it again
+pub record StaysStale {T : Type 0} (id : NodeId) (next : ℕ) (nodes : List (Node T)) : Type 0 where
+  pub left : find id (without id nodes) ≡ None
+  pub pushed : (new : Node T) → id.serial < next → find id nodes ≡ None → new.id.serial ≡ next → find id (nodes ++ new ∷ []) ≡ None
+
+-- a node's name
+abbrev pub TheName : Type 0
+TheName = NodeId

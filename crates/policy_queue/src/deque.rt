@@ -1,7 +1,8 @@
 //! Queues of elements with stable names.
-ghost use Rattle.std.specs.Prelude.{◌≡◌, ◌≢◌, ℕ, ◌+◌, ◌-◌, ◌^◌, ◌<◌, ◌≤◌, ◌↔◌, true, false, List, [], ◌∷◌, ◌++◌, length, IsTrue, IsSome, IsOk, IfOk, IfErr, OnOk, OnErr, MatchOption, MatchResult, option_map, option_copied, Some, None};
+ghost use Rattle.std.specs.Prelude.{◌≡◌, ◌≢◌, ℕ, ◌+◌, ◌-◌, ◌^◌, ◌<◌, ◌≤◌, ◌↔◌, true, false, List, [], ◌∷◌, ◌++◌, length, IsTrue, IsSome, IsOk, IsErr, IfOk, IfErr, OnOk, OnErr, MatchOption, MatchResult, option_map, option_copied, Some, None};
 ghost use Rattle.std.specs.Borrow.{sem};
-ghost use Rattle.policy_queue.specs.Queue.{find, from_id, head, final, tail, to_give, cursor_past, Leaves, Pushes, Stays, refused_element, RefusedWell, MovesToBack, AreNamed, WalksOnce};
+ghost use Rattle.policy_queue.specs.Queue.{find, from_id, head, final, tail, to_give, cursor_past, Leaves, Pushes, Stays, refused_element, RefusedWell, MovesToBack, AreNamed, StaysStale, TheName, WalksOnce};
+ghost use Rattle.policy_queue.specs.Places.{live};
 
 use crate::places::{
     Cursor, Node, attach, cursor_from, cursor_leaving, detach, element_at, has_next, id_from,
@@ -154,6 +155,7 @@ impl<T: Drop> Deque<T> {
     pub fn push_back(&mut self, element: T) -> Result<NodeId, PushError<T>>
         ensures pushes { IfOk result (λ id. Pushes self.old self.new id element) }
         ensures had_room { 0 < self.old.room → IsOk result }
+        ensures used_up { self.old.next_serial ≡ 2 ^ 64 - 1 → IsErr result }
         ensures stays { OnErr result (Stays self.old self.new) }
         ensures handed_back { IfErr result (λ e. refused_element e ≡ element) }
         ensures why { IfErr result (RefusedWell self.old) }
@@ -320,6 +322,20 @@ pub fn names_stand<T>(queue: &Deque<T>)
     ensures { AreNamed queue.now.region queue.now.next_serial queue.now.nodes }
 {
     let _ = &queue.places;
+}
+
+/// A node that left is stale from then on: no later push, which gives the next serial, brings its name back.
+pub fn stale_names_stay_stale<T>(queue: &Deque<T>)
+    ensures { (id : TheName) → StaysStale id queue.now.next_serial queue.now.nodes }
+{
+    let _ = &queue.places;
+}
+
+/// The array behind a queue, from front to back, with its empty places.
+pub fn places_of<T>(queue: &Deque<T>) -> &[Option<Node<T>>]
+    ensures { live result.now ≡ queue.now.nodes }
+{
+    queue.places.as_slice()
 }
 
 /// A walk of a queue that does not change gives each node once, in order, then ends, and starts again.

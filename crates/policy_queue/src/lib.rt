@@ -4,5 +4,8 @@
 mod deque;
 mod places;
 
-pub use deque::{Deque, PushError, ReserveError, Stale, names_stand, walks_give_each_once};
+pub use deque::{
+    Deque, PushError, ReserveError, Stale, names_stand, places_of, stale_names_stay_stale,
+    walks_give_each_once,
+};
 pub use places::{Cursor, Node};

@@ -1,5 +1,6 @@
 //! Queues.
 use moka_policy::{CacheRegion, Deque, NodeId};
+use policy_queue::places_of;
 use std::test::Fail;
 
 fn push(queue: &mut Deque<u64>, element: u64) -> Result<NodeId, &'static str> {
@@ -68,5 +69,27 @@ fn pushes_within_a_reservation(rt: HostRuntime) -> Result<(), Fail> {
     assert_eq!(rt; queue.pop_front(), Some(1));
     assert_eq!(rt; queue.pop_front(), Some(2));
     assert_eq!(rt; queue.pop_front(), None);
+    Ok(())
+}
+
+#[test]
+fn a_move_empties_one_place_and_takes_another(rt: HostRuntime) -> Result<(), Fail> {
+    let mut queue: Deque<u64> = Deque::new(rt.alloc(), CacheRegion::Other);
+    assert_eq!(rt; queue.reserve(4).is_ok(), true);
+    for element in 0..3 {
+        push(&mut queue, element)?;
+    }
+    queue.move_front_to_back();
+    let mut places: Vec<Option<u64>> = Vec::new(rt.alloc());
+    for place in places_of(&queue) {
+        match place {
+            Some(node) => places.push(Some(node.element))?,
+            None => places.push(None)?,
+        }
+    }
+    assert_eq!(rt;
+        places.as_slice(),
+        [None, Some(1), Some(2), Some(0)].as_slice()
+    );
     Ok(())
 }

@@ -7,7 +7,7 @@ fn counts_up_to_fifteen(rt: HostRuntime) -> Result<(), Fail> {
     let mut sketch = FrequencySketch::default(rt.alloc());
     sketch.increment(9);
     assert_eq!(rt; sketch.frequency(9), 0);
-    sketch.ensure_capacity(100)?;
+    sketch.ensure_capacity(512)?;
     for _ in 0..20 {
         sketch.increment(9);
     }

@@ -7,7 +7,7 @@ use Rattle.cache_spaces.proofs.playing.play.Goals as goal
 
 pub loop-input-init : goal.loop-input-init
 loop-input-init c = record {
-  played = played-none c.args.configs.now c.args.moment (journals_of c.in-Ok.recorded) (spaces_of (service_of c.in-Ok.recorded)) c.in-Ok.ensures.made c.in-Ok.ensures.empty.1 c.in-Ok.ensures.empty.0;
+  played = played-none c.args.configs.now c.args.generator c.args.moment (journals_of c.in-Ok.recorded) (spaces_of (service_of c.in-Ok.recorded)) c.in-Ok.ensures.made c.in-Ok.ensures.empty.1 c.in-Ok.ensures.empty.0;
 }
 
 pub loop-input-preserved : goal.loop-input-preserved

@@ -8,6 +8,6 @@ invariant_of-result c = record {
     configs = c.args.configs.now;
     moment = c.args.moment;
     inputs = [];
-    played = played-none c.args.configs.now c.args.moment c.in-Ok-empty_transcripts.journals.items c.in-Ok.service.spaces.items c.in-Ok.ensures.made c.in-Ok-empty_transcripts.ensures.count c.in-Ok-empty_transcripts.ensures.empty;
+    played = played-none c.args.configs.now c.args.generator c.args.moment c.in-Ok-empty_transcripts.journals.items c.in-Ok.service.spaces.items c.in-Ok.ensures.made c.in-Ok-empty_transcripts.ensures.count c.in-Ok-empty_transcripts.ensures.empty;
   } ∣₁;
 }

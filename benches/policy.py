@@ -1,0 +1,52 @@
+#!/usr/bin/env python3
+"""Times the policy's structures: moves of a queue, timers, counts of a sketch.
+
+Build the program first: in crates/policy_bench, `rt run` leaves it at out/policy_bench. Each figure is the difference of two
+runs, one of which only builds the structure, by the processor time of the best of three; the work itself is bounded.
+Ends with status 1 where a move of the first node at a million nodes takes more than three times one at a thousand: those
+go through memory in order. A drawn node is mostly in no cache at a million, so its figure says more of the machine.
+"""
+import os
+import pathlib
+import subprocess
+import sys
+
+PROGRAM = pathlib.Path(__file__).resolve().parent.parent / "crates/policy_bench/out/policy_bench"
+MOST_GROWTH = 3.0
+
+
+def seconds_of(what, size, rounds):
+    """The processor seconds of the best of three runs."""
+    best = None
+    for _ in range(3):
+        before = os.times()
+        subprocess.run([PROGRAM, what, str(size), str(rounds)], stdout=subprocess.DEVNULL, check=True)
+        after = os.times()
+        spent = after.children_user + after.children_system - before.children_user - before.children_system
+        best = spent if best is None else min(best, spent)
+    return best
+
+
+def nanos_a_round(what, size, rounds):
+    """The nanoseconds of one round, without what building the structure takes."""
+    return (seconds_of(what, size, rounds) - seconds_of(what, size, 0)) / rounds * 1e9
+
+
+def main():
+    small = nanos_a_round("fronts", 1_000, 10_000_000)
+    large = nanos_a_round("fronts", 1_000_000, 10_000_000)
+    print(f"the first node moved to the back: {small:.0f} ns at 1,000 nodes, {large:.0f} ns at 1,000,000")
+    drawn = [nanos_a_round("moves", size, 10_000_000) for size in (1_000, 1_000_000)]
+    print(f"a drawn node moved to the back: {drawn[0]:.0f} ns at 1,000 nodes, {drawn[1]:.0f} ns at 1,000,000")
+    for what, size in [("rising", 100_000), ("rising", 1_000_000), ("random", 10_000), ("random", 100_000)]:
+        whole = seconds_of(what, size, 0) / size * 1e9
+        print(f"{size:,} timers in {what} order: {whole:.0f} ns each, made, scheduled and expired")
+    for what in ["counts", "frequencies"]:
+        for size in [1_000, 1_000_000]:
+            once = nanos_a_round(what, size, 10_000_000)
+            print(f"{what} of a sketch for {size:,}: {once:.0f} ns each, {1000 / once:.0f} million a second")
+    sys.exit(large > MOST_GROWTH * small)
+
+
+if __name__ == "__main__":
+    main()

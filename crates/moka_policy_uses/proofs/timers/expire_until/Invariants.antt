@@ -1,0 +1,13 @@
+use Rattle.std.proofs.Common.{◌≡◌, true}
+use Rattle.policy_timers.specs.Events.{pending}
+use Rattle.moka_policy_uses.proofs.timers.expire_until.Given as goal
+
+abbrev pub invariant-loop-event : goal.invariant-loop-event
+invariant-loop-event g l = record {
+  enabled : l.wheel.is_enabled ≡ true;
+  origin : l.wheel.origin ≡ l.fn.wheel.origin;
+  moment : l.wheel.moment ≡ l.fn.wheel.moment;
+}
+
+abbrev pub decreases-loop-event : goal.decreases-loop-event
+decreases-loop-event g l = pending l.now l.wheel.timers

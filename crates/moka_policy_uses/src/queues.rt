@@ -1,0 +1,38 @@
+//! Queues.
+ghost use Rattle.std.specs.Prelude.{◌≡◌, ◌+◌, ◌<◌, ◌≤◌, ◌∷◌, ◌++◌, [], ◌↔◌, IsTrue, IsSome, OnOk, OnErr, map};
+ghost use Rattle.policy_queue.specs.Queue.{Stays, find, MovesToBack};
+ghost use Rattle.std.specs.Bool.{OnTrue, OnFalse};
+
+use moka_policy::{Deque, NodeId, ReserveError};
+
+/// Puts two elements to the back, both or none: once there is room for two, no push is refused.
+pub fn push_both(queue: &mut Deque<u64>, first: u64, second: u64) -> Result<(), ReserveError>
+    ensures pushed { OnOk result (map (λ n. n.element) queue.new.nodes ≡ map (λ n. n.element) queue.old.nodes ++ first ∷ second ∷ []) }
+    ensures refused { OnErr result (Stays queue.old queue.new) }
+{
+    queue.reserve(2)?;
+    push_reserved(queue, first);
+    push_reserved(queue, second);
+    Ok(())
+}
+
+/// Puts an element to the back of a queue with room.
+fn push_reserved(queue: &mut Deque<u64>, element: u64)
+    requires { 0 < queue.old.room }
+    ensures pushed { map (λ n. n.element) queue.new.nodes ≡ map (λ n. n.element) queue.old.nodes ++ element ∷ [] }
+    ensures room { queue.old.room ≤ queue.new.room + 1 }
+{
+    match queue.push_back(element) {
+        Ok(_) => {}
+        Err(_) => unreachable!(),
+    }
+}
+
+/// Puts a node to the back where the queue still has it, and says whether it does.
+pub fn use_again(queue: &mut Deque<u64>, id: NodeId) -> bool
+    ensures found { IsTrue result ↔ IsSome (find id queue.old.nodes) }
+    ensures moved { OnTrue result (MovesToBack queue.old queue.new id) }
+    ensures stale { OnFalse result (queue.new ≡ queue.old) }
+{
+    queue.move_to_back(id).is_ok()
+}
