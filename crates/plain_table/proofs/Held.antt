@@ -222,3 +222,10 @@ last_same (z ∷ zs) (w ∷ ws) x y e =
     let parts = tail_same z w (zs ++ x ∷ []) (ws ++ y ∷ []) e in
     let rest = last_same zs ws x y parts.1 in
     (ap (λ k. k ∷ zs) parts.0 ∙ ap (λ ks. w ∷ ks) rest.0, rest.1)
+
+pub length-to_front : (change : HeldValue → HeldValue) (key : List ℕ) (items : List HeldValue) → length (to_front change key items) ≡ length items
+length-to_front change key items = go (value_at items key) refl
+  where
+    go : (o : Option HeldValue) → value_at items key ≡ o → length (option_map_or (λ (g : HeldValue). change g ∷ without key items) o items) ≡ length items
+    go None e = refl
+    go (Some h) e = length-without key items h e

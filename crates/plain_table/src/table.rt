@@ -1,12 +1,17 @@
 //! The map from keys to what is kept, in the order of the last use.
-ghost use Rattle.std.specs.Prelude.{◌≡◌, ◌<◌, ◌≤◌, ◌^◌, ◌-◌, ◌++◌, List, ◌∷◌, [], true, false, nat_le, length, Some, None, IsTrue, IfOk, IfErr, IfSome, OnOk, OnErr, vec_capacity};
+ghost use Rattle.std.specs.Prelude.{◌≡◌, ℕ, ◌<◌, ◌≤◌, ◌^◌, ◌-◌, ◌++◌, List, ◌∷◌, [], true, false, nat_le, length, Some, None, IsTrue, IfOk, IfErr, IfSome, OnOk, OnErr, vec_capacity};
 ghost use Rattle.std.specs.Option.{option_map};
 ghost use Rattle.std.specs.List.{list_all};
 ghost use Rattle.audit_model.specs.Situation.{HeldValue};
 ghost use Rattle.plain_table.specs.Items.{held_of, items_of, value_at, without, are_apart, are_light, used_at, covered_if, to_front, EndsWith, CopiesLast, AreSound};
 
+ghost use Rattle.std.specs.Map.Iter.{ShowsInOrder, deref_pair};
+ghost use Rattle.std.specs.declared.vec.Vec.{Vec as Bytes};
+ghost use Rattle.std.specs.declared.alloc.Global.{Global as Heap};
+ghost use Rattle.plain_table.specs.declared.kept.Kept.{Kept as Held};
+
 use crate::kept::Kept;
-use lru::LruCache;
+use lru::{Iter, LruCache};
 use std::alloc::{AllocError, Global};
 use std::marker::Model;
 use std::mem;
@@ -53,6 +58,15 @@ impl Table {
         ensures light { IsTrue (are_light self.now) }
     {
         self.cache.len()
+    }
+
+    /// All values with their keys, from the last used on.
+    pub fn iter(&self) -> Iter<'_, Vec<u8>, Kept>
+        ensures rest { items_of result ≡ self.now }
+        ensures sound { (room : ℕ) × AreSound room self.now }
+        ensures runs { ShowsInOrder (deref_pair {K = Bytes ℕ Heap} {X = Held}) }
+    {
+        self.cache.iter()
     }
 
     /// What is kept of a key.
@@ -123,14 +137,15 @@ impl Table {
     /// Takes the last value, with its key.
     pub fn pop_last(&mut self) -> Option<(Vec<u8>, Kept)>
         ensures some { IfSome result (λ e. self.old ≡ self.new ++ held_of e.0.items e.1 ∷ []) }
-        ensures none { result ≡ None → self.old ≡ [] }
+        ensures none { result ≡ None → (self.old ≡ []) × (self.new ≡ []) }
     {
         self.cache.pop_lru()
     }
 
     /// Makes the last value the first, and covers it if so asked.
     pub fn turn(&mut self, covers: bool)
-        ensures { (front : List HeldValue) (h : HeldValue) → self.old ≡ front ++ h ∷ [] → self.new ≡ covered_if covers h ∷ front }
+        ensures turned { (front : List HeldValue) (h : HeldValue) → self.old ≡ front ++ h ∷ [] → self.new ≡ covered_if covers h ∷ front }
+        ensures number { length self.new ≡ length self.old }
     {
         if copy_last(&self.cache, &mut self.scratch) {
             cover_first(&mut self.cache, self.scratch.as_slice(), covers);

@@ -14,4 +14,7 @@ returns-clause-some c =
     (pops c.self.inside.cache.entries c.pop_lru.result c.pop_lru.ensures.value))
 
 pub returns-clause-none : goal.returns-clause-none
-returns-clause-none c = λ n. sym c.self.view_is ∙ ap items_of (none_at_last c.self.inside.cache.entries (sym c.pop_lru.ensures.value ∙ n))
+returns-clause-none c = λ n.
+    let es = c.self.inside.cache.entries in
+    let none : es ≡ [] = none_at_last es (sym c.pop_lru.ensures.value ∙ n) in
+    (sym c.self.view_is ∙ ap items_of none, rw c.pop_lru.ensures.entries (ap (λ xs. items_of (take (length xs - 1) xs)) none))
