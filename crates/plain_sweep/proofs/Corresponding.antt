@@ -1,0 +1,215 @@
+-- Values held that are those of a table's items.
+use Rattle.std.proofs.Common.{◌≡◌, ℕ, suc, Bool, cond, true, false, not, ◌&&◌, List, [], ◌∷◌, ◌++◌, map, length, Option, option_map, Some, None, IsPermutation, refl, sym, ap, ◌∙◌, subst, arith}
+use Rattle.std.proofs.lemmas.Bool.{not-true, not_from_false, and_parts, and_from}
+use Rattle.std.proofs.lemmas.List.{length-append, length-map}
+use Rattle.std.proofs.lemmas.List.Folds.{list_all-append}
+use Rattle.std.proofs.lemmas.List.Sorted.{IsPermutation-refl, IsPermutation-cons, IsPermutation-trans, IsPermutation-map, IsPermutation-middle}
+use Rattle.std.proofs.lemmas.Option.{none-some}
+use Rattle.audit_model.specs.Bytewise.{same}
+use Rattle.audit_model.specs.Situation.{HeldValue}
+use Rattle.audit_model.specs.declared.transcript.Note.{Note}
+use Rattle.plain_table.specs.Items.{value_at, without, is_absent, are_apart}
+use Rattle.plain_table.proofs.Keys.{same-refl, same-flip_false, equal_from_same, same_along}
+use Rattle.plain_table.proofs.Held.{absent_from_none, none_from_absent, absent-without, apart-without, length-without, without-absent}
+use Rattle.plain_sweep.specs.Holding.{plain, Corresponds}
+use Rattle.plain_sweep.proofs.Sweeping.{left}
+
+-- ---- one key less
+
+value_at-other : (key q : List ℕ) (items : List HeldValue) → same q key ≡ false → value_at (without key items) q ≡ value_at items q
+value_at-other key q [] other = refl
+value_at-other key q (h ∷ items) other = go (same key h.value.key) refl (value_at-other key q items other)
+  where
+    go : (b : Bool) → same key h.value.key ≡ b → value_at (without key items) q ≡ value_at items q → value_at (cond b items (h ∷ without key items)) q ≡ value_at (h ∷ items) q
+    go true is next = ap (λ b. cond b (Some h) (value_at items q)) (sym (same_along q key h.value.key is ∙ other))
+    go false is next = ap (cond (same q h.value.key) (Some h)) next
+
+pub value_at-without : (key q : List ℕ) (items : List HeldValue) → are_apart items ≡ true → value_at (without key items) q ≡ cond (same q key) None (value_at items q)
+value_at-without key q items a = go (same q key) refl
+  where
+    go : (b : Bool) → same q key ≡ b → value_at (without key items) q ≡ cond b None (value_at items q)
+    go true is = none_from_absent q (without key items) (subst (λ k. is_absent k (without key items) ≡ true) (sym (equal_from_same q key is)) (absent-without key items a))
+    go false is = value_at-other key q items is
+
+plain-cond : (b : Bool) (o : Option HeldValue) → option_map plain (cond b None o) ≡ cond b None (option_map plain o)
+plain-cond true o = refl
+plain-cond false o = refl
+
+pub corresponds-without : (key : List ℕ) (items held : List HeldValue) → are_apart items ≡ true → Corresponds items held → Corresponds (without key items) (without key held)
+corresponds-without key items held a c = record {
+  found = λ q.
+      ap (option_map plain) (value_at-without key q held c.apart)
+      ∙ plain-cond (same q key) (value_at held q)
+      ∙ ap (cond (same q key) None) (c.found q)
+      ∙ sym (value_at-without key q items a);
+  number = numbers (value_at held key) refl;
+  apart = apart-without key held c.apart;
+}
+  where
+    numbers : (o : Option HeldValue) → value_at held key ≡ o → length (without key held) ≡ length (without key items)
+    numbers None e =
+        ap length (without-absent key held (absent_from_none key held e))
+        ∙ c.number
+        ∙ sym (ap length (without-absent key items (absent_from_none key items (sym (c.found key) ∙ ap (option_map plain) e))))
+    numbers (Some h) e =
+        let one = length-without key held h e in
+        let other = length-without key items (plain h) (sym (c.found key) ∙ ap (option_map plain) e) in
+        let both : length held ≡ length items = c.number in
+        omega arith
+
+pub corresponds-left : (notes : List Note) (items held : List HeldValue) → are_apart items ≡ true → Corresponds items held → Corresponds (left notes items) (left notes held)
+corresponds-left [] items held a c = c
+corresponds-left (n ∷ notes) items held a c = corresponds-left notes (without n.key items) (without n.key held) (apart-without n.key items a) (corresponds-without n.key items held a c)
+
+pub apart-left : (notes : List Note) (items : List HeldValue) → are_apart items ≡ true → are_apart (left notes items) ≡ true
+apart-left [] items a = a
+apart-left (n ∷ notes) items a = apart-left notes (without n.key items) (apart-without n.key items a)
+
+-- ---- each changed
+
+pub value_at-map : (f : HeldValue → HeldValue) (items : List HeldValue) (key : List ℕ) → ((h : HeldValue) → (f h).value.key ≡ h.value.key)
+    → value_at (map f items) key ≡ option_map f (value_at items key)
+value_at-map f [] key e = refl
+value_at-map f (h ∷ items) key e = ap (λ k. cond (same key k) (Some (f h)) (value_at (map f items) key)) (e h) ∙ go (same key h.value.key) (value_at-map f items key e)
+  where
+    go : (b : Bool) → value_at (map f items) key ≡ option_map f (value_at items key) → cond b (Some (f h)) (value_at (map f items) key) ≡ option_map f (cond b (Some h) (value_at items key))
+    go true next = refl
+    go false next = next
+
+pub absent-map : (f : HeldValue → HeldValue) (items : List HeldValue) (key : List ℕ) → ((h : HeldValue) → (f h).value.key ≡ h.value.key) → is_absent key (map f items) ≡ is_absent key items
+absent-map f [] key e = refl
+absent-map f (h ∷ items) key e = ap (λ k. not (same key k) && is_absent key (map f items)) (e h) ∙ ap (λ b. not (same key h.value.key) && b) (absent-map f items key e)
+
+pub apart-map : (f : HeldValue → HeldValue) (items : List HeldValue) → ((h : HeldValue) → (f h).value.key ≡ h.value.key) → are_apart (map f items) ≡ are_apart items
+apart-map f [] e = refl
+apart-map f (h ∷ items) e =
+    ap (λ k. is_absent k (map f items) && are_apart (map f items)) (e h)
+    ∙ ap (λ b. b && are_apart (map f items)) (absent-map f items h.value.key e)
+    ∙ ap (λ b. is_absent h.value.key items && b) (apart-map f items e)
+
+both-maps : (f g : HeldValue → HeldValue) → ((h : HeldValue) → plain (f h) ≡ g (plain h)) → (o : Option HeldValue) → option_map plain (option_map f o) ≡ option_map g (option_map plain o)
+both-maps f g e None = refl
+both-maps f g e (Some h) = ap (λ x. Some x) (e h)
+
+-- the values held change as the items do
+pub corresponds-map : (f g : HeldValue → HeldValue) (items held : List HeldValue) → ((h : HeldValue) → (f h).value.key ≡ h.value.key) → ((h : HeldValue) → (g h).value.key ≡ h.value.key)
+    → ((h : HeldValue) → plain (f h) ≡ g (plain h)) → Corresponds items held → Corresponds (map g items) (map f held)
+corresponds-map f g items held same_f same_g e c = record {
+  found = λ q.
+      ap (option_map plain) (value_at-map f held q same_f)
+      ∙ both-maps f g e (value_at held q)
+      ∙ ap (option_map g) (c.found q)
+      ∙ sym (value_at-map g items q same_g);
+  number = length-map held f ∙ c.number ∙ sym (length-map items g);
+  apart = apart-map f held same_f ∙ c.apart;
+}
+
+-- the values held change, and the items do not
+pub corresponds-same : (f : HeldValue → HeldValue) (items held : List HeldValue) → ((h : HeldValue) → (f h).value.key ≡ h.value.key) → ((h : HeldValue) → plain (f h) ≡ plain h)
+    → Corresponds items held → Corresponds items (map f held)
+corresponds-same f items held same_f e c = record {
+  found = λ q. ap (option_map plain) (value_at-map f held q same_f) ∙ both-maps f (λ h. h) e (value_at held q) ∙ no-map (option_map plain (value_at held q)) ∙ c.found q;
+  number = length-map held f ∙ c.number;
+  apart = apart-map f held same_f ∙ c.apart;
+}
+  where
+    no-map : (o : Option HeldValue) → option_map (λ (h : HeldValue). h) o ≡ o
+    no-map None = refl
+    no-map (Some h) = refl
+
+-- ---- one more
+
+pub absent_from_items : (key : List ℕ) (items held : List HeldValue) → Corresponds items held → value_at items key ≡ None → is_absent key held ≡ true
+absent_from_items key items held c e = absent_from_none key held (none_of (value_at held key) (c.found key ∙ e))
+  where
+    none_of : (o : Option HeldValue) → option_map plain o ≡ None → o ≡ None
+    none_of None e = refl
+    none_of (Some h) e = absurd (none-some (plain h) (sym e))
+
+pub apart-append : (held : List HeldValue) (n : HeldValue) → are_apart held ≡ true → is_absent n.value.key held ≡ true → are_apart (held ++ n ∷ []) ≡ true
+apart-append [] n a absent = refl
+apart-append (h ∷ held) n a absent =
+    let parts = and_parts (is_absent h.value.key held) (are_apart held) a in
+    let others = and_parts (not (same n.value.key h.value.key)) (is_absent n.value.key held) absent in
+    let other : same h.value.key n.value.key ≡ false = same-flip_false n.value.key h.value.key (not-true (same n.value.key h.value.key) others.0) in
+    and_from _ _
+    (list_all-append (λ (g : HeldValue). not (same h.value.key g.value.key)) held (n ∷ [])
+    ∙ and_from _ _ parts.0 (and_from _ _ (not_from_false (same h.value.key n.value.key) other) refl))
+    (apart-append held n parts.1 others.1)
+
+value_at-append : (held : List HeldValue) (n : HeldValue) (q : List ℕ) → is_absent n.value.key held ≡ true
+    → value_at (held ++ n ∷ []) q ≡ cond (same q n.value.key) (Some n) (value_at held q)
+value_at-append [] n q absent = refl
+value_at-append (h ∷ held) n q absent =
+    let others = and_parts (not (same n.value.key h.value.key)) (is_absent n.value.key held) absent in
+    ap (cond (same q h.value.key) (Some h)) (value_at-append held n q others.1)
+    ∙ in_turn (same q h.value.key) (same q n.value.key) refl refl (not-true (same n.value.key h.value.key) others.0)
+  where
+    in_turn : (b c : Bool) → same q h.value.key ≡ b → same q n.value.key ≡ c → same n.value.key h.value.key ≡ false
+        → cond b (Some h) (cond c (Some n) (value_at held q)) ≡ cond c (Some n) (cond b (Some h) (value_at held q))
+    in_turn true true e f g = cc-free
+      where
+        cc-free : Some h ≡ Some n
+        cc-free = let same_key : same n.value.key h.value.key ≡ true = ap (λ k. same k h.value.key) (sym (equal_from_same q n.value.key f)) ∙ e in let no : true ≡ false = sym same_key ∙ g in cc
+    in_turn true false e f g = refl
+    in_turn false true e f g = refl
+    in_turn false false e f g = refl
+
+pub corresponds-new : (items held : List HeldValue) (new n : HeldValue) → Corresponds items held → value_at items new.value.key ≡ None → plain n ≡ new → Corresponds (new ∷ items) (held ++ n ∷ [])
+corresponds-new items held new n c absent e =
+    let is_key : n.value.key ≡ new.value.key = ap (λ (h : HeldValue). h.value.key) e in
+    let absent_held : is_absent n.value.key held ≡ true = subst (λ k. is_absent k held ≡ true) (sym is_key) (absent_from_items new.value.key items held c absent) in
+    record {
+      found = λ q.
+          ap (option_map plain) (value_at-append held n q absent_held)
+          ∙ go (same q n.value.key) (value_at held q)
+          ∙ ap (λ x. cond (same q n.value.key) (Some x) (option_map plain (value_at held q))) e
+          ∙ ap (λ k. cond (same q k) (Some new) (option_map plain (value_at held q))) is_key
+          ∙ ap (cond (same q new.value.key) (Some new)) (c.found q);
+      number = let l = length-append held (n ∷ []) in let m : length held ≡ length items = c.number in omega arith;
+      apart = apart-append held n c.apart absent_held;
+    }
+  where
+    go : (b : Bool) (o : Option HeldValue) → option_map plain (cond b (Some n) o) ≡ cond b (Some (plain n)) (option_map plain o)
+    go true o = refl
+    go false o = refl
+
+-- ---- permutations
+
+swap_two : {X : Type 0} (x y : X) (xs : List X) → IsPermutation (x ∷ y ∷ xs) (y ∷ x ∷ xs)
+swap_two x y xs = IsPermutation-middle (x ∷ []) y xs
+
+pub taken : (key : List ℕ) (held : List HeldValue) (h : HeldValue) → value_at held key ≡ Some h → IsPermutation held (h ∷ without key held)
+taken key [] h e = absurd (none-some h e)
+taken key (g ∷ held) h e = go (same key g.value.key) (λ (e : value_at held key ≡ Some h). taken key held h e) e
+  where
+    go : (b : Bool) → (value_at held key ≡ Some h → IsPermutation held (h ∷ without key held)) → cond b (Some g) (value_at held key) ≡ Some h
+        → IsPermutation (g ∷ held) (h ∷ cond b held (g ∷ without key held))
+    go true next e = let is_one : g ≡ h = cc in subst (λ x. IsPermutation (g ∷ held) (x ∷ held)) is_one (IsPermutation-refl (g ∷ held))
+    go false next e =
+        IsPermutation-trans (g ∷ held) (g ∷ h ∷ without key held) (h ∷ g ∷ without key held)
+        (IsPermutation-cons g held (h ∷ without key held) (next e)) (swap_two g h (without key held))
+
+pub permutation : (items held : List HeldValue) → are_apart items ≡ true → Corresponds items held → IsPermutation (map plain held) items
+permutation [] [] a c = IsPermutation-refl []
+permutation [] (h ∷ held) a c = absurd (let n : suc (length held) ≡ 0 = c.number in omega arith)
+permutation (t ∷ items) held a c =
+    go (value_at held t.value.key) refl
+    (permutation items (without t.value.key held) (and_parts (is_absent t.value.key items) (are_apart items) a).1
+    (subst (λ xs. Corresponds xs (without t.value.key held)) rest (corresponds-without t.value.key (t ∷ items) held a c)))
+  where
+    first : value_at (t ∷ items) t.value.key ≡ Some t
+    first = ap (λ b. cond b (Some t) (value_at items t.value.key)) (same-refl t.value.key)
+
+    rest : without t.value.key (t ∷ items) ≡ items
+    rest = ap (λ b. cond b items (t ∷ without t.value.key items)) (same-refl t.value.key)
+
+    go : (o : Option HeldValue) → value_at held t.value.key ≡ o → IsPermutation (map plain (without t.value.key held)) items → IsPermutation (map plain held) (t ∷ items)
+    go None e less = absurd (none-some t (ap (option_map plain) (sym e) ∙ c.found t.value.key ∙ first))
+    go (Some h) e less =
+        let both : Some (plain h) ≡ Some t = ap (option_map plain) (sym e) ∙ c.found t.value.key ∙ first in
+        let is_plain : plain h ≡ t = cc in
+        IsPermutation-trans (map plain held) (plain h ∷ map plain (without t.value.key held)) (t ∷ items)
+        (IsPermutation-map plain held (h ∷ without t.value.key held) (taken t.value.key held h e))
+        (subst (λ x. IsPermutation (plain h ∷ map plain (without t.value.key held)) (x ∷ items)) is_plain
+        (IsPermutation-cons (plain h) (map plain (without t.value.key held)) items less))

@@ -1,0 +1,5 @@
+pub mod Sweeping
+pub mod Corresponding
+pub mod Rotating
+pub mod Truth
+pub mod Weights

@@ -1,0 +1,69 @@
+-- What maintenance of one part leaves and tells.
+use Rattle.std.specs.Prelude.{ℕ, ◌-◌, ◌==◌, Bool, false, nat_lt, nat_eq, List, [], ◌∷◌, ◌++◌, Option, Some, None, if◌then◌else◌}
+use Rattle.std.specs.List.{starts_with}
+use Rattle.audit_model.specs.Situation.{HeldValue, is_dead_at}
+use Rattle.audit_model.specs.declared.config.Config.{Config}
+use Rattle.audit_model.specs.declared.transcript.Note.{Note}
+use Rattle.audit_model.specs.declared.transcript.RemovalCause.{RemovalCause}
+use Rattle.audit_model.specs.declared.transcript.RemovalCause.TheVariants.{Expired, Explicit, Replaced, Size}
+use Rattle.plain_table.specs.Items.{covered_if}
+
+-- the note that tells a value
+abbrev pub note_of : RemovalCause → HeldValue → Note
+note_of cause h = record { cause = cause; key = h.value.key; value = h.value.bytes }
+
+-- the value is covered, if its key begins so
+abbrev pub covered_by : List ℕ → HeldValue → HeldValue
+covered_by prefix h = covered_if (starts_with nat_eq h.value.key prefix) h
+
+-- a weight is above a limit, if there is one
+abbrev pub exceeds : Option ℕ → ℕ → Bool
+exceeds None weight = false
+exceeds (Some limit) weight = nat_lt limit weight
+
+-- why a value leaves the part, if it does; `over`: the part weighs more than its share
+abbrev pub cause_at : Config → ℕ → ℕ → Bool → HeldValue → Option RemovalCause
+cause_at config now part over h =
+    if h.value.part == part
+    then (if is_dead_at config now h then Some Expired else (if h.covered then Some Explicit else (if over then Some Size else None)))
+    else None
+
+-- the value goes, or comes first
+abbrev pub left_by : Option RemovalCause → HeldValue → List HeldValue → List HeldValue
+left_by None h others = h ∷ others
+left_by (Some cause) h others = others
+
+-- it is told where it goes
+abbrev pub told_by : Option RemovalCause → HeldValue → List Note
+told_by None h = []
+told_by (Some cause) h = note_of cause h ∷ []
+
+-- the part weighs less then
+abbrev pub weight_by : Option RemovalCause → HeldValue → ℕ → ℕ
+weight_by None h weight = weight
+weight_by (Some cause) h weight = weight - h.value.weight
+
+-- the values that are left, those that were told, and what the part weighs
+pub record Swept : Type 0 where
+  pub kept : List HeldValue
+  pub told : List Note
+  pub weight : ℕ
+
+-- the last value goes or stays
+abbrev pub visited : Option RemovalCause → HeldValue → Swept → Swept
+visited cause h s = record { kept = left_by cause h s.kept; told = s.told ++ told_by cause h; weight = weight_by cause h s.weight }
+
+-- maintenance of one part, from the least recently used value on
+abbrev pub swept : Config → ℕ → ℕ → Option ℕ → ℕ → List HeldValue → Swept
+swept config now part limit weight [] = record { kept = []; told = []; weight = weight }
+swept config now part limit weight (h ∷ items) =
+    let s = swept config now part limit weight items in
+    visited (cause_at config now part (exceeds limit s.weight) h) h s
+
+-- the cause of an older value that is written over
+abbrev pub cause_of_replaced : Bool → Bool → RemovalCause
+cause_of_replaced dead covered = if dead then Expired else (if covered then Explicit else Replaced)
+
+-- the cause of a value that is deleted
+abbrev pub cause_of_deleted : Bool → RemovalCause
+cause_of_deleted dead = if dead then Expired else Explicit

@@ -1,0 +1,12 @@
+//! Maintenance of a plain store's values: what leaves a part, and what is covered.
+#![tactic(auto)]
+
+mod covering;
+mod deadlines;
+mod leaving;
+mod weighing;
+
+pub use covering::cover;
+pub use deadlines::{is_dead, is_live};
+pub use leaving::{sweep, tell};
+pub use weighing::{count_live, weigh_part};

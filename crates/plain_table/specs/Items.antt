@@ -1,0 +1,70 @@
+-- What a table has, as values held.
+use Rattle.std.specs.Prelude.{◌≡◌, ℕ, ◌≤◌, Bool, true, false, not, ◌&&◌, ◌||◌, nat_le, List, [], ◌∷◌, ◌++◌, length, map, Option}
+use Rattle.std.specs.List.{find, list_all}
+use Rattle.std.specs.Option.{option_map_or}
+use Rattle.std.specs.declared.vec.Vec.{Vec}
+use Rattle.std.specs.declared.alloc.Global.{Global}
+use Rattle.audit_model.specs.Bytewise.{same}
+use Rattle.audit_model.specs.Situation.{HeldValue}
+use Rattle.audit_model.specs.Values.{without_key}
+use Rattle.plain_table.specs.declared.kept.Kept.{Kept}
+
+-- a key with what is kept beside it, as a value held
+abbrev pub held_of : List ℕ → Kept → HeldValue
+held_of key kept =
+    record { value = record { key = key; bytes = kept.bytes.items; part = kept.part; weight = kept.weight; accepted_at = kept.accepted_at; own_deadline = kept.own_deadline }; last_use = kept.last_use; covered = kept.covered; evictable = false }
+
+-- the entries as values held, the last used first
+abbrev pub items_of : List (Vec ℕ Global × Kept) → List HeldValue
+items_of entries = map (λ e. held_of e.0.items e.1) entries
+
+-- the key's value
+abbrev pub value_at : List HeldValue → List ℕ → Option HeldValue
+value_at items key = find (λ h. same key h.value.key) items
+
+-- the values but the key's
+abbrev pub without : List ℕ → List HeldValue → List HeldValue
+without key items = without_key (λ h. h.value.key) key items
+
+-- none of these has the key
+abbrev pub is_absent : List ℕ → List HeldValue → Bool
+is_absent key items = list_all (λ h. not (same key h.value.key)) items
+
+-- no key twice
+abbrev pub are_apart : List HeldValue → Bool
+are_apart [] = true
+are_apart (h ∷ items) = is_absent h.value.key items && are_apart items
+
+-- none weighs more than 8192
+abbrev pub are_light : List HeldValue → Bool
+are_light items = list_all (λ h. nat_le h.value.weight 8192) items
+
+-- the value is used at that moment
+abbrev pub used_at : ℕ → HeldValue → HeldValue
+used_at now h = record h { last_use = now }
+
+-- the value is covered, if it was not
+abbrev pub covered_if : Bool → HeldValue → HeldValue
+covered_if covers h = record h { covered = h.covered || covers }
+
+-- the key's value goes first, changed so
+abbrev pub to_front : (HeldValue → HeldValue) → List ℕ → List HeldValue → List HeldValue
+to_front change key items = option_map_or (λ h. change h ∷ without key items) (value_at items key) items
+
+-- the value is the last one
+abbrev pub EndsWith : List HeldValue → HeldValue → Type 0
+EndsWith items h = (front : List HeldValue) × (items ≡ front ++ h ∷ [])
+
+-- these bytes are the last key
+pub record CopiesLast (items : List HeldValue) (bytes : List ℕ) : Type 0 where
+  pub front : List HeldValue
+  pub last : HeldValue
+  pub is : items ≡ front ++ last ∷ []
+  pub key : bytes ≡ last.value.key
+
+-- what holds of each table's values, where a copy of any key fits in so much room
+pub record AreSound (room : ℕ) (items : List HeldValue) : Type 0 where
+  pub apart : are_apart items ≡ true
+  pub light : are_light items ≡ true
+  pub fits : list_all (λ h. nat_le (length h.value.key) room) items ≡ true
+  pub few : length items ≤ 1125899906842624
