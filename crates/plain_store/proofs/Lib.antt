@@ -1,0 +1,5 @@
+pub mod Drawn
+pub mod Doing
+pub mod Timely
+pub mod Calls
+pub mod Accepting

@@ -1,0 +1,4 @@
+pub mod Drawing
+pub mod Putting
+pub mod Standing
+pub mod Laws
