@@ -10,7 +10,8 @@ use Rattle.audit_laws.proofs.OnePart.{one-part-obeys}
 use Rattle.audit_model.specs.Belongs.{IsAdmitted, event_in}
 use Rattle.audit_model.specs.Obeys.{Obeys}
 use Rattle.audit_model.specs.History.{part_count}
-use Rattle.plain_store.specs.Plain.{is_plain, is_one}
+use Rattle.audit_model.specs.Configs.{is_valid}
+use Rattle.cache_spaces.specs.Served.{is_served}
 use Rattle.std.proofs.lemmas.Bool.{and_parts, eqb-true}
 use Rattle.audit_model.specs.BelongsIn.{BelongsIn}
 use Rattle.audit_model.specs.Follows.{Follows}
@@ -79,7 +80,7 @@ played-none configs generator moment transcripts spaces new count empty = record
       record {
         made = ap (λ (x : Transcript). x.made) e;
         configured = n.configured;
-        plain = n.plain;
+        served = n.served;
         last = empty_situation moment.nanos;
         stands = n.stands;
         belongs = (ap (λ (x : Transcript). x.records) e, refl);
@@ -102,7 +103,7 @@ left-alone : (config : Config) (k : ℕ) (moment : Instant) (inputs : List Input
 left-alone config k moment inputs i transcript space h = record {
   made = h.made;
   configured = h.configured;
-  plain = h.plain;
+  served = h.served;
   last = h.last;
   stands = h.stands;
   belongs = belongs_on.left_out config k inputs i transcript.records (empty_situation moment.nanos) h.last h.belongs;
@@ -114,7 +115,7 @@ same-kept : (config : Config) (k : ℕ) (moment : Instant) (inputs : List Input)
 same-kept config k moment inputs transcript was is same h = record {
   made = h.made;
   configured = same.config ∙ h.configured;
-  plain = h.plain;
+  served = h.served;
   last = h.last;
   stands = same.stands h.last h.stands;
   belongs = h.belongs;
@@ -131,7 +132,7 @@ taken-here config k moment inputs i t u was is here h made r =
     record {
       made = made ∙ h.made;
       configured = r.records.config ∙ h.configured;
-      plain = h.plain;
+      served = h.served;
       last = l.next;
       stands = l.stands;
       belongs = subst (λ rs. BelongsIn config k (empty_situation moment.nanos) (inputs ++ i ∷ []) rs l.next) (sym r.records.added)
@@ -193,10 +194,10 @@ played-left configs moment inputs i ts us old new e Cause played same refused =
 
 -- ---- the end
 
--- a plain configuration has one part
-abbrev pub one-part : (config : Config) → IsTrue (is_plain config) → part_count config ≡ 1
-one-part config plain =
-    let p = eqb-true config.parts 1 (and_parts (is_none config.capacity) _ (and_parts _ (is_one config.weight) (and_parts _ (is_none config.live_ms) (and_parts _ (is_none config.idle_ms) (and_parts _ (not config.own_deadlines) plain).0).0).0).0).1 in
+-- a configuration that is served has one part
+abbrev pub one-part : (config : Config) → IsTrue (is_served config) → part_count config ≡ 1
+one-part config served =
+    let p = eqb-true config.parts 1 (and_parts (is_valid config) _ (and_parts _ (is_none config.capacity) served).0).1 in
     ap (λ n. part_count (record config { parts = n })) p
 
 -- what was played, in one namespace
@@ -204,7 +205,7 @@ abbrev pub played-one : (config : Config) (k : ℕ) (moment : Instant) (inputs :
     → HasPlayed config k moment inputs transcript space → Plays config k moment inputs transcript
 played-one config k moment inputs transcript space h =
     let b = belongs_step_by_step.belongs config k transcript.made inputs transcript.records h.last (subst (λ (m : Instant). BelongsIn config k (empty_situation m.nanos) inputs transcript.records h.last) (sym h.made) h.belongs) in
-    let o = one-part-obeys config transcript h.last (one-part config h.plain) b.0 in
+    let o = one-part-obeys config transcript h.last (one-part config h.served) b.0 in
     record { made = h.made; belongs = b.1; last = h.last; leads = b.0; obeys = o.0; admitted = o.1 }
 
 pub played-all : (configs : List Config) (moment : Instant) (inputs : List Input) (transcripts : List Transcript) (spaces : List Space)

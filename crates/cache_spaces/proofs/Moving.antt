@@ -6,10 +6,9 @@ use Rattle.audit_model.specs.declared.config.Config.{Config}
 use Rattle.audit_model.specs.declared.event.Event.{Event}
 use Rattle.cache_namespace.specs.Gathered.{Gathered}
 use Rattle.cache_namespace.specs.Shown.{situation}
-use Rattle.cache_namespace.specs.Taken.{Takes, record_of}
+use Rattle.cache_namespace.specs.Taken.{Takes, is_quit, record_of}
 use Rattle.cache_namespace.specs.declared.connection.Connection.{Connection}
-use Rattle.plain_store.specs.Seen.{Holds}
-use Rattle.plain_store.specs.declared.store.PlainStore.{PlainStore}
+use Rattle.cache_namespace.specs.Drawing.{Identifiers}
 use Rattle.std.specs.List.{slice_get}
 use Rattle.std.specs.Option.{option_map_or}
 use Rattle.cache_namespace.specs.Taken.{text_at, closing_at}
@@ -17,53 +16,61 @@ use Rattle.cache_namespace.specs.declared.kept.Kept.{Kept}
 use Rattle.cache_spaces.specs.Moves.{Moves}
 use Rattle.cache_spaces.specs.Serves.{Serves}
 use Rattle.cache_spaces.specs.declared.space.Space.{Space}
-use Rattle.cache_spaces.specs.Spaces.{StandsWith, Stands, config_of, gathered_in, output_of, notices_of}
+use Rattle.cache_spaces.specs.Spaces.{StandsWith, Stands, closing_of, config_of, gathered_in, identifiers_of, output_of, notices_of}
 
 -- an event that is taken, whatever values are held
-pub moves-from : (config : Config) (store left : PlainStore) (latest now : ℕ) (old new : List Connection) (happened : Event) (is_held : Bool) (was is : Gathered) (s : Situation)
-    → StandsWith store latest old s
-    → ((values : List HeldValue) → Holds store values → Takes config (situation latest old false values) happened is_held (Holds left) (situation now new false) was is)
-    → Moves config s happened is_held (StandsWith left now new) was is
-moves-from config store left latest now old new happened is_held was is s stands takes =
+pub moves-from : (config : Config) (part_of : List ℕ → ℕ) (Holds Left : List HeldValue → Type 0) (dropped drops : Bool) (latest now : ℕ) (old new : List Connection) (happened : Event) (is_held quit : Bool) (drawn drawing : Identifiers) (was is : Gathered) (s : Situation)
+    → StandsWith Holds dropped latest old s
+    → ((values : List HeldValue) → Holds values → Takes config part_of (situation latest old dropped values) happened is_held quit Left (situation now new drops) drawn drawing was is)
+    → Moves config s happened is_held quit (StandsWith Left drops now new) drawn drawing was is
+moves-from config part_of Holds Left dropped drops latest now old new happened is_held quit drawn drawing was is s stands takes =
     let t = takes stands.values stands.held in
     record {
       steps = t.steps;
-      next = situation now new false t.left;
+      next = situation now new drops t.left;
       stands = record { values = t.left; held = t.stands; same = refl };
-      follows = subst (λ x. Follows config x (record_of happened t.steps) (situation now new false t.left)) (sym stands.same) t.follows;
+      follows = subst (λ x. Follows config x (record_of happened t.steps) (situation now new drops t.left)) (sym stands.same) t.follows;
       ends = t.ends;
+      quits = t.quits;
+      draws = t.draws;
       gathered = t.gathered;
     }
 
 -- what changes nothing
-pub stands-on : (store left : PlainStore) (latest now : ℕ) (old new : List Connection) (s : Situation) → StandsWith store latest old s
-    → ((values : List HeldValue) → Holds store values → Holds left values) → ((values : List HeldValue) → situation now new false values ≡ situation latest old false values) → StandsWith left now new s
-stands-on store left latest now old new s stands holds same =
+pub stands-on : (Holds Left : List HeldValue → Type 0) (dropped drops : Bool) (latest now : ℕ) (old new : List Connection) (s : Situation) → StandsWith Holds dropped latest old s
+    → ((values : List HeldValue) → Holds values → Left values) → ((values : List HeldValue) → situation now new drops values ≡ situation latest old dropped values) → StandsWith Left drops now new s
+stands-on Holds Left dropped drops latest now old new s stands holds same =
     record { values = stands.values; held = holds stands.values stands.held; same = stands.same ∙ sym (same stands.values) }
 
 -- a feed of which no record is made
 pub serves-from : (was is : Space) (number : ℕ) (s : Situation) (happened : Event) (is_held : Bool) (kept : Option Kept)
-    → Moves (config_of was) s happened is_held (Stands is) (gathered_in was number None) (gathered_in is number kept) → Serves was is number s happened is_held
+    → Moves (config_of was) s happened is_held (is_quit (closing_of is number)) (Stands is) (identifiers_of was) (identifiers_of is) (gathered_in was number None) (gathered_in is number kept)
+    → Serves was is number s happened is_held
 serves-from was is number s happened is_held kept m = record {
   steps = m.steps;
   next = m.next;
   stands = m.stands;
   follows = m.follows;
   ends = m.ends;
+  quits = m.quits;
+  draws = m.draws;
   output = ap (λ (g : Gathered). g.text) m.gathered;
   notices = ap (λ (g : Gathered). g.waiting) m.gathered;
 }
 
--- an event whose record has no replies and notes
+-- an event whose record has no replies and notes, and which no `QUIT` closes
 pub serves-still : (was is : Space) (number : ℕ) (s : Situation) (happened : Event) (is_held : Bool)
-    → Moves (config_of was) s happened is_held (Stands is) (gathered_in was number None) (gathered_in was number None) → output_of is number ≡ output_of was number → notices_of is ≡ notices_of was
+    → Moves (config_of was) s happened is_held false (Stands is) (identifiers_of was) (identifiers_of is) (gathered_in was number None) (gathered_in was number None)
+    → is_quit (closing_of is number) ≡ false → output_of is number ≡ output_of was number → notices_of is ≡ notices_of was
     → Serves was is number s happened is_held
-serves-still was is number s happened is_held m output notices = record {
+serves-still was is number s happened is_held m none output notices = record {
   steps = m.steps;
   next = m.next;
   stands = m.stands;
   follows = m.follows;
   ends = m.ends;
+  quits = m.quits ∙ sym none;
+  draws = m.draws;
   output = output ∙ ap (λ (g : Gathered). g.text) m.gathered;
   notices = notices ∙ ap (λ (g : Gathered). g.waiting) m.gathered;
 }

@@ -1,3 +1,4 @@
+pub mod Served
 pub mod Spaces
 pub mod Moves
 pub mod Serves

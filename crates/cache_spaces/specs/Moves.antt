@@ -6,17 +6,22 @@ use Rattle.audit_model.specs.Situation.{Situation}
 use Rattle.audit_model.specs.declared.config.Config.{Config}
 use Rattle.audit_model.specs.declared.event.Event.{Event}
 use Rattle.audit_model.specs.declared.transcript.Step.{Step}
+use Rattle.cache_namespace.specs.Drawing.{Identifiers, StepsDraw}
 use Rattle.cache_namespace.specs.Gathered.{Gathered, gather}
+use Rattle.cache_namespace.specs.Lines.{ends_quit}
 use Rattle.cache_namespace.specs.Ran.{ends_held}
 use Rattle.cache_namespace.specs.Taken.{record_of}
 
--- The event's record follows, with these steps; their replies, steps and notes were gathered.
-pub record Moves (config : Config) (s : Situation) (happened : Event) (is_held : Bool) (Stands : Situation → Type 0) (old new : Gathered) : Type 0 where
+-- The event's record follows, with these steps, of which the last one may be held or a `QUIT`; identifiers were drawn as they say; their
+-- replies, steps and notes were gathered.
+pub record Moves (config : Config) (s : Situation) (happened : Event) (is_held quit : Bool) (Stands : Situation → Type 0) (drawn drawing : Identifiers) (old new : Gathered) : Type 0 where
   pub steps : List Step
   pub next : Situation
   pub stands : Stands next
   pub follows : Follows config s (record_of happened steps) next
   pub ends : ends_held steps ≡ is_held
+  pub quits : ends_quit config steps ≡ quit
+  pub draws : StepsDraw config steps drawn drawing
   pub gathered : new ≡ gather old steps
 
 -- one of many was put in the place of another, and that is true of the two

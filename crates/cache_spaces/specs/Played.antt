@@ -10,7 +10,7 @@ use Rattle.audit_model.specs.declared.config.Config.{Config}
 use Rattle.audit_model.specs.declared.event.Instant.{Instant}
 use Rattle.audit_model.specs.declared.input.Input.{Input}
 use Rattle.audit_model.specs.declared.transcript.Transcript.{Transcript}
-use Rattle.plain_store.specs.Plain.{is_plain}
+use Rattle.cache_spaces.specs.Served.{is_served}
 use Rattle.cache_spaces.specs.Recorded.{IsQuiet}
 use Rattle.cache_spaces.specs.Spaces.{Stands, config_of}
 use Rattle.cache_spaces.specs.declared.space.Space.{Space}
@@ -35,7 +35,7 @@ pub record ArePlayed (configs : List Config) (moment : Instant) (inputs : List I
 pub record HasPlayed (config : Config) (namespace : ℕ) (moment : Instant) (inputs : List Input) (transcript : Transcript) (space : Space) : Type 0 where
   pub made : transcript.made ≡ moment
   pub configured : config_of space ≡ config
-  pub plain : IsTrue (is_plain config)
+  pub served : IsTrue (is_served config)
   pub last : Situation
   pub stands : Stands space last
   pub belongs : BelongsIn config namespace (empty_situation moment.nanos) inputs transcript.records last

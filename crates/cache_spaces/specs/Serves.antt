@@ -8,32 +8,37 @@ use Rattle.audit_model.specs.declared.command.Closing.TheVariants as by
 use Rattle.audit_model.specs.declared.event.Event.{Event}
 use Rattle.audit_model.specs.declared.event.Event.TheVariants as event
 use Rattle.audit_model.specs.declared.transcript.Step.{Step}
+use Rattle.cache_namespace.specs.Drawing.{StepsDraw}
 use Rattle.cache_namespace.specs.Gathered.{reply_in}
+use Rattle.cache_namespace.specs.Lines.{ends_quit}
 use Rattle.cache_namespace.specs.Ran.{ends_held}
 use Rattle.std.specs.Option.{option_to_list}
 use Rattle.audit_model.specs.declared.input.ServiceError.{ServiceError}
 use Rattle.audit_model.specs.declared.input.ServiceError.TheVariants as error
 use Rattle.audit_model.specs.declared.transcript.Note.{Note}
-use Rattle.cache_namespace.specs.Taken.{IsOpenOrLong, record_of, known}
-use Rattle.cache_spaces.specs.Spaces.{Stands, config_of, connections_of, notices_of, output_of, closing_of}
+use Rattle.cache_namespace.specs.Taken.{IsOpenOrEnded, is_quit, record_of, known}
+use Rattle.cache_spaces.specs.Spaces.{Stands, config_of, connections_of, identifiers_of, notices_of, output_of, closing_of}
 use Rattle.cache_spaces.specs.declared.space.Space.{Space}
 
--- The event's record follows; its replies stand behind the output of that connection, and its notes behind the notices.
+-- The event's record follows; its replies stand behind the output of that connection, and its notes behind the notices. A `QUIT` closes the
+-- connection, and identifiers were drawn as its steps say: `ERR id` only where a thousand were, each of which was registered.
 pub record Serves (was is : Space) (number : ℕ) (s : Situation) (happened : Event) (is_held : Bool) : Type 0 where
   pub steps : List Step
   pub next : Situation
   pub stands : Stands is next
   pub follows : Follows (config_of was) s (record_of happened steps) next
   pub ends : ends_held steps ≡ is_held
+  pub quits : ends_quit (config_of was) steps ≡ is_quit (closing_of is number)
+  pub draws : StepsDraw (config_of was) steps (identifiers_of was) (identifiers_of is)
   pub output : output_of is number ≡ output_of was number ++ flat_map reply_in steps
   pub notices : notices_of is ≡ notices_of was ++ flat_map (λ step. step.notices) steps
 
--- how an event finds and leaves its connection: it opens without replies; it was open and is closed as asked; it is open or closed for
--- too long a line
+-- how an event finds and leaves its connection: it opens without replies; it was open and is closed as asked; it is open, or closed for
+-- too long a line or a `QUIT`
 abbrev pub Leaves : Event → Option Closing → Option Closing → List ℕ → Type 0
 Leaves (event.Open conn) before closing output = (closing ≡ None) × (output ≡ [])
 Leaves (event.Close conn) before closing output = (before ≡ None) × (closing ≡ Some by.Asked)
-Leaves (event.Feed conn piece moment) before closing output = IsOpenOrLong closing
+Leaves (event.Feed conn piece moment) before closing output = IsOpenOrEnded closing
 Leaves happened before closing output = Unit {0}
 
 -- how many connections there are after an event

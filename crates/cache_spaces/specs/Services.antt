@@ -12,7 +12,7 @@ use Rattle.rand_core.specs.Stream.{Stream, fill_bytes}
 use Rattle.rand_xoshiro.specs.Xoshiro256.{of_seed, plus_plus}
 use Rattle.audit_model.specs.Situation.{empty_situation}
 use Rattle.audit_model.specs.declared.config.Config.{Config}
-use Rattle.plain_store.specs.Plain.{is_plain}
+use Rattle.cache_spaces.specs.Served.{is_served}
 use Rattle.cache_spaces.specs.Spaces.{Stands, config_of, connections_of, generator_of, notices_of}
 use Rattle.cache_spaces.specs.declared.service.Service.{Service}
 use Rattle.cache_spaces.specs.declared.space.Space.{Space}
@@ -21,15 +21,15 @@ use Rattle.cache_spaces.specs.declared.space.Space.{Space}
 abbrev pub spaces_of : Service → List Space
 spaces_of service = service.spaces.items
 
--- the configurations that a service is made with: 1 to 16, each plain
+-- the configurations that a service is made with: 1 to 16, each of which is served
 abbrev pub are_taken : List Config → Bool
-are_taken configs = nat_le 1 (length configs) && nat_le (length configs) 16 && list_all is_plain configs
+are_taken configs = nat_le 1 (length configs) && nat_le (length configs) 16 && list_all is_served configs
 
 -- a namespace just made
 pub record IsNew (space : Space) (config : Config) (generator : List ℕ) (made : ℕ) : Type 0 where
   pub stands : Stands space (empty_situation made)
   pub configured : config_of space ≡ config
-  pub plain : IsTrue (is_plain config)
+  pub served : IsTrue (is_served config)
   pub connections : connections_of space ≡ []
   pub notices : notices_of space ≡ []
   pub forked : generator_of space ≡ generator

@@ -1,5 +1,5 @@
 -- What is seen of one namespace of a service.
-use Rattle.std.specs.Prelude.{◌≡◌, ℕ, ◌-◌, false, List, Option}
+use Rattle.std.specs.Prelude.{◌≡◌, ℕ, ◌-◌, Bool, List, Option}
 use Rattle.audit_model.specs.Situation.{Situation, HeldValue}
 use Rattle.audit_model.specs.declared.command.Closing.{Closing}
 use Rattle.audit_model.specs.declared.config.Config.{Config}
@@ -10,8 +10,11 @@ use Rattle.cache_namespace.specs.Shown.{situation}
 use Rattle.cache_namespace.specs.Taken as taken
 use Rattle.cache_namespace.specs.declared.connection.Connection.{Connection}
 use Rattle.cache_namespace.specs.declared.kept.Kept.{Kept}
-use Rattle.plain_store.specs.Seen.{Holds, untaken_in}
-use Rattle.plain_store.specs.declared.store.PlainStore.{PlainStore}
+use Rattle.cache_namespace.specs.Drawing.{Identifiers, identifiers}
+use Rattle.plain_store.specs.Drawing.{is_among}
+use Rattle.plain_store.specs.Standing as plain
+use Rattle.rand_core.specs.Steps.{stream_of, steps_u64_high}
+use Rattle.rand_xoshiro.specs.Xoshiro256.{plus_plus}
 use Rattle.cache_spaces.specs.declared.space.Space.{Space}
 
 abbrev pub config_of : Space → Config
@@ -19,7 +22,7 @@ config_of space = space.inner.config
 
 -- the state of its generator
 abbrev pub generator_of : Space → List ℕ
-generator_of space = space.generator
+generator_of space = space.inner.store.generator
 
 -- the connections, in the order in which they were opened
 abbrev pub connections_of : Space → List Connection
@@ -27,7 +30,7 @@ connections_of space = space.inner.connections.items
 
 -- the notes that were told and not taken
 abbrev pub notices_of : Space → List Note
-notices_of space = untaken_in space.inner.store
+notices_of space = space.inner.store.notes.items
 
 -- the reply bytes of a connection that were not taken
 abbrev pub output_of : Space → ℕ → List ℕ
@@ -40,12 +43,20 @@ closing_of space number = taken.closing_at (connections_of space) (number - 1)
 abbrev pub gathered_in : Space → ℕ → Option Kept → Gathered
 gathered_in space number kept = gathered (output_of space number) kept (notices_of space)
 
--- a store and connections that stand for that situation
-pub record StandsWith (store : PlainStore) (latest : ℕ) (connections : List Connection) (s : Situation) : Type 0 where
+-- what its generator will give for identifiers, and which are registered
+abbrev pub identifiers_of : Space → Identifiers
+identifiers_of space = identifiers (stream_of (steps_u64_high plus_plus) (generator_of space)) (λ part. is_among space.inner.store.register.items)
+
+-- its store holds these values
+abbrev pub Holds : Space → List HeldValue → Type 0
+Holds space = plain.Stands space.inner.store.config space.inner.store.table
+
+-- values that may be held, and connections, that stand for that situation
+pub record StandsWith (Held : List HeldValue → Type 0) (dropped : Bool) (latest : ℕ) (connections : List Connection) (s : Situation) : Type 0 where
   pub values : List HeldValue
-  pub held : Holds store values
-  pub same : s ≡ situation latest connections false values
+  pub held : Held values
+  pub same : s ≡ situation latest connections dropped values
 
 -- the namespace stands for that situation
 abbrev pub Stands : Space → Situation → Type 0
-Stands space s = StandsWith space.inner.store space.inner.latest (connections_of space) s
+Stands space s = StandsWith (Holds space) space.inner.store.dropped space.inner.latest (connections_of space) s

@@ -1,12 +1,12 @@
 //! The namespaces that a service is made with.
 ghost use Rattle.std.specs.Prelude.{◌≡◌, ◌≤◌, ◌<◌, ◌^◌, IfOk, IsTrue, length, true, take};
 ghost use Rattle.std.specs.List.{list_all};
-ghost use Rattle.plain_store.specs.Plain.{is_plain};
+ghost use Rattle.audit_model.specs.Configs.{is_time, is_valid};
+ghost use Rattle.cache_spaces.specs.Served.{is_served};
 ghost use Rattle.cache_spaces.specs.Services.{are_taken, AreNew};
 
 use crate::space::Space;
 use audit_model::Config;
-use plain_store::is_plain;
 use rand_core::SeedableRng;
 use rand_xoshiro::Xoshiro256PlusPlus;
 use std::alloc::{AllocError, Global};
@@ -21,19 +21,48 @@ pub fn are_taken(configs: &[Config]) -> bool
     if configs.is_empty() || configs.len() > MOST {
         return false;
     }
-    are_plain(configs)
+    are_served(configs)
 }
 
-/// Whether each of the configurations is plain.
-fn are_plain(configs: &[Config]) -> bool
-    ensures { result ≡ list_all is_plain configs.now }
+/// Whether each of the configurations is served.
+fn are_served(configs: &[Config]) -> bool
+    ensures { result ≡ list_all is_served configs.now }
 {
     for config in configs {
-        if !is_plain(config) {
+        if !is_served(config) {
             return false;
         }
     }
     true
+}
+
+/// Whether a configuration is served: it is in range, of one part and without capacity.
+fn is_served(config: &Config) -> bool
+    ensures { result ≡ is_served config.now }
+{
+    is_valid(config) && config.parts == 1 && config.capacity.is_none()
+}
+
+/// Whether a configuration is in range: 1 to 256 parts, times of 1 to 999,999,999,999 milliseconds, and no live time beside own
+/// deadlines.
+fn is_valid(config: &Config) -> bool
+    ensures { result ≡ is_valid config.now }
+{
+    config.parts >= 1
+        && config.parts <= 256
+        && is_time(config.live_ms)
+        && is_time(config.idle_ms)
+        && !(config.own_deadlines && config.live_ms.is_some())
+}
+
+/// Whether a time, if there is one, is in range.
+fn is_time(milliseconds: Option<u64>) -> bool
+    ensures { result ≡ is_time milliseconds }
+{
+    match milliseconds {
+        Some(milliseconds) => milliseconds >= 1 && milliseconds <= 999_999_999_999,
+        None => true,
+    }
 }
 
 /// New namespaces of these configurations, in their order, each with a fork of the generator.
@@ -43,14 +72,14 @@ pub fn new_spaces(
     generator: Xoshiro256PlusPlus,
     made: u64,
 ) -> Result<Vec<Space>, AllocError>
-    requires configs { IsTrue (list_all is_plain configs.now) }
+    requires configs { IsTrue (list_all is_served configs.now) }
     requires moment { made < 2 ^ 63 }
     ensures { IfOk result (λ spaces. AreNew spaces.items configs.now generator made) }
 {
     let mut generator = generator;
     let mut spaces = Vec::with_capacity(alloc, configs.len())?;
     for config in configs {
-        spaces.push(Space::new(alloc, *config, generator.fork(), made))?;
+        spaces.push(Space::new(alloc, *config, generator.fork(), made)?)?;
     }
     Ok(spaces)
 }

@@ -1,7 +1,7 @@
 //! One namespace of a service.
 ghost use Rattle.std.specs.Prelude.{◌-◌, ◌≡◌, ◌≢◌, ◌≤◌, ◌<◌, ◌^◌, ◌+◌, ◌++◌, ◌∷◌, [], None, Some, ℕ, Bool, true, false, IfOk, IfErr, OnOk, OnErr, IsErr, IfNone, IfSome, IsTrue, length, ◌↔◌};
-ghost use Rattle.plain_store.specs.Plain.{is_plain};
-ghost use Rattle.plain_store.specs.Seen.{frame_of};
+ghost use Rattle.plain_store.specs.Standing.{frame_of};
+ghost use Rattle.cache_spaces.specs.Served.{is_served};
 ghost use Rattle.cache_namespace.specs.Taken.{IsSound};
 
 use audit_model::{Closing, Config, Note, ServiceError};
@@ -14,10 +14,8 @@ use std::alloc::{AllocError, Global};
 /// A namespace: its connections over its values.
 #[derive(Drop)]
 pub struct Space {
-    inner: Namespace<PlainStore>,
-    // what its identifiers will be drawn from
-    generator: Xoshiro256PlusPlus,
-    ghost sound: { IsSound inner.config (frame_of inner.store) inner.latest },
+    inner: Namespace<PlainStore<Xoshiro256PlusPlus>>,
+    ghost sound: { IsSound inner.config (frame_of inner.store.config inner.store.made inner.store.dropped inner.store.latest) inner.latest },
 }
 
 impl Space {
@@ -27,31 +25,35 @@ impl Space {
     ghost use Rattle.audit_model.specs.declared.event.Event.TheVariants as event;
     ghost use Rattle.cache_namespace.specs.Gathered.{Gathered, IsFresh};
     ghost use Rattle.cache_namespace.specs.Kept.{IsReadyToHold, steps_of};
-    ghost use Rattle.cache_namespace.specs.Taken.{IsOpenOrLong, RefusedFor, fed, holds_at, known};
+    ghost use Rattle.cache_namespace.specs.Taken.{IsOpenOrEnded, RefusedFor, fed, holds_at, is_quit, known};
     ghost use Rattle.cache_namespace.specs.declared.connection.Connection.{Connection};
     ghost use Rattle.cache_spaces.specs.Moves.{Moves};
     ghost use Rattle.cache_spaces.specs.Serves.{Serves, Takes, SameSpace};
-    ghost use Rattle.cache_spaces.specs.Spaces.{Stands, config_of, connections_of, generator_of, notices_of, output_of, closing_of, gathered_in};
+    ghost use Rattle.cache_spaces.specs.Spaces.{Stands, config_of, connections_of, generator_of, notices_of, output_of, closing_of, gathered_in, identifiers_of};
 
     /// A namespace without connections and values, with a generator of its own.
-    pub fn new(alloc: Global, config: Config, generator: Xoshiro256PlusPlus, made: u64) -> Space
-        requires config { IsTrue (is_plain config) }
+    pub fn new(
+        alloc: Global,
+        config: Config,
+        generator: Xoshiro256PlusPlus,
+        made: u64,
+    ) -> Result<Space, AllocError>
+        requires config { IsTrue (is_served config) }
         requires moment { made < 2 ^ 63 }
-        ensures stands { Stands result (empty_situation made) }
-        ensures config { config_of result ≡ config }
-        ensures notices { notices_of result ≡ [] }
-        ensures connections { connections_of result ≡ [] }
-        ensures generator { generator_of result ≡ generator }
+        ensures stands { IfOk result (λ space. Stands space (empty_situation made)) }
+        ensures config { IfOk result (λ space. config_of space ≡ config) }
+        ensures notices { IfOk result (λ space. notices_of space ≡ []) }
+        ensures connections { IfOk result (λ space. connections_of space ≡ []) }
+        ensures generator { IfOk result (λ space. generator_of space ≡ generator) }
     {
-        Space {
-            generator,
-            inner: Namespace {
-                store: PlainStore::new(alloc, config, made),
-                config,
-                latest: made,
-                connections: Vec::new(alloc),
-            },
-        }
+        let store = PlainStore::new(alloc, config, made, generator)?;
+        let inner = Namespace {
+            store,
+            config,
+            latest: made,
+            connections: Vec::new(alloc),
+        };
+        Ok(Space { inner })
     }
 
     /// Takes a piece of a connection's bytes, and answers whether its last command is held back.
@@ -65,7 +67,7 @@ impl Space {
     ) -> Result<bool, ServiceError>
         requires fresh { IsFresh (gathered_in self.old number kept.old) }
         requires ready { IsReadyToHold kept.old }
-        ensures moves { IfOk result (λ is_held. (s : Situation) → Stands self.old s → Moves (config_of self.old) s (fed number piece.now moment) is_held (Stands self.new) (gathered_in self.old number kept.old) (gathered_in self.new number kept.new)) }
+        ensures moves { IfOk result (λ is_held. (s : Situation) → Stands self.old s → Moves (config_of self.old) s (fed number piece.now moment) is_held (is_quit (closing_of self.new number)) (Stands self.new) (identifiers_of self.old) (identifiers_of self.new) (gathered_in self.old number kept.old) (gathered_in self.new number kept.new)) }
         ensures others { OnOk result ((place : ℕ) → place ≢ number - 1 → slice_get (connections_of self.new) place ≡ slice_get (connections_of self.old) place) }
         ensures config { config_of self.new ≡ config_of self.old }
         ensures fresh { IsFresh (gathered_in self.new number kept.new) }
@@ -75,7 +77,7 @@ impl Space {
         ensures closings { OnErr result ((n : ℕ) → closing_of self.new n ≡ closing_of self.old n) }
         ensures notices { OnErr result (notices_of self.new ≡ notices_of self.old) }
         ensures kept { OnErr result (steps_of kept.new ≡ steps_of kept.old) }
-        ensures closing { OnOk result (IsOpenOrLong (closing_of self.new number)) }
+        ensures closing { OnOk result (IsOpenOrEnded (closing_of self.new number)) }
         ensures count { length (connections_of self.new) ≡ length (connections_of self.old) }
     {
         match self.inner.feed(alloc, number, piece, moment, kept) {
@@ -88,7 +90,7 @@ impl Space {
     pub fn open(&mut self, alloc: Global) -> Result<u64, AllocError>
         ensures number { IfOk result (λ number. number ≡ length (connections_of self.old) + 1) }
         ensures takes { IfOk result (λ number. Takes self.old self.new number (event.Open number) false) }
-        ensures moves { IfOk result (λ number. (s : Situation) (was : Gathered) → Stands self.old s → Moves (config_of self.old) s (event.Open number) false (Stands self.new) was was) }
+        ensures moves { IfOk result (λ number. (s : Situation) (was : Gathered) → Stands self.old s → Moves (config_of self.old) s (event.Open number) false false (Stands self.new) (identifiers_of self.old) (identifiers_of self.new) was was) }
         ensures outputs { OnOk result ((n : ℕ) → output_of self.new n ≡ output_of self.old n) }
         ensures notices { notices_of self.new ≡ notices_of self.old }
         ensures same { OnErr result (SameSpace self.old self.new) }
@@ -102,7 +104,7 @@ impl Space {
     /// Closes a connection.
     pub fn close(&mut self, number: u64) -> Result<(), ServiceError>
         ensures takes { OnOk result (Takes self.old self.new number (event.Close number) false) }
-        ensures moves { OnOk result ((s : Situation) (was : Gathered) → Stands self.old s → Moves (config_of self.old) s (event.Close number) false (Stands self.new) was was) }
+        ensures moves { OnOk result ((s : Situation) (was : Gathered) → Stands self.old s → Moves (config_of self.old) s (event.Close number) false false (Stands self.new) (identifiers_of self.old) (identifiers_of self.new) was was) }
         ensures closed { OnOk result (closing_of self.new number ≡ Some Closing.Asked) }
         ensures outputs { OnOk result ((n : ℕ) → output_of self.new n ≡ output_of self.old n) }
         ensures open { OnOk result (closing_of self.old number ≡ None) }

@@ -1,7 +1,7 @@
 use Rattle.std.proofs.Common.{◌∙◌, ◌+◌, ap, length, length-append}
 use Rattle.rand_core.specs.Stream.{fill_bytes}
 use Rattle.rand_xoshiro.specs.Xoshiro256.{of_seed}
-use Rattle.plain_store.specs.Plain.{is_plain}
+use Rattle.cache_spaces.specs.Served.{is_served}
 use Rattle.cache_spaces.proofs.Newly.{all-at, forked-more, new-more}
 use Rattle.cache_spaces.proofs.making.new_spaces.Goals as goal
 
@@ -11,7 +11,7 @@ loop-config-preserved c = record {
       (record {
         stands = c.new.ensures.stands;
         configured = c.new.ensures.config;
-        plain = all-at is_plain c.args.configs.now c.loop-config.config-index _ c.loop-config-test.true c.requires.configs;
+        served = all-at is_served c.args.configs.now c.loop-config.config-index _ c.loop-config-test.true c.requires.configs;
         connections = c.new.ensures.connections;
         notices = c.new.ensures.notices;
         forked = c.new.ensures.generator ∙ c.fork.ensures.seeded ∙ ap (λ s. of_seed (fill_bytes 32 s).0) c.loop-config.invariant.forked;
