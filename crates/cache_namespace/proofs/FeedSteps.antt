@@ -27,13 +27,14 @@ use Rattle.cache_steps.specs.Right.{step_saying, placed_by, held_when_run}
 use Rattle.cache_steps.proofs.Answering.{same-refl, none_succeeded}
 use Rattle.cache_store.specs.Promises.{no_deed}
 use Rattle.cache_namespace.specs.Drawing.{Identifiers}
+use Rattle.cache_namespace.specs.Making.{Making}
 use Rattle.cache_namespace.specs.Gathered.{Gathered, gather}
-use Rattle.cache_namespace.specs.Lines.{ArePartedIn, Runs, IsThere, ended, ends_quit, held_step, holding, placed_in, ready, says_quit, set_in, with_drops}
+use Rattle.cache_namespace.specs.Lines.{ArePartedIn, Runs, IsThere, are_timely, ended, ends_quit, held_step, holding, is_timely_after, placed_in, ready, says_quit, set_in, with_drops}
 use Rattle.cache_namespace.specs.Ran.{RanOne, RanLines, RanReady, RanFeed, ends_held}
 use Rattle.cache_namespace.proofs.Drawn.{draws-first, draws-more, held-draws, spends-same}
 use Rattle.cache_namespace.proofs.Placing.{found-there}
 use Rattle.cache_namespace.specs.Whole.{held_line}
-use Rattle.cache_namespace.proofs.Running.{runs-more, ends-quit-more, may-run, line-due, line-fits, gather-more}
+use Rattle.cache_namespace.proofs.Running.{runs-more, timely-ended, ends-quit-more, may-run, line-due, line-fits, gather-more}
 use Rattle.cache_namespace.proofs.Stepping.{right-in-turn, after-held, placed-again}
 
 -- the tasks that are due while lines may run or not
@@ -41,15 +42,15 @@ abbrev due_if : Bool → ℕ → List Task
 due_if may number = if may then RunLines number ∷ [] else []
 
 -- lines that ran until none may
-pub runs-end : (config : Config) (number : ℕ) (part_of : List ℕ → ℕ) (steps : List Step) (s t : Situation) → Runs config number part_of s steps t → may_run_in t number ≡ false
+pub runs-end : (config : Config) (number : ℕ) (making : Making) (steps : List Step) (s t : Situation) → Runs config number making s steps t → may_run_in t number ≡ false
     → after_steps config s (RunLines number ∷ []) steps ≡ Some t
-runs-end config number part_of [] s t runs stops =
+runs-end config number making [] s t runs stops =
     ap (λ b. if is_empty (due_if b number) then Some s else None) (subst (λ x. may_run_in x number ≡ false) runs stops) ∙ ap Some (sym runs)
-runs-end config number part_of (step ∷ steps) s t runs stops =
+runs-end config number making (step ∷ steps) s t runs stops =
     ap (λ b. let now_due = due_if b number in let placed = placed_step_in config s (first_due now_due) step in
     if is_right config placed then after_steps config (after_step config s placed.task step placed.effect) (left_after now_due) steps else None) runs.0
     ∙ ap (λ b. if b then after_steps config (after_step config s (Some (RunLines number)) step (placed_in config number s step)) (RunLines number ∷ []) steps else None) runs.1
-    ∙ runs-end config number part_of steps _ t runs.3 stops
+    ∙ runs-end config number making steps _ t runs.4 stops
 
 -- one more value in its part
 cons-parted : (part_of : List ℕ → ℕ) (o : Option Value) (values : List Value) → option_map_or (is_parted part_of) o true ≡ true → list_all (is_parted part_of) values ≡ true → list_all (is_parted part_of) (cons_option o values) ≡ true
@@ -57,12 +58,20 @@ cons-parted part_of None values one rest = rest
 cons-parted part_of (Some v) values one rest = and_from (is_parted part_of v) (list_all (is_parted part_of) values) one rest
 
 -- the values that such lines accept stand in their parts
-pub runs-parted : (config : Config) (number : ℕ) (part_of : List ℕ → ℕ) (steps : List Step) (s t : Situation) → Runs config number part_of s steps t → ArePartedIn config part_of s (RunLines number ∷ []) steps
-runs-parted config number part_of [] s t runs = refl
-runs-parted config number part_of (step ∷ steps) s t runs =
+pub runs-parted : (config : Config) (number : ℕ) (making : Making) (steps : List Step) (s t : Situation) → Runs config number making s steps t → ArePartedIn config making.part_of s (RunLines number ∷ []) steps
+runs-parted config number making [] s t runs = refl
+runs-parted config number making (step ∷ steps) s t runs =
     ap (λ b. let now_due = due_if b number in let placed = placed_step_in config s (first_due now_due) step in
-    list_all (is_parted part_of) (cons_option placed.effect.value (accepted_values (placed_steps_in config (after_step config s placed.task step placed.effect) (left_after now_due) steps)))) runs.0
-    ∙ cons-parted part_of (placed_in config number s step).value _ runs.2 (runs-parted config number part_of steps _ t runs.3)
+    list_all (is_parted making.part_of) (cons_option placed.effect.value (accepted_values (placed_steps_in config (after_step config s placed.task step placed.effect) (left_after now_due) steps)))) runs.0
+    ∙ cons-parted making.part_of (placed_in config number s step).value _ runs.2 (runs-parted config number making steps _ t runs.4)
+
+-- and each `SYNC` among them leaves timely values
+pub runs-timely : (config : Config) (number : ℕ) (making : Making) (steps : List Step) (s t : Situation) → Runs config number making s steps t → are_timely config making.made s (RunLines number ∷ []) steps ≡ true
+runs-timely config number making [] s t runs = refl
+runs-timely config number making (step ∷ steps) s t runs =
+    ap (λ b. let now_due = due_if b number in let placed = placed_step_in config s (first_due now_due) step in let u = after_step config s placed.task step placed.effect in
+    is_timely_after config making.made placed.effect u && are_timely config making.made u (left_after now_due) steps) runs.0
+    ∙ and_from _ _ runs.3 (runs-timely config number making steps _ t runs.4)
 
 -- ---- where lines stop
 
@@ -106,17 +115,17 @@ right-held config s number line =
     (none_succeeded (map (candidate_at config s.latest) s.held ++ []))) refl) refl
 
 -- a line of those that may run is held back
-pub runs-held : (config : Config) (base : Situation) (number : ℕ) (part_of : List ℕ → ℕ) (s : Situation) (steps : List Step) (left : List HeldValue) (rest line : List ℕ) (n : ℕ)
+pub runs-held : (config : Config) (base : Situation) (number : ℕ) (making : Making) (s : Situation) (steps : List Step) (left : List HeldValue) (rest line : List ℕ) (n : ℕ)
     → IsThere number base → IsLine rest n → line ≡ without_return (take n rest)
-    → Runs config number part_of s steps (set_in base left (ready number rest))
-    → Runs config number part_of s (steps ++ held_step number line ∷ []) (set_in base (all_held_after config base.latest left no_deed []) (holding number line (behind_lines 1 rest)))
-runs-held config base number part_of s steps left rest line n there at said runs =
+    → Runs config number making s steps (set_in base left (ready number rest))
+    → Runs config number making s (steps ++ held_step number line ∷ []) (set_in base (all_held_after config base.latest left no_deed []) (holding number line (behind_lines 1 rest)))
+runs-held config base number making s steps left rest line n there at said runs =
     let t = set_in base left (ready number rest) in
     let step = held_step number line in
     let after = all_held_after config base.latest left no_deed [] in
-    runs-more config number part_of steps s t step _ runs (may-run base left number rest n there at)
+    runs-more config number making steps s t step _ runs (may-run base left number rest n there at)
     (subst (λ d. is_right config (placed_by config t (Some (RunLines number)) d Holding step) ≡ true) (sym (line-due base left number rest line n there at said)) (right-held config t number line))
-    refl
+    refl refl
     (placed-again base left after number (ready number rest) (holding number line (behind_lines 1 rest)) (effect_in config (view_in config t) Holding step)
     (connection_after (Some (RunLines number)) step (effect_in config (view_in config t) Holding step)) false there (line-fits number rest n at) refl refl refl
     ∙ ap (λ b. set_in (with_drops b base) after (holding number line (behind_lines 1 rest))) (or-false base.dropped))
@@ -153,15 +162,16 @@ starts-quit config x (y ∷ ys) quit one e = e
 -- ---- lines of a connection that is ready
 
 -- lines ran until less than one, or too long a one, was left, or a `QUIT` ran
-pub ready-stopped : (config : Config) (base : Situation) (number : ℕ) (part_of : List ℕ → ℕ) (held : List HeldValue) (bytes : List ℕ) (quit : Bool) (rest : List ℕ) (Stands : List HeldValue → Type 0) (dropped : Bool) (drawn drawing : Identifiers) (old new : Gathered)
-    → (r : RanLines config base number part_of held bytes quit rest Stands dropped drawn drawing old new) → may_run_in (ended quit (with_drops dropped base) r.left (ready number rest)) number ≡ false
-    → RanReady config base number part_of held bytes quit false rest Stands dropped drawn drawing old new
-ready-stopped config base number part_of held bytes quit rest Stands dropped drawn drawing old new r stops = record {
+pub ready-stopped : (config : Config) (base : Situation) (number : ℕ) (making : Making) (held : List HeldValue) (bytes : List ℕ) (quit : Bool) (rest : List ℕ) (Stands : List HeldValue → Type 0) (dropped : Bool) (drawn drawing : Identifiers) (old new : Gathered)
+    → (r : RanLines config base number making held bytes quit rest Stands dropped drawn drawing old new) → may_run_in (ended quit (with_drops dropped base) r.left (ready number rest)) number ≡ false
+    → RanReady config base number making held bytes quit false rest Stands dropped drawn drawing old new
+ready-stopped config base number making held bytes quit rest Stands dropped drawn drawing old new r stops = record {
   steps = r.steps;
   left = r.left;
   stands = r.stands;
-  after = runs-end config number part_of r.steps _ _ r.runs stops;
-  parted = runs-parted config number part_of r.steps _ _ r.runs;
+  after = runs-end config number making r.steps _ _ r.runs stops;
+  parted = runs-parted config number making r.steps _ _ r.runs;
+  timely = runs-timely config number making r.steps _ _ r.runs;
   ends = ends-none r.steps r.none_held;
   quits = r.quits;
   draws = r.draws;
@@ -169,22 +179,23 @@ ready-stopped config base number part_of held bytes quit rest Stands dropped dra
 }
 
 -- lines ran until memory was wanted for one
-pub ready-held : (config : Config) (base : Situation) (number : ℕ) (part_of : List ℕ → ℕ) (held : List HeldValue) (bytes rest line : List ℕ) (n : ℕ) (Stands : List HeldValue → Type 0) (dropped : Bool) (drawn drawing : Identifiers) (old middle new : Gathered)
-    → IsThere number base → (r : RanLines config base number part_of held bytes false rest Stands dropped drawn drawing old middle) → IsLine rest n → line ≡ without_return (take n rest)
+pub ready-held : (config : Config) (base : Situation) (number : ℕ) (making : Making) (held : List HeldValue) (bytes rest line : List ℕ) (n : ℕ) (Stands : List HeldValue → Type 0) (dropped : Bool) (drawn drawing : Identifiers) (old middle new : Gathered)
+    → IsThere number base → (r : RanLines config base number making held bytes false rest Stands dropped drawn drawing old middle) → IsLine rest n → line ≡ without_return (take n rest)
     → Stands (all_held_after config base.latest r.left no_deed []) → new ≡ gather middle (held_step number line ∷ [])
-    → RanReady config base number part_of held bytes false true rest Stands dropped drawn drawing old new
-ready-held config base number part_of held bytes rest line n Stands dropped drawn drawing old middle new there r at said stands gathers =
+    → RanReady config base number making held bytes false true rest Stands dropped drawn drawing old new
+ready-held config base number making held bytes rest line n Stands dropped drawn drawing old middle new there r at said stands gathers =
     let from = with_drops dropped base in
     let left = all_held_after config base.latest r.left no_deed [] in
-    let runs = runs-held config from number part_of _ r.steps r.left rest line n there at said r.runs in
+    let runs = runs-held config from number making _ r.steps r.left rest line n there at said r.runs in
     record {
       steps = r.steps ++ held_step number line ∷ [];
       left = left;
       stands = stands;
       after =
-          runs-end config number part_of (r.steps ++ held_step number line ∷ []) _ _ runs (stops-held from left number line (behind_lines 1 rest) there)
+          runs-end config number making (r.steps ++ held_step number line ∷ []) _ _ runs (stops-held from left number line (behind_lines 1 rest) there)
           ∙ ap (λ l. Some (set_in from left (holding number l (behind_lines 1 rest)))) (said ∙ sym (ap (λ o. unwrap_or o []) (IsLine-first_line rest n at)));
-      parted = runs-parted config number part_of (r.steps ++ held_step number line ∷ []) _ _ runs;
+      parted = runs-parted config number making (r.steps ++ held_step number line ∷ []) _ _ runs;
+      timely = runs-timely config number making (r.steps ++ held_step number line ∷ []) _ _ runs;
       ends = ends-held r.steps number line;
       quits = ends-quit-more config r.steps (held_step number line) false refl;
       draws = draws-more config r.steps (held_step number line) drawn drawing drawing r.draws (held-draws config number line drawing);
@@ -194,10 +205,10 @@ ready-held config base number part_of held bytes rest line n Stands dropped draw
 -- ---- feeds
 
 -- a feed of a connection that is ready
-pub feeds-ready : (config : Config) (base : Situation) (number : ℕ) (part_of : List ℕ → ℕ) (held : List HeldValue) (bytes piece : List ℕ) (quit is_held : Bool) (rest : List ℕ) (Stands : List HeldValue → Type 0) (dropped : Bool) (drawn drawing : Identifiers) (old new : Gathered)
-    → RanReady config base number part_of held (bytes ++ piece) quit is_held rest Stands dropped drawn drawing old new → RanFeed config base number part_of held false bytes piece quit is_held rest Stands dropped drawn drawing old new
-feeds-ready config base number part_of held bytes piece quit is_held rest Stands dropped drawn drawing old new r =
-    record { steps = r.steps; left = r.left; stands = r.stands; after = r.after; parted = r.parted; ends = r.ends; quits = r.quits; draws = r.draws; gathered = r.gathered }
+pub feeds-ready : (config : Config) (base : Situation) (number : ℕ) (making : Making) (held : List HeldValue) (bytes piece : List ℕ) (quit is_held : Bool) (rest : List ℕ) (Stands : List HeldValue → Type 0) (dropped : Bool) (drawn drawing : Identifiers) (old new : Gathered)
+    → RanReady config base number making held (bytes ++ piece) quit is_held rest Stands dropped drawn drawing old new → RanFeed config base number making held false bytes piece quit is_held rest Stands dropped drawn drawing old new
+feeds-ready config base number making held bytes piece quit is_held rest Stands dropped drawn drawing old new r =
+    record { steps = r.steps; left = r.left; stands = r.stands; after = r.after; parted = r.parted; timely = r.timely; ends = r.ends; quits = r.quits; draws = r.draws; gathered = r.gathered }
 
 -- a connection that holds a line back, fed a piece
 abbrev held_with : Situation → List HeldValue → ℕ → List ℕ → List ℕ → Situation
@@ -208,36 +219,36 @@ abbrev step_released : ℕ → List ℕ → List ℕ → Option Accepted → Lis
 step_released number bytes reply accepted told = step_saying number (held_line bytes) reply accepted told
 
 -- it is right
-right-released : (config : Config) (base : Situation) (number : ℕ) (part_of : List ℕ → ℕ) (held : List HeldValue) (bytes piece : List ℕ) (quit : Bool) (Stood : List HeldValue → Type 0) (dropped : Bool) (drawn drawing : Identifiers) (old new : Gathered) → IsThere number base
-    → (one : RanOne config (held_with base held number bytes piece) number part_of (held_line bytes) quit Stood dropped drawn drawing old new)
+right-released : (config : Config) (base : Situation) (number : ℕ) (making : Making) (held : List HeldValue) (bytes piece : List ℕ) (quit : Bool) (Stood : List HeldValue → Type 0) (dropped : Bool) (drawn drawing : Identifiers) (old new : Gathered) → IsThere number base
+    → (one : RanOne config (held_with base held number bytes piece) number making (held_line bytes) quit Stood dropped drawn drawing old new)
     → is_right config (placed_step_in config (held_with base held number bytes piece) (Some (RunHeld number)) (step_released number bytes one.reply one.accepted one.told)) ≡ true
-right-released config base number part_of held bytes piece quit Stood dropped drawn drawing old new there one =
+right-released config base number making held bytes piece quit Stood dropped drawn drawing old new there one =
     subst (λ d. is_right config (placed_by config (held_with base held number bytes piece) (Some (RunHeld number)) d (action_by (reading config (held_line bytes))) (step_released number bytes one.reply one.accepted one.told)) ≡ true)
     (sym (ap (line_in (Some (RunHeld number))) (found-there base held number (holding number (held_line bytes) (behind_lines 1 bytes ++ piece)) there refl)))
     (right-in-turn config (held_with base held number bytes piece) (RunHeld number) number (held_line bytes) one.reply one.accepted one.told one.right (eq-eqb number number refl))
 
 -- what it leaves
-after-released : (config : Config) (base : Situation) (number : ℕ) (part_of : List ℕ → ℕ) (held : List HeldValue) (bytes piece : List ℕ) (quit : Bool) (Stood : List HeldValue → Type 0) (dropped : Bool) (drawn drawing : Identifiers) (old new : Gathered) → IsThere number base
-    → (one : RanOne config (held_with base held number bytes piece) number part_of (held_line bytes) quit Stood dropped drawn drawing old new)
+after-released : (config : Config) (base : Situation) (number : ℕ) (making : Making) (held : List HeldValue) (bytes piece : List ℕ) (quit : Bool) (Stood : List HeldValue → Type 0) (dropped : Bool) (drawn drawing : Identifiers) (old new : Gathered) → IsThere number base
+    → (one : RanOne config (held_with base held number bytes piece) number making (held_line bytes) quit Stood dropped drawn drawing old new)
     → after_step config (held_with base held number bytes piece) (Some (RunHeld number)) (step_released number bytes one.reply one.accepted one.told)
     (effect_in config (view_in config (held_with base held number bytes piece)) (action_by (reading config (held_line bytes))) (step_released number bytes one.reply one.accepted one.told))
     ≡ ended quit (with_drops dropped base) (held_when_run config (held_with base held number bytes piece) (action_by (reading config (held_line bytes))) (step_saying 0 [] one.reply one.accepted one.told)) (ready number (behind_lines 1 bytes ++ piece))
-after-released config base number part_of held bytes piece quit Stood dropped drawn drawing old new there one =
+after-released config base number making held bytes piece quit Stood dropped drawn drawing old new there one =
     after-held config base held number (holding number (held_line bytes) (behind_lines 1 bytes ++ piece)) (held_line bytes) one.reply one.accepted one.told quit there refl one.plain
     ∙ ap (λ b. ended quit (with_drops b base) (held_when_run config (held_with base held number bytes piece) (action_by (reading config (held_line bytes))) (step_saying 0 [] one.reply one.accepted one.told)) (ready number (behind_lines 1 bytes ++ piece))) (sym one.dropped_is)
 
 -- a feed of a connection that holds a command back: that command runs first
-pub feeds-held : (config : Config) (base : Situation) (number : ℕ) (part_of : List ℕ → ℕ) (held : List HeldValue) (bytes piece : List ℕ) (quit is_held : Bool) (rest : List ℕ) (Stood Stands : List HeldValue → Type 0) (was dropped : Bool) (drawn middling drawing : Identifiers) (old middle new : Gathered)
+pub feeds-held : (config : Config) (base : Situation) (number : ℕ) (making : Making) (held : List HeldValue) (bytes piece : List ℕ) (quit is_held : Bool) (rest : List ℕ) (Stood Stands : List HeldValue → Type 0) (was dropped : Bool) (drawn middling drawing : Identifiers) (old middle new : Gathered)
     → IsThere number base
-    → (one : RanOne config (held_with base held number bytes piece) number part_of (held_line bytes) false Stood was drawn middling old middle)
-    → RanReady config (with_drops was base) number part_of (held_when_run config (held_with base held number bytes piece) (action_by (reading config (held_line bytes))) (step_saying 0 [] one.reply one.accepted one.told)) (behind_lines 1 bytes ++ piece) quit is_held rest Stands dropped middling drawing middle new
-    → RanFeed config base number part_of held true bytes piece quit is_held rest Stands dropped drawn drawing old new
-feeds-held config base number part_of held bytes piece quit is_held rest Stood Stands was dropped drawn middling drawing old middle new there one r =
+    → (one : RanOne config (held_with base held number bytes piece) number making (held_line bytes) false Stood was drawn middling old middle)
+    → RanReady config (with_drops was base) number making (held_when_run config (held_with base held number bytes piece) (action_by (reading config (held_line bytes))) (step_saying 0 [] one.reply one.accepted one.told)) (behind_lines 1 bytes ++ piece) quit is_held rest Stands dropped middling drawing middle new
+    → RanFeed config base number making held true bytes piece quit is_held rest Stands dropped drawn drawing old new
+feeds-held config base number making held bytes piece quit is_held rest Stood Stands was dropped drawn middling drawing old middle new there one r =
     let s = held_with base held number bytes piece in
     let step = step_released number bytes one.reply one.accepted one.told in
     let effect = effect_in config (view_in config s) (action_by (reading config (held_line bytes))) step in
-    let right = right-released config base number part_of held bytes piece false Stood was drawn middling old middle there one in
-    let after = after-released config base number part_of held bytes piece false Stood was drawn middling old middle there one in
+    let right = right-released config base number making held bytes piece false Stood was drawn middling old middle there one in
+    let after = after-released config base number making held bytes piece false Stood was drawn middling old middle there one in
     record {
       steps = step ∷ r.steps;
       left = r.left;
@@ -245,7 +256,8 @@ feeds-held config base number part_of held bytes piece quit is_held rest Stood S
       after =
           ap (λ b. if b then after_steps config (after_step config s (Some (RunHeld number)) step effect) (RunLines number ∷ []) r.steps else None) right
           ∙ ap (λ x. after_steps config x (RunLines number ∷ []) r.steps) after ∙ r.after;
-      parted = cons-parted part_of effect.value _ one.parted (ap (λ x. list_all (is_parted part_of) (accepted_values (placed_steps_in config x (RunLines number ∷ []) r.steps))) after ∙ r.parted);
+      parted = cons-parted making.part_of effect.value _ one.parted (ap (λ x. list_all (is_parted making.part_of) (accepted_values (placed_steps_in config x (RunLines number ∷ []) r.steps))) after ∙ r.parted);
+      timely = and_from _ _ (ap (is_timely_after config making.made effect) after ∙ timely-ended config making.made effect false (with_drops was base) _ (ready number (behind_lines 1 bytes ++ piece)) one.timely) (ap (λ x. are_timely config making.made x (RunLines number ∷ []) r.steps) after ∙ r.timely);
       ends = starts step r.steps is_held refl r.ends;
       quits = starts-quit config step r.steps quit one.says r.quits;
       draws = draws-first config step r.steps drawn middling drawing one.draws r.draws;
@@ -257,24 +269,26 @@ feeds-held config base number part_of held bytes piece quit is_held rest Stood S
     starts x (y ∷ ys) b e h = h
 
 -- a feed of a connection that holds a `QUIT` back: nothing runs behind it
-pub feeds-quit : (config : Config) (base : Situation) (number : ℕ) (part_of : List ℕ → ℕ) (held : List HeldValue) (bytes piece rest : List ℕ) (Stands : List HeldValue → Type 0) (dropped : Bool) (drawn drawing : Identifiers) (old new : Gathered)
-    → IsThere number base → RanOne config (held_with base held number bytes piece) number part_of (held_line bytes) true Stands dropped drawn drawing old new
-    → RanFeed config base number part_of held true bytes piece true false rest Stands dropped drawn drawing old new
-feeds-quit config base number part_of held bytes piece rest Stands dropped drawn drawing old new there one =
+pub feeds-quit : (config : Config) (base : Situation) (number : ℕ) (making : Making) (held : List HeldValue) (bytes piece rest : List ℕ) (Stands : List HeldValue → Type 0) (dropped : Bool) (drawn drawing : Identifiers) (old new : Gathered)
+    → IsThere number base → RanOne config (held_with base held number bytes piece) number making (held_line bytes) true Stands dropped drawn drawing old new
+    → RanFeed config base number making held true bytes piece true false rest Stands dropped drawn drawing old new
+feeds-quit config base number making held bytes piece rest Stands dropped drawn drawing old new there one =
     let s = held_with base held number bytes piece in
     let step = step_released number bytes one.reply one.accepted one.told in
     let effect = effect_in config (view_in config s) (action_by (reading config (held_line bytes))) step in
     let left = held_when_run config s (action_by (reading config (held_line bytes))) (step_saying 0 [] one.reply one.accepted one.told) in
+    let after = after-released config base number making held bytes piece true Stands dropped drawn drawing old new there one in
     let last = ended true (with_drops dropped base) left (ready number (behind_lines 1 bytes ++ piece)) in
     record {
       steps = step ∷ [];
       left = left;
       stands = one.left;
       after =
-          ap (λ b. if b then after_steps config (after_step config s (Some (RunHeld number)) step effect) (RunLines number ∷ []) [] else None) (right-released config base number part_of held bytes piece true Stands dropped drawn drawing old new there one)
-          ∙ ap (λ x. after_steps config x (RunLines number ∷ []) []) (after-released config base number part_of held bytes piece true Stands dropped drawn drawing old new there one)
+          ap (λ b. if b then after_steps config (after_step config s (Some (RunHeld number)) step effect) (RunLines number ∷ []) [] else None) (right-released config base number making held bytes piece true Stands dropped drawn drawing old new there one)
+          ∙ ap (λ x. after_steps config x (RunLines number ∷ []) []) after
           ∙ ap (λ b. if is_empty (due_if b number) then Some last else None) (stops-quit (with_drops dropped base) left number (ready number (behind_lines 1 bytes ++ piece)) refl);
-      parted = cons-parted part_of effect.value [] one.parted refl;
+      parted = cons-parted making.part_of effect.value [] one.parted refl;
+      timely = and_from _ _ (ap (is_timely_after config making.made effect) after ∙ timely-ended config making.made effect true (with_drops dropped base) left (ready number (behind_lines 1 bytes ++ piece)) one.timely) refl;
       ends = refl;
       quits = one.says;
       draws = draws-first config step [] drawn drawing drawing one.draws (spends-same drawing);

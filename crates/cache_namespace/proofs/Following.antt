@@ -18,8 +18,9 @@ use Rattle.audit_model.specs.declared.command.Closing.{Closing}
 use Rattle.audit_model.specs.declared.event.Event.TheVariants as event
 use Rattle.audit_model.specs.declared.input.ServiceError.TheVariants as error
 use Rattle.cache_namespace.specs.Drawing.{Identifiers}
+use Rattle.cache_namespace.specs.Making.{Making}
 use Rattle.cache_namespace.specs.Gathered.{Gathered}
-use Rattle.cache_namespace.specs.Lines.{set_in, ready}
+use Rattle.cache_namespace.specs.Lines.{are_timely, set_in, ready}
 use Rattle.cache_namespace.specs.Ran.{standing_with, with_piece}
 use Rattle.cache_namespace.specs.Shown.{shown, is_listed, is_open_with, open_from, situation, put_in}
 use Rattle.cache_namespace.specs.Taken.{is_quit, FeedsConnection, Takes, fed, known, holds_at}
@@ -79,11 +80,11 @@ known-open latest m i c cs dropped x e lt at listed =
     (and_from (nat_lt 0 m) (nat_le m (length cs)) (lt-ltb 0 m (omega arith)) (le-leb m (length cs) (omega arith)), ap is_some (found-open m i c cs e lt at listed))
 
 -- a feed's record follows
-pub follows-feed : (config : Config) (part_of : List ℕ → ℕ) (latest m i moment : ℕ) (old new : Connection) (cs : List Connection) (dropped dropping : Bool) (x : List HeldValue) (piece : List ℕ) (is_held : Bool) (Stands : List HeldValue → Type 0) (drawn drawing : Identifiers) (was is : Gathered)
+pub follows-feed : (config : Config) (making : Making) (latest m i moment : ℕ) (old new : Connection) (cs : List Connection) (dropped dropping : Bool) (x : List HeldValue) (piece : List ℕ) (is_held : Bool) (Stands : List HeldValue → Type 0) (drawn drawing : Identifiers) (was is : Gathered)
     → m ≡ suc i → i < length cs → get_or cs i old ≡ old → is_listed m old ≡ true → moment < 2 ^ 63
-    → FeedsConnection config (situation (max moment latest) cs dropped x) m part_of x old piece new is_held Stands dropping drawn drawing was is
-    → Takes config part_of (situation latest cs dropped x) (fed m piece moment) is_held (is_quit new.closing) Stands (situation (max moment latest) (slice_set cs i new) dropping) drawn drawing was is
-follows-feed config part_of latest m i moment old new cs dropped dropping x piece is_held Stands drawn drawing was is e lt at listed low f =
+    → FeedsConnection config (situation (max moment latest) cs dropped x) m making x old piece new is_held Stands dropping drawn drawing was is
+    → Takes config making (situation latest cs dropped x) (fed m piece moment) is_held (is_quit new.closing) Stands (situation (max moment latest) (slice_set cs i new) dropping) drawn drawing was is
+follows-feed config making latest m i moment old new cs dropped dropping x piece is_held Stands drawn drawing was is e lt at listed low f =
     let s = situation latest cs dropped x in
     let known = known-open latest m i old cs dropped x e lt at listed in
     let found = found-open m i old cs e lt at listed in
@@ -101,10 +102,15 @@ follows-feed config part_of latest m i moment old new cs dropped dropping x piec
           ∙ ap (λ b. after_steps config (set_in (situation (max moment latest) cs dropped x) x (with_piece piece (shown m old))) (tasks_to_feed m b) f.steps) (holding-shown m old)
           ∙ f.after ∙ ap Some (put-situation (max moment latest) m i old new cs dropping x f.left e lt at listed);
       parted =
-          ap (λ o. list_all (is_parted part_of) (accepted_values (placed_steps_in config (option_map_or (λ c. with_connection false (record c { unread = c.unread ++ piece }) (situation (max moment latest) cs dropped x)) o (situation (max moment latest) cs dropped x))
+          ap (λ o. list_all (is_parted making.part_of) (accepted_values (placed_steps_in config (option_map_or (λ c. with_connection false (record c { unread = c.unread ++ piece }) (situation (max moment latest) cs dropped x)) o (situation (max moment latest) cs dropped x))
           (tasks_to_feed m (option_map_or (λ (c : model.Connection). is_holding c.standing) o false)) f.steps))) found
-          ∙ ap (λ b. list_all (is_parted part_of) (accepted_values (placed_steps_in config (set_in (situation (max moment latest) cs dropped x) x (with_piece piece (shown m old))) (tasks_to_feed m b) f.steps))) (holding-shown m old)
+          ∙ ap (λ b. list_all (is_parted making.part_of) (accepted_values (placed_steps_in config (set_in (situation (max moment latest) cs dropped x) x (with_piece piece (shown m old))) (tasks_to_feed m b) f.steps))) (holding-shown m old)
           ∙ f.parted;
+      timely =
+          ap (λ o. are_timely config making.made (option_map_or (λ c. with_connection false (record c { unread = c.unread ++ piece }) (situation (max moment latest) cs dropped x)) o (situation (max moment latest) cs dropped x))
+          (tasks_to_feed m (option_map_or (λ (c : model.Connection). is_holding c.standing) o false)) f.steps) found
+          ∙ ap (λ b. are_timely config making.made (set_in (situation (max moment latest) cs dropped x) x (with_piece piece (shown m old))) (tasks_to_feed m b) f.steps) (holding-shown m old)
+          ∙ f.timely;
       ends = f.ends;
       quits = f.quits;
       draws = f.draws;
@@ -125,10 +131,10 @@ listed-open m c = go c.closing c.held c.unread.bytes c.short
     go None false bytes h = not-long (is_long_line bytes) h
 
 -- a new connection's record follows
-pub follows-open : (config : Config) (part_of : List ℕ → ℕ) (latest m : ℕ) (new : Connection) (cs : List Connection) (dropped : Bool) (x : List HeldValue) (Stands : List HeldValue → Type 0) (drawn : Identifiers) (was : Gathered)
+pub follows-open : (config : Config) (making : Making) (latest m : ℕ) (new : Connection) (cs : List Connection) (dropped : Bool) (x : List HeldValue) (Stands : List HeldValue → Type 0) (drawn : Identifiers) (was : Gathered)
     → m ≡ suc (length cs) → new.closing ≡ None → new.held ≡ false → new.unread.bytes ≡ [] → Stands x
-    → Takes config part_of (situation latest cs dropped x) (event.Open m) false false Stands (situation latest (cs ++ new ∷ []) dropped) drawn drawn was was
-follows-open config part_of latest m new cs dropped x Stands drawn was e is_open free empty stands =
+    → Takes config making (situation latest cs dropped x) (event.Open m) false false Stands (situation latest (cs ++ new ∷ []) dropped) drawn drawn was was
+follows-open config making latest m new cs dropped x Stands drawn was e is_open free empty stands =
     let n_is : 1 + length cs ≡ m = omega arith in
     record {
       steps = [];
@@ -141,6 +147,7 @@ follows-open config part_of latest m new cs dropped x Stands drawn was e is_open
           ∙ ap (λ b. open_from 1 cs ++ standing_with m b new.unread.bytes ∷ []) free ∙ ap (λ bs. open_from 1 cs ++ ready m bs ∷ []) empty))
           ∙ ap (λ n. Some (record (situation latest cs dropped x) { opened = n; connections = open_from 1 (cs ++ new ∷ []) })) (let l = length-append cs (new ∷ []) in omega arith);
       parted = refl;
+      timely = refl;
       ends = refl;
       quits = refl;
       draws = spends-same drawn;
@@ -148,10 +155,10 @@ follows-open config part_of latest m new cs dropped x Stands drawn was e is_open
     }
 
 -- a closing's record follows
-pub follows-close : (config : Config) (part_of : List ℕ → ℕ) (latest m i : ℕ) (old new : Connection) (cs : List Connection) (dropped : Bool) (x : List HeldValue) (by : Closing) (Stands : List HeldValue → Type 0) (drawn : Identifiers) (was : Gathered)
+pub follows-close : (config : Config) (making : Making) (latest m i : ℕ) (old new : Connection) (cs : List Connection) (dropped : Bool) (x : List HeldValue) (by : Closing) (Stands : List HeldValue → Type 0) (drawn : Identifiers) (was : Gathered)
     → m ≡ suc i → i < length cs → get_or cs i old ≡ old → old.closing ≡ None → new.closing ≡ Some by → Stands x
-    → Takes config part_of (situation latest cs dropped x) (event.Close m) false false Stands (situation latest (slice_set cs i new) dropped) drawn drawn was was
-follows-close config part_of latest m i old new cs dropped x by Stands drawn was e lt at is_open closed stands =
+    → Takes config making (situation latest cs dropped x) (event.Close m) false false Stands (situation latest (slice_set cs i new) dropped) drawn drawn was was
+follows-close config making latest m i old new cs dropped x by Stands drawn was e lt at is_open closed stands =
     let s = situation latest cs dropped x in
     let known = known-open latest m i old cs dropped x e lt at (listed-open m old ∙ ap is_none is_open) in
     let rest : Option Situation = Some (without_connection m s) in
@@ -165,6 +172,7 @@ follows-close config part_of latest m i old new cs dropped x by Stands drawn was
           ∙ ap (λ ks. Some (record s { connections = ks })) (dropped-at m 1 i new cs (omega arith) lt (listed-open m new ∙ ap is_none closed))
           ∙ ap (λ n. Some (record s { opened = n; connections = open_from 1 (slice_set cs i new) })) (sym (length-set cs i new));
       parted = refl;
+      timely = refl;
       ends = refl;
       quits = refl;
       draws = spends-same drawn;

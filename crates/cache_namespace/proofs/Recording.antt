@@ -10,7 +10,10 @@ use Rattle.audit_model.specs.declared.transcript.Note.{Note}
 use Rattle.audit_model.specs.declared.transcript.Step.{Step}
 use Rattle.cache_store.specs.Handing.{Hands, ArePartByPart}
 use Rattle.cache_steps.specs.Right.{Answers, step_saying}
-use Rattle.std.specs.Prelude.{codes}
+use Rattle.std.specs.Prelude.{IsTrue, codes, not, ◌||◌}
+use Rattle.std.specs.List.{list_all}
+use Rattle.audit_model.specs.Commands.{is_sync}
+use Rattle.cache_store.specs.Running.{is_timely}
 use Rattle.audit_model.specs.History.{part_count}
 use Rattle.cache_store.specs.Identifiers.{KeepsIdentifiers, AreUsedUp}
 use Rattle.cache_steps.specs.Drawing.{Draws}
@@ -20,15 +23,15 @@ use Rattle.cache_namespace.proofs.Drawn.{step-drawn, step-kept}
 use Rattle.cache_namespace.specs.Ran.{RanOne, IsPlainLine, HasItsPart}
 
 pub ran-kept : (config : Config) (s : Situation) (number : ℕ) (line copy old_text new_text last_text : List ℕ) (accepted : Option Accepted) (quit : Bool) (before steps : List Step) (notes waiting drained last : List Note)
-    (part_of : List ℕ → ℕ) (Stands Stays : List HeldValue → Type 0) (dropped dropping : Bool) (drawn drawing left : Identifiers)
+    (part_of : List ℕ → ℕ) (made : ℕ) (Stands Stays : List HeldValue → Type 0) (dropped dropping : Bool) (drawn drawing left : Identifiers)
     → Answers config s (action_by (reading config line)) accepted Stands dropped (Hands part_of waiting drained) old_text new_text
-    → IsPlainLine config line quit → says_quit (reading config line) ≡ quit → HasItsPart config part_of line accepted → Draws drawn.stream drawing.stream drawn.registered drawing.registered
+    → IsPlainLine config line quit → says_quit (reading config line) ≡ quit → HasItsPart config part_of line accepted → ((held : List HeldValue) → Stands held → IsTrue (not (is_sync (action_by (reading config line))) || list_all (is_timely config made s.latest) held)) → Draws drawn.stream drawing.stream drawn.registered drawing.registered
     → (says_drop (reading config line) ≡ true → new_text ≡ old_text ++ codes "ERR id\n" → AreUsedUp (part_count config) drawn.stream drawing.stream drawn.registered)
     → KeepsIdentifiers drawing.stream left.stream drawing.registered left.registered
     → (old_text ≡ []) × (waiting ≡ []) → ((held : List HeldValue) → Stands held → Stays held) → dropping ≡ dropped
     → (ArePartByPart part_of drained → notes ≡ drained) → copy ≡ line → steps ≡ before ++ step_saying number copy new_text accepted notes ∷ [] → last ≡ [] → last_text ≡ []
-    → RanOne config s number part_of line quit Stays dropping drawn left (record { text = old_text; kept = Some before; waiting = waiting }) (record { text = last_text; kept = Some steps; waiting = last })
-ran-kept config s number line copy old_text new_text last_text accepted quit before steps notes waiting drained last part_of Stands Stays dropped dropping drawn drawing left a plain says parted draws used keeps fresh stays kept taken same pushed none empty =
+    → RanOne config s number (record { part_of = part_of; made = made }) line quit Stays dropping drawn left (record { text = old_text; kept = Some before; waiting = waiting }) (record { text = last_text; kept = Some steps; waiting = last })
+ran-kept config s number line copy old_text new_text last_text accepted quit before steps notes waiting drained last part_of made Stands Stays dropped dropping drawn drawing left a plain says parted timely draws used keeps fresh stays kept taken same pushed none empty =
     let reply : new_text ≡ a.reply = a.written ∙ ap (λ t. t ++ a.reply) fresh.0 in
     let told : drained ≡ a.told = a.handed.added ∙ ap (λ ns. ns ++ a.told) fresh.1 in
     let noted : notes ≡ a.told = taken (subst (ArePartByPart part_of) (sym told) a.handed.by_part) ∙ told in
@@ -41,6 +44,7 @@ ran-kept config s number line copy old_text new_text last_text accepted quit bef
       says = says;
       parted = parted s (step_saying number line a.reply accepted a.told) refl;
       left = stays _ a.left;
+      timely = timely _ a.left;
       dropped_is = kept ∙ a.dropped_is;
       draws = step-kept config _ drawn drawing left (step-drawn config number line a.reply old_text new_text accepted a.told drawn drawing draws used a.written) keeps;
       gathered =
@@ -53,12 +57,12 @@ ran-kept config s number line copy old_text new_text last_text accepted quit bef
 
 -- a line that ran while none is made
 pub ran-loose : (config : Config) (s : Situation) (number : ℕ) (line old_text new_text : List ℕ) (accepted : Option Accepted) (quit : Bool) (waiting drained : List Note)
-    (part_of : List ℕ → ℕ) (Stands : List HeldValue → Type 0) (dropped : Bool) (drawn drawing : Identifiers)
+    (part_of : List ℕ → ℕ) (made : ℕ) (Stands : List HeldValue → Type 0) (dropped : Bool) (drawn drawing : Identifiers)
     → Answers config s (action_by (reading config line)) accepted Stands dropped (Hands part_of waiting drained) old_text new_text
-    → IsPlainLine config line quit → says_quit (reading config line) ≡ quit → HasItsPart config part_of line accepted → Draws drawn.stream drawing.stream drawn.registered drawing.registered
+    → IsPlainLine config line quit → says_quit (reading config line) ≡ quit → HasItsPart config part_of line accepted → ((held : List HeldValue) → Stands held → IsTrue (not (is_sync (action_by (reading config line))) || list_all (is_timely config made s.latest) held)) → Draws drawn.stream drawing.stream drawn.registered drawing.registered
     → (says_drop (reading config line) ≡ true → new_text ≡ old_text ++ codes "ERR id\n" → AreUsedUp (part_count config) drawn.stream drawing.stream drawn.registered)
-    → RanOne config s number part_of line quit Stands dropped drawn drawing (record { text = old_text; kept = None; waiting = waiting }) (record { text = new_text; kept = None; waiting = drained })
-ran-loose config s number line old_text new_text accepted quit waiting drained part_of Stands dropped drawn drawing a plain says parted draws used =
+    → RanOne config s number (record { part_of = part_of; made = made }) line quit Stands dropped drawn drawing (record { text = old_text; kept = None; waiting = waiting }) (record { text = new_text; kept = None; waiting = drained })
+ran-loose config s number line old_text new_text accepted quit waiting drained part_of made Stands dropped drawn drawing a plain says parted timely draws used =
     record {
       reply = a.reply;
       accepted = accepted;
@@ -68,6 +72,7 @@ ran-loose config s number line old_text new_text accepted quit waiting drained p
       says = says;
       parted = parted s (step_saying number line a.reply accepted a.told) refl;
       left = a.left;
+      timely = timely _ a.left;
       dropped_is = a.dropped_is;
       draws = step-drawn config number line a.reply old_text new_text accepted a.told drawn drawing draws used a.written;
       gathered =

@@ -9,9 +9,12 @@ use Rattle.std.proofs.lemmas.Bool.{eq-eqb, and_from}
 use Rattle.std.proofs.lemmas.List.Folds.{list_all-append}
 use Rattle.std.specs.List.{list_all}
 use Rattle.audit_model.specs.Changes.{after_step}
+use Rattle.audit_model.specs.Commands.{drops, syncs}
+use Rattle.audit_model.specs.History.{Effect}
+use Rattle.cache_store.specs.Running.{is_timely}
 use Rattle.audit_model.specs.Follows.{line_in, placed_step_in}
 use Rattle.audit_model.specs.Grammar.{reading}
-use Rattle.audit_model.specs.Situation.{Situation, HeldValue, is_ready, connection_in, may_run_in, is_overlong}
+use Rattle.audit_model.specs.Situation.{Situation, Connection, HeldValue, is_ready, connection_in, may_run_in, is_overlong}
 use Rattle.audit_model.specs.Steps.{RunLines, action_by, is_right}
 use Rattle.audit_model.specs.Stream.{behind_lines, first_line, without_return}
 use Rattle.audit_model.specs.declared.config.Config.{Config}
@@ -20,8 +23,9 @@ use Rattle.cache_lines.specs.Next.{IsLine}
 use Rattle.cache_lines.proofs.Lines.{IsLine-first_line, IsLine-behind_lines, IsLine-not_long}
 use Rattle.cache_steps.specs.Right.{step_saying, placed_by, held_when_run}
 use Rattle.cache_namespace.specs.Drawing.{Identifiers, Spends}
+use Rattle.cache_namespace.specs.Making.{Making}
 use Rattle.cache_namespace.specs.Gathered.{Gathered, IsFresh, gather, reply_in}
-use Rattle.cache_namespace.specs.Lines.{Runs, IsThere, ended, ends_quit, has_its_part, placed_in, ready, says_quit, set_in, with_drops}
+use Rattle.cache_namespace.specs.Lines.{Runs, IsThere, ended, ends_quit, has_its_part, is_timely_after, placed_in, ready, says_quit, set_in, with_drops}
 use Rattle.cache_namespace.specs.Ran.{RanOne, RanLines}
 use Rattle.cache_namespace.proofs.Drawn.{draws-more, draws-spend, spends-same}
 use Rattle.cache_namespace.proofs.Placing.{found-there}
@@ -49,18 +53,26 @@ gather-more g xs ys = go g.kept
 
 -- ---- runs of lines
 
-pub runs-more : (config : Config) (number : ℕ) (part_of : List ℕ → ℕ) (steps : List Step) (s t : Situation) (step : Step) (u : Situation)
-    → Runs config number part_of s steps t → may_run_in t number ≡ true → is_right config (placed_step_in config t (Some (RunLines number)) step) ≡ true
-    → has_its_part part_of (placed_in config number t step) ≡ true
+pub runs-more : (config : Config) (number : ℕ) (making : Making) (steps : List Step) (s t : Situation) (step : Step) (u : Situation)
+    → Runs config number making s steps t → may_run_in t number ≡ true → is_right config (placed_step_in config t (Some (RunLines number)) step) ≡ true
+    → has_its_part making.part_of (placed_in config number t step) ≡ true
+    → is_timely_after config making.made (placed_in config number t step) (after_step config t (Some (RunLines number)) step (placed_in config number t step)) ≡ true
     → after_step config t (Some (RunLines number)) step (placed_in config number t step) ≡ u
-    → Runs config number part_of s (steps ++ step ∷ []) u
-runs-more config number part_of [] s t step u runs may right parted after = (
+    → Runs config number making s (steps ++ step ∷ []) u
+runs-more config number making [] s t step u runs may right parted timely after = (
   subst (λ x. may_run_in x number ≡ true) runs may,
   subst (λ x. is_right config (placed_step_in config x (Some (RunLines number)) step) ≡ true) runs right,
-  subst (λ x. has_its_part part_of (placed_in config number x step) ≡ true) runs parted,
+  subst (λ x. has_its_part making.part_of (placed_in config number x step) ≡ true) runs parted,
+  subst (λ x. is_timely_after config making.made (placed_in config number x step) (after_step config x (Some (RunLines number)) step (placed_in config number x step)) ≡ true) runs timely,
   sym after ∙ ap (λ x. after_step config x (Some (RunLines number)) step (placed_in config number x step)) runs,
 )
-runs-more config number part_of (x ∷ xs) s t step u runs may right parted after = (runs.0, runs.1, runs.2, runs-more config number part_of xs _ t step u runs.3 may right parted after)
+runs-more config number making (x ∷ xs) s t step u runs may right parted timely after = (runs.0, runs.1, runs.2, runs.3, runs-more config number making xs _ t step u runs.4 may right parted timely after)
+
+-- what a step leaves is timely, as it now is or closed by a `QUIT`
+pub timely-ended : (config : Config) (made : ℕ) (effect : Effect) (quit : Bool) (base : Situation) (left : List HeldValue) (c : Connection) → (not (syncs effect) || list_all (is_timely config made base.latest) left) ≡ true
+    → is_timely_after config made effect (ended quit base left c) ≡ true
+timely-ended config made effect true base left c timely = timely
+timely-ended config made effect false base left c timely = timely
 
 -- one more step, which is a `QUIT` or not
 pub ends-quit-more : (config : Config) (steps : List Step) (step : Step) (quit : Bool) → (not step.held && says_quit (reading config step.line)) ≡ quit → ends_quit config (steps ++ step ∷ []) ≡ quit
@@ -90,11 +102,11 @@ all-more : (p : Step → Bool) (xs : List Step) (x : Step) → list_all p xs ≡
 all-more p xs x all one = list_all-append p xs (x ∷ []) ∙ and_from (list_all p xs) (p x && true) all (and_from (p x) true one refl)
 
 -- one more line ran
-pub ran-more : (config : Config) (base : Situation) (number : ℕ) (part_of : List ℕ → ℕ) (held : List HeldValue) (bytes mid rest line : List ℕ) (n : ℕ) (quit : Bool) (Stood Stands : List HeldValue → Type 0) (was dropped : Bool) (drawn middling drawing : Identifiers) (old middle new : Gathered)
-    → IsThere number base → (r : RanLines config base number part_of held bytes false mid Stood was drawn middling old middle) → IsLine mid n → line ≡ without_return (take n mid) → (quit ≡ false → rest ≡ drop (n + 1) mid)
-    → RanOne config (set_in (with_drops was base) r.left (ready number mid)) number part_of line quit Stands dropped middling drawing middle new
-    → RanLines config base number part_of held bytes quit rest Stands dropped drawn drawing old new
-ran-more config base number part_of held bytes mid rest line n quit Stood Stands was dropped drawn middling drawing old middle new there r at said after one =
+pub ran-more : (config : Config) (base : Situation) (number : ℕ) (making : Making) (held : List HeldValue) (bytes mid rest line : List ℕ) (n : ℕ) (quit : Bool) (Stood Stands : List HeldValue → Type 0) (was dropped : Bool) (drawn middling drawing : Identifiers) (old middle new : Gathered)
+    → IsThere number base → (r : RanLines config base number making held bytes false mid Stood was drawn middling old middle) → IsLine mid n → line ≡ without_return (take n mid) → (quit ≡ false → rest ≡ drop (n + 1) mid)
+    → RanOne config (set_in (with_drops was base) r.left (ready number mid)) number making line quit Stands dropped middling drawing middle new
+    → RanLines config base number making held bytes quit rest Stands dropped drawn drawing old new
+ran-more config base number making held bytes mid rest line n quit Stood Stands was dropped drawn middling drawing old middle new there r at said skips one =
     let from = with_drops was base in
     let s = set_in from r.left (ready number mid) in
     let step = step_saying number line one.reply one.accepted one.told in
@@ -102,15 +114,18 @@ ran-more config base number part_of held bytes mid rest line n quit Stood Stands
     let right : is_right config (placed_step_in config s (Some (RunLines number)) step) ≡ true =
     subst (λ due. is_right config (placed_by config s (Some (RunLines number)) due action step) ≡ true) (sym (line-due from r.left number mid line n there at said))
     (right-in-turn config s (RunLines number) number line one.reply one.accepted one.told one.right (eq-eqb number number refl)) in
+    let effect = placed_in config number s step in
+    let after = after-line config from r.left number (ready number mid) line one.reply one.accepted one.told quit there (line-fits number mid n at) one.plain in
     record {
       steps = r.steps ++ step ∷ [];
       left = held_when_run config s action step;
       stands = one.left;
       runs =
-          runs-more config number part_of r.steps _ s step _ r.runs (may-run from r.left number mid n there at) right one.parted
-          (after-line config from r.left number (ready number mid) line one.reply one.accepted one.told quit there (line-fits number mid n at) one.plain
+          runs-more config number making r.steps _ s step _ r.runs (may-run from r.left number mid n there at) right one.parted
+          (ap (is_timely_after config making.made effect) after ∙ timely-ended config making.made effect quit (with_drops (from.dropped || drops effect) from) (held_when_run config s action step) (ready number (behind_lines 1 mid)) one.timely)
+          (after
           ∙ ap (λ b. ended quit (with_drops b base) (held_when_run config s action step) (ready number (behind_lines 1 mid))) (sym one.dropped_is)
-          ∙ ended-rest quit (λ e. IsLine-behind_lines mid n at ∙ sym (after e)) (held_when_run config s action step));
+          ∙ ended-rest quit (λ e. IsLine-behind_lines mid n at ∙ sym (skips e)) (held_when_run config s action step));
       none_held = all-more (λ (x : Step). not x.held) r.steps step r.none_held refl;
       quits = ends-quit-more config r.steps step quit one.says;
       draws = draws-more config r.steps step drawn middling drawing r.draws one.draws;
@@ -123,28 +138,28 @@ ran-more config base number part_of held bytes mid rest line n quit Stood Stands
     ended-rest false is left = ap (λ b. set_in (with_drops dropped base) left (ready number b)) (is refl)
 
 -- the same, with the parts and the end in other words
-pub ran-as : (config : Config) (s : Situation) (number : ℕ) (part_of parting : List ℕ → ℕ) (line : List ℕ) (quit quits : Bool) (Stands : List HeldValue → Type 0) (dropped : Bool) (drawn drawing : Identifiers) (old new : Gathered)
-    → part_of ≡ parting → quit ≡ quits → RanOne config s number part_of line quit Stands dropped drawn drawing old new → RanOne config s number parting line quits Stands dropped drawn drawing old new
-ran-as config s number part_of parting line quit quits Stands dropped drawn drawing old new parts ends one =
-    subst (λ b. RanOne config s number parting line b Stands dropped drawn drawing old new) ends
-    (subst (λ (p : List ℕ → ℕ). RanOne config s number p line quit Stands dropped drawn drawing old new) parts one)
+pub ran-as : (config : Config) (s : Situation) (number : ℕ) (making remaking : Making) (line : List ℕ) (quit quits : Bool) (Stands : List HeldValue → Type 0) (dropped : Bool) (drawn drawing : Identifiers) (old new : Gathered)
+    → making ≡ remaking → quit ≡ quits → RanOne config s number making line quit Stands dropped drawn drawing old new → RanOne config s number remaking line quits Stands dropped drawn drawing old new
+ran-as config s number making remaking line quit quits Stands dropped drawn drawing old new parts ends one =
+    subst (λ b. RanOne config s number remaking line b Stands dropped drawn drawing old new) ends
+    (subst (λ (p : Making). RanOne config s number p line quit Stands dropped drawn drawing old new) parts one)
 
 -- no line ran yet
-pub ran-none : (config : Config) (base : Situation) (number : ℕ) (part_of : List ℕ → ℕ) (held : List HeldValue) (bytes : List ℕ) (Stands : List HeldValue → Type 0) (dropped : Bool) (drawn : Identifiers) (old : Gathered)
-    → Stands held → base.dropped ≡ dropped → RanLines config base number part_of held bytes false bytes Stands dropped drawn drawn old old
-ran-none config base number part_of held bytes Stands dropped drawn old m same =
+pub ran-none : (config : Config) (base : Situation) (number : ℕ) (making : Making) (held : List HeldValue) (bytes : List ℕ) (Stands : List HeldValue → Type 0) (dropped : Bool) (drawn : Identifiers) (old : Gathered)
+    → Stands held → base.dropped ≡ dropped → RanLines config base number making held bytes false bytes Stands dropped drawn drawn old old
+ran-none config base number making held bytes Stands dropped drawn old m same =
     record { steps = []; left = held; stands = m; runs = ap (λ b. set_in (with_drops b base) held (ready number bytes)) (sym same); none_held = refl; quits = refl; draws = spends-same drawn; gathered = sym (gather-none old) }
 
 -- a line that was refused changed nothing
-pub ran-kept : (config : Config) (base : Situation) (number : ℕ) (part_of : List ℕ → ℕ) (held : List HeldValue) (bytes rest : List ℕ) (Stood Stands : List HeldValue → Type 0) (was dropped : Bool) (drawn middling drawing : Identifiers) (old middle new : Gathered)
-    → RanLines config base number part_of held bytes false rest Stood was drawn middling old middle → ((left : List HeldValue) → Stood left → Stands left) → dropped ≡ was → Spends middling drawing → new ≡ middle
-    → RanLines config base number part_of held bytes false rest Stands dropped drawn drawing old new
-ran-kept config base number part_of held bytes rest Stood Stands was dropped drawn middling drawing old middle new r stays kept spends same =
+pub ran-kept : (config : Config) (base : Situation) (number : ℕ) (making : Making) (held : List HeldValue) (bytes rest : List ℕ) (Stood Stands : List HeldValue → Type 0) (was dropped : Bool) (drawn middling drawing : Identifiers) (old middle new : Gathered)
+    → RanLines config base number making held bytes false rest Stood was drawn middling old middle → ((left : List HeldValue) → Stood left → Stands left) → dropped ≡ was → Spends middling drawing → new ≡ middle
+    → RanLines config base number making held bytes false rest Stands dropped drawn drawing old new
+ran-kept config base number making held bytes rest Stood Stands was dropped drawn middling drawing old middle new r stays kept spends same =
     record {
       steps = r.steps;
       left = r.left;
       stands = stays r.left r.stands;
-      runs = subst (λ b. Runs config number part_of (set_in base held (ready number bytes)) r.steps (set_in (with_drops b base) r.left (ready number rest))) (sym kept) r.runs;
+      runs = subst (λ b. Runs config number making (set_in base held (ready number bytes)) r.steps (set_in (with_drops b base) r.left (ready number rest))) (sym kept) r.runs;
       none_held = r.none_held;
       quits = r.quits;
       draws = draws-spend config r.steps drawn middling drawing r.draws spends;

@@ -2,6 +2,7 @@ pub mod Drawing
 pub mod Gathered
 pub mod Kept
 pub mod Lines
+pub mod Making
 pub mod Ran
 pub mod Shown
 pub mod Stops

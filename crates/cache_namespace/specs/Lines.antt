@@ -1,22 +1,25 @@
 -- A connection's lines, run one after another.
-use Rattle.std.specs.Prelude.{◌≡◌, ℕ, Bool, false, true, not, ◌&&◌, List, [], ◌∷◌, Some, None, Ok, IsTrue, is_some, if◌then◌else◌}
+use Rattle.std.specs.Prelude.{◌≡◌, ℕ, Bool, false, true, not, ◌&&◌, ◌||◌, List, [], ◌∷◌, Some, None, Ok, IsTrue, is_some, if◌then◌else◌}
 use Rattle.std.specs.List.{list_all}
 use Rattle.std.specs.Option.{option_map_or}
 use Rattle.audit_laws.specs.Leading.{is_parted}
 use Rattle.audit_laws.specs.Placing.{placed_steps_in}
-use Rattle.audit_model.specs.Commands.{quits}
+use Rattle.audit_model.specs.Commands.{quits, syncs}
 use Rattle.audit_model.specs.Follows.{placed_step_in}
 use Rattle.audit_model.specs.Changes.{after_step}
 use Rattle.audit_model.specs.Grammar.{Reading, reading}
 use Rattle.audit_model.specs.History.{Effect}
 use Rattle.audit_model.specs.Loads.{key_loaded}
 use Rattle.audit_model.specs.Obeys.{accepted_values}
+use Rattle.audit_model.specs.Places.{due, first_due, left_after}
 use Rattle.audit_model.specs.Situation.{Situation, Connection, HeldValue, Ready, Held, connection_in, may_run_in, with_connection, without_connection}
 use Rattle.audit_model.specs.Steps.{Task, RunLines, is_right}
 use Rattle.audit_model.specs.Stream.{is_held}
 use Rattle.audit_model.specs.declared.command.Command.TheVariants as says
 use Rattle.audit_model.specs.declared.config.Config.{Config}
 use Rattle.audit_model.specs.declared.transcript.Step.{Step}
+use Rattle.cache_store.specs.Running.{is_timely}
+use Rattle.cache_namespace.specs.Making.{Making}
 
 -- a connection that runs lines, with those bytes unread
 abbrev pub ready : ℕ → List ℕ → Connection
@@ -53,13 +56,27 @@ has_its_part part_of effect = option_map_or (is_parted part_of) effect.value tru
 abbrev pub ArePartedIn : Config → (List ℕ → ℕ) → Situation → List Task → List Step → Type 0
 ArePartedIn config part_of s tasks steps = IsTrue (list_all (is_parted part_of) (accepted_values (placed_steps_in config s tasks steps)))
 
--- these steps of the connection's lines ran, each in its turn and right, and each value in its key's part
-abbrev pub Runs : Config → ℕ → (List ℕ → ℕ) → Situation → List Step → Situation → Type 0
-Runs config number part_of s [] t = t ≡ s
-Runs config number part_of s (step ∷ steps) t =
+-- a `SYNC` leaves no value that is covered or long dead
+abbrev pub is_timely_after : Config → ℕ → Effect → Situation → Bool
+is_timely_after config made effect t = not (syncs effect) || list_all (is_timely config made t.latest) t.held
+
+-- nor do those of these steps
+abbrev pub are_timely : Config → ℕ → Situation → List Task → List Step → Bool
+are_timely config made s tasks [] = true
+are_timely config made s tasks (step ∷ steps) =
+    let now_due = due (may_run_in s) tasks in
+    let placed = placed_step_in config s (first_due now_due) step in
+    let t = after_step config s placed.task step placed.effect in
+    is_timely_after config made placed.effect t && are_timely config made t (left_after now_due) steps
+
+-- these steps of the connection's lines ran, each in its turn and right, each value in its key's part, and each `SYNC` left timely values
+abbrev pub Runs : Config → ℕ → Making → Situation → List Step → Situation → Type 0
+Runs config number making s [] t = t ≡ s
+Runs config number making s (step ∷ steps) t =
     IsTrue (may_run_in s number) × IsTrue (is_right config (placed_step_in config s (Some (RunLines number)) step))
-    × IsTrue (has_its_part part_of (placed_in config number s step))
-    × Runs config number part_of (after_step config s (Some (RunLines number)) step (placed_in config number s step)) steps t
+    × IsTrue (has_its_part making.part_of (placed_in config number s step))
+    × IsTrue (is_timely_after config making.made (placed_in config number s step) (after_step config s (Some (RunLines number)) step (placed_in config number s step)))
+    × Runs config number making (after_step config s (Some (RunLines number)) step (placed_in config number s step)) steps t
 
 -- a step that does nothing but to values, and may close its connection
 pub record IsPlain (effect : Effect) (quit : Bool) : Type 0 where

@@ -5,8 +5,8 @@ use Rattle.std.specs.Option.{option_map_or}
 use Rattle.audit_laws.specs.Leading.{is_parted}
 use Rattle.audit_laws.specs.Placing.{accepted_in}
 use Rattle.audit_model.specs.Belongs.{Known, refusal_of}
-use Rattle.audit_model.specs.Follows.{Follows, after_steps, known_in}
-use Rattle.audit_model.specs.Places.{tasks_to_feed}
+use Rattle.audit_model.specs.Follows.{Follows, after_event, after_steps, known_in, tasks_in}
+use Rattle.audit_model.specs.Places.{steps_of, tasks_to_feed}
 use Rattle.audit_model.specs.Situation.{Situation, HeldValue, is_holding_in}
 use Rattle.audit_model.specs.declared.config.Config.{Config}
 use Rattle.audit_model.specs.declared.event.Event.{Event}
@@ -20,7 +20,8 @@ use Rattle.audit_model.specs.declared.transcript.Step.{Step}
 use Rattle.cache_store.specs.Promises.{Frame}
 use Rattle.cache_namespace.specs.Drawing.{Identifiers, StepsDraw}
 use Rattle.cache_namespace.specs.Gathered.{Gathered, gather}
-use Rattle.cache_namespace.specs.Lines.{ArePartedIn, ends_quit, set_in, with_drops}
+use Rattle.cache_namespace.specs.Making.{Making}
+use Rattle.cache_namespace.specs.Lines.{ArePartedIn, are_timely, ends_quit, set_in, with_drops}
 use Rattle.cache_namespace.specs.Ran.{ends_held, with_piece}
 use Rattle.cache_namespace.specs.Shown.{shown, put_in, situation}
 use Rattle.cache_namespace.specs.declared.connection.Connection.{Connection}
@@ -38,25 +39,27 @@ is_quit (Some by.Quit) = true
 is_quit other = false
 
 -- The steps of a connection's feed ran, and may have closed it.
-pub record FeedsConnection (config : Config) (base : Situation) (number : ℕ) (part_of : List ℕ → ℕ) (values : List HeldValue) (old : Connection) (piece : List ℕ) (new : Connection) (is_held : Bool) (Stands : List HeldValue → Type 0) (dropped : Bool) (drawn drawing : Identifiers) (was is : Gathered) : Type 0 where
+pub record FeedsConnection (config : Config) (base : Situation) (number : ℕ) (making : Making) (values : List HeldValue) (old : Connection) (piece : List ℕ) (new : Connection) (is_held : Bool) (Stands : List HeldValue → Type 0) (dropped : Bool) (drawn drawing : Identifiers) (was is : Gathered) : Type 0 where
   pub steps : List Step
   pub left : List HeldValue
   pub stands : Stands left
   pub after : after_steps config (set_in base values (with_piece piece (shown number old))) (tasks_to_feed number old.held) steps ≡ Some (put_in (with_drops dropped base) left number new)
-  pub parted : ArePartedIn config part_of (set_in base values (with_piece piece (shown number old))) (tasks_to_feed number old.held) steps
+  pub parted : ArePartedIn config making.part_of (set_in base values (with_piece piece (shown number old))) (tasks_to_feed number old.held) steps
+  pub timely : IsTrue (are_timely config making.made (set_in base values (with_piece piece (shown number old))) (tasks_to_feed number old.held) steps)
   pub ends : ends_held steps ≡ is_held
   pub quits : ends_quit config steps ≡ is_quit new.closing
   pub draws : StepsDraw config steps drawn drawing
   pub gathered : is ≡ gather was steps
 
 -- The event's record followed, with these steps, of which the last one may be held or a `QUIT`; each value that they accept stands in its
--- key's part; identifiers were drawn as they say; their replies, steps and notes were gathered.
-pub record Takes (config : Config) (part_of : List ℕ → ℕ) (s : Situation) (happened : Event) (is_held quit : Bool) (Stands : List HeldValue → Type 0) (situated : List HeldValue → Situation) (drawn drawing : Identifiers) (was is : Gathered) : Type 0 where
+-- key's part; each `SYNC` left timely values; identifiers were drawn as they say; their replies, steps and notes were gathered.
+pub record Takes (config : Config) (making : Making) (s : Situation) (happened : Event) (is_held quit : Bool) (Stands : List HeldValue → Type 0) (situated : List HeldValue → Situation) (drawn drawing : Identifiers) (was is : Gathered) : Type 0 where
   pub steps : List Step
   pub left : List HeldValue
   pub stands : Stands left
   pub follows : Follows config s (record_of happened steps) (situated left)
-  pub parted : IsTrue (list_all (is_parted part_of) (accepted_in config s (record_of happened steps)))
+  pub parted : IsTrue (list_all (is_parted making.part_of) (accepted_in config s (record_of happened steps)))
+  pub timely : IsTrue (are_timely config making.made (after_event happened s) (tasks_in s happened) (steps_of (record_of happened steps)))
   pub ends : ends_held steps ≡ is_held
   pub quits : ends_quit config steps ≡ quit
   pub draws : StepsDraw config steps drawn drawing

@@ -1,17 +1,21 @@
 //! A connection's lines, run one after another.
-ghost use Rattle.std.specs.Prelude.{◌≡◌, ◌<◌, ◌≤◌, ◌^◌, ◌+◌, ◌++◌, ◌∷◌, [], IfOk, OnOk, OnErr, IsSome, List, length, option_map, codes, true, vec_len, vec_capacity};
+ghost use Rattle.std.specs.Prelude.{◌||◌, not, ◌≡◌, ◌<◌, ◌≤◌, ◌^◌, ◌+◌, ◌++◌, ◌∷◌, [], IfOk, OnOk, OnErr, IsSome, List, length, option_map, codes, true, vec_len, vec_capacity};
+ghost use Rattle.std.specs.List.{list_all};
+ghost use Rattle.audit_model.specs.Commands.{is_sync};
 ghost use Rattle.audit_model.specs.Grammar.{reading};
 ghost use Rattle.audit_model.specs.History.{part_count};
 ghost use Rattle.audit_model.specs.Situation.{Situation, HeldValue};
 ghost use Rattle.audit_model.specs.Steps.{action_by};
 ghost use Rattle.cache_store.specs.Handing.{Hands, ArePartByPart};
 ghost use Rattle.cache_store.specs.Identifiers.{KeepsIdentifiers, DrawsAlone, AreUsedUp};
+ghost use Rattle.cache_store.specs.Running.{is_timely};
 ghost use Rattle.cache_store.specs.Promises.{IsUnchanged};
 ghost use Rattle.cache_steps.specs.Drawing.{Draws};
 ghost use Rattle.cache_steps.specs.Right.{Answers, KeepsFrame};
 ghost use Rattle.cache_namespace.specs.Drawing.{identifiers, says_drop};
 ghost use Rattle.cache_namespace.specs.Gathered.{IsFresh};
 ghost use Rattle.cache_namespace.specs.Kept.{IsReadyToHold, gathered};
+ghost use Rattle.cache_namespace.specs.Making.{making_of};
 ghost use Rattle.cache_namespace.specs.Lines.{IsThere, says_quit};
 ghost use Rattle.cache_namespace.specs.Ran.{RanOne, RanLines, IsPlainLine, HasItsPart};
 ghost use Rattle.cache_namespace.specs.Stops.{StopsFor, is_quit};
@@ -49,6 +53,7 @@ fn run_line<S: Store>(
     ensures plain { IfOk result (λ ran. IsPlainLine config.now line.now ran.quits) }
     ensures says { IfOk result (λ ran. says_quit (reading config.now line.now) ≡ ran.quits) }
     ensures parted { IfOk result (λ ran. HasItsPart config.now (S.frame store.old).part_of line.now ran.accepted) }
+    ensures timely { OnOk result ((held : List HeldValue) → S.stands store.new held → IsTrue (not (is_sync (action_by (reading config.now line.now))) || list_all (is_timely config.now (S.frame store.old).made now) held)) }
     ensures draws { OnOk result (Draws (S.stream store.old) (S.stream store.new) (S.registered store.old) (S.registered store.new)) }
     ensures used_up { OnOk result (says_drop (reading config.now line.now) ≡ true → text.new.items ≡ text.old.items ++ codes "ERR id\n" → AreUsedUp (part_count config.now) (S.stream store.old) (S.stream store.new) (S.registered store.old)) }
     ensures spends { OnErr result (DrawsAlone (S.stream store.old) (S.stream store.new) (S.registered store.old) (S.registered store.new)) }
@@ -190,7 +195,7 @@ fn run_one<S: Store>(
     requires short { length line.now ≤ 8192 }
     requires fresh { IsFresh (gathered text.old.items kept.old (S.untaken store.old)) }
     requires ready { IsReadyToHold kept.old }
-    ensures ok { IfOk result (λ quits. (s : Situation) → s.latest ≡ now → s.dropped ≡ (S.frame store.old).dropped → S.stands store.old s.held → RanOne config.now s number (S.frame store.old).part_of line.now quits (S.stands store.new) (S.frame store.new).dropped (identifiers (S.stream store.old) (S.registered store.old)) (identifiers (S.stream store.new) (S.registered store.new)) (gathered text.old.items kept.old (S.untaken store.old)) (gathered text.new.items kept.new (S.untaken store.new))) }
+    ensures ok { IfOk result (λ quits. (s : Situation) → s.latest ≡ now → s.dropped ≡ (S.frame store.old).dropped → S.stands store.old s.held → RanOne config.now s number (making_of (S.frame store.old)) line.now quits (S.stands store.new) (S.frame store.new).dropped (identifiers (S.stream store.old) (S.registered store.old)) (identifiers (S.stream store.new) (S.registered store.new)) (gathered text.old.items kept.old (S.untaken store.old)) (gathered text.new.items kept.new (S.untaken store.new))) }
     ensures fresh { IsFresh (gathered text.new.items kept.new (S.untaken store.new)) }
     ensures ready { IsReadyToHold kept.new }
     ensures frame { OnOk result (KeepsFrame (S.frame store.old) (S.frame store.new) now) }
@@ -243,7 +248,7 @@ pub fn run_lines<S: Store>(
     requires moment { now < 2 ^ 63 }
     requires fresh { IsFresh (gathered text.old.items kept.old (S.untaken store.old)) }
     requires ready { IsReadyToHold kept.old }
-    ensures ran { (base : Situation) (held : List HeldValue) → base.latest ≡ now → base.dropped ≡ (S.frame store.old).dropped → IsThere number base → S.stands store.old held → RanLines config.now base number (S.frame store.old).part_of held unread.old.bytes (is_quit result) unread.new.bytes (S.stands store.new) (S.frame store.new).dropped (identifiers (S.stream store.old) (S.registered store.old)) (identifiers (S.stream store.new) (S.registered store.new)) (gathered text.old.items kept.old (S.untaken store.old)) (gathered text.new.items kept.new (S.untaken store.new)) }
+    ensures ran { (base : Situation) (held : List HeldValue) → base.latest ≡ now → base.dropped ≡ (S.frame store.old).dropped → IsThere number base → S.stands store.old held → RanLines config.now base number (making_of (S.frame store.old)) held unread.old.bytes (is_quit result) unread.new.bytes (S.stands store.new) (S.frame store.new).dropped (identifiers (S.stream store.old) (S.registered store.old)) (identifiers (S.stream store.new) (S.registered store.new)) (gathered text.old.items kept.old (S.untaken store.old)) (gathered text.new.items kept.new (S.untaken store.new)) }
     ensures stops { StopsFor result unread.new.bytes }
     ensures frame { KeepsFrame (S.frame store.old) (S.frame store.new) now }
     ensures fresh { IsFresh (gathered text.new.items kept.new (S.untaken store.new)) }
@@ -282,7 +287,7 @@ pub fn release<S: Store>(
     requires fresh { IsFresh (gathered text.old.items kept.old (S.untaken store.old)) }
     requires ready { IsReadyToHold kept.old }
     requires whole { IsTrue (has_line unread.old.bytes) }
-    ensures ok { IfOk result (λ quits. (s : Situation) → s.latest ≡ now → s.dropped ≡ (S.frame store.old).dropped → S.stands store.old s.held → RanOne config.now s number (S.frame store.old).part_of (held_line unread.old.bytes) quits (S.stands store.new) (S.frame store.new).dropped (identifiers (S.stream store.old) (S.registered store.old)) (identifiers (S.stream store.new) (S.registered store.new)) (gathered text.old.items kept.old (S.untaken store.old)) (gathered text.new.items kept.new (S.untaken store.new))) }
+    ensures ok { IfOk result (λ quits. (s : Situation) → s.latest ≡ now → s.dropped ≡ (S.frame store.old).dropped → S.stands store.old s.held → RanOne config.now s number (making_of (S.frame store.old)) (held_line unread.old.bytes) quits (S.stands store.new) (S.frame store.new).dropped (identifiers (S.stream store.old) (S.registered store.old)) (identifiers (S.stream store.new) (S.registered store.new)) (gathered text.old.items kept.old (S.untaken store.old)) (gathered text.new.items kept.new (S.untaken store.new))) }
     ensures rest { OnOk result (unread.new.bytes ≡ behind_lines 1 unread.old.bytes) }
     ensures room { unread.new.room ≡ unread.old.room }
     ensures fresh { IsFresh (gathered text.new.items kept.new (S.untaken store.new)) }

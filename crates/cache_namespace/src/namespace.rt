@@ -9,6 +9,7 @@ ghost use Rattle.cache_namespace.specs.Drawing.{identifiers};
 ghost use Rattle.cache_steps.specs.Right.{KeepsFrame};
 ghost use Rattle.cache_namespace.specs.Gathered.{Gathered, IsFresh};
 ghost use Rattle.cache_namespace.specs.Kept.{IsReadyToHold, gathered, steps_of};
+ghost use Rattle.cache_namespace.specs.Making.{making_of};
 ghost use Rattle.cache_namespace.specs.Lines.{IsThere};
 ghost use Rattle.cache_namespace.specs.Shown.{situation};
 ghost use Rattle.audit_model.specs.Belongs.{refusal_of, refusal_of_conn};
@@ -44,7 +45,7 @@ fn feed_connection<S: Store>(
     requires fresh { IsFresh (gathered connection.old.output.items kept.old (S.untaken store.old)) }
     requires ready { IsReadyToHold kept.old }
     requires open { connection.old.closing ≡ None }
-    ensures ran { IfOk result (λ is_held. (base : Situation) (values : List HeldValue) → base.latest ≡ now → base.dropped ≡ (S.frame store.old).dropped → IsThere number base → S.stands store.old values → FeedsConnection config.now base number (S.frame store.old).part_of values connection.old piece.now connection.new is_held (S.stands store.new) (S.frame store.new).dropped (identifiers (S.stream store.old) (S.registered store.old)) (identifiers (S.stream store.new) (S.registered store.new)) (gathered connection.old.output.items kept.old (S.untaken store.old)) (gathered connection.new.output.items kept.new (S.untaken store.new))) }
+    ensures ran { IfOk result (λ is_held. (base : Situation) (values : List HeldValue) → base.latest ≡ now → base.dropped ≡ (S.frame store.old).dropped → IsThere number base → S.stands store.old values → FeedsConnection config.now base number (making_of (S.frame store.old)) values connection.old piece.now connection.new is_held (S.stands store.new) (S.frame store.new).dropped (identifiers (S.stream store.old) (S.registered store.old)) (identifiers (S.stream store.new) (S.registered store.new)) (gathered connection.old.output.items kept.old (S.untaken store.old)) (gathered connection.new.output.items kept.new (S.untaken store.new))) }
     ensures frame { KeepsFrame (S.frame store.old) (S.frame store.new) now }
     ensures fresh { IsFresh (gathered connection.new.output.items kept.new (S.untaken store.new)) }
     ensures same { OnErr result (LooksSame connection.old connection.new) }
@@ -110,7 +111,7 @@ fn feed_at<S: Store>(
     requires ready { IsReadyToHold kept.old }
     requires inside { index < length connections.old.items }
     requires open { closing_at connections.old.items index ≡ None }
-    ensures ran { IfOk result (λ is_held. (p : ReplacedAt connections.old.items connections.new.items index) × ((base : Situation) (values : List HeldValue) → base.latest ≡ now → base.dropped ≡ (S.frame store.old).dropped → IsThere number base → S.stands store.old values → FeedsConnection config.now base number (S.frame store.old).part_of values p.was piece.now p.is is_held (S.stands store.new) (S.frame store.new).dropped (identifiers (S.stream store.old) (S.registered store.old)) (identifiers (S.stream store.new) (S.registered store.new)) (gathered (text_at connections.old.items index) kept.old (S.untaken store.old)) (gathered (text_at connections.new.items index) kept.new (S.untaken store.new)))) }
+    ensures ran { IfOk result (λ is_held. (p : ReplacedAt connections.old.items connections.new.items index) × ((base : Situation) (values : List HeldValue) → base.latest ≡ now → base.dropped ≡ (S.frame store.old).dropped → IsThere number base → S.stands store.old values → FeedsConnection config.now base number (making_of (S.frame store.old)) values p.was piece.now p.is is_held (S.stands store.new) (S.frame store.new).dropped (identifiers (S.stream store.old) (S.registered store.old)) (identifiers (S.stream store.new) (S.registered store.new)) (gathered (text_at connections.old.items index) kept.old (S.untaken store.old)) (gathered (text_at connections.new.items index) kept.new (S.untaken store.new)))) }
     ensures frame { KeepsFrame (S.frame store.old) (S.frame store.new) now }
     ensures fresh { IsFresh (gathered (text_at connections.new.items index) kept.new (S.untaken store.new)) }
     ensures same { OnErr result ((p : ReplacedAt connections.old.items connections.new.items index) × LooksSame p.was p.is) }
@@ -167,7 +168,7 @@ impl<S: Store> Namespace<S> {
     pub fn open(&mut self, alloc: Global) -> Result<u64, AllocError>
         requires sound { IsSound self.old.config (S.frame self.old.store) self.old.latest }
         ensures number { IfOk result (λ number. number ≡ length self.old.connections.items + 1) }
-        ensures ran { IfOk result (λ number. (values : List HeldValue) (was : Gathered) → S.stands self.old.store values → Takes self.old.config (S.frame self.old.store).part_of (situation self.old.latest self.old.connections.items (S.frame self.old.store).dropped values) (event.Open number) false false (S.stands self.new.store) (situation self.new.latest self.new.connections.items (S.frame self.new.store).dropped) (identifiers (S.stream self.old.store) (S.registered self.old.store)) (identifiers (S.stream self.new.store) (S.registered self.new.store)) was was) }
+        ensures ran { IfOk result (λ number. (values : List HeldValue) (was : Gathered) → S.stands self.old.store values → Takes self.old.config (making_of (S.frame self.old.store)) (situation self.old.latest self.old.connections.items (S.frame self.old.store).dropped values) (event.Open number) false false (S.stands self.new.store) (situation self.new.latest self.new.connections.items (S.frame self.new.store).dropped) (identifiers (S.stream self.old.store) (S.registered self.old.store)) (identifiers (S.stream self.new.store) (S.registered self.new.store)) was was) }
         ensures rest { self.new ≡ record self.old { connections = self.new.connections } }
         ensures connections { OnOk result ((c : Open) × (c.output.items ≡ []) × (c.closing ≡ None) × (self.new.connections.items ≡ self.old.connections.items ++ c ∷ [])) }
         ensures err { OnErr result (self.new.connections.items ≡ self.old.connections.items) }
@@ -190,7 +191,7 @@ impl<S: Store> Namespace<S> {
         requires sound { IsSound self.old.config (S.frame self.old.store) self.old.latest }
         requires fresh { IsFresh (gathered (text_at self.old.connections.items (number - 1)) kept.old (S.untaken self.old.store)) }
         requires ready { IsReadyToHold kept.old }
-        ensures ran { IfOk result (λ is_held. (values : List HeldValue) → S.stands self.old.store values → Takes self.old.config (S.frame self.old.store).part_of (situation self.old.latest self.old.connections.items (S.frame self.old.store).dropped values) (fed number piece.now moment) is_held (is_quit (closing_at self.new.connections.items (number - 1))) (S.stands self.new.store) (situation self.new.latest self.new.connections.items (S.frame self.new.store).dropped) (identifiers (S.stream self.old.store) (S.registered self.old.store)) (identifiers (S.stream self.new.store) (S.registered self.new.store)) (gathered (text_at self.old.connections.items (number - 1)) kept.old (S.untaken self.old.store)) (gathered (text_at self.new.connections.items (number - 1)) kept.new (S.untaken self.new.store))) }
+        ensures ran { IfOk result (λ is_held. (values : List HeldValue) → S.stands self.old.store values → Takes self.old.config (making_of (S.frame self.old.store)) (situation self.old.latest self.old.connections.items (S.frame self.old.store).dropped values) (fed number piece.now moment) is_held (is_quit (closing_at self.new.connections.items (number - 1))) (S.stands self.new.store) (situation self.new.latest self.new.connections.items (S.frame self.new.store).dropped) (identifiers (S.stream self.old.store) (S.registered self.old.store)) (identifiers (S.stream self.new.store) (S.registered self.new.store)) (gathered (text_at self.old.connections.items (number - 1)) kept.old (S.untaken self.old.store)) (gathered (text_at self.new.connections.items (number - 1)) kept.new (S.untaken self.new.store))) }
         ensures others { OnOk result ((place : ℕ) → place ≢ number - 1 → slice_get self.new.connections.items place ≡ slice_get self.old.connections.items place) }
         ensures part_of { (S.frame self.new.store).part_of ≡ (S.frame self.old.store).part_of }
         ensures sound { IsSound self.new.config (S.frame self.new.store) self.new.latest }
@@ -236,7 +237,7 @@ impl<S: Store> Namespace<S> {
     /// Closes a connection, and drops what came and was not used.
     pub fn close(&mut self, number: u64) -> Result<(), ServiceError>
         requires sound { IsSound self.old.config (S.frame self.old.store) self.old.latest }
-        ensures ran { OnOk result ((values : List HeldValue) (was : Gathered) → S.stands self.old.store values → Takes self.old.config (S.frame self.old.store).part_of (situation self.old.latest self.old.connections.items (S.frame self.old.store).dropped values) (event.Close number) false false (S.stands self.new.store) (situation self.new.latest self.new.connections.items (S.frame self.new.store).dropped) (identifiers (S.stream self.old.store) (S.registered self.old.store)) (identifiers (S.stream self.new.store) (S.registered self.new.store)) was was) }
+        ensures ran { OnOk result ((values : List HeldValue) (was : Gathered) → S.stands self.old.store values → Takes self.old.config (making_of (S.frame self.old.store)) (situation self.old.latest self.old.connections.items (S.frame self.old.store).dropped values) (event.Close number) false false (S.stands self.new.store) (situation self.new.latest self.new.connections.items (S.frame self.new.store).dropped) (identifiers (S.stream self.old.store) (S.registered self.old.store)) (identifiers (S.stream self.new.store) (S.registered self.new.store)) was was) }
         ensures texts { (place : ℕ) → text_at self.new.connections.items place ≡ text_at self.old.connections.items place }
         ensures others { (place : ℕ) → place ≢ number - 1 → slice_get self.new.connections.items place ≡ slice_get self.old.connections.items place }
         ensures closed { OnOk result (closing_at self.new.connections.items (number - 1) ≡ Some Closing.Asked) }

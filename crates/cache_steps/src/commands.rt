@@ -1,11 +1,13 @@
 //! Commands.
-ghost use Rattle.std.specs.Prelude.{◌≡◌, ◌<◌, ◌≤◌, ◌^◌, ◌++◌, Option, None, Some, IsSome, IfSome, IsTrue, IfOk, OnOk, OnErr, length, vec_len, vec_capacity, ◌+◌, ◌∷◌, [], codes, decimal};
+ghost use Rattle.std.specs.Prelude.{◌≡◌, ◌<◌, ◌≤◌, ◌^◌, ◌++◌, Option, None, Some, IsSome, IfSome, IsTrue, IfOk, OnOk, OnErr, length, vec_len, vec_capacity, ◌+◌, ◌∷◌, [], List, codes, decimal};
+ghost use Rattle.std.specs.List.{list_all};
 ghost use Rattle.audit_model.specs.History.{Running, Faulting, accepts_values};
 ghost use Rattle.audit_model.specs.Replies.{fault_text};
-ghost use Rattle.audit_model.specs.Situation.{Situation};
+ghost use Rattle.audit_model.specs.Situation.{Situation, HeldValue};
 ghost use Rattle.audit_model.specs.declared.command.Command.TheVariants as says;
 ghost use Rattle.cache_store.specs.Handing.{Hands};
 ghost use Rattle.cache_store.specs.Identifiers.{KeepsIdentifiers};
+ghost use Rattle.cache_store.specs.Running.{is_timely};
 ghost use Rattle.cache_store.specs.Promises.{IsUnchanged};
 ghost use Rattle.cache_steps.specs.Right.{Answers, KeepsFrame};
 
@@ -122,6 +124,7 @@ pub fn del<S: Store>(
 pub fn sync<S: Store>(store: &mut S, now: u64, output: &mut Vec<u8>) -> Result<(), AllocError>
     requires { (S.frame store.old).latest ≤ now }
     ensures ok { OnOk result ((s : Situation) → s.latest ≡ now → s.dropped ≡ (S.frame store.old).dropped → S.stands store.old s.held → Answers (S.frame store.old).config s (Running says.Sync) None (S.stands store.new) (S.frame store.new).dropped (Hands (S.frame store.old).part_of (S.untaken store.old) (S.untaken store.new)) output.old.items output.new.items) }
+    ensures timely { OnOk result ((held : List HeldValue) → S.stands store.new held → IsTrue (list_all (is_timely (S.frame store.old).config (S.frame store.old).made now) held)) }
     ensures frame { OnOk result (KeepsFrame (S.frame store.old) (S.frame store.new) now) }
     ensures few { length (S.untaken store.new) ≤ length (S.untaken store.old) + S.count store.old + 1 }
     ensures identifiers { KeepsIdentifiers (S.stream store.old) (S.stream store.new) (S.registered store.old) (S.registered store.new) }

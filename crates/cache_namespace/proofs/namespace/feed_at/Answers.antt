@@ -5,6 +5,7 @@ use Rattle.cache_namespace.specs.Drawing.{identifiers}
 use Rattle.cache_namespace.specs.Kept.{gathered}
 use Rattle.cache_namespace.specs.Taken.{FeedsConnection, IsOpenOrEnded, text_at}
 use Rattle.cache_namespace.specs.declared.connection.Connection.{Connection}
+use Rattle.cache_namespace.specs.Making.{making_of}
 use Rattle.cache_namespace.proofs.Places.{at-place, at-replaced, text-is, closing-is}
 use Rattle.cache_namespace.proofs.namespace.feed_at.Goals as goal
 
@@ -17,8 +18,8 @@ returns-in-Ok-clause-ran g c =
     let set = at-replaced cs c.args.index new c.requires.inside in (
       record { was = old; is = new; at = at; set = refl },
       λ base values e d there m.
-          subst (λ b. FeedsConnection c.args.config.now base c.args.number (g.S.Store.frame c.args.store.now).part_of values old c.args.piece.now new c.in-Ok.is_held (g.S.Store.stands c.feed_connection.new.store) (g.S.Store.frame c.feed_connection.new.store).dropped (identifiers (g.S.Store.stream c.args.store.now) (g.S.Store.registered c.args.store.now)) (identifiers (g.S.Store.stream c.feed_connection.new.store) (g.S.Store.registered c.feed_connection.new.store)) (gathered b c.args.kept.now (g.S.Store.untaken c.args.store.now)) (gathered (text_at (slice_set cs c.args.index new) c.args.index) c.feed_connection.new.kept (g.S.Store.untaken c.feed_connection.new.store))) (sym (text-is cs c.args.index old at))
-          (subst (λ b. FeedsConnection c.args.config.now base c.args.number (g.S.Store.frame c.args.store.now).part_of values old c.args.piece.now new c.in-Ok.is_held (g.S.Store.stands c.feed_connection.new.store) (g.S.Store.frame c.feed_connection.new.store).dropped (identifiers (g.S.Store.stream c.args.store.now) (g.S.Store.registered c.args.store.now)) (identifiers (g.S.Store.stream c.feed_connection.new.store) (g.S.Store.registered c.feed_connection.new.store)) (gathered old.output.items c.args.kept.now (g.S.Store.untaken c.args.store.now)) (gathered b c.feed_connection.new.kept (g.S.Store.untaken c.feed_connection.new.store))) (sym (text-is (slice_set cs c.args.index new) c.args.index new set))
+          subst (λ b. FeedsConnection c.args.config.now base c.args.number (making_of (g.S.Store.frame c.args.store.now)) values old c.args.piece.now new c.in-Ok.is_held (g.S.Store.stands c.feed_connection.new.store) (g.S.Store.frame c.feed_connection.new.store).dropped (identifiers (g.S.Store.stream c.args.store.now) (g.S.Store.registered c.args.store.now)) (identifiers (g.S.Store.stream c.feed_connection.new.store) (g.S.Store.registered c.feed_connection.new.store)) (gathered b c.args.kept.now (g.S.Store.untaken c.args.store.now)) (gathered (text_at (slice_set cs c.args.index new) c.args.index) c.feed_connection.new.kept (g.S.Store.untaken c.feed_connection.new.store))) (sym (text-is cs c.args.index old at))
+          (subst (λ b. FeedsConnection c.args.config.now base c.args.number (making_of (g.S.Store.frame c.args.store.now)) values old c.args.piece.now new c.in-Ok.is_held (g.S.Store.stands c.feed_connection.new.store) (g.S.Store.frame c.feed_connection.new.store).dropped (identifiers (g.S.Store.stream c.args.store.now) (g.S.Store.registered c.args.store.now)) (identifiers (g.S.Store.stream c.feed_connection.new.store) (g.S.Store.registered c.feed_connection.new.store)) (gathered old.output.items c.args.kept.now (g.S.Store.untaken c.args.store.now)) (gathered b c.feed_connection.new.kept (g.S.Store.untaken c.feed_connection.new.store))) (sym (text-is (slice_set cs c.args.index new) c.args.index new set))
           (c.in-Ok.ensures.ran base values e d there m)),
     )
 
