@@ -1,5 +1,6 @@
 -- What a namespace's calls say of each situation that it stands for.
 use Rattle.std.proofs.Common.{◌≡◌, ◌≢◌, ℕ, zero, suc, Bool, false, List, [], ◌∷◌, ◌++◌, length, Option, Some, None, refl, sym, ap, ◌∙◌, subst}
+use Rattle.std.specs.Prelude.{IsTrue}
 use Rattle.audit_model.specs.Follows.{Follows}
 use Rattle.audit_model.specs.Situation.{Situation, HeldValue}
 use Rattle.audit_model.specs.declared.config.Config.{Config}
@@ -9,27 +10,29 @@ use Rattle.cache_namespace.specs.Shown.{situation}
 use Rattle.cache_namespace.specs.Taken.{Takes, is_quit, record_of}
 use Rattle.cache_namespace.specs.declared.connection.Connection.{Connection}
 use Rattle.cache_namespace.specs.Drawing.{Identifiers}
+use Rattle.cache_namespace.specs.Making.{Making}
 use Rattle.std.specs.List.{slice_get}
 use Rattle.std.specs.Option.{option_map_or}
 use Rattle.cache_namespace.specs.Taken.{text_at, closing_at}
 use Rattle.cache_namespace.specs.declared.kept.Kept.{Kept}
-use Rattle.cache_spaces.specs.Moves.{Moves}
+use Rattle.cache_spaces.specs.Moves.{Moves, are_timely_in}
 use Rattle.cache_spaces.specs.Serves.{Serves}
 use Rattle.cache_spaces.specs.declared.space.Space.{Space}
-use Rattle.cache_spaces.specs.Spaces.{StandsWith, Stands, closing_of, config_of, gathered_in, identifiers_of, output_of, notices_of}
+use Rattle.cache_spaces.specs.Spaces.{StandsWith, Stands, closing_of, config_of, gathered_in, identifiers_of, made_of, output_of, notices_of}
 
 -- an event that is taken, whatever values are held
-pub moves-from : (config : Config) (part_of : List ℕ → ℕ) (Holds Left : List HeldValue → Type 0) (dropped drops : Bool) (latest now : ℕ) (old new : List Connection) (happened : Event) (is_held quit : Bool) (drawn drawing : Identifiers) (was is : Gathered) (s : Situation)
+pub moves-from : (config : Config) (making : Making) (Holds Left : List HeldValue → Type 0) (dropped drops : Bool) (latest now : ℕ) (old new : List Connection) (happened : Event) (is_held quit : Bool) (drawn drawing : Identifiers) (was is : Gathered) (s : Situation)
     → StandsWith Holds dropped latest old s
-    → ((values : List HeldValue) → Holds values → Takes config part_of (situation latest old dropped values) happened is_held quit Left (situation now new drops) drawn drawing was is)
-    → Moves config s happened is_held quit (StandsWith Left drops now new) drawn drawing was is
-moves-from config part_of Holds Left dropped drops latest now old new happened is_held quit drawn drawing was is s stands takes =
+    → ((values : List HeldValue) → Holds values → Takes config making (situation latest old dropped values) happened is_held quit Left (situation now new drops) drawn drawing was is)
+    → Moves config making.made s happened is_held quit (StandsWith Left drops now new) drawn drawing was is
+moves-from config making Holds Left dropped drops latest now old new happened is_held quit drawn drawing was is s stands takes =
     let t = takes stands.values stands.held in
     record {
       steps = t.steps;
       next = situation now new drops t.left;
       stands = record { values = t.left; held = t.stands; same = refl };
       follows = subst (λ x. Follows config x (record_of happened t.steps) (situation now new drops t.left)) (sym stands.same) t.follows;
+      timely = subst (λ x. IsTrue (are_timely_in config making.made x (record_of happened t.steps))) (sym stands.same) t.timely;
       ends = t.ends;
       quits = t.quits;
       draws = t.draws;
@@ -44,13 +47,14 @@ stands-on Holds Left dropped drops latest now old new s stands holds same =
 
 -- a feed of which no record is made
 pub serves-from : (was is : Space) (number : ℕ) (s : Situation) (happened : Event) (is_held : Bool) (kept : Option Kept)
-    → Moves (config_of was) s happened is_held (is_quit (closing_of is number)) (Stands is) (identifiers_of was) (identifiers_of is) (gathered_in was number None) (gathered_in is number kept)
+    → Moves (config_of was) (made_of was) s happened is_held (is_quit (closing_of is number)) (Stands is) (identifiers_of was) (identifiers_of is) (gathered_in was number None) (gathered_in is number kept)
     → Serves was is number s happened is_held
 serves-from was is number s happened is_held kept m = record {
   steps = m.steps;
   next = m.next;
   stands = m.stands;
   follows = m.follows;
+  timely = m.timely;
   ends = m.ends;
   quits = m.quits;
   draws = m.draws;
@@ -60,7 +64,7 @@ serves-from was is number s happened is_held kept m = record {
 
 -- an event whose record has no replies and notes, and which no `QUIT` closes
 pub serves-still : (was is : Space) (number : ℕ) (s : Situation) (happened : Event) (is_held : Bool)
-    → Moves (config_of was) s happened is_held false (Stands is) (identifiers_of was) (identifiers_of is) (gathered_in was number None) (gathered_in was number None)
+    → Moves (config_of was) (made_of was) s happened is_held false (Stands is) (identifiers_of was) (identifiers_of is) (gathered_in was number None) (gathered_in was number None)
     → is_quit (closing_of is number) ≡ false → output_of is number ≡ output_of was number → notices_of is ≡ notices_of was
     → Serves was is number s happened is_held
 serves-still was is number s happened is_held m none output notices = record {
@@ -68,6 +72,7 @@ serves-still was is number s happened is_held m none output notices = record {
   next = m.next;
   stands = m.stands;
   follows = m.follows;
+  timely = m.timely;
   ends = m.ends;
   quits = m.quits ∙ sym none;
   draws = m.draws;

@@ -20,7 +20,7 @@ use Rattle.cache_namespace.specs.declared.connection.Connection.{Connection}
 use Rattle.cache_namespace.specs.declared.kept.Kept.{Kept}
 use Rattle.cache_spaces.specs.Moves.{Moves}
 use Rattle.cache_spaces.specs.Recorded.{IsQuiet, Records, RecordsInput, Refused, RefusedInput, namespace_of}
-use Rattle.cache_spaces.specs.Spaces.{Stands, config_of, connections_of, identifiers_of, notices_of, output_of, gathered_in}
+use Rattle.cache_spaces.specs.Spaces.{Stands, config_of, connections_of, identifiers_of, made_of, notices_of, output_of, gathered_in}
 use Rattle.cache_spaces.specs.declared.space.Space.{Space}
 
 -- two numbers are the same or not
@@ -43,7 +43,7 @@ unwrapped g steps e = go g.kept e
 -- an event without steps
 pub recorded-still : (was is : Space) (happened : Event) (before after : List Record)
     → IsQuiet was → ((n : ℕ) → output_of is n ≡ output_of was n) → notices_of is ≡ notices_of was → config_of is ≡ config_of was
-    → ((s : Situation) (g : Gathered) → Stands was s → Moves (config_of was) s happened false false (Stands is) (identifiers_of was) (identifiers_of is) g g)
+    → ((s : Situation) (g : Gathered) → Stands was s → Moves (config_of was) (made_of was) s happened false false (Stands is) (identifiers_of was) (identifiers_of is) g g)
     → after ≡ before ++ record_of happened [] ∷ [] → Records happened before after was is
 recorded-still was is happened before after quiet outputs notices config moves added = record {
   entry = record_of happened [];
@@ -69,7 +69,7 @@ fresh-when g steps e f = subst (λ o. IsFresh (record { text = g.text; kept = o;
 pub recorded-fed : (was is : Space) (conn : ℕ) (happened : Event) (is_held quit : Bool) (before after : List Record) (old new : Option Kept)
     → IsQuiet was → steps_of old ≡ Some [] → IsFresh (gathered_in is conn new)
     → ((place : ℕ) → place ≢ conn - 1 → slice_get (connections_of is) place ≡ slice_get (connections_of was) place) → config_of is ≡ config_of was
-    → ((s : Situation) → Stands was s → Moves (config_of was) s happened is_held quit (Stands is) (identifiers_of was) (identifiers_of is) (gathered_in was conn old) (gathered_in is conn new))
+    → ((s : Situation) → Stands was s → Moves (config_of was) (made_of was) s happened is_held quit (Stands is) (identifiers_of was) (identifiers_of is) (gathered_in was conn old) (gathered_in is conn new))
     → after ≡ before ++ record_of happened (unwrap_or (steps_of new) []) ∷ [] → Records happened before after was is
 recorded-fed was is conn happened is_held quit before after old new quiet started fresh others config moves added = record {
   entry = record_of happened (unwrap_or (steps_of new) []);

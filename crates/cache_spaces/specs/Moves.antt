@@ -1,24 +1,31 @@
 -- What an event does to one namespace, and to one of many.
-use Rattle.std.specs.Prelude.{◌≡◌, ℕ, Bool, List, Some, slice_set}
+use Rattle.std.specs.Prelude.{◌≡◌, ℕ, Bool, List, Some, IsTrue, slice_set}
 use Rattle.std.specs.List.{slice_get}
-use Rattle.audit_model.specs.Follows.{Follows}
+use Rattle.audit_model.specs.Follows.{Follows, after_event, tasks_in}
+use Rattle.audit_model.specs.Places.{steps_of}
 use Rattle.audit_model.specs.Situation.{Situation}
 use Rattle.audit_model.specs.declared.config.Config.{Config}
 use Rattle.audit_model.specs.declared.event.Event.{Event}
+use Rattle.audit_model.specs.declared.transcript.Record.{Record}
 use Rattle.audit_model.specs.declared.transcript.Step.{Step}
 use Rattle.cache_namespace.specs.Drawing.{Identifiers, StepsDraw}
 use Rattle.cache_namespace.specs.Gathered.{Gathered, gather}
-use Rattle.cache_namespace.specs.Lines.{ends_quit}
+use Rattle.cache_namespace.specs.Lines.{are_timely, ends_quit}
 use Rattle.cache_namespace.specs.Ran.{ends_held}
 use Rattle.cache_namespace.specs.Taken.{record_of}
 
--- The event's record follows, with these steps, of which the last one may be held or a `QUIT`; identifiers were drawn as they say; their
--- replies, steps and notes were gathered.
-pub record Moves (config : Config) (s : Situation) (happened : Event) (is_held quit : Bool) (Stands : Situation → Type 0) (drawn drawing : Identifiers) (old new : Gathered) : Type 0 where
+-- each `SYNC` of the record leaves no value that is covered or long dead
+abbrev pub are_timely_in : Config → ℕ → Situation → Record → Bool
+are_timely_in config made s entry = are_timely config made (after_event entry.event s) (tasks_in s entry.event) (steps_of entry)
+
+-- The event's record follows, with these steps, of which the last one may be held or a `QUIT`; each `SYNC` left timely values; identifiers
+-- were drawn as the steps say; their replies, steps and notes were gathered.
+pub record Moves (config : Config) (made : ℕ) (s : Situation) (happened : Event) (is_held quit : Bool) (Stands : Situation → Type 0) (drawn drawing : Identifiers) (old new : Gathered) : Type 0 where
   pub steps : List Step
   pub next : Situation
   pub stands : Stands next
   pub follows : Follows config s (record_of happened steps) next
+  pub timely : IsTrue (are_timely_in config made s (record_of happened steps))
   pub ends : ends_held steps ≡ is_held
   pub quits : ends_quit config steps ≡ quit
   pub draws : StepsDraw config steps drawn drawing

@@ -1,5 +1,5 @@
 -- What a call of a service does to its namespaces.
-use Rattle.std.specs.Prelude.{◌≡◌, ◌≢◌, ℕ, ◌-◌, ◌+◌, Bool, false, List, [], ◌++◌, length, Option, Some, None, IsNone}
+use Rattle.std.specs.Prelude.{◌≡◌, ◌≢◌, ℕ, ◌-◌, ◌+◌, Bool, false, List, [], ◌++◌, length, Option, Some, None, IsNone, IsTrue}
 use Rattle.std.specs.List.{flat_map, slice_get}
 use Rattle.audit_model.specs.Follows.{Follows}
 use Rattle.audit_model.specs.Situation.{Situation}
@@ -17,16 +17,18 @@ use Rattle.audit_model.specs.declared.input.ServiceError.{ServiceError}
 use Rattle.audit_model.specs.declared.input.ServiceError.TheVariants as error
 use Rattle.audit_model.specs.declared.transcript.Note.{Note}
 use Rattle.cache_namespace.specs.Taken.{IsOpenOrEnded, is_quit, record_of, known}
-use Rattle.cache_spaces.specs.Spaces.{Stands, config_of, connections_of, identifiers_of, notices_of, output_of, closing_of}
+use Rattle.cache_spaces.specs.Moves.{are_timely_in}
+use Rattle.cache_spaces.specs.Spaces.{Stands, config_of, connections_of, identifiers_of, made_of, notices_of, output_of, closing_of}
 use Rattle.cache_spaces.specs.declared.space.Space.{Space}
 
--- The event's record follows; its replies stand behind the output of that connection, and its notes behind the notices. A `QUIT` closes the
--- connection, and identifiers were drawn as its steps say: `ERR id` only where a thousand were, each of which was registered.
+-- The event's record follows; its replies stand behind the output of that connection, and its notes behind the notices. Each `SYNC`
+-- leaves timely values, a `QUIT` closes the connection, and identifiers were drawn as its steps say: `ERR id` only where a thousand were, each of which was registered.
 pub record Serves (was is : Space) (number : ℕ) (s : Situation) (happened : Event) (is_held : Bool) : Type 0 where
   pub steps : List Step
   pub next : Situation
   pub stands : Stands is next
   pub follows : Follows (config_of was) s (record_of happened steps) next
+  pub timely : IsTrue (are_timely_in (config_of was) (made_of was) s (record_of happened steps))
   pub ends : ends_held steps ≡ is_held
   pub quits : ends_quit (config_of was) steps ≡ is_quit (closing_of is number)
   pub draws : StepsDraw (config_of was) steps (identifiers_of was) (identifiers_of is)

@@ -24,6 +24,10 @@ config_of space = space.inner.config
 abbrev pub generator_of : Space → List ℕ
 generator_of space = space.inner.store.generator
 
+-- the moment of its making
+abbrev pub made_of : Space → ℕ
+made_of space = space.inner.store.made
+
 -- the connections, in the order in which they were opened
 abbrev pub connections_of : Space → List Connection
 connections_of space = space.inner.connections.items

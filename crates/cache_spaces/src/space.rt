@@ -29,7 +29,7 @@ impl Space {
     ghost use Rattle.cache_namespace.specs.declared.connection.Connection.{Connection};
     ghost use Rattle.cache_spaces.specs.Moves.{Moves};
     ghost use Rattle.cache_spaces.specs.Serves.{Serves, Takes, SameSpace};
-    ghost use Rattle.cache_spaces.specs.Spaces.{Stands, config_of, connections_of, generator_of, notices_of, output_of, closing_of, gathered_in, identifiers_of};
+    ghost use Rattle.cache_spaces.specs.Spaces.{Stands, config_of, connections_of, generator_of, notices_of, output_of, closing_of, gathered_in, identifiers_of, made_of};
 
     /// A namespace without connections and values, with a generator of its own.
     pub fn new(
@@ -45,6 +45,7 @@ impl Space {
         ensures notices { IfOk result (λ space. notices_of space ≡ []) }
         ensures connections { IfOk result (λ space. connections_of space ≡ []) }
         ensures generator { IfOk result (λ space. generator_of space ≡ generator) }
+        ensures made { IfOk result (λ space. made_of space ≡ made) }
     {
         let store = PlainStore::new(alloc, config, made, generator)?;
         let inner = Namespace {
@@ -67,7 +68,7 @@ impl Space {
     ) -> Result<bool, ServiceError>
         requires fresh { IsFresh (gathered_in self.old number kept.old) }
         requires ready { IsReadyToHold kept.old }
-        ensures moves { IfOk result (λ is_held. (s : Situation) → Stands self.old s → Moves (config_of self.old) s (fed number piece.now moment) is_held (is_quit (closing_of self.new number)) (Stands self.new) (identifiers_of self.old) (identifiers_of self.new) (gathered_in self.old number kept.old) (gathered_in self.new number kept.new)) }
+        ensures moves { IfOk result (λ is_held. (s : Situation) → Stands self.old s → Moves (config_of self.old) (made_of self.old) s (fed number piece.now moment) is_held (is_quit (closing_of self.new number)) (Stands self.new) (identifiers_of self.old) (identifiers_of self.new) (gathered_in self.old number kept.old) (gathered_in self.new number kept.new)) }
         ensures others { OnOk result ((place : ℕ) → place ≢ number - 1 → slice_get (connections_of self.new) place ≡ slice_get (connections_of self.old) place) }
         ensures config { config_of self.new ≡ config_of self.old }
         ensures fresh { IsFresh (gathered_in self.new number kept.new) }
@@ -90,7 +91,7 @@ impl Space {
     pub fn open(&mut self, alloc: Global) -> Result<u64, AllocError>
         ensures number { IfOk result (λ number. number ≡ length (connections_of self.old) + 1) }
         ensures takes { IfOk result (λ number. Takes self.old self.new number (event.Open number) false) }
-        ensures moves { IfOk result (λ number. (s : Situation) (was : Gathered) → Stands self.old s → Moves (config_of self.old) s (event.Open number) false false (Stands self.new) (identifiers_of self.old) (identifiers_of self.new) was was) }
+        ensures moves { IfOk result (λ number. (s : Situation) (was : Gathered) → Stands self.old s → Moves (config_of self.old) (made_of self.old) s (event.Open number) false false (Stands self.new) (identifiers_of self.old) (identifiers_of self.new) was was) }
         ensures outputs { OnOk result ((n : ℕ) → output_of self.new n ≡ output_of self.old n) }
         ensures notices { notices_of self.new ≡ notices_of self.old }
         ensures same { OnErr result (SameSpace self.old self.new) }
@@ -104,7 +105,7 @@ impl Space {
     /// Closes a connection.
     pub fn close(&mut self, number: u64) -> Result<(), ServiceError>
         ensures takes { OnOk result (Takes self.old self.new number (event.Close number) false) }
-        ensures moves { OnOk result ((s : Situation) (was : Gathered) → Stands self.old s → Moves (config_of self.old) s (event.Close number) false false (Stands self.new) (identifiers_of self.old) (identifiers_of self.new) was was) }
+        ensures moves { OnOk result ((s : Situation) (was : Gathered) → Stands self.old s → Moves (config_of self.old) (made_of self.old) s (event.Close number) false false (Stands self.new) (identifiers_of self.old) (identifiers_of self.new) was was) }
         ensures closed { OnOk result (closing_of self.new number ≡ Some Closing.Asked) }
         ensures outputs { OnOk result ((n : ℕ) → output_of self.new n ≡ output_of self.old n) }
         ensures open { OnOk result (closing_of self.old number ≡ None) }

@@ -8,7 +8,7 @@ pub returns-in-Ok-clause-moves : goal.returns-in-Ok-clause-moves
 returns-in-Ok-clause-moves c = λ s was stands.
     let old = c.args.self.now.inner in
     let new = c.close.new.self in
-    moves-from old.config (λ key. 0) (Holds c.args.self.now) (Holds c.close.new.self) old.store.dropped new.store.dropped old.latest new.latest old.connections.items new.connections.items _ _ _ _ _ was was s stands (λ values held. c.in-Ok.ensures.ran values was held)
+    moves-from old.config (record { part_of = λ key. 0; made = old.store.made }) (Holds c.args.self.now) (Holds c.close.new.self) old.store.dropped new.store.dropped old.latest new.latest old.connections.items new.connections.items _ _ _ _ _ was was s stands (λ values held. c.in-Ok.ensures.ran values was held)
 
 pub returns-in-Ok-clause-takes : goal.returns-in-Ok-clause-takes
 returns-in-Ok-clause-takes c =
@@ -18,7 +18,7 @@ returns-in-Ok-clause-takes c =
     record {
       serves = λ s stands.
           serves-still c.args.self.now _ c.args.number s _ _
-          (moves-from old.config (λ key. 0) (Holds c.args.self.now) (Holds c.close.new.self) old.store.dropped new.store.dropped old.latest new.latest old.connections.items new.connections.items _ _ _ _ _ was was s stands (λ values held. c.in-Ok.ensures.ran values was held))
+          (moves-from old.config (record { part_of = λ key. 0; made = old.store.made }) (Holds c.args.self.now) (Holds c.close.new.self) old.store.dropped new.store.dropped old.latest new.latest old.connections.items new.connections.items _ _ _ _ _ was was s stands (λ values held. c.in-Ok.ensures.ran values was held))
           (ap is_quit c.in-Ok.ensures.closed) (c.in-Ok.ensures.texts (c.args.number - 1)) (rw c.in-Ok.ensures.rest refl);
       others = c.in-Ok.ensures.others;
       config = rw c.in-Ok.ensures.rest refl;

@@ -8,7 +8,7 @@ pub returns-in-Ok-clause-moves : goal.returns-in-Ok-clause-moves
 returns-in-Ok-clause-moves c = λ s stands.
     let old = c.args.self.now.inner in
     let new = c.feed.new.self in
-    moves-from old.config (λ key. 0) (Holds c.args.self.now) (Holds c.feed.new.self) old.store.dropped new.store.dropped old.latest new.latest old.connections.items new.connections.items _ _ _ _ _ _ _ s stands c.in-Ok.ensures.ran
+    moves-from old.config (record { part_of = λ key. 0; made = old.store.made }) (Holds c.args.self.now) (Holds c.feed.new.self) old.store.dropped new.store.dropped old.latest new.latest old.connections.items new.connections.items _ _ _ _ _ _ _ s stands c.in-Ok.ensures.ran
 
 pub returns-in-Err-clause-stands : goal.returns-in-Err-clause-stands
 returns-in-Err-clause-stands c = λ s stands.
