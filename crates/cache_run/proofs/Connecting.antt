@@ -12,7 +12,7 @@ use Rattle.audit_model.specs.declared.input.ServiceError.{ServiceError}
 use Rattle.audit_model.specs.declared.input.ServiceError.TheVariants as error
 use Rattle.cache_namespace.proofs.Following.{admitted, known-none}
 use Rattle.cache_namespace.proofs.Places.{closing-is}
-use Rattle.cache_namespace.specs.Taken.{IsOpenOrLong, RefusedFor, fed, known}
+use Rattle.cache_namespace.specs.Taken.{IsOpenOrEnded, RefusedFor, fed, known}
 use Rattle.cache_spaces.specs.Moves.{At}
 use Rattle.cache_spaces.specs.Serves.{IsUnknown, SameSpace, Takes, TakesOutput}
 use Rattle.cache_spaces.specs.Services.{Refuses}
@@ -98,7 +98,7 @@ connected-taken old new n number text c a =
       at = at-is (λ was is. TakesOutput was is number text) old new n a;
       positive = c.positive;
       known = omega arith;
-      left = (subst IsOpenOrLong (sym (a.fact.closings number ∙ ap (λ x. closing_of x number) was)) c.left, a.fact.none);
+      left = (subst IsOpenOrEnded (sym (a.fact.closings number ∙ ap (λ x. closing_of x number) was)) c.left, a.fact.none);
     }
 
 -- less of it is wanted
@@ -109,7 +109,17 @@ connected-map IsLeft IsWanted spaces n number c h = record { space = c.space; at
 pub connected-here : (IsLeft IsWanted : ℕ → Space → Type 0) (spaces : List Space) (n number : ℕ) (c : Connected spaces n number IsLeft) → IsWanted number c.space → Connected spaces n number IsWanted
 connected-here IsLeft IsWanted spaces n number c wanted = record { space = c.space; at = c.at; positive = c.positive; known = c.known; left = wanted }
 
--- a connection that has closed has closed for too long a line
-pub long-where-closed : (closing : Option Closing) (why : Closing) → IsOpenOrLong closing → closing ≡ Some why → closing ≡ Some by.Long
-long-where-closed closing why (inl none) is = let h : None ≡ Some why = sym none ∙ is in cc
-long-where-closed closing why (inr long) is = long
+-- a connection that has closed has closed for what it was fed
+pub ended-where-closed : (closing : Option Closing) (why : Closing) → IsOpenOrEnded closing → closing ≡ Some why → IsEnded closing
+ended-where-closed closing why (inl none) is = let h : None ≡ Some why = sym none ∙ is in cc
+ended-where-closed closing why (inr ended) is = ended
+
+-- an open one has not
+pub ended-none : {A : Type 0} (closing : Option Closing) → IsEnded closing → closing ≡ None → A
+ended-none closing (inl long) none = absurd (none-some by.Long (sym none ∙ long))
+ended-none closing (inr quit) none = absurd (none-some by.Quit (sym none ∙ quit))
+
+-- why it has
+pub why-ended : (closing : Option Closing) → IsEnded closing → (why : Closing) × (closing ≡ Some why)
+why-ended closing (inl long) = (by.Long, long)
+why-ended closing (inr quit) = (by.Quit, quit)

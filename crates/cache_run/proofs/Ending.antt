@@ -13,20 +13,20 @@ use Rattle.audit_model.specs.declared.event.Event.TheVariants as event
 use Rattle.audit_model.specs.declared.input.ServiceError.{ServiceError}
 use Rattle.audit_model.specs.declared.transcript.Note.{Note}
 use Rattle.audit_model.specs.declared.transcript.Step.{Step}
-use Rattle.cache_namespace.specs.Taken.{IsOpenOrLong, record_of, known}
+use Rattle.cache_namespace.specs.Taken.{IsOpenOrEnded, record_of, known}
 use Rattle.cache_spaces.specs.Moves.{At}
 use Rattle.cache_spaces.specs.Serves.{SameSpace, Takes}
 use Rattle.cache_spaces.specs.Spaces.{closing_of, config_of, connections_of, notices_of}
 use Rattle.cache_spaces.specs.declared.space.Space.{Space}
 use Rattle.cache_run.specs.Carried.{Broken, Carried}
-use Rattle.cache_run.specs.Connected.{Connected, IsFed, IsOver, IsReady}
+use Rattle.cache_run.specs.Connected.{Connected, IsEnded, IsFed, IsOver, IsReady}
 use Rattle.cache_run.specs.Delivered.{Unfed}
 use Rattle.cache_run.specs.Goes.{Goes}
 use Rattle.cache_run.specs.Runs.{Closes, Quiet, ServesPartly, ServesWhole, next_number}
 use Rattle.cache_run.specs.Worlds.{Outside, world}
 use Rattle.cache_run.specs.declared.errors.RunError.{RunError}
 use Rattle.cache_run.proofs.Carrying.{broken-more, carried-close, carried-more, carried-opened, carried-still}
-use Rattle.cache_run.proofs.Connecting.{close-refused, connected-map}
+use Rattle.cache_run.proofs.Connecting.{close-refused, connected-map, ended-none, why-ended}
 use Rattle.cache_run.proofs.Going.{goes-more, goes-same, seen-alike}
 use Rattle.cache_run.proofs.Placing.{at-is, at-map, at-more, at-with}
 
@@ -104,10 +104,10 @@ at-closed old new n number c a =
       },
     ))
 
-long-where-refused : (space : Space) (number : ℕ) (e : ServiceError) → 0 < number → number ≤ length (connections_of space) → IsOpenOrLong (closing_of space number)
-    → refusal_of (config_of space) (known (connections_of space)) (event.Close number) ≡ Some e → closing_of space number ≡ Some by.Long
-long-where-refused space number e positive bound (inl none) refused = absurd (close-refused space number e positive bound refused none)
-long-where-refused space number e positive bound (inr long) refused = long
+ended-where-refused : (space : Space) (number : ℕ) (e : ServiceError) → 0 < number → number ≤ length (connections_of space) → IsOpenOrEnded (closing_of space number)
+    → refusal_of (config_of space) (known (connections_of space)) (event.Close number) ≡ Some e → IsEnded (closing_of space number)
+ended-where-refused space number e positive bound (inl none) refused = absurd (close-refused space number e positive bound refused none)
+ended-where-refused space number e positive bound (inr ended) refused = ended
 
 pub at-closed-before : (old new : List Space) (n number : ℕ) (e : ServiceError) → Connected old n number IsFed
     → At old new n (λ was is. SameSpace was is × (refusal_of (config_of was) (known (connections_of was)) (event.Close number) ≡ Some e))
@@ -115,8 +115,8 @@ pub at-closed-before : (old new : List Space) (n number : ℕ) (e : ServiceError
 at-closed-before old new n number e c a =
     at-with (λ was is. SameSpace was is × (refusal_of (config_of was) (known (connections_of was)) (event.Close number) ≡ Some e)) (Closes number) old new n c.space c.at a
     (λ y p.
-    let long = long-where-refused c.space number e c.positive c.known c.left p.1 in
-    inr (long, p.0.closings number ∙ long, goes-same number c.space y (λ s t. Unfed s t (notices_of c.space) (notices_of y)) p.0 (λ s. record { same = refl; notices = p.0.notices })))
+    let ended = ended-where-refused c.space number e c.positive c.known c.left p.1 in
+    inr (ended, p.0.closings number, goes-same number c.space y (λ s t. Unfed s t (notices_of c.space) (notices_of y)) p.0 (λ s. record { same = refl; notices = p.0.notices })))
 
 -- ---- the whole
 
@@ -168,8 +168,8 @@ module _ {C : Type 0} (reads : C → ℕ → C → Type 0) (number : ℕ) (befor
         (λ s t u f q. carried-close (config_of x) number reads (world x s before) (world z t after) w u true [] [] [] f (subst (λ k. Follows k t (record_of (event.Close number) []) u) g.config q.follows) q.notices);
     ends = (closes.1, over.1);
   }
-  whole x z w next g (inl over) (inr closes) = absurd (none-some by.Long (sym over.0 ∙ closes.0))
-  whole x z w next g (inr over) (inl closes) = absurd (none-some by.Long (sym closes.0 ∙ over))
+  whole x z w next g (inl over) (inr closes) = ended-none (closing_of z number) closes.0 over.0
+  whole x z w next g (inr over) (inl closes) = ended-none (closing_of z number) over closes.0
   whole x z w next g (inr over) (inr closes) = record {
     number = number;
     next = next;
@@ -177,7 +177,7 @@ module _ {C : Type 0} (reads : C → ℕ → C → Type 0) (number : ℕ) (befor
     goes = goes-more number x z w (λ s t. Carried (config_of x) number reads (world x s before) (world z t after) true false [] [] []) (λ s t. Unfed s t (notices_of z) (notices_of w))
         (λ s t. Carried (config_of x) number reads (world x s before) (world w t after) true false [] [] []) g closes.2
         (λ s t u f q. carried-still (config_of x) number reads (world x s before) (world z t after) w u true false [] [] [] f q.same q.notices);
-    ends = closes.1;
+    ends = subst IsEnded (sym closes.1) closes.0;
   }
 
   partly : (x z w : Space) (e : RunError) → number ≡ next_number x → Goes number x z (λ s t. Broken (config_of x) number reads (world x s before) (world z t after) true false e)
@@ -211,8 +211,8 @@ module _ {C : Type 0} (reads : C → ℕ → C → Type 0) (number : ℕ) (befor
           carried = carried-still (config_of x) number reads (world x s before) (world z t after) w u true false f.late f.lost f.unsent f.carried q.same q.notices;
           moment = f.moment;
         });
-    why = by.Long;
-    closed = closes.1;
+    why = (why-ended (closing_of z number) closes.0).0;
+    closed = closes.1 ∙ (why-ended (closing_of z number) closes.0).1;
   }
 
   pub at-whole : (first second third fourth : List Space) (n : ℕ)
@@ -238,7 +238,7 @@ module _ {C : Type 0} (reads : C → ℕ → C → Type 0) (number : ℕ) (befor
       (at-begun-broken first second third n e a b) d
       (λ x z w p q. partly x z w e p.0 p.1 q)
 
--- however it ended, the connection may only have closed for too long a line
+-- however it ended, the connection may only have closed for what it was fed
 pub fed-after : {X E : Type 0} (spaces : List Space) (n number : ℕ) (remaining : Option (List ℕ)) (r : Result X E) → OnOk r (Connected spaces n number (IsOver remaining)) → OnErr r (Connected spaces n number IsFed) → Connected spaces n number IsFed
 fed-after spaces n number remaining (Ok x) over left = connected-map (IsOver remaining) IsFed spaces n number over (λ space is. fed space is)
   where

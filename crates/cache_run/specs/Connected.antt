@@ -1,8 +1,9 @@
 -- How a connection stands in its namespace.
 use Rattle.std.specs.Prelude.{◌≡◌, ℕ, ◌<◌, ◌≤◌, List, [], length, Option, None, Some, ◌⊎◌}
 use Rattle.std.specs.Io.KnownBytes.{IsAtEnd}
+use Rattle.audit_model.specs.declared.command.Closing.{Closing}
 use Rattle.audit_model.specs.declared.command.Closing.TheVariants as by
-use Rattle.cache_namespace.specs.Taken.{IsOpenOrLong}
+use Rattle.cache_namespace.specs.Taken.{IsOpenOrEnded}
 use Rattle.cache_spaces.specs.Services.{IsSpace}
 use Rattle.cache_spaces.specs.Spaces.{connections_of, output_of, closing_of}
 use Rattle.cache_spaces.specs.declared.space.Space.{Space}
@@ -19,14 +20,18 @@ pub record Connected (spaces : List Space) (namespace number : ℕ) (IsLeft : �
 abbrev pub IsReady : ℕ → Space → Type 0
 IsReady number space = (closing_of space number ≡ None) × (output_of space number ≡ [])
 
--- its replies were taken, and it may have closed for too long a line
+-- it has closed for what it was fed: too long a line, or a `QUIT`
+abbrev pub IsEnded : Option Closing → Type 0
+IsEnded closing = (closing ≡ Some by.Long) ⊎ (closing ≡ Some by.Quit)
+
+-- its replies were taken, and it may have closed for what it was fed
 abbrev pub IsTaken : ℕ → Space → Type 0
-IsTaken number space = IsOpenOrLong (closing_of space number) × (output_of space number ≡ [])
+IsTaken number space = IsOpenOrEnded (closing_of space number) × (output_of space number ≡ [])
 
--- it may have closed for too long a line
+-- it may have closed for what it was fed
 abbrev pub IsFed : ℕ → Space → Type 0
-IsFed number space = IsOpenOrLong (closing_of space number)
+IsFed number space = IsOpenOrEnded (closing_of space number)
 
--- the input is at its end, or the connection has closed for too long a line
+-- the input is at its end, or the connection has closed for what it was fed
 abbrev pub IsOver : Option (List ℕ) → ℕ → Space → Type 0
-IsOver remaining number space = ((closing_of space number ≡ None) × IsAtEnd remaining) ⊎ (closing_of space number ≡ Some by.Long)
+IsOver remaining number space = ((closing_of space number ≡ None) × IsAtEnd remaining) ⊎ IsEnded (closing_of space number)

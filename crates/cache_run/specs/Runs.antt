@@ -13,6 +13,7 @@ use Rattle.cache_namespace.specs.Taken.{record_of}
 use Rattle.cache_spaces.specs.Spaces.{closing_of, config_of, connections_of, notices_of}
 use Rattle.cache_spaces.specs.declared.space.Space.{Space}
 use Rattle.cache_run.specs.Carried.{Broken, Carried}
+use Rattle.cache_run.specs.Connected.{IsEnded}
 use Rattle.cache_run.specs.Delivered.{Unfed}
 use Rattle.cache_run.specs.Goes.{Goes}
 use Rattle.cache_run.specs.Worlds.{Outside, world}
@@ -27,16 +28,16 @@ pub record Quiet (config : Config) (happened : Event) (s t : Situation) (before 
   pub follows : Follows config s (record_of happened []) t
   pub notices : after ≡ before
 
--- an open connection closes as asked, and one that has closed for too long a line stays so
+-- an open connection closes as asked, and one that has closed for what it was fed stays so
 abbrev pub Closes : ℕ → Space → Space → Type 0
 Closes number was is =
     ((closing_of was number ≡ None) × (closing_of is number ≡ Some by.Asked) × Goes number was is (λ s t. Quiet (config_of was) (event.Close number) s t (notices_of was) (notices_of is)))
-    ⊎ ((closing_of was number ≡ Some by.Long) × (closing_of is number ≡ Some by.Long) × Goes number was is (λ s t. Unfed s t (notices_of was) (notices_of is)))
+    ⊎ (IsEnded (closing_of was number) × (closing_of is number ≡ closing_of was number) × Goes number was is (λ s t. Unfed s t (notices_of was) (notices_of is)))
 
--- it closed as asked at the end of the input, or for too long a line
+-- it closed as asked at the end of the input, or for what it was fed: too long a line, or a `QUIT`
 abbrev pub Ends : Bool → Option Closing → Option (List ℕ) → Type 0
 Ends true closing remaining = (closing ≡ Some by.Asked) × IsAtEnd remaining
-Ends false closing remaining = closing ≡ Some by.Long
+Ends false closing remaining = IsEnded closing
 
 -- One connection was opened, fed with all that was read, and closed; the bytes written are its replies.
 pub record ServesWhole {C : Type 0} (reads : C → ℕ → C → Type 0) (was is : Space) (before after : Outside C) : Type 0 where

@@ -1,6 +1,6 @@
 use Rattle.std.proofs.Common.{◌≡◌, sym, ◌∙◌, inr}
 use Rattle.cache_run.specs.Connected.{IsOver, IsReady, IsTaken}
-use Rattle.cache_run.proofs.Connecting.{connected-here, long-where-closed}
+use Rattle.cache_run.proofs.Connecting.{connected-here, ended-where-closed}
 use Rattle.cache_spaces.specs.Spaces.{closing_of}
 use Rattle.cache_run.proofs.turns.progress_of.Goals as goal
 
@@ -14,4 +14,4 @@ pub returns-in-Ok-Some : goal.returns-in-Ok-Some
 returns-in-Ok-Some c = λ remaining.
     let r = c.requires.taken in
     let is : c.in-Ok-Some.field-0 ≡ closing_of r.space c.args.conn.number = c.in-Ok-Some.ensures.closing r.space r.at in
-    connected-here IsTaken (IsOver remaining) _ _ _ r (inr (long-where-closed _ c.in-Ok-Some.field-0-0 r.left.0 (sym is ∙ c.in-Ok-Some.field-0-is)))
+    connected-here IsTaken (IsOver remaining) _ _ _ r (inr (ended-where-closed _ c.in-Ok-Some.field-0-0 r.left.0 (sym is ∙ c.in-Ok-Some.field-0-is)))
