@@ -3,7 +3,7 @@ use Rattle.std.proofs.Common.{◌≡◌, ℕ, zero, suc, ◌-◌, ◌<◌, ◌�
 use Rattle.std.specs.Prelude.{MatchOption, ◌⊎◌, ◌&&◌}
 use Rattle.std.specs.List.{slice_get}
 use Rattle.std.proofs.lemmas.Bool.{and_from, lt-ltb, le-leb, cases_lt}
-use Rattle.std.proofs.lemmas.Option.{slice_get_within, get_or_from_slice_get}
+use Rattle.std.proofs.lemmas.Option.{none-some, slice_get_within, get_or_from_slice_get}
 use Rattle.audit_model.specs.Belongs.{refusal_of}
 use Rattle.audit_model.specs.declared.command.Closing.{Closing}
 use Rattle.audit_model.specs.declared.command.Closing.TheVariants as by
@@ -18,7 +18,7 @@ use Rattle.cache_spaces.specs.Serves.{IsUnknown, SameSpace, Takes, TakesOutput}
 use Rattle.cache_spaces.specs.Services.{Refuses}
 use Rattle.cache_spaces.specs.Spaces.{closing_of, config_of, connections_of, output_of}
 use Rattle.cache_spaces.specs.declared.space.Space.{Space}
-use Rattle.cache_run.specs.Connected.{Connected, IsFed, IsReady, IsTaken}
+use Rattle.cache_run.specs.Connected.{Connected, IsEnded, IsFed, IsReady, IsTaken}
 use Rattle.cache_run.proofs.Placing.{at-is, at-was}
 
 -- what stands at a place
