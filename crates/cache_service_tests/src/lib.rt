@@ -2,6 +2,8 @@
 #![tactic(auto)]
 
 #[cfg(test)]
+mod commanding;
+#[cfg(test)]
 mod playing;
 #[cfg(test)]
 mod recording;

@@ -54,6 +54,37 @@ fn configurations(rt: HostRuntime) -> Result<(), Fail> {
         Service::new(alloc, &[PLAIN; 17], generator(), START).err(),
         Some(ServiceError::Config)
     );
+    for config in [
+        Config { parts: 0, ..PLAIN },
+        Config {
+            parts: 257,
+            ..PLAIN
+        },
+        Config {
+            live_ms: Some(0),
+            ..PLAIN
+        },
+        Config {
+            idle_ms: Some(1_000_000_000_000),
+            ..PLAIN
+        },
+        Config {
+            own_deadlines: true,
+            live_ms: Some(1),
+            ..PLAIN
+        },
+    ] {
+        assert_eq!(rt;
+            Service::new(alloc, &[config], generator(), START).err(),
+            Some(ServiceError::Config)
+        );
+    }
+    let longest = Config {
+        own_deadlines: true,
+        idle_ms: Some(999_999_999_999),
+        ..PLAIN
+    };
+    let _longest = Service::new(alloc, &[longest], generator(), START)?;
     let _most = Service::new(alloc, &[PLAIN; 16], generator(), START)?;
     assert_eq!(rt;
         Service::new(alloc, &[limited], generator(), LATE).err(),
