@@ -27,7 +27,7 @@ use Rattle.plain_sweep.proofs.Corresponding.{corresponds-without, corresponds-ne
 use Rattle.plain_sweep.proofs.Truth.{first_of-map, without-map, replaced_truly}
 use Rattle.plain_store.specs.Putting.{replaced_note}
 use Rattle.plain_store.specs.Standing.{Stands}
-use Rattle.plain_store.proofs.Doing.{stands_after}
+use Rattle.plain_store.specs.Doing.{stands_after}
 use Rattle.plain_store.proofs.Calls.{one_part, hands_all}
 
 without_key-append : {A : Type 0} (of : A → List ℕ) (key : List ℕ) (xs ys : List A) (x : A) → find (λ y. same key (of y)) xs ≡ Some x
@@ -137,3 +137,8 @@ module _ (config : Config) (now : ℕ) (used : Option (List ℕ)) (value : Value
                 (none_from_absent value.key (without value.key items) (absent-without value.key items a)) refl));
             handed = hands_all old new (m ∷ []) (same_notes ∙ ap (λ o. old ++ replaced_note config now o) there);
           }
+
+-- the key that was looked up is the one that is written
+pub used_so : (key : List ℕ) (looked_up : Bool) (k : List ℕ) → (if looked_up then Some key else None) ≡ Some k → k ≡ key
+used_so key true k e = cc
+used_so key false k e = absurd (none-some k e)

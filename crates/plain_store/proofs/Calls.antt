@@ -30,7 +30,7 @@ use Rattle.plain_sweep.proofs.Truth.{says_from, Says, tell_truly, first_of-map, 
 use Rattle.plain_sweep.proofs.Weights.{over_is, exceeds-more}
 use Rattle.plain_store.specs.Putting.{if_live, live_in, Writes, deleted_note}
 use Rattle.plain_store.specs.Standing.{are_evictable, Stands}
-use Rattle.plain_store.proofs.Doing.{or_no, after_plain, corresponds-as, evictable_after, stands_after, none_succeeded, right_to_tell_none}
+use Rattle.plain_store.specs.Doing.{or_no, after_plain, corresponds-as, evictable_after, stands_after, none_succeeded, right_to_tell_none}
 
 abbrev pub one_part : List ℕ → ℕ
 one_part key = 0
@@ -300,3 +300,11 @@ remove_does config now key items held old new a same_notes s = go (value_at held
               (subst (λ k. Corresponds (without key items) (without k held)) (sym is_key) (corresponds-without key items held a s.same)));
           handed = hands_all old new (n ∷ []) (same_notes ∙ ap (λ o. old ++ deleted_note config now o) there);
         }
+
+starts_with_none : (key : List ℕ) → true ≡ starts_with nat_eq key []
+starts_with_none [] = refl
+starts_with_none (k ∷ key) = refl
+
+-- each key begins with nothing
+pub covers_all : covers_by [] Everything
+covers_all = starts_with_none

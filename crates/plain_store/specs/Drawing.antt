@@ -1,5 +1,5 @@
 -- How an identifier is drawn.
-use Rattle.std.specs.Prelude.{◌≡◌, ℕ, suc, ◌<◌, Bool, true, List, IsTrue}
+use Rattle.std.specs.Prelude.{◌≡◌, ℕ, suc, ◌<◌, Bool, true, List, [], ◌∷◌, ◌++◌}
 use Rattle.std.specs.List.{list_any}
 use Rattle.audit_model.specs.Bytewise.{same}
 use Rattle.rand_core.specs.Stream.{Stream}
@@ -25,3 +25,14 @@ pub record DrawsNone (old new : Stream) (register : List (List ℕ)) : Type 0 wh
   pub number : ℕ
   pub thousand : number ≡ 1000
   pub drawn : DrawsSome number old new register
+
+-- some identifiers were drawn
+pub record DrawsOn (old new : Stream) : Type 0 where
+  pub number : ℕ
+  pub stream : new ≡ stream_after number old
+
+-- one that was drawn is registered
+pub record RegistersOne (old new : Stream) (before after : List (List ℕ)) : Type 0 where
+  pub id : List ℕ
+  pub draws : Draws old new id
+  pub added : after ≡ before ++ id ∷ []

@@ -14,7 +14,7 @@ use Rattle.plain_table.specs.Items.{are_apart}
 use Rattle.plain_sweep.specs.Holding.{plain, Corresponds}
 use Rattle.plain_sweep.proofs.Corresponding.{permutation}
 use Rattle.plain_store.specs.Standing.{IsServed, Stands, AreInOrder}
-use Rattle.plain_store.proofs.Doing.{stands_after}
+use Rattle.plain_store.specs.Doing.{stands_after}
 
 -- there is a part
 pub has_a_part : (config : Config) → IsServed config → 0 < part_count config

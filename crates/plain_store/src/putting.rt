@@ -1,9 +1,9 @@
 //! What one key holds: looked up, written and removed.
-ghost use Rattle.std.specs.Prelude.{◌≡◌, ◌≤◌, ◌<◌, ◌+◌, ◌++◌, ◌∷◌, [], List, ℕ, length, true, false, Some, None, IfOk, OnOk, OnErr, vec_len, vec_capacity};
+ghost use Rattle.std.specs.Prelude.{◌≡◌, ◌≤◌, ◌<◌, ◌+◌, ◌++◌, ◌∷◌, [], List, ℕ, length, true, false, Some, None, if◌then◌else◌, IfOk, OnOk, OnErr, vec_len, vec_capacity};
 ghost use Rattle.std.specs.Option.{option_map};
 ghost use Rattle.std.specs.VecDeque.{deque_len, deque_capacity};
 ghost use Rattle.audit_model.specs.Situation.{is_dead_at};
-ghost use Rattle.plain_table.specs.Items.{held_of, value_at, without};
+ghost use Rattle.plain_table.specs.Items.{held_of, value_at, without, to_front, used_at};
 ghost use Rattle.plain_sweep.specs.Swept.{cause_of_replaced, cause_of_deleted};
 ghost use Rattle.plain_store.specs.Putting.{live_in, Writes, replaced_note, deleted_note};
 
@@ -54,6 +54,15 @@ pub fn write_found(
             Ok(true)
         }
         None => Ok(false),
+    }
+}
+
+/// Uses the value of a key, where it was found.
+pub fn use_found(table: &mut Table, is_found: bool, key: &[u8], now: u64)
+    ensures { table.new ≡ (if is_found then to_front (used_at now) key.now table.old else table.old) }
+{
+    if is_found {
+        table.touch(key, now);
     }
 }
 

@@ -6,9 +6,9 @@ ghost use Rattle.audit_model.specs.Values.{own_deadline_from};
 ghost use Rattle.plain_store.specs.Drawing.{is_among};
 ghost use Rattle.plain_store.specs.Standing.{frame_of, Stands, AreKept, AreInOrder};
 
-use crate::drawing::draw;
+use crate::drawing::register_new;
 use crate::listing::write_keys;
-use crate::putting::{live_bytes, put, take, write_found};
+use crate::putting::{live_bytes, put, take, use_found, write_found};
 use crate::valuing::{own_deadline, weight_of};
 use audit_model::{Config, Note};
 use cache_store::{Counts, Store, StoreError};
@@ -100,9 +100,7 @@ impl<R: Rng + Drop> Store for PlainStore<R> {
 
     fn look_up(&mut self, key: &[u8], now: u64, found: &mut Vec<u8>) -> Result<bool, AllocError> {
         let is_found = write_found(&self.table, &self.config, key, now, found)?;
-        if is_found {
-            self.table.touch(key, now);
-        }
+        use_found(&mut self.table, is_found, key, now);
         self.latest = now;
         Ok(is_found)
     }
@@ -116,13 +114,15 @@ impl<R: Rng + Drop> Store for PlainStore<R> {
         now: u64,
     ) -> Result<u64, AllocError> {
         let weight = weight_of(self.config.weight, bytes);
+        let own_deadline = own_deadline(now, milliseconds);
         let key = Vec::from_slice(self.alloc, key)?;
+        let bytes = Vec::from_slice(self.alloc, bytes)?;
         let kept = Kept {
-            bytes: Vec::from_slice(self.alloc, bytes)?,
+            bytes,
             part: 0,
             weight,
             accepted_at: now,
-            own_deadline: own_deadline(now, milliseconds),
+            own_deadline,
             last_use: now,
             covered: false,
         };
@@ -144,16 +144,15 @@ impl<R: Rng + Drop> Store for PlainStore<R> {
     }
 
     fn drop_prefix(&mut self, prefix: &[u8], now: u64) -> Result<(), StoreError> {
-        let Some(id) = draw(&mut self.generator, &self.register) else {
-            return Err(StoreError::IdsInUse);
-        };
-        if self.register.push(id).is_err() {
-            return Err(StoreError::OutOfMemory);
+        match register_new(&mut self.generator, &mut self.register) {
+            Ok(()) => {
+                cover(&mut self.table, prefix);
+                self.dropped = true;
+                self.latest = now;
+                Ok(())
+            }
+            Err(error) => Err(error),
         }
-        cover(&mut self.table, prefix);
-        self.dropped = true;
-        self.latest = now;
-        Ok(())
     }
 
     fn run_all(&mut self, now: u64) -> Counts {
