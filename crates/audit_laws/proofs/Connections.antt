@@ -59,7 +59,7 @@ closing_in f =
 abbrev pub open_in : Facts → Bool
 open_in f = f.opened && is_none (closing_in f)
 
-append-nil : {X : Type 0} (xs : List X) → xs ++ [] ≡ xs
+pub append-nil : {X : Type 0} (xs : List X) → xs ++ [] ≡ xs
 append-nil [] = refl
 append-nil (x ∷ xs) = ap (λ ys. x ∷ ys) (append-nil xs)
 

@@ -44,3 +44,7 @@ pub mod SameReplies
 pub mod Twins
 pub mod TwinRecords
 pub mod OnePart
+pub mod Traces
+pub mod CutTraces
+pub mod ShutTraces
+pub mod CutObeying

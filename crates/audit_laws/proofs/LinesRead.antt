@@ -4,6 +4,7 @@ use Rattle.std.specs.Prelude.{◌==◌, unwrap_or}
 use Rattle.std.proofs.lemmas.Bool.{and_parts, and_from}
 use Rattle.audit_laws.proofs.Connections.{last_is}
 use Rattle.audit_model.specs.Bytewise.{cut_at}
+use Rattle.audit_model.specs.Commands.{quits}
 use Rattle.audit_model.specs.History.{Effect, History, Fed}
 use Rattle.audit_model.specs.Situation.{Connection, Ready, Held, Waiting}
 use Rattle.audit_model.specs.Stream.{bytes_of, is_held, is_waiting, behind_lines, unanswered, without_return, first_line}
@@ -108,16 +109,30 @@ lines_now (Some reply) n bytes e f = ap (λ m. has_lines m bytes) (one_more n) �
     one_more : (n : ℕ) → 1 + n ≡ suc n
     one_more n = omega arith
 
-pub complete-ran : (c : ℕ) (effect : Effect) (past : History) (line : List ℕ) → (is_held effect ≡ true → is_none effect.reply ≡ true) → first_line (unanswered c past) ≡ Some line
-    → Complete (facts c past) → Complete (ran_by c effect past true)
-complete-ran c effect past line silent e h =
+-- a connection's facts after a step of its own
+abbrev pub ran_itself : Effect → Facts → Facts
+ran_itself effect f =
+    record f {
+      quit = quits effect || f.quit;
+      effect = Some effect;
+      replies = cond (is_some effect.reply) 1 0 + f.replies;
+      times = cond (is_some effect.reply) 0 (cond (is_waiting effect) 1 0 + f.times);
+    }
+
+pub complete-after : (f : Facts) (effect : Effect) (line : List ℕ) → (is_held effect ≡ true → is_none effect.reply ≡ true) → first_line (bytes_left f) ≡ Some line → Complete f
+    → Complete (ran_itself effect f)
+complete-after f effect line silent e h =
     record {
-      answered = lines_now effect.reply (facts c past).replies (facts c past).bytes h.answered (came (unanswered c past) line e);
+      answered = lines_now effect.reply f.replies f.bytes h.answered (came (bytes_left f) line e);
       read = go effect.reply (is_held effect) silent;
     }
   where
     go : (reply : Option (List ℕ)) (held : Bool) → (held ≡ true → is_none reply ≡ true) → (held || (is_none reply && not held)) ≡ true
-        → is_some (cut_at 10 (behind_lines (cond (is_some reply) 1 0 + (facts c past).replies) (facts c past).bytes)).1 ≡ true
-    go None held s f = ap (λ m. is_some (cut_at 10 (behind_lines m (facts c past).bytes)).1) (zero-add (facts c past).replies) ∙ came (unanswered c past) line e
-    go (Some reply) true s f = absurd (true≢false (sym (s refl)))
-    go (Some reply) false s f = absurd (true≢false (sym f))
+        → is_some (cut_at 10 (behind_lines (cond (is_some reply) 1 0 + f.replies) f.bytes)).1 ≡ true
+    go None held s k = ap (λ m. is_some (cut_at 10 (behind_lines m f.bytes)).1) (zero-add f.replies) ∙ came (bytes_left f) line e
+    go (Some reply) true s k = absurd (true≢false (sym (s refl)))
+    go (Some reply) false s k = absurd (true≢false (sym k))
+
+pub complete-ran : (c : ℕ) (effect : Effect) (past : History) (line : List ℕ) → (is_held effect ≡ true → is_none effect.reply ≡ true) → first_line (unanswered c past) ≡ Some line
+    → Complete (facts c past) → Complete (ran_by c effect past true)
+complete-ran c effect past line silent e h = complete-after (facts c past) effect line silent e h

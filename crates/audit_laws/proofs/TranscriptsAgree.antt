@@ -37,7 +37,7 @@ module _ (config : Config) (transcript : Transcript) where
   abbrev steps : List PlacedStep
   steps = placed_steps config transcript
 
-  all_right : Obeys config transcript → list_all (is_right config) steps ≡ true
+  pub all_right : Obeys config transcript → list_all (is_right config) steps ≡ true
   all_right o =
       all-both _ (keeps_shares config) steps
       (all-both _ is_quiet_where_silent steps
@@ -48,12 +48,16 @@ module _ (config : Config) (transcript : Transcript) where
       (all-both _ has_right_line steps
       (all-both is_in_turn is_held_rightly steps o.in_turn o.held) o.lines) o.replies) o.loads) o.accepted) o.told) o.silent) o.within
 
+  -- each record of a transcript that obeys is right
+  pub obeys-right : Obeys config transcript → list_all (is_right_record config) all ≡ true
+  obeys-right o =
+      all-both _ (λ placed. list_all (is_right config) placed.walked.placed_steps) all
+      (all-both _ (λ placed. has_right_own_value placed.entry) all (all-both has_right_number is_finished all o.numbered o.finished) o.owned)
+      (sym (all-flat (λ placed. placed.walked.placed_steps) (is_right config) all) ∙ all_right o)
+
   all_good : Obeys config transcript → IsAdmitted config transcript → list_all (is_good_record config) all ≡ true
   all_good o a =
-      all-both (is_admitted config) (is_right_record config) all a
-      (all-both _ (λ placed. list_all (is_right config) placed.walked.placed_steps) all
-      (all-both _ (λ placed. has_right_own_value placed.entry) all (all-both has_right_number is_finished all o.numbered o.finished) o.owned)
-      (sym (all-flat (λ placed. placed.walked.placed_steps) (is_right config) all) ∙ all_right o))
+      all-both (is_admitted config) (is_right_record config) all a (obeys-right o)
 
   followed_by : (b : Bool) (s : Situation) → is_some (cond b (Some s) None) ≡ b
   followed_by true s = refl
@@ -64,10 +68,7 @@ module _ (config : Config) (transcript : Transcript) where
       ap is_some (records-from_empty config transcript.made.nanos transcript.records)
       ∙ followed_by (list_all (is_good_record config) all) (situation_of config transcript.made.nanos (history_after config transcript.made.nanos [] transcript.records))
 
-  module _ (good : list_all (is_good_record config) all ≡ true) (same_parts : IsTrue (agree_on_parts (accepted_values steps))) where
-    right_records : list_all (is_right_record config) all ≡ true
-    right_records = all-more (is_good_record config) (is_right_record config) all (λ placed e. (and_parts (is_admitted config placed) _ e).1) good
-
+  module _ (right_records : list_all (is_right_record config) all ≡ true) (same_parts : IsTrue (agree_on_parts (accepted_values steps))) where
     right_steps : list_all (is_right config) steps ≡ true
     right_steps =
         all-flat (λ placed. placed.walked.placed_steps) (is_right config) all
@@ -76,8 +77,9 @@ module _ (config : Config) (transcript : Transcript) where
     first_tests : (placed : PlacedRecord) → is_right_record config placed ≡ true → (has_right_number placed && is_finished placed && has_right_own_value placed.entry) ≡ true
     first_tests placed e = (and_parts _ (list_all (is_right config) placed.walked.placed_steps) e).0
 
-    good_obeys : Obeys config transcript
-    good_obeys =
+    -- where each record is right, the transcript obeys
+    pub right-obeys : Obeys config transcript
+    right-obeys =
         record {
           numbered = all-more (is_right_record config) has_right_number all (λ placed e. (and_parts (has_right_number placed) _ (and_parts _ (has_right_own_value placed.entry) (first_tests placed e)).0).0) right_records;
           finished = all-more (is_right_record config) is_finished all (λ placed e. (and_parts (has_right_number placed) _ (and_parts _ (has_right_own_value placed.entry) (first_tests placed e)).0).1) right_records;
@@ -115,13 +117,17 @@ module _ (config : Config) (transcript : Transcript) where
         p2 : (x : PlacedStep) → is_right config x ≡ true → (is_in_turn x && is_held_rightly x) ≡ true
         p2 x e = (and_parts _ (has_right_line x) (p3 x e)).0
 
-    good_admitted : IsAdmitted config transcript
-    good_admitted = all-more (is_good_record config) (is_admitted config) all (λ placed e. (and_parts (is_admitted config placed) _ e).0) good
+  module _ (good : list_all (is_good_record config) all ≡ true) where
+    right-good : list_all (is_right_record config) all ≡ true
+    right-good = all-more (is_good_record config) (is_right_record config) all (λ placed e. (and_parts (is_admitted config placed) _ e).1) good
+
+    good-admitted : IsAdmitted config transcript
+    good-admitted = all-more (is_good_record config) (is_admitted config) all (λ placed e. (and_parts (is_admitted config placed) _ e).0) good
 
   pub agrees : AgreesWithHistory config transcript
   agrees = (
     (λ both. (both.0.parts, follow-good ∙ all_good both.0 both.1)),
-    (λ both. (good_obeys (sym follow-good ∙ both.1) both.0, good_admitted (sym follow-good ∙ both.1) both.0)),
+    (λ both. let good = sym follow-good ∙ both.1 in (right-obeys (right-good good) both.0, good-admitted good)),
   )
 
 pub steps_agree : StepsAgree

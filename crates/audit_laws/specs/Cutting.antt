@@ -1,7 +1,8 @@
 -- A feed in two parts.
-use Rattle.std.specs.Prelude.{◌≡◌, ℕ, Bool, false, not, List, [], ◌∷◌, ◌++◌, Some, None, ◌⊎◌}
+use Rattle.std.specs.Prelude.{◌≡◌, ℕ, Bool, true, false, not, List, [], ◌∷◌, ◌++◌, Some, None, ◌⊎◌}
 use Rattle.std.specs.List.{list_all}
 use Rattle.audit_model.specs.Follows.{Follows, after_records}
+use Rattle.audit_model.specs.Obeys.{Obeys}
 use Rattle.audit_model.specs.Places.{history_after}
 use Rattle.audit_model.specs.Situation.{Situation, connection_in}
 use Rattle.audit_model.specs.Stream.{is_open}
@@ -10,6 +11,7 @@ use Rattle.audit_model.specs.declared.event.Event.TheVariants as event
 use Rattle.audit_model.specs.declared.event.Instant.{Instant}
 use Rattle.audit_model.specs.declared.transcript.Record.{Record}
 use Rattle.audit_model.specs.declared.transcript.Step.{Step}
+use Rattle.audit_model.specs.declared.transcript.Transcript.{Transcript}
 use Rattle.audit_laws.specs.Breaking.{IsFaultless}
 
 -- the record of a feed
@@ -46,3 +48,26 @@ pub record FaultlessParts (config : Config) (made : Instant) (before after : Lis
   pub second : List Step
   pub in_parts : steps ≡ first ++ second
   pub stays : FaultlessInTwo config made before after conn moment front rest first second
+
+-- the feed after those records closes its connection
+pub record ClosesItsConnection (config : Config) (made : Instant) (before : List Record) (conn : ℕ) (moment : Instant) (front : List ℕ) (first : List Step) : Type 0 where
+  pub open_before : is_open conn (history_after config made.nanos [] before) ≡ true
+  pub shut_after : is_open conn (history_after config made.nanos [] (before ++ fed conn moment front first ∷ [])) ≡ false
+
+-- the transcript with the two feeds in the middle
+abbrev pub in_two : Instant → List Record → List Record → ℕ → Instant → List ℕ → List ℕ → List Step → List Step → Transcript
+in_two made before after conn moment front rest first second =
+    record { made = made; records = before ++ fed conn moment front first ∷ fed conn moment rest second ∷ after }
+
+-- the transcript with one feed in the middle
+abbrev pub in_one : Instant → List Record → List Record → ℕ → Instant → List ℕ → List Step → Transcript
+in_one made before after conn moment piece steps = record { made = made; records = before ++ fed conn moment piece steps ∷ after }
+
+-- the steps of a feed in two parts, with which the transcript still obeys; and where the first feed closes the connection, it obeys without the
+-- second, which has no step
+pub record ObeyingParts (config : Config) (made : Instant) (before after : List Record) (conn : ℕ) (moment : Instant) (front rest : List ℕ) (steps : List Step) : Type 0 where
+  pub first : List Step
+  pub second : List Step
+  pub in_parts : steps ≡ first ++ second
+  pub both : Obeys config (in_two made before after conn moment front rest first second)
+  pub alone : ClosesItsConnection config made before conn moment front first → (second ≡ []) × Obeys config (in_one made before after conn moment front first)

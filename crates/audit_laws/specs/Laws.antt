@@ -32,7 +32,7 @@ use Rattle.audit_model.specs.declared.transcript.Transcript.{Transcript}
 use Rattle.audit_laws.specs.Placing.{placed_steps_in, accepted_in, all_placed_in, Stage, stage_after}
 use Rattle.audit_laws.specs.Leading.{LeadsTo, LeadsBy, is_parted}
 use Rattle.audit_laws.specs.Comparing.{otherwise, HappenAlike, ReplyAlike}
-use Rattle.audit_laws.specs.Cutting.{fed, none_held, LeadsInTwo, FollowsInTwo, FaultlessInTwo, FaultlessParts}
+use Rattle.audit_laws.specs.Cutting.{fed, none_held, LeadsInTwo, FollowsInTwo, FaultlessInTwo, FaultlessParts, in_one, in_two, ClosesItsConnection, ObeyingParts}
 use Rattle.audit_laws.specs.Breaking.{first_break_from, IsFaultless, BreaksFirstAt}
 use Rattle.audit_laws.specs.Orderly.{IsOrderly, idle_deed, is_asking}
 use Rattle.audit_laws.specs.Telling.{notes_of, none_with_size}
@@ -203,6 +203,19 @@ pub record TranscriptsMayBeCut : Type 0 where
   pub joined : (config : Config) (made : Instant) (before after : List Record) (conn : ℕ) (moment : Instant) (front rest : List ℕ) (first second : List Step)
       → IsTrue (none_held first) → FaultlessInTwo config made before after conn moment front rest first second
       → IsFaultless config (record { made = made; records = before ++ fed conn moment (front ++ rest) (first ++ second) ∷ after })
+
+-- the same of transcripts that obey, whether or not some of their events are refused ones: where no command is held, a feed may be cut in two, and
+-- two neighbouring feeds of one connection at one moment joined, with each step put where the byte that lets it run came; where the first closes
+-- the connection, the second may be left out
+pub record ObeyingMayBeCut : Type 0 where
+  pub cut : (config : Config) (made : Instant) (before after : List Record) (conn : ℕ) (moment : Instant) (front rest : List ℕ) (steps : List Step)
+      → IsTrue (none_held steps) → Obeys config (in_one made before after conn moment (front ++ rest) steps) → ObeyingParts config made before after conn moment front rest steps
+  pub joined : (config : Config) (made : Instant) (before after : List Record) (conn : ℕ) (moment : Instant) (front rest : List ℕ) (first second : List Step)
+      → IsTrue (none_held first) → Obeys config (in_two made before after conn moment front rest first second)
+      → Obeys config (in_one made before after conn moment (front ++ rest) (first ++ second))
+  pub joined_alone : (config : Config) (made : Instant) (before after : List Record) (conn : ℕ) (moment : Instant) (front rest : List ℕ) (first : List Step)
+      → IsTrue (none_held first) → ClosesItsConnection config made before conn moment front first → Obeys config (in_one made before after conn moment front first)
+      → Obeys config (in_one made before after conn moment (front ++ rest) first)
 
 -- two faultless transcripts of the same events, whose configurations differ at most in capacity, eviction policy and number of parts, and both
 -- accept values or neither does: where nothing is told `Size`, the same steps are held back and the same `DROPIF`s refused, both have the same

@@ -1,7 +1,7 @@
 //! Laws of the definitions of transcripts. Each function does nothing: its contract is the law.
 #![tactic(auto)]
 
-ghost use Rattle.audit_laws.specs.Laws.{FrontsObey, RecordsLead, StepsAgree, PlacesAgree, StepsInParts, LeadsOn, LeadsOnBy, LedObeys, BreaksAgree, BreaksWhereUnfollowed, GoodIsFaultless, FirstBreakIsFirst, NothingToldSize, LiveByAcceptance, OrderlyStays, IdleKeeps, AskingChangesNothing, KeysAnswer, BelongsStepByStep, BelongsOn, OnePartObeys, FeedsMayBeCut, TranscriptsMayBeCut, RepliesByCommands};
+ghost use Rattle.audit_laws.specs.Laws.{FrontsObey, RecordsLead, StepsAgree, PlacesAgree, StepsInParts, LeadsOn, LeadsOnBy, LedObeys, BreaksAgree, BreaksWhereUnfollowed, GoodIsFaultless, FirstBreakIsFirst, NothingToldSize, LiveByAcceptance, OrderlyStays, IdleKeeps, AskingChangesNothing, KeysAnswer, BelongsStepByStep, BelongsOn, OnePartObeys, FeedsMayBeCut, TranscriptsMayBeCut, ObeyingMayBeCut, RepliesByCommands};
 ghost use Rattle.audit_model.specs.Configs.{DeadlinesAgree};
 
 /// A front of an obeying transcript obeys.
@@ -119,7 +119,13 @@ pub fn transcripts_may_be_cut()
     ensures { TranscriptsMayBeCut }
 {}
 
-/// Where nothing is told `Size` and the same commands are taken, replies but `SYNC`'s do not depend on parts, policy, hasher, batches or capacity.
+/// A transcript that obeys still does, whether or not some of its events are refused ones, where a feed is cut in two or two are joined.
+pub fn obeying_may_be_cut()
+    ensures { ObeyingMayBeCut }
+{}
+
+/// Where nothing is told `Size` and the same commands are taken, replies but `SYNC`'s do not depend on parts, policy, hasher or batches.
+/// Nor do they on the capacity, as long as both accept values or neither does, which with one capacity says nothing.
 pub fn replies_by_commands()
     ensures { RepliesByCommands }
 {}

@@ -1,7 +1,10 @@
--- The words of the contracts of `Service`, `play` and `run`, for callers.
+-- The words of the contracts of `Service`, `RecordedService`, `play` and `run`, for callers.
 pub use Rattle.cache_run.specs.Runs.{ServesWhole, ServesPartly}
+pub use Rattle.cache_spaces.specs.Journals.{LeadsSo, journals_of, service_of}
 pub use Rattle.cache_spaces.specs.Moves.{At}
+pub use Rattle.cache_spaces.specs.Outputs.{output_after, output_for}
 pub use Rattle.cache_spaces.specs.Played.{Plays, ArePlayed}
+pub use Rattle.cache_spaces.specs.Recorded.{RecordsAt, RefusedInput}
 pub use Rattle.cache_spaces.specs.Serves.{Serves, Takes, SameSpace, TakesOutput, TakesNotice}
 pub use Rattle.cache_spaces.specs.Services.{AreNew, Refuses, spaces_of}
 pub use Rattle.cache_spaces.specs.Spaces.{Stands, config_of, connections_of, notices_of, output_of, closing_of}

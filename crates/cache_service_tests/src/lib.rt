@@ -4,6 +4,8 @@
 #[cfg(test)]
 mod playing;
 #[cfg(test)]
+mod recording;
+#[cfg(test)]
 mod refusing;
 #[cfg(test)]
 mod serving;

@@ -3,6 +3,8 @@ use audit_model::{
     Bytes, Config, Conn, EvictionPolicy, Input, Instant, LoadId, Outcome, Seq, ServiceError, Weight,
 };
 use cache_spaces::play;
+use rand_core::SeedableRng;
+use rand_xoshiro::Xoshiro256PlusPlus;
 use std::alloc::{AllocError, Global};
 use std::test::Fail;
 
@@ -24,6 +26,11 @@ const CONN: Conn = Conn {
     namespace: 0,
     number: 1,
 };
+
+/// A generator.
+fn generator() -> Xoshiro256PlusPlus {
+    Xoshiro256PlusPlus::seed_from_u64(1)
+}
 
 /// A feed of these bytes.
 fn feed(alloc: Global, bytes: &[u8], moment: Instant) -> Result<Input, AllocError> {
@@ -70,7 +77,7 @@ fn accepted_inputs_have_their_records(rt: HostRuntime) -> Result<(), Fail> {
         Input::Close { conn: CONN },
         feed(alloc, b"GET a\n", START)?,
     ];
-    let transcripts = play(alloc, &[PLAIN], START, &inputs)?;
+    let transcripts = play(alloc, &[PLAIN], generator(), START, &inputs)?;
     assert_eq!(rt; transcripts.len(), 1);
     let Some(transcript) = transcripts.first() else {
         return Err(Fail::new("no transcript"));
@@ -99,14 +106,14 @@ fn accepted_inputs_have_their_records(rt: HostRuntime) -> Result<(), Fail> {
 fn fails_as_a_new_service_does(rt: HostRuntime) -> Result<(), Fail> {
     let alloc = rt.alloc();
     assert_eq!(rt;
-        play(alloc, &[], START, &[]).err(),
+        play(alloc, &[], generator(), START, &[]).err(),
         Some(ServiceError::Config)
     );
     assert_eq!(rt;
-        play(alloc, &[], LATE, &[]).err(),
+        play(alloc, &[], generator(), LATE, &[]).err(),
         Some(ServiceError::Moment)
     );
-    let transcripts = play(alloc, &[PLAIN], START, &[])?;
+    let transcripts = play(alloc, &[PLAIN], generator(), START, &[])?;
     assert_eq!(rt; transcripts.len(), 1);
     Ok(())
 }

@@ -3,6 +3,8 @@ use audit_model::{
     Closing, Config, Conn, EvictionPolicy, Instant, LoadId, Outcome, ServiceError, Weight,
 };
 use cache_spaces::{Fed, Service};
+use rand_core::SeedableRng;
+use rand_xoshiro::Xoshiro256PlusPlus;
 use std::test::Fail;
 
 const PLAIN: Config = Config {
@@ -24,6 +26,11 @@ const LAST: Instant = Instant {
 
 const LATE: Instant = Instant { nanos: 1 << 63 };
 
+/// A generator.
+fn generator() -> Xoshiro256PlusPlus {
+    Xoshiro256PlusPlus::seed_from_u64(1)
+}
+
 #[test]
 fn configurations(rt: HostRuntime) -> Result<(), Fail> {
     let alloc = rt.alloc();
@@ -32,28 +39,33 @@ fn configurations(rt: HostRuntime) -> Result<(), Fail> {
         ..PLAIN
     };
     assert_eq!(rt;
-        Service::new(alloc, &[], START).err(),
+        Service::new(alloc, &[], generator(), START).err(),
         Some(ServiceError::Config)
     );
     assert_eq!(rt;
-        Service::new(alloc, &[limited], START).err(),
+        Service::new(alloc, &[limited], generator(), START).err(),
         Some(ServiceError::Config)
     );
     assert_eq!(rt;
-        Service::new(alloc, &[PLAIN, PLAIN], START).err(),
+        Service::new(alloc, &[PLAIN, limited], generator(), START).err(),
         Some(ServiceError::Config)
     );
     assert_eq!(rt;
-        Service::new(alloc, &[limited], LATE).err(),
+        Service::new(alloc, &[PLAIN; 17], generator(), START).err(),
+        Some(ServiceError::Config)
+    );
+    let _most = Service::new(alloc, &[PLAIN; 16], generator(), START)?;
+    assert_eq!(rt;
+        Service::new(alloc, &[limited], generator(), LATE).err(),
         Some(ServiceError::Moment)
     );
-    let _service = Service::new(alloc, &[PLAIN], LAST)?;
+    let _service = Service::new(alloc, &[PLAIN], generator(), LAST)?;
     Ok(())
 }
 
 #[test]
 fn connections(rt: HostRuntime) -> Result<(), Fail> {
-    let mut service = Service::new(rt.alloc(), &[PLAIN], START)?;
+    let mut service = Service::new(rt.alloc(), &[PLAIN], generator(), START)?;
     let conn = service.open(0)?;
     let unknown = Conn {
         namespace: 0,
@@ -105,7 +117,7 @@ fn connections(rt: HostRuntime) -> Result<(), Fail> {
 
 #[test]
 fn an_earlier_moment_is_the_latest(rt: HostRuntime) -> Result<(), Fail> {
-    let mut service = Service::new(rt.alloc(), &[PLAIN], LAST)?;
+    let mut service = Service::new(rt.alloc(), &[PLAIN], generator(), LAST)?;
     let conn = service.open(0)?;
     assert_eq!(rt; service.feed(conn, b"SYNC\n", START), Ok(Fed::All));
     Ok(())
@@ -113,7 +125,7 @@ fn an_earlier_moment_is_the_latest(rt: HostRuntime) -> Result<(), Fail> {
 
 #[test]
 fn loads(rt: HostRuntime) -> Result<(), Fail> {
-    let mut service = Service::new(rt.alloc(), &[PLAIN], START)?;
+    let mut service = Service::new(rt.alloc(), &[PLAIN], generator(), START)?;
     let conn = service.open(0)?;
     let load = LoadId {
         namespace: 0,

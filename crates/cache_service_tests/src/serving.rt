@@ -3,6 +3,8 @@ use audit_model::{
     Closing, Config, Conn, EvictionPolicy, Instant, RemovalCause, ServiceError, Weight,
 };
 use cache_spaces::{Fed, Service};
+use rand_core::SeedableRng;
+use rand_xoshiro::Xoshiro256PlusPlus;
 use std::alloc::Global;
 use std::test::Fail;
 
@@ -18,9 +20,14 @@ const PLAIN: Config = Config {
 
 const START: Instant = Instant { nanos: 0 };
 
+/// A generator.
+fn generator() -> Xoshiro256PlusPlus {
+    Xoshiro256PlusPlus::seed_from_u64(1)
+}
+
 /// A service with one connection.
 fn connected(alloc: Global) -> Result<(Service, Conn), ServiceError> {
-    let mut service = match Service::new(alloc, &[PLAIN], START) {
+    let mut service = match Service::new(alloc, &[PLAIN], generator(), START) {
         Ok(service) => service,
         Err(error) => return Err(error),
     };

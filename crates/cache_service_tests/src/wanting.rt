@@ -1,6 +1,8 @@
 //! What stands where memory is refused. Run these with each allocation refused in turn, by `rt try --test --fail-alloc 1..`.
 use audit_model::{Config, Conn, EvictionPolicy, Input, Instant, ServiceError, Weight};
 use cache_spaces::{Fed, Service, play};
+use rand_core::SeedableRng;
+use rand_xoshiro::Xoshiro256PlusPlus;
 use std::alloc::Global;
 use std::test::Fail;
 
@@ -16,11 +18,16 @@ const PLAIN: Config = Config {
 
 const START: Instant = Instant { nanos: 0 };
 
+/// A generator.
+fn generator() -> Xoshiro256PlusPlus {
+    Xoshiro256PlusPlus::seed_from_u64(1)
+}
+
 /// A service, at the second try where memory is refused.
 fn service_at_last(alloc: Global) -> Result<Service, ServiceError> {
-    match Service::new(alloc, &[PLAIN], START) {
+    match Service::new(alloc, &[PLAIN], generator(), START) {
         Ok(service) => Ok(service),
-        Err(ServiceError::OutOfMemory) => Service::new(alloc, &[PLAIN], START),
+        Err(ServiceError::OutOfMemory) => Service::new(alloc, &[PLAIN], generator(), START),
         Err(error) => Err(error),
     }
 }
@@ -92,9 +99,9 @@ fn notices_are_told_once(rt: HostRuntime) -> Result<(), Fail> {
 #[test]
 fn play_goes_on(rt: HostRuntime) -> Result<(), Fail> {
     let inputs = [Input::Open { namespace: 0 }, Input::Open { namespace: 0 }];
-    let transcripts = match play(rt.alloc(), &[PLAIN], START, &inputs) {
+    let transcripts = match play(rt.alloc(), &[PLAIN], generator(), START, &inputs) {
         Ok(transcripts) => transcripts,
-        Err(ServiceError::OutOfMemory) => play(rt.alloc(), &[PLAIN], START, &inputs)?,
+        Err(ServiceError::OutOfMemory) => play(rt.alloc(), &[PLAIN], generator(), START, &inputs)?,
         Err(error) => return Err(Fail::from(error)),
     };
     let Some(transcript) = transcripts.first() else {

@@ -6,6 +6,8 @@ ghost use Rattle.cache_service.specs.Words.{ArePlayed};
 
 use cache_service::{Service, play};
 use moka_audit::{Config, Conn, EvictionPolicy, Input, Instant, ServiceError, Transcript, Weight};
+use rand_core::SeedableRng;
+use rand_xoshiro::Xoshiro256PlusPlus;
 use std::alloc::Global;
 
 /// A namespace without limits.
@@ -57,7 +59,8 @@ pub fn play_plainly(
 ) -> Result<Vec<Transcript>, ServiceError>
     ensures { IfOk result (λ transcripts. ArePlayed (PLAIN ∷ []) made inputs.now transcripts.items) }
 {
-    match play(alloc, &[PLAIN], made, inputs) {
+    let generator = Xoshiro256PlusPlus::seed_from_u64(0);
+    match play(alloc, &[PLAIN], generator, made, inputs) {
         Ok(transcripts) => Ok(transcripts),
         Err(error) => Err(error),
     }

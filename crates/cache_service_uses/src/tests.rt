@@ -1,13 +1,20 @@
 use crate::{PLAIN, ask_once, play_plainly};
 use cache_service::Service;
 use moka_audit::{Input, Instant};
+use rand_core::SeedableRng;
+use rand_xoshiro::Xoshiro256PlusPlus;
 use std::test::Fail;
 
 const START: Instant = Instant { nanos: 0 };
 
 #[test]
 fn replies_of_connections(rt: HostRuntime) -> Result<(), Fail> {
-    let mut service = Service::new(rt.alloc(), &[PLAIN], START)?;
+    let mut service = Service::new(
+        rt.alloc(),
+        &[PLAIN],
+        Xoshiro256PlusPlus::seed_from_u64(1),
+        START,
+    )?;
     let stored = ask_once(&mut service, b"SET session:7 - ada\n", START)?;
     assert_eq!(rt; stored.as_slice(), b"OK\n".as_slice());
     let found = ask_once(&mut service, b"GET session:7\nGET session:8\n", START)?;

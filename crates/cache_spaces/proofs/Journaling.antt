@@ -7,7 +7,8 @@ use Rattle.std.proofs.lemmas.List.{length-set, set-get_or, take_all}
 use Rattle.std.proofs.lemmas.Option.{slice_get_within, none-some, same_Some}
 use Rattle.audit_laws.proofs.Belonging.{belongs_on, belongs_step_by_step}
 use Rattle.audit_laws.proofs.OnePart.{one-part-obeys}
-use Rattle.audit_model.specs.Belongs.{event_in}
+use Rattle.audit_model.specs.Belongs.{IsAdmitted, event_in}
+use Rattle.audit_model.specs.Obeys.{Obeys}
 use Rattle.audit_model.specs.History.{part_count}
 use Rattle.plain_store.specs.Plain.{is_plain, is_one}
 use Rattle.std.proofs.lemmas.Bool.{and_parts, eqb-true}
@@ -21,11 +22,13 @@ use Rattle.audit_model.specs.declared.input.ServiceError.{ServiceError}
 use Rattle.audit_model.specs.declared.transcript.Transcript.{Transcript}
 use Rattle.cache_namespace.proofs.Places.{at-replaced}
 use Rattle.cache_namespace.specs.Taken.{text_at}
+use Rattle.cache_spaces.specs.Journals.{LeadsSo}
 use Rattle.cache_spaces.specs.Moves.{At}
-use Rattle.cache_spaces.specs.Played.{ArePlayed, HasPlayed, HavePlayed}
+use Rattle.cache_spaces.specs.Played.{ArePlayed, HasPlayed, HavePlayed, Plays, WerePlayed}
 use Rattle.cache_spaces.specs.Recorded.{AreQuiet, AreEmpty, RecordsInput, RecordsAt, RefusedInput, namespace_of}
 use Rattle.cache_spaces.specs.Serves.{SameSpace}
-use Rattle.cache_spaces.specs.Services.{IsNew, AreNew, Refuses}
+use Rattle.cache_spaces.specs.Services.{AreNew, Refuses}
+use Rattle.cache_spaces.specs.Spaces.{config_of}
 use Rattle.cache_spaces.specs.declared.space.Space.{Space}
 use Rattle.cache_spaces.proofs.Noting.{same-or-not}
 
@@ -65,27 +68,13 @@ filled made [] empty (suc k) t e = absent e
 filled made (x ∷ ts) empty zero t e = empty zero t e
 filled made (x ∷ ts) empty (suc k) t e = filled made ts (λ j u at. empty (suc j) u at) k t e
 
-new-length : (spaces : List Space) (configs : List Config) (made : ℕ) → AreNew spaces configs made → length spaces ≡ length configs
-new-length [] [] made new = refl
-new-length (s ∷ ss) (c ∷ cs) made new = ap suc (new-length ss cs made new.1)
-new-length [] (c ∷ cs) made new = absurd new
-new-length (s ∷ ss) [] made new = absurd new
-
-new-at : (spaces : List Space) (configs : List Config) (made k : ℕ) (space : Space) (config : Config) → AreNew spaces configs made
-    → slice_get configs k ≡ Some config → slice_get spaces k ≡ Some space → IsNew space config made
-new-at [] [] made k space config new c s = absent s
-new-at (x ∷ ss) (y ∷ cs) made zero space config new c s = subst (λ z. IsNew z config made) (same_Some x space s) (subst (λ z. IsNew x z made) (same_Some y config c) new.0)
-new-at (x ∷ ss) (y ∷ cs) made (suc k) space config new c s = new-at ss cs made k space config new.1 c s
-new-at [] (y ∷ cs) made k space config new c s = absurd new
-new-at (x ∷ ss) [] made k space config new c s = absurd new
-
-pub played-none : (configs : List Config) (moment : Instant) (transcripts : List Transcript) (spaces : List Space)
-    → AreNew spaces configs moment.nanos → length transcripts ≡ length configs → AreEmpty moment transcripts → HavePlayed configs moment [] transcripts spaces
-played-none configs moment transcripts spaces new count empty = record {
+pub played-none : (configs : List Config) (generator : List ℕ) (moment : Instant) (transcripts : List Transcript) (spaces : List Space)
+    → AreNew spaces configs generator moment.nanos → length transcripts ≡ length configs → AreEmpty moment transcripts → HavePlayed configs moment [] transcripts spaces
+played-none configs generator moment transcripts spaces new count empty = record {
   count = count;
-  spaces_count = new-length spaces configs moment.nanos new;
+  spaces_count = new.count;
   each = λ k config transcript space c t s.
-      let n = new-at spaces configs moment.nanos k space config new c s in
+      let n = new.each k config space c s in
       let e = empty k transcript t in
       record {
         made = ap (λ (x : Transcript). x.made) e;
@@ -205,10 +194,18 @@ played-left configs moment inputs i ts us old new e Cause played same refused =
 -- ---- the end
 
 -- a plain configuration has one part
-one-part : (config : Config) → IsTrue (is_plain config) → part_count config ≡ 1
+abbrev pub one-part : (config : Config) → IsTrue (is_plain config) → part_count config ≡ 1
 one-part config plain =
     let p = eqb-true config.parts 1 (and_parts (is_none config.capacity) _ (and_parts _ (is_one config.weight) (and_parts _ (is_none config.live_ms) (and_parts _ (is_none config.idle_ms) (and_parts _ (not config.own_deadlines) plain).0).0).0).0).1 in
     ap (λ n. part_count (record config { parts = n })) p
+
+-- what was played, in one namespace
+abbrev pub played-one : (config : Config) (k : ℕ) (moment : Instant) (inputs : List Input) (transcript : Transcript) (space : Space)
+    → HasPlayed config k moment inputs transcript space → Plays config k moment inputs transcript
+played-one config k moment inputs transcript space h =
+    let b = belongs_step_by_step.belongs config k transcript.made inputs transcript.records h.last (subst (λ (m : Instant). BelongsIn config k (empty_situation m.nanos) inputs transcript.records h.last) (sym h.made) h.belongs) in
+    let o = one-part-obeys config transcript h.last (one-part config h.plain) b.0 in
+    record { made = h.made; belongs = b.1; last = h.last; leads = b.0; obeys = o.0; admitted = o.1 }
 
 pub played-all : (configs : List Config) (moment : Instant) (inputs : List Input) (transcripts : List Transcript) (spaces : List Space)
     → HavePlayed configs moment inputs transcripts spaces → ArePlayed configs moment inputs transcripts
@@ -217,10 +214,7 @@ played-all configs moment inputs transcripts spaces played = record {
   each = λ k config transcript c t.
       let lt = slice_get_within configs k config c in
       let space = got spaces k (let e = played.spaces_count in omega arith) in
-      let h = played.each k config transcript space.0 c t space.1 in
-      let b = belongs_step_by_step.belongs config k transcript.made inputs transcript.records h.last (subst (λ (m : Instant). BelongsIn config k (empty_situation m.nanos) inputs transcript.records h.last) (sym h.made) h.belongs) in
-      let o = one-part-obeys config transcript h.last (one-part config h.plain) b.0 in
-      record { made = h.made; belongs = b.1; last = h.last; leads = b.0; obeys = o.0; admitted = o.1 };
+      played-one config k moment inputs transcript space.0 (played.each k config transcript space.0 c t space.1);
 }
 
 -- ---- an input's place
@@ -263,3 +257,42 @@ none-empty made ts e = subst (AreEmpty made) (sym e) (λ k t at. absent at)
 
 pub one-longer : (ts us : List Transcript) (t : Transcript) (n : ℕ) → length ts ≡ n → us ≡ ts ++ t ∷ [] → length us ≡ n + 1
 one-longer ts us t n e same = ap length same ∙ length-append ts (t ∷ []) ∙ ap (λ k. k + 1) e
+
+-- ---- journals
+
+-- the journals go on
+pub were-on : (i : Input) (ts us : List Transcript) (old new : List Space) {T : Type 0} (answer : Result T ServiceError)
+    → OnOk answer (RecordsAt i ts us old new) → IfErr answer (λ e. Refuses old new (namespace_of i) e (RefusedInput i e)) → OnErr answer (us ≡ ts)
+    → WerePlayed old ts → WerePlayed new us
+were-on i ts us old new (Ok u) taken refused same w =
+    record { configs = w.configs; moment = w.moment; inputs = w.inputs ++ i ∷ []; played = played-on w.configs w.moment w.inputs i ts us old new w.played taken }
+were-on i ts us old new (Err e) taken refused same w =
+    record { configs = w.configs; moment = w.moment; inputs = w.inputs ++ i ∷ []; played = played-left w.configs w.moment w.inputs i ts us old new e (RefusedInput i e) w.played same refused }
+
+pub were-count : (spaces : List Space) (journals : List Transcript) → WerePlayed spaces journals → length journals ≡ length spaces
+were-count spaces journals w = w.played.count ∙ sym w.played.spaces_count
+
+pub were-quiet : (spaces : List Space) (journals : List Transcript) → WerePlayed spaces journals → AreQuiet spaces
+were-quiet spaces journals w = quiet-each w.configs w.moment w.inputs journals spaces w.played
+
+-- where a namespace stands, its configuration and what it has taken
+abbrev were-at : (spaces : List Space) (journals : List Transcript) (k : ℕ) (space : Space) (journal : Transcript) → (w : WerePlayed spaces journals)
+    → slice_get spaces k ≡ Some space → slice_get journals k ≡ Some journal → HasPlayed (config_of space) k w.moment w.inputs journal space
+were-at spaces journals k space journal w s t =
+    let lt = slice_get_within spaces k space s in
+    let config = got w.configs k (let e = w.played.spaces_count in omega arith) in
+    let h = w.played.each k config.0 journal space config.1 t s in
+    subst (λ c. HasPlayed c k w.moment w.inputs journal space) (sym h.configured) h
+
+pub were-obeys : (spaces : List Space) (journals : List Transcript) (k : ℕ) (space : Space) (journal : Transcript) → WerePlayed spaces journals
+    → slice_get spaces k ≡ Some space → slice_get journals k ≡ Some journal → Obeys (config_of space) journal × IsAdmitted (config_of space) journal
+were-obeys spaces journals k space journal w s t =
+    let p = played-one (config_of space) k w.moment w.inputs journal space (were-at spaces journals k space journal w s t) in
+    (p.obeys, p.admitted)
+
+pub were-led : (spaces : List Space) (journals : List Transcript) (k : ℕ) (space : Space) (journal : Transcript) → WerePlayed spaces journals
+    → slice_get spaces k ≡ Some space → slice_get journals k ≡ Some journal → LeadsSo space journal
+were-led spaces journals k space journal w s t =
+    let h = were-at spaces journals k space journal w s t in
+    let p = played-one (config_of space) k w.moment w.inputs journal space h in
+    record { last = h.last; stands = h.stands; leads = p.leads }

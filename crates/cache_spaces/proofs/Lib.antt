@@ -2,3 +2,5 @@ pub mod Moving
 pub mod Putting
 pub mod Noting
 pub mod Journaling
+pub mod Newly
+pub mod Lasts

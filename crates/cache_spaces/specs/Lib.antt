@@ -4,3 +4,5 @@ pub mod Serves
 pub mod Services
 pub mod Recorded
 pub mod Played
+pub mod Journals
+pub mod Outputs

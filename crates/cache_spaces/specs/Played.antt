@@ -48,3 +48,10 @@ pub record HavePlayed (configs : List Config) (moment : Instant) (inputs : List 
   pub each : (namespace : ℕ) (config : Config) (transcript : Transcript) (space : Space)
       → slice_get configs namespace ≡ Some config → slice_get transcripts namespace ≡ Some transcript → slice_get spaces namespace ≡ Some space
       → HasPlayed config namespace moment inputs transcript space
+
+-- the journals are what some inputs come to, played from namespaces just made
+pub record WerePlayed (spaces : List Space) (journals : List Transcript) : Type 0 where
+  pub configs : List Config
+  pub moment : Instant
+  pub inputs : List Input
+  pub played : HavePlayed configs moment inputs journals spaces

@@ -1,16 +1,19 @@
 -- What is seen of a service.
-use Rattle.std.specs.Prelude.{◌≡◌, ℕ, ◌≤◌, Bool, true, false, List, [], ◌∷◌, length, ◌⊎◌, Some, IsTrue}
-use Rattle.std.specs.List.{slice_get}
+use Rattle.std.specs.Prelude.{◌≡◌, ℕ, zero, suc, ◌≤◌, ◌&&◌, nat_le, Bool, true, false, List, [], length, ◌⊎◌, Some, IsTrue}
+use Rattle.std.specs.List.{list_all, slice_get}
 use Rattle.cache_spaces.specs.Moves.{At}
 use Rattle.cache_spaces.specs.Serves.{SameSpace}
 use Rattle.audit_model.specs.declared.input.ServiceError.{ServiceError}
 use Rattle.audit_model.specs.declared.input.ServiceError.TheVariants as error
 use Rattle.cache_spaces.specs.declared.service.Fed.{Fed}
 use Rattle.cache_spaces.specs.declared.service.Fed.TheVariants.{All, Held}
+use Rattle.rand_core.specs.Steps.{stream_of, steps_u64_high}
+use Rattle.rand_core.specs.Stream.{Stream, fill_bytes}
+use Rattle.rand_xoshiro.specs.Xoshiro256.{of_seed, plus_plus}
 use Rattle.audit_model.specs.Situation.{empty_situation}
 use Rattle.audit_model.specs.declared.config.Config.{Config}
 use Rattle.plain_store.specs.Plain.{is_plain}
-use Rattle.cache_spaces.specs.Spaces.{Stands, config_of, connections_of, notices_of}
+use Rattle.cache_spaces.specs.Spaces.{Stands, config_of, connections_of, generator_of, notices_of}
 use Rattle.cache_spaces.specs.declared.service.Service.{Service}
 use Rattle.cache_spaces.specs.declared.space.Space.{Space}
 
@@ -18,25 +21,33 @@ use Rattle.cache_spaces.specs.declared.space.Space.{Space}
 abbrev pub spaces_of : Service → List Space
 spaces_of service = service.spaces.items
 
--- the configurations that a service is made with: one namespace, of plain configuration
+-- the configurations that a service is made with: 1 to 16, each plain
 abbrev pub are_taken : List Config → Bool
-are_taken [] = false
-are_taken (config ∷ []) = is_plain config
-are_taken (config ∷ next ∷ configs) = false
+are_taken configs = nat_le 1 (length configs) && nat_le (length configs) 16 && list_all is_plain configs
 
 -- a namespace just made
-pub record IsNew (space : Space) (config : Config) (made : ℕ) : Type 0 where
+pub record IsNew (space : Space) (config : Config) (generator : List ℕ) (made : ℕ) : Type 0 where
   pub stands : Stands space (empty_situation made)
   pub configured : config_of space ≡ config
   pub plain : IsTrue (is_plain config)
   pub connections : connections_of space ≡ []
   pub notices : notices_of space ≡ []
+  pub forked : generator_of space ≡ generator
 
--- each namespace is new, of its configuration
-abbrev pub AreNew : List Space → List Config → ℕ → Type 0
-AreNew [] [] made = Unit {0}
-AreNew (space ∷ spaces) (config ∷ configs) made = IsNew space config made × AreNew spaces configs made
-AreNew spaces configs made = ⊥
+-- what a generator still gives after so many forks
+abbrev pub stream_after : ℕ → Stream → Stream
+stream_after zero stream = stream
+stream_after (suc n) stream = (fill_bytes 32 (stream_after n stream)).1
+
+-- the fork that a generator gives after so many
+abbrev pub fork_after : ℕ → List ℕ → List ℕ
+fork_after n generator = of_seed (fill_bytes 32 (stream_after n (stream_of (steps_u64_high plus_plus) generator))).0
+
+-- each namespace is new, of its configuration, with the next fork of the generator
+pub record AreNew (spaces : List Space) (configs : List Config) (generator : List ℕ) (made : ℕ) : Type 0 where
+  pub count : length spaces ≡ length configs
+  pub each : (namespace : ℕ) (config : Config) (space : Space)
+      → slice_get configs namespace ≡ Some config → slice_get spaces namespace ≡ Some space → IsNew space config (fork_after namespace generator) made
 
 abbrev pub is_held : Fed → Bool
 is_held All = false

@@ -17,6 +17,10 @@ use Rattle.cache_spaces.specs.declared.space.Space.{Space}
 abbrev pub config_of : Space → Config
 config_of space = space.inner.config
 
+-- the state of its generator
+abbrev pub generator_of : Space → List ℕ
+generator_of space = space.generator
+
 -- the connections, in the order in which they were opened
 abbrev pub connections_of : Space → List Connection
 connections_of space = space.inner.connections.items

@@ -1,10 +1,15 @@
 //! A cache that is served by lines: namespaces, connections, loads.
 #![tactic(auto)]
 
+mod journals;
+mod making;
+mod outputs;
 mod playing;
 mod recording;
 mod service;
 mod space;
 
+pub use journals::{RecordedService, Refusal};
+pub use outputs::Output;
 pub use playing::play;
 pub use service::{AnswerError, Fed, Service};

@@ -2,12 +2,13 @@
 ghost use Rattle.std.specs.Prelude.{◌≡◌, ◌≤◌, ◌<◌, ◌^◌, ◌↔◌, ◌⊎◌, ◌∷◌, [], false, IfOk, IfErr, OnOk, OnErr, IsErrOf, length, map};
 ghost use Rattle.cache_spaces.specs.Played.{ArePlayed, HavePlayed};
 ghost use Rattle.cache_spaces.specs.Recorded.{AreEmpty, AreQuiet, RecordsAt, RefusedInput, namespace_of};
-ghost use Rattle.cache_spaces.specs.Services.{are_taken, Refuses};
+ghost use Rattle.cache_spaces.specs.Services.{are_taken, Refuses, spaces_of};
 
+use crate::journals::RecordedService;
 use crate::recording::record_input;
 use crate::service::Service;
-use crate::space::Space;
 use audit_model::{Config, Input, Instant, Seq, ServiceError, Transcript};
+use rand_xoshiro::Xoshiro256PlusPlus;
 use std::alloc::{AllocError, Global};
 
 /// The transcripts of the inputs, one a configuration, in their order.
@@ -16,6 +17,7 @@ use std::alloc::{AllocError, Global};
 pub fn play(
     alloc: Global,
     configs: &[Config],
+    generator: Xoshiro256PlusPlus,
     moment: Instant,
     inputs: &[Input],
 ) -> Result<Vec<Transcript>, ServiceError>
@@ -24,21 +26,18 @@ pub fn play(
     ensures config { IsErrOf result ServiceError.Config ↔ ((moment.nanos < 2 ^ 63) × (are_taken configs.now ≡ false)) }
     ensures memory { IfErr result (λ e. (e ≡ ServiceError.Moment) ⊎ (e ≡ ServiceError.Config) ⊎ (e ≡ ServiceError.OutOfMemory)) }
 {
-    let mut service = match Service::new(alloc, configs, moment) {
-        Ok(service) => service,
+    let mut recorded = match RecordedService::new(alloc, configs, generator, moment) {
+        Ok(recorded) => recorded,
         Err(error) => return Err(error),
     };
-    let Ok(mut transcripts) = empty_transcripts(alloc, configs.len(), moment) else {
-        return Err(ServiceError::OutOfMemory);
-    };
     for input in inputs {
-        let _ = step(&mut service.spaces, alloc, &mut transcripts, input);
+        let _ = recorded.record(input);
     }
-    Ok(transcripts)
+    Ok(recorded.into_journals())
 }
 
 /// So many transcripts without records.
-fn empty_transcripts(
+pub fn empty_transcripts(
     alloc: Global,
     count: usize,
     made: Instant,
@@ -57,24 +56,24 @@ fn empty_transcripts(
 }
 
 /// Takes an input in its namespace, and adds its record to that namespace's transcript. An `Err` leaves all as it was.
-pub fn step(
-    spaces: &mut Vec<Space>,
-    alloc: Global,
+pub fn step_in(
+    service: &mut Service,
     transcripts: &mut Vec<Transcript>,
     input: &Input,
 ) -> Result<(), ServiceError>
-    requires quiet { AreQuiet spaces.old.items }
-    requires count { length transcripts.old.items ≡ length spaces.old.items }
-    ensures ok { OnOk result (RecordsAt input.now transcripts.old.items transcripts.new.items spaces.old.items spaces.new.items) }
-    ensures refused { IfErr result (λ e. Refuses spaces.old.items spaces.new.items (namespace_of input.now) e (RefusedInput input.now e)) }
+    requires quiet { AreQuiet (spaces_of service.old) }
+    requires count { length transcripts.old.items ≡ length (spaces_of service.old) }
+    ensures ok { OnOk result (RecordsAt input.now transcripts.old.items transcripts.new.items (spaces_of service.old) (spaces_of service.new)) }
+    ensures refused { IfErr result (λ e. Refuses (spaces_of service.old) (spaces_of service.new) (namespace_of input.now) e (RefusedInput input.now e)) }
     ensures err { OnErr result (transcripts.new.items ≡ transcripts.old.items) }
 {
     let namespace = namespace_of(input);
-    if namespace >= spaces.len() as u64 {
+    if namespace >= service.spaces.len() as u64 {
         return Err(ServiceError::NoNamespace);
     }
     let index = namespace as usize;
-    let space = &mut spaces[index];
+    let alloc = service.alloc;
+    let space = &mut service.spaces[index];
     let transcript = &mut transcripts[index];
     match record_input(space, alloc, transcript, input) {
         Ok(()) => Ok(()),
@@ -83,7 +82,7 @@ pub fn step(
 }
 
 /// The namespace that an input names.
-fn namespace_of(input: &Input) -> u64
+pub fn namespace_of(input: &Input) -> u64
     ensures { result ≡ namespace_of input.now }
 {
     match input {

@@ -1,6 +1,5 @@
 //! A service: namespaces, each with its connections.
 ghost use Rattle.std.specs.Prelude.{◌-◌, ◌≡◌, ◌≢◌, ◌≤◌, ◌<◌, ◌^◌, ◌+◌, ◌++◌, ◌∷◌, ◌⊎◌, [], None, Some, ℕ, Bool, true, false, IfOk, IfErr, OnOk, OnErr, IsErr, IsErrOf, IsErrAnd, IfNone, IfSome, IsTrue, MatchOption, length, ◌↔◌};
-ghost use Rattle.plain_store.specs.Plain.{is_plain};
 ghost use Rattle.audit_model.specs.Belongs.{refusal_of};
 ghost use Rattle.audit_model.specs.declared.event.Event.TheVariants as event;
 ghost use Rattle.cache_namespace.specs.Taken.{RefusedFor, fed, holds_at, known};
@@ -9,18 +8,19 @@ ghost use Rattle.cache_spaces.specs.Serves.{Takes, SameSpace, TakesOutput, Takes
 ghost use Rattle.cache_spaces.specs.Services.{are_taken, AreNew, spaces_of};
 ghost use Rattle.cache_spaces.specs.Spaces.{config_of, connections_of, closing_of};
 
+use crate::making::{are_taken, new_spaces};
 use crate::space::Space;
 use audit_model::{Bytes, Closing, Config, Conn, Instant, LoadId, Note, Outcome, ServiceError};
-use plain_store::is_plain;
+use rand_xoshiro::Xoshiro256PlusPlus;
 use std::alloc::{AllocError, Global};
 
 /// Namespaces, each with its connections and values.
 ///
-/// Connection numbers count from 1 within each namespace. In this stage there is one namespace, without capacity, times and
-/// own deadlines, of one part, in which each value weighs one.
+/// Connection numbers count from 1 within each namespace. There are 1 to 16 namespaces. In this stage each is without
+/// capacity, times and own deadlines, of one part, and each value weighs one.
 #[derive(Drop)]
 pub struct Service {
-    alloc: Global,
+    pub(crate) alloc: Global,
     pub(crate) spaces: Vec<Space>,
 }
 
@@ -51,12 +51,17 @@ impl Service {
     ghost use Rattle.cache_spaces.specs.Services.{AreNew, Refuses, IsSpace, spaces_of, is_held};
     ghost use Rattle.cache_spaces.specs.Spaces.{config_of, connections_of, notices_of, output_of, closing_of};
 
-    /// A service of these configurations, made at that moment.
+    /// A service of these configurations, made at that moment. Each namespace has a generator of its own, a fork of the one given.
     ///
-    /// Refused with `Moment` above 2^63 - 1 nanoseconds, then with `Config` where a configuration or their number is not
+    /// Refused with `Moment` above 2^63 - 1 nanoseconds, then with `Config` where there are not 1 to 16 of them or one is not
     /// served, then with `OutOfMemory`.
-    pub fn new(alloc: Global, configs: &[Config], moment: Instant) -> Result<Service, ServiceError>
-        ensures made { IfOk result (λ service. AreNew (spaces_of service) configs.now moment.nanos) }
+    pub fn new(
+        alloc: Global,
+        configs: &[Config],
+        generator: Xoshiro256PlusPlus,
+        moment: Instant,
+    ) -> Result<Service, ServiceError>
+        ensures made { IfOk result (λ service. AreNew (spaces_of service) configs.now generator moment.nanos) }
         ensures moment { IsErrOf result ServiceError.Moment ↔ (2 ^ 63 ≤ moment.nanos) }
         ensures config { IsErrOf result ServiceError.Config ↔ ((moment.nanos < 2 ^ 63) × (are_taken configs.now ≡ false)) }
         ensures memory { IfErr result (λ e. (e ≡ ServiceError.Moment) ⊎ (e ≡ ServiceError.Config) ⊎ (e ≡ ServiceError.OutOfMemory)) }
@@ -64,9 +69,12 @@ impl Service {
         if moment.nanos > MAX_MOMENT {
             return Err(ServiceError::Moment);
         }
-        match configs {
-            [config] if is_plain(config) => one_space(alloc, *config, moment.nanos),
-            _ => Err(ServiceError::Config),
+        if !are_taken(configs) {
+            return Err(ServiceError::Config);
+        }
+        match new_spaces(alloc, configs, generator, moment.nanos) {
+            Ok(spaces) => Ok(Service { alloc, spaces }),
+            Err(_) => Err(ServiceError::OutOfMemory),
         }
     }
 
@@ -340,17 +348,3 @@ fn feed_in(
 
 /// The latest moment that may be handed in.
 const MAX_MOMENT: u64 = (1 << 63) - 1;
-
-/// A service of one namespace.
-fn one_space(alloc: Global, config: Config, made: u64) -> Result<Service, ServiceError>
-    requires config { IsTrue (is_plain config) }
-    requires moment { made < 2 ^ 63 }
-    ensures made { IfOk result (λ service. AreNew (spaces_of service) (config ∷ []) made) }
-    ensures memory { IfErr result (λ e. e ≡ ServiceError.OutOfMemory) }
-{
-    let mut spaces = Vec::new(alloc);
-    match spaces.push(Space::new(alloc, config, made)) {
-        Ok(()) => Ok(Service { alloc, spaces }),
-        Err(_) => Err(ServiceError::OutOfMemory),
-    }
-}

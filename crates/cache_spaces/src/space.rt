@@ -8,12 +8,15 @@ use audit_model::{Closing, Config, Note, ServiceError};
 use cache_namespace::{Kept, Namespace};
 use cache_store::Store;
 use plain_store::PlainStore;
+use rand_xoshiro::Xoshiro256PlusPlus;
 use std::alloc::{AllocError, Global};
 
 /// A namespace: its connections over its values.
 #[derive(Drop)]
 pub struct Space {
     inner: Namespace<PlainStore>,
+    // what its identifiers will be drawn from
+    generator: Xoshiro256PlusPlus,
     ghost sound: { IsSound inner.config (frame_of inner.store) inner.latest },
 }
 
@@ -28,18 +31,20 @@ impl Space {
     ghost use Rattle.cache_namespace.specs.declared.connection.Connection.{Connection};
     ghost use Rattle.cache_spaces.specs.Moves.{Moves};
     ghost use Rattle.cache_spaces.specs.Serves.{Serves, Takes, SameSpace};
-    ghost use Rattle.cache_spaces.specs.Spaces.{Stands, config_of, connections_of, notices_of, output_of, closing_of, gathered_in};
+    ghost use Rattle.cache_spaces.specs.Spaces.{Stands, config_of, connections_of, generator_of, notices_of, output_of, closing_of, gathered_in};
 
-    /// A namespace without connections and values.
-    pub fn new(alloc: Global, config: Config, made: u64) -> Space
+    /// A namespace without connections and values, with a generator of its own.
+    pub fn new(alloc: Global, config: Config, generator: Xoshiro256PlusPlus, made: u64) -> Space
         requires config { IsTrue (is_plain config) }
         requires moment { made < 2 ^ 63 }
         ensures stands { Stands result (empty_situation made) }
         ensures config { config_of result ≡ config }
         ensures notices { notices_of result ≡ [] }
         ensures connections { connections_of result ≡ [] }
+        ensures generator { generator_of result ≡ generator }
     {
         Space {
+            generator,
             inner: Namespace {
                 store: PlainStore::new(alloc, config, made),
                 config,

@@ -2,7 +2,7 @@
 #![tactic(auto)]
 
 use cache_devices::Watched;
-use cached_program::cached;
+use cached_program::{cached, without_words};
 use std::env::Env;
 use std::process::ExitCode;
 use std::{env, io};
@@ -19,7 +19,7 @@ fn gather_words<R: Env + Alloc>(rt: &R) -> io::Result<Vec<String<R::A>, R::A>> {
 fn main(rt: HostRuntime) -> ExitCode {
     let mut reader = Watched::new(rt.stdin());
     let mut writer = Watched::new(rt.stdout());
-    let mut errors = rt.stderr();
+    let mut errors = Watched::new(rt.stderr());
     match gather_words(&rt) {
         Ok(words) => ExitCode::from(cached(
             rt.alloc(),
@@ -28,6 +28,6 @@ fn main(rt: HostRuntime) -> ExitCode {
             &mut writer,
             &mut errors,
         )),
-        Err(_) => ExitCode::from(2),
+        Err(error) => ExitCode::from(without_words(error.kind(), &mut errors)),
     }
 }

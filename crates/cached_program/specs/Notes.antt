@@ -1,9 +1,12 @@
 -- The text of notes.
 use Rattle.std.specs.Prelude.{ℕ, List, [], ◌∷◌, ◌++◌, codes}
-use Rattle.std.specs.List.{flat_map}
+use Rattle.std.specs.List.{flat_map, slice_get}
+use Rattle.std.specs.Option.{option_map_or}
 use Rattle.audit_model.specs.declared.transcript.Note.{Note}
 use Rattle.audit_model.specs.declared.transcript.RemovalCause.{RemovalCause}
 use Rattle.audit_model.specs.declared.transcript.RemovalCause.TheVariants.{Expired, Explicit, Replaced, Size}
+use Rattle.cache_spaces.specs.Spaces.{notices_of}
+use Rattle.cache_spaces.specs.declared.space.Space.{Space}
 
 -- the word of a cause
 abbrev pub cause_text : RemovalCause → List ℕ
@@ -19,3 +22,7 @@ note_text note = codes "NOTE " ++ cause_text note.cause ++ 32 ∷ [] ++ note.key
 -- the lines of notes, in order
 abbrev pub notes_text : List Note → List ℕ
 notes_text notes = flat_map note_text notes
+
+-- the notes of a namespace that were told and not taken
+abbrev pub notices_at : List Space → ℕ → List Note
+notices_at spaces namespace = option_map_or notices_of (slice_get spaces namespace) []

@@ -1,10 +1,17 @@
-//! The text of notes.
-ghost use Rattle.std.specs.Prelude.{◌≡◌, IfOk};
-ghost use Rattle.cached_program.specs.Notes.{cause_text, note_text};
+//! Notes, as lines of text.
+ghost use Rattle.std.specs.Prelude.{◌≡◌, ◌≤◌, ◌<◌, ◌∷◌, ◌⊎◌, ◌^◌, ◌-◌, [], length, IfNone, IfSome, OnOk, OnErr};
+ghost use Rattle.std.specs.Io.KnownBytes.{Appends};
+ghost use Rattle.cache_devices.specs.Failures.{HasFailed};
+ghost use Rattle.cache_devices.specs.Watched.{device, failures};
+ghost use Rattle.cache_spaces.specs.Services.{spaces_of};
+ghost use Rattle.cached_program.specs.Gathering.{Gathers};
+ghost use Rattle.cached_program.specs.Notes.{cause_text, note_text, notes_text, notices_at};
 
+use crate::gathering::{put, write_out};
 use audit_model::{Note, RemovalCause};
+use cache_devices::{SendError, Watched};
 use cache_spaces::Service;
-use std::alloc::{AllocError, Global};
+use std::io::Write;
 
 /// The word of a cause.
 fn cause_word(cause: RemovalCause) -> &'static [u8]
@@ -18,35 +25,58 @@ fn cause_word(cause: RemovalCause) -> &'static [u8]
     }
 }
 
-/// The line of a note.
-fn note_line(alloc: Global, note: &Note) -> Result<Vec<u8>, AllocError>
-    ensures { IfOk result (λ line. line.items ≡ note_text note.now) }
+/// Gathers the line of a note.
+fn write_note<W: Write>(
+    note: &Note,
+    gathered: &mut Vec<u8>,
+    writer: &mut Watched<W>,
+) -> Result<(), SendError>
+    ensures ok { OnOk result (Gathers (W.contents (device writer.old)) gathered.old.items (note_text note.now) (W.contents (device writer.new)) gathered.new.items) }
+    ensures cause { OnErr result (HasFailed (failures writer.old) (failures writer.new)) }
+    ensures count { failures writer.old ≤ failures writer.new }
 {
-    let mut line = Vec::from_slice(alloc, b"NOTE ")?;
-    line.extend_from_slice(cause_word(note.cause))?;
-    line.extend_from_slice(b" ")?;
-    line.extend_from_slice(note.key.as_slice())?;
-    line.extend_from_slice(b" ")?;
-    line.extend_from_slice(note.value.as_slice())?;
-    line.extend_from_slice(b"\n")?;
-    Ok(line)
+    put(gathered, b"NOTE ", writer)?;
+    put(gathered, cause_word(note.cause), writer)?;
+    put(gathered, b" ", writer)?;
+    put(gathered, note.key.as_slice(), writer)?;
+    put(gathered, b" ", writer)?;
+    put(gathered, note.value.as_slice(), writer)?;
+    put(gathered, b"\n", writer)
 }
 
-/// Takes all notes of a namespace, and adds their lines.
-pub fn add_notes(
+/// The oldest note of a namespace that there is.
+fn next_note(service: &mut Service, namespace: u64) -> Option<Note>
+    requires known { namespace < length (spaces_of service.old) }
+    ensures none { IfNone result ((notices_at (spaces_of service.old) namespace ≡ []) × (notices_at (spaces_of service.new) namespace ≡ [])) }
+    ensures first { IfSome result (λ note. notices_at (spaces_of service.old) namespace ≡ note ∷ notices_at (spaces_of service.new) namespace) }
+    ensures count { length (spaces_of service.new) ≡ length (spaces_of service.old) }
+{
+    match service.next_notice(namespace) {
+        Ok(note) => note,
+        Err(_) => unreachable!(),
+    }
+}
+
+/// Takes all notes of a namespace, and writes their lines. Lines are gathered within the capacity of `gathered`, so that few
+/// writes are made, and no memory is taken.
+pub fn tell_notes<W: Write>(
     service: &mut Service,
-    alloc: Global,
     namespace: u64,
-    text: &mut Vec<u8>,
-) -> Result<(), AllocError> {
+    gathered: &mut Vec<u8>,
+    writer: &mut Watched<W>,
+) -> Result<(), SendError>
+    requires known { namespace < length (spaces_of service.old) }
+    requires none { gathered.old.items ≡ [] }
+    ensures told { OnOk result (Appends (W.contents (device writer.old)) (W.contents (device writer.new)) (notes_text (notices_at (spaces_of service.old) namespace))) }
+    ensures all { OnOk result (notices_at (spaces_of service.new) namespace ≡ []) }
+    ensures cause { OnErr result (HasFailed (failures writer.old) (failures writer.new) ⊎ (2 ^ 64 - 1 ≤ length (notices_at (spaces_of service.old) namespace))) }
+    ensures count { failures writer.old ≤ failures writer.new }
+{
     for _note in 0..u64::MAX {
-        match service.next_notice(namespace) {
-            Ok(Some(note)) => {
-                let line = note_line(alloc, &note)?;
-                text.extend_from_slice(&line)?;
-            }
-            Ok(None) | Err(_) => return Ok(()),
+        match next_note(service, namespace) {
+            Some(note) => write_note(&note, gathered, writer)?,
+            None => return write_out(gathered, writer),
         }
     }
-    Ok(())
+    Err(SendError::UsedUp)
 }

@@ -24,7 +24,8 @@ where
     let mut output = Vec::new(alloc);
     let mut errors = Vec::new(alloc);
     let mut writer = Watched::new(&mut output);
-    let status = cached(alloc, words, &mut reader, &mut writer, &mut errors);
+    let mut told = Watched::new(&mut errors);
+    let status = cached(alloc, words, &mut reader, &mut writer, &mut told);
     Ran {
         output,
         errors,

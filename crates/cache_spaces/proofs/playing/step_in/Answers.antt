@@ -1,19 +1,19 @@
 use Rattle.std.proofs.Common.{arith}
 use Rattle.cache_spaces.proofs.Journaling.{same-transcript, put-back}
 use Rattle.cache_spaces.proofs.Putting.{put-at, at-of, refuses-at}
-use Rattle.cache_spaces.proofs.playing.step.Goals as goal
+use Rattle.cache_spaces.proofs.playing.step_in.Goals as goal
 
 pub returns-in-Ok-clause-ok : goal.returns-in-Ok-clause-ok
 returns-in-Ok-clause-ok c =
     at-of _ _ _ _ _ c.namespace_of-namespace.ensures
-    (put-at _ c.args.spaces.now.items c.namespace_of-namespace.result c.index_mut-space.result.now c.record_input.new.space (let f = c.if-namespace-len.false in omega arith) c.index_mut-space.ensures.value
+    (put-at _ c.args.service.now.spaces.items c.namespace_of-namespace.result c.index_mut-space.result.now c.record_input.new.space (let f = c.if-namespace-len.false in omega arith) c.index_mut-space.ensures.value
     (at-of _ _ _ _ _ c.namespace_of-namespace.ensures
     (put-at _ c.args.transcripts.now.items c.namespace_of-namespace.result c.index_mut-transcript.result.now c.record_input.new.transcript (let f = c.if-namespace-len.false in let e = c.requires.count in omega arith) c.index_mut-transcript.ensures.value (c.in-Ok.ensures.made, c.in-Ok.ensures.ok))))
 
 pub returns-in-Err-clause-refused : goal.returns-in-Err-clause-refused
 returns-in-Err-clause-refused c =
     refuses-at _ _ _ _ _ c.in-Err.error c.namespace_of-namespace.ensures
-    (put-at _ c.args.spaces.now.items c.namespace_of-namespace.result c.index_mut-space.result.now c.record_input.new.space (let f = c.if-namespace-len.false in omega arith) c.index_mut-space.ensures.value (c.in-Err.ensures.err.1, c.in-Err.ensures.refused))
+    (put-at _ c.args.service.now.spaces.items c.namespace_of-namespace.result c.index_mut-space.result.now c.record_input.new.space (let f = c.if-namespace-len.false in omega arith) c.index_mut-space.ensures.value (c.in-Err.ensures.err.1, c.in-Err.ensures.refused))
 
 pub returns-in-Err-clause-err : goal.returns-in-Err-clause-err
 returns-in-Err-clause-err c =

@@ -1,0 +1,22 @@
+use Rattle.std.proofs.Common.{◌∙◌, ◌+◌, ap, length, length-append}
+use Rattle.rand_core.specs.Stream.{fill_bytes}
+use Rattle.rand_xoshiro.specs.Xoshiro256.{of_seed}
+use Rattle.plain_store.specs.Plain.{is_plain}
+use Rattle.cache_spaces.proofs.Newly.{all-at, forked-more, new-more}
+use Rattle.cache_spaces.proofs.making.new_spaces.Goals as goal
+
+pub loop-config-preserved : goal.loop-config-preserved
+loop-config-preserved c = record {
+  new = new-more c.loop-config.spaces.items _ c.args.configs.now c.args.generator c.args.made c.loop-config.config-index c.new.result _ c.loop-config-test.true c.loop-config.invariant.number c.loop-config.invariant.new
+      (record {
+        stands = c.new.ensures.stands;
+        configured = c.new.ensures.config;
+        plain = all-at is_plain c.args.configs.now c.loop-config.config-index _ c.loop-config-test.true c.requires.configs;
+        connections = c.new.ensures.connections;
+        notices = c.new.ensures.notices;
+        forked = c.new.ensures.generator ∙ c.fork.ensures.seeded ∙ ap (λ s. of_seed (fill_bytes 32 s).0) c.loop-config.invariant.forked;
+      })
+      c.in_ok-push.ensures.items;
+  number = ap length c.in_ok-push.ensures.items ∙ length-append c.loop-config.spaces.items _ ∙ ap (λ n. n + 1) c.loop-config.invariant.number;
+  forked = forked-more c.args.generator c.loop-config.generator c.fork.new.self c.loop-config.config-index c.loop-config.invariant.forked c.fork.ensures.rest;
+}

@@ -1,0 +1,137 @@
+//! A service that keeps its journals.
+ghost use Rattle.std.specs.Prelude.{◌≡◌, ◌≤◌, ◌<◌, ◌^◌, ◌↔◌, ◌⊎◌, ◌∷◌, [], Some, false, IfOk, IfErr, OnOk, OnErr, IsErrOf, MatchOption, length};
+ghost use Rattle.std.specs.List.{slice_get};
+ghost use Rattle.cache_spaces.specs.Played.{WerePlayed};
+ghost use Rattle.cache_spaces.specs.Recorded.{AreEmpty, RecordsAt, RefusedInput, namespace_of};
+ghost use Rattle.cache_spaces.specs.Services.{are_taken, AreNew, Refuses, spaces_of};
+
+use crate::outputs::{Output, last_output};
+use crate::playing::{empty_transcripts, namespace_of, step_in};
+use crate::service::Service;
+use audit_model::{Config, Input, Instant, ServiceError, Transcript};
+use rand_xoshiro::Xoshiro256PlusPlus;
+use std::alloc::Global;
+
+/// An input that was refused, handed back.
+#[derive(Drop)]
+pub struct Refusal {
+    pub error: ServiceError,
+    pub input: Input,
+}
+
+/// A service that keeps the transcript of each namespace, its journal. Replies and notes stand in the journals.
+///
+/// A journal is kept whole: memory grows with each input.
+#[derive(Drop)]
+pub struct RecordedService {
+    service: Service,
+    journals: Vec<Transcript>,
+    ghost played: { ∥ WerePlayed (spaces_of service) journals.items ∥₁ },
+}
+
+impl RecordedService {
+    ghost use Rattle.audit_model.specs.Belongs.{IsAdmitted};
+    ghost use Rattle.audit_model.specs.Obeys.{Obeys};
+    ghost use Rattle.cache_spaces.specs.Journals.{LeadsSo, journals_of, service_of};
+    ghost use Rattle.cache_spaces.specs.Outputs.{output_after};
+    ghost use Rattle.cache_spaces.specs.Services.{IsSpace};
+    ghost use Rattle.cache_spaces.specs.Spaces.{config_of};
+    ghost use Rattle.cache_spaces.specs.declared.space.Space.{Space as Seen};
+
+    /// A service of these configurations, made at that moment, with empty journals. Refused as `Service::new` is.
+    pub fn new(
+        alloc: Global,
+        configs: &[Config],
+        generator: Xoshiro256PlusPlus,
+        moment: Instant,
+    ) -> Result<RecordedService, ServiceError>
+        ensures made { IfOk result (λ recorded. AreNew (spaces_of (service_of recorded)) configs.now generator moment.nanos) }
+        ensures empty { IfOk result (λ recorded. AreEmpty moment (journals_of recorded) × (length (journals_of recorded) ≡ length configs.now)) }
+        ensures moment { IsErrOf result ServiceError.Moment ↔ (2 ^ 63 ≤ moment.nanos) }
+        ensures config { IsErrOf result ServiceError.Config ↔ ((moment.nanos < 2 ^ 63) × (are_taken configs.now ≡ false)) }
+        ensures memory { IfErr result (λ e. (e ≡ ServiceError.Moment) ⊎ (e ≡ ServiceError.Config) ⊎ (e ≡ ServiceError.OutOfMemory)) }
+    {
+        let service = match Service::new(alloc, configs, generator, moment) {
+            Ok(service) => service,
+            Err(error) => return Err(error),
+        };
+        match empty_transcripts(alloc, configs.len(), moment) {
+            Ok(journals) => Ok(RecordedService { service, journals }),
+            Err(_) => Err(ServiceError::OutOfMemory),
+        }
+    }
+
+    /// Takes an input, and adds its record to its namespace's journal.
+    ///
+    /// An input that is refused is handed back; then nothing has changed.
+    pub fn step(&mut self, input: Input) -> Result<Output, Refusal>
+        ensures taken { OnOk result (RecordsAt input (journals_of self.old) (journals_of self.new) (spaces_of (service_of self.old)) (spaces_of (service_of self.new))) }
+        ensures output { IfOk result (λ output. (journal : Transcript) → slice_get (journals_of self.new) (namespace_of input) ≡ Some journal → output ≡ output_after (namespace_of input) journal.records) }
+        ensures refused { IfErr result (λ refusal. Refuses (spaces_of (service_of self.old)) (spaces_of (service_of self.new)) (namespace_of input) refusal.error (RefusedInput input refusal.error)) }
+        ensures back { IfErr result (λ refusal. refusal.input ≡ input) }
+        ensures unrecorded { OnErr result (journals_of self.new ≡ journals_of self.old) }
+    {
+        match self.record(&input) {
+            Ok(output) => Ok(output),
+            Err(error) => Err(Refusal { error, input }),
+        }
+    }
+
+    /// Takes an input, and adds its record.
+    pub(crate) fn record(&mut self, input: &Input) -> Result<Output, ServiceError>
+        ensures taken { OnOk result (RecordsAt input.now (journals_of self.old) (journals_of self.new) (spaces_of (service_of self.old)) (spaces_of (service_of self.new))) }
+        ensures output { IfOk result (λ output. (journal : Transcript) → slice_get (journals_of self.new) (namespace_of input.now) ≡ Some journal → output ≡ output_after (namespace_of input.now) journal.records) }
+        ensures refused { IfErr result (λ e. Refuses (spaces_of (service_of self.old)) (spaces_of (service_of self.new)) (namespace_of input.now) e (RefusedInput input.now e)) }
+        ensures unrecorded { OnErr result (journals_of self.new ≡ journals_of self.old) }
+    {
+        match step_in(&mut self.service, &mut self.journals, input) {
+            Ok(()) => Ok(self.output_in(namespace_of(input))),
+            Err(error) => Err(error),
+        }
+    }
+
+    /// What the last record of a namespace came to.
+    fn output_in(&self, namespace: u64) -> Output
+        ensures { (journal : Transcript) → slice_get (journals_of self.now) namespace ≡ Some journal → result ≡ output_after namespace journal.records }
+    {
+        match self.journals.get(namespace as usize) {
+            Some(journal) => last_output(namespace, journal.records.as_slice()),
+            None => Output::Done,
+        }
+    }
+
+    /// The journal of a namespace. Refused with `NoNamespace`.
+    pub fn journal(&self, namespace: u64) -> Result<&Transcript, ServiceError>
+        ensures journal { IfOk result (λ journal. slice_get (journals_of self.now) namespace ≡ Some journal.now) }
+        ensures obeys { IfOk result (λ journal. (space : Seen) → IsSpace (spaces_of (service_of self.now)) namespace space → Obeys (config_of space) journal.now × IsAdmitted (config_of space) journal.now) }
+        ensures stands { IfOk result (λ journal. (space : Seen) → IsSpace (spaces_of (service_of self.now)) namespace space → ∥ LeadsSo space journal.now ∥₁) }
+        ensures refused { IfErr result (λ e. (e ≡ ServiceError.NoNamespace) × (length (spaces_of (service_of self.now)) ≤ namespace)) }
+    {
+        match self.journal_at(namespace) {
+            Some(journal) => Ok(journal),
+            None => Err(ServiceError::NoNamespace),
+        }
+    }
+
+    /// The journal of a namespace, if there is one.
+    fn journal_at(&self, namespace: u64) -> Option<&Transcript>
+        ensures { MatchOption result (length (journals_of self.now) ≤ namespace) (λ journal. slice_get (journals_of self.now) namespace ≡ Some journal.now) }
+    {
+        self.journals.get(namespace as usize)
+    }
+
+    /// The service.
+    pub fn service(&self) -> &Service
+        ensures { result.now ≡ service_of self.now }
+    {
+        &self.service
+    }
+
+    /// The journals, in the order of the namespaces.
+    pub fn into_journals(self) -> Vec<Transcript>
+        ensures { result.items ≡ journals_of self }
+    {
+        let RecordedService { journals, .. } = self;
+        journals
+    }
+}
