@@ -7,147 +7,175 @@ use std::alloc::Global;
 use std::sync::Arc;
 use std::test::Fail;
 
-fn new_entry(alloc: Global, entries: &mut Slab<Slot<u8>>) -> Result<usize, Fail> {
-    let key = Arc::new(alloc, 1u8)?;
-    let info = EntryInfo::new(KeyHash::new(key, 7), Instant::from_nanos(0), 1);
-    Ok(entries.insert(Slot::new(info))?)
+/// Entries in the queues in order of use and in order of writes.
+#[derive(Drop)]
+struct Cache {
+    entries: Slab<Slot<u8>>,
+    deques: Deques<u8>,
 }
 
-fn push(
-    deques: &mut Deques<u8>,
-    entry: usize,
-    entries: &mut Slab<Slot<u8>>,
-) -> Result<(), &'static str> {
-    let node = KeyHashDate::new(entry);
-    match deques.push_back_ao(CacheRegion::MainProbation, node, entries) {
-        Ok(()) => {}
-        Err(_) => return Err("no room"),
+/// Entries 0, 1, 2, .., in both queues.
+fn filled(alloc: Global, number: usize) -> Result<Cache, Fail> {
+    let mut cache = Cache {
+        entries: Slab::new(alloc),
+        deques: Deques::default(alloc),
+    };
+    for _ in 0..number {
+        let key = Arc::new(alloc, 1u8)?;
+        let info = EntryInfo::new(KeyHash::new(key, 7), Instant::from_nanos(0), 1);
+        let entry = cache.entries.insert(Slot::new(info))?;
+        push(&mut cache, KeyHashDate::new(entry))?;
     }
-    match deques.push_back_wo(node, entries) {
-        Ok(()) => Ok(()),
-        Err(_) => Err("no room"),
+    Ok(cache)
+}
+
+fn push(cache: &mut Cache, node: KeyHashDate) -> Result<(), &'static str> {
+    let used = cache
+        .deques
+        .push_back_ao(CacheRegion::MainProbation, node, &mut cache.entries);
+    let written = cache.deques.push_back_wo(node, &mut cache.entries);
+    match (used, written) {
+        (Ok(()), Ok(())) => Ok(()),
+        _ => Err("no room"),
     }
 }
 
-fn front(deques: &Deques<u8>, region: CacheRegion) -> Option<usize> {
-    deques.peek_front(region).map(|node| node.entry)
+fn use_entry(cache: &mut Cache, entry: usize) -> Result<(), Stale> {
+    cache.deques.move_to_back_ao(entry, &cache.entries)
+}
+
+fn write_entry(cache: &mut Cache, entry: usize) -> Result<(), Stale> {
+    cache.deques.move_to_back_wo(entry, &cache.entries)
+}
+
+fn unlink(cache: &mut Cache, entry: usize) -> Result<(), Stale> {
+    cache.deques.unlink_ao(entry, &mut cache.entries)
+}
+
+fn front(cache: &Cache, region: CacheRegion) -> Option<usize> {
+    cache.deques.peek_front(region).map(|node| node.entry)
+}
+
+fn back(cache: &Cache, region: CacheRegion) -> Option<usize> {
+    cache.deques.peek_back(region).map(|node| node.entry)
+}
+
+fn next(cache: &mut Cache, region: CacheRegion) -> Option<usize> {
+    cache.deques.next(region).map(|node| node.entry)
+}
+
+fn pop(cache: &mut Cache, region: CacheRegion) -> Option<usize> {
+    cache.deques.pop_front(region).map(|node| node.entry)
+}
+
+fn len(cache: &Cache, region: CacheRegion) -> usize {
+    cache.deques.len(region)
+}
+
+fn written_node(cache: &Cache, entry: usize) -> Option<NodeId> {
+    match cache.entries.get(entry) {
+        Some(slot) => slot.nodes.write_queue,
+        None => None,
+    }
 }
 
 #[test]
-fn entries_in_order_of_use_and_of_writes(rt: HostRuntime) -> Result<(), Fail> {
-    let mut entries: Slab<Slot<u8>> = Slab::new(rt.alloc());
-    let mut deques: Deques<u8> = Deques::default(rt.alloc());
-    let a = new_entry(rt.alloc(), &mut entries)?;
-    let b = new_entry(rt.alloc(), &mut entries)?;
-    let c = new_entry(rt.alloc(), &mut entries)?;
-    assert_eq!(rt; deques.reserve(3).is_ok(), true);
-    push(&mut deques, a, &mut entries)?;
-    push(&mut deques, b, &mut entries)?;
-    push(&mut deques, c, &mut entries)?;
+fn entries_in_order_of_use(rt: HostRuntime) -> Result<(), Fail> {
+    let mut cache = filled(rt.alloc(), 3)?;
+    assert_eq!(rt; use_entry(&mut cache, 0), Ok(()));
+    assert_eq!(rt; front(&cache, CacheRegion::MainProbation), Some(1));
+    assert_eq!(rt; back(&cache, CacheRegion::MainProbation), Some(0));
+    assert_eq!(rt; front(&cache, CacheRegion::Other), Some(0));
+    assert_eq!(rt; len(&cache, CacheRegion::Window), 0);
+    assert_eq!(rt; front(&cache, CacheRegion::Window), None);
+    Ok(())
+}
 
-    // A use of the first entry, and a write of the second.
-    assert_eq!(rt; deques.move_to_back_ao(a, &entries), Ok(()));
-    assert_eq!(rt; deques.move_to_back_wo(b, &entries), Ok(()));
-    assert_eq!(rt; front(&deques, CacheRegion::MainProbation), Some(b));
-    assert_eq!(rt;
-        deques
-            .peek_back(CacheRegion::MainProbation)
-            .map(|node| node.entry),
-        Some(a)
-    );
-    for wanted in [Some(a), Some(c), Some(b), None, Some(a)] {
-        assert_eq!(rt;
-            deques.next(CacheRegion::Other).map(|node| node.entry),
-            wanted
-        );
+#[test]
+fn entries_in_order_of_writes(rt: HostRuntime) -> Result<(), Fail> {
+    let mut cache = filled(rt.alloc(), 3)?;
+    assert_eq!(rt; write_entry(&mut cache, 1), Ok(()));
+    for wanted in [Some(0), Some(2), Some(1), None, Some(0)] {
+        assert_eq!(rt; next(&mut cache, CacheRegion::Other), wanted);
     }
-    deques.reset_cursor(CacheRegion::Other);
-    assert_eq!(rt;
-        deques.next(CacheRegion::Other).map(|node| node.entry),
-        Some(a)
-    );
-    assert_eq!(rt; deques.len(CacheRegion::Window), 0);
-    assert_eq!(rt; front(&deques, CacheRegion::Window), None);
+    cache.deques.reset_cursor(CacheRegion::Other);
+    assert_eq!(rt; next(&mut cache, CacheRegion::Other), Some(0));
+    Ok(())
+}
 
-    // An entry that left one order stays in the other.
-    assert_eq!(rt; deques.unlink_ao(b, &mut entries), Ok(()));
-    assert_eq!(rt; deques.unlink_ao(b, &mut entries), Ok(()));
-    assert_eq!(rt; deques.len(CacheRegion::MainProbation), 2);
-    assert_eq!(rt; deques.len(CacheRegion::Other), 3);
-    assert_eq!(rt; deques.move_to_back_ao(b, &entries), Ok(()));
-    assert_eq!(rt; front(&deques, CacheRegion::MainProbation), Some(c));
+#[test]
+fn an_entry_that_left_one_order_stays_in_the_other(rt: HostRuntime) -> Result<(), Fail> {
+    let mut cache = filled(rt.alloc(), 3)?;
+    assert_eq!(rt; unlink(&mut cache, 1), Ok(()));
+    assert_eq!(rt; unlink(&mut cache, 1), Ok(()));
+    assert_eq!(rt; len(&cache, CacheRegion::MainProbation), 2);
+    assert_eq!(rt; len(&cache, CacheRegion::Other), 3);
+    assert_eq!(rt; use_entry(&mut cache, 1), Ok(()));
+    assert_eq!(rt; back(&cache, CacheRegion::MainProbation), Some(2));
     Ok(())
 }
 
 #[test]
 fn nodes_of_another_queue_are_stale(rt: HostRuntime) -> Result<(), Fail> {
-    let mut entries: Slab<Slot<u8>> = Slab::new(rt.alloc());
-    let mut deques: Deques<u8> = Deques::default(rt.alloc());
-    let a = new_entry(rt.alloc(), &mut entries)?;
-    let b = new_entry(rt.alloc(), &mut entries)?;
-    push(&mut deques, a, &mut entries)?;
-    push(&mut deques, b, &mut entries)?;
-    let written: Option<NodeId> = match entries.get(a) {
-        Some(slot) => slot.nodes.write_queue,
-        None => None,
-    };
+    let mut cache = filled(rt.alloc(), 2)?;
+    let written = written_node(&cache, 0);
     assert_eq!(rt;
-        written.map(|id| deques.unlink_node_ao(id)),
+        written.map(|id| cache.deques.unlink_node_ao(id)),
         Some(Err(Stale))
     );
-
-    // A node that was popped is stale, and its entry knows it still.
-    assert_eq!(rt;
-        deques
-            .pop_front(CacheRegion::MainProbation)
-            .map(|node| node.entry),
-        Some(a)
-    );
-    assert_eq!(rt; deques.move_to_back_ao(a, &entries), Err(Stale));
-    assert_eq!(rt; deques.unlink_ao(a, &mut entries), Err(Stale));
-    assert_eq!(rt; front(&deques, CacheRegion::MainProbation), Some(b));
-    assert_eq!(rt; deques.len(CacheRegion::Other), 2);
+    assert_eq!(rt; len(&cache, CacheRegion::Other), 2);
     Ok(())
 }
 
 #[test]
+fn a_popped_node_is_stale(rt: HostRuntime) -> Result<(), Fail> {
+    let mut cache = filled(rt.alloc(), 2)?;
+    assert_eq!(rt; pop(&mut cache, CacheRegion::MainProbation), Some(0));
+    assert_eq!(rt; use_entry(&mut cache, 0), Err(Stale));
+    assert_eq!(rt; unlink(&mut cache, 0), Err(Stale));
+    assert_eq!(rt; front(&cache, CacheRegion::MainProbation), Some(1));
+    Ok(())
+}
+
+fn use_in_deque(cache: &mut Cache, entry: usize) -> Result<(), Stale> {
+    let queue = cache.deques.select_mut(CacheRegion::MainProbation);
+    Deques::move_to_back_ao_in_deque(queue, entry, &cache.entries)
+}
+
+fn write_in_deque(cache: &mut Cache, entry: usize) -> Result<(), Stale> {
+    let queue = cache.deques.select_mut(CacheRegion::Other);
+    Deques::move_to_back_wo_in_deque(queue, entry, &cache.entries)
+}
+
+fn unlink_used(cache: &mut Cache, entry: usize) -> Result<(), Stale> {
+    let queue = cache.deques.select_mut(CacheRegion::MainProbation);
+    Deques::unlink_ao_from_deque(queue, entry, &mut cache.entries)
+}
+
+fn unlink_written(cache: &mut Cache, entry: usize) -> Result<(), Stale> {
+    let queue = cache.deques.select_mut(CacheRegion::Other);
+    Deques::unlink_wo(queue, entry, &mut cache.entries)
+}
+
+fn unlink_written_node(cache: &mut Cache, id: NodeId) -> Result<(), Stale> {
+    Deques::<u8>::unlink_node_wo(cache.deques.select_mut(CacheRegion::Other), id)
+}
+
+#[test]
 fn calls_on_one_queue(rt: HostRuntime) -> Result<(), Fail> {
-    let mut entries: Slab<Slot<u8>> = Slab::new(rt.alloc());
-    let mut deques: Deques<u8> = Deques::default(rt.alloc());
-    let a = new_entry(rt.alloc(), &mut entries)?;
-    let b = new_entry(rt.alloc(), &mut entries)?;
-    push(&mut deques, a, &mut entries)?;
-    push(&mut deques, b, &mut entries)?;
-    let probation = deques.select_mut(CacheRegion::MainProbation);
+    let mut cache = filled(rt.alloc(), 2)?;
+    assert_eq!(rt; use_in_deque(&mut cache, 0), Ok(()));
+    assert_eq!(rt; front(&cache, CacheRegion::MainProbation), Some(1));
+    assert_eq!(rt; write_in_deque(&mut cache, 0), Ok(()));
+    assert_eq!(rt; front(&cache, CacheRegion::Other), Some(1));
+    assert_eq!(rt; unlink_used(&mut cache, 1), Ok(()));
+    assert_eq!(rt; front(&cache, CacheRegion::MainProbation), Some(0));
+    assert_eq!(rt; unlink_written(&mut cache, 1), Ok(()));
+    let left = written_node(&cache, 0);
     assert_eq!(rt;
-        Deques::move_to_back_ao_in_deque(probation, a, &entries),
-        Ok(())
-    );
-    assert_eq!(rt; front(&deques, CacheRegion::MainProbation), Some(b));
-    let written = deques.select_mut(CacheRegion::Other);
-    assert_eq!(rt;
-        Deques::move_to_back_wo_in_deque(written, a, &entries),
-        Ok(())
-    );
-    assert_eq!(rt; front(&deques, CacheRegion::Other), Some(b));
-    let probation = deques.select_mut(CacheRegion::MainProbation);
-    assert_eq!(rt;
-        Deques::unlink_ao_from_deque(probation, b, &mut entries),
-        Ok(())
-    );
-    assert_eq!(rt; front(&deques, CacheRegion::MainProbation), Some(a));
-    let written = deques.select_mut(CacheRegion::Other);
-    assert_eq!(rt; Deques::<u8>::unlink_wo(written, b, &mut entries), Ok(()));
-    assert_eq!(rt; front(&deques, CacheRegion::Other), Some(a));
-    let left = match entries.get(a) {
-        Some(slot) => slot.nodes.write_queue,
-        None => None,
-    };
-    let written = deques.select_mut(CacheRegion::Other);
-    assert_eq!(rt;
-        left.map(|id| Deques::<u8>::unlink_node_wo(written, id)),
+        left.map(|id| unlink_written_node(&mut cache, id)),
         Some(Ok(()))
     );
-    assert_eq!(rt; deques.select(CacheRegion::Other).len(), 0);
+    assert_eq!(rt; cache.deques.select(CacheRegion::Other).len(), 0);
     Ok(())
 }

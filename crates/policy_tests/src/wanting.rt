@@ -203,44 +203,58 @@ fn wanting_a_larger_sketch_changes_nothing(rt: HostRuntime) -> Result<(), Fail> 
     Ok(())
 }
 
+/// Puts an entry behind all others, at the second try where memory is refused: then nothing has changed.
+fn push_entry(
+    rt: &impl Abort,
+    deques: &mut Deques<u8>,
+    node: KeyHashDate,
+    entries: &mut Slab<Slot<u8>>,
+) -> Result<(), &'static str> {
+    let len = deques.len(CacheRegion::MainProbation);
+    match deques.push_back_ao(CacheRegion::MainProbation, node, entries) {
+        Ok(()) => return Ok(()),
+        Err(PushError::OutOfMemory(back)) => assert_eq!(rt; back, node),
+        Err(PushError::UsedUp(_)) => return Err("used up"),
+    }
+    assert_eq!(rt; deques.len(CacheRegion::MainProbation), len);
+    assert_eq!(rt; has_node(node.entry, entries), false);
+    match deques.push_back_ao(CacheRegion::MainProbation, node, entries) {
+        Ok(()) => Ok(()),
+        Err(_) => Err("no room"),
+    }
+}
+
+fn has_node(entry: usize, entries: &Slab<Slot<u8>>) -> bool {
+    match entries.get(entry) {
+        Some(slot) => slot.nodes.access_queue.is_some(),
+        None => false,
+    }
+}
+
 #[test]
 fn wanting_entries_stay_where_they_are(rt: HostRuntime) -> Result<(), Fail> {
     let mut entries = entries_for(rt.alloc(), 9)?;
     let mut deques: Deques<u8> = Deques::default(rt.alloc());
     for _ in 0..9 {
         let entry = entries.insert(slot(rt.alloc(), TICK)?)?;
-        let node = KeyHashDate::new(entry);
-        let len = deques.len(CacheRegion::MainProbation);
-        match deques.push_back_ao(CacheRegion::MainProbation, node, &mut entries) {
-            Ok(()) => {}
-            Err(error) => {
-                match error {
-                    PushError::OutOfMemory(back) => assert_eq!(rt; back, node),
-                    PushError::UsedUp(_) => return Err("used up")?,
-                }
-                assert_eq!(rt; deques.len(CacheRegion::MainProbation), len);
-                assert_eq!(rt; deques.move_to_back_ao(entry, &entries), Ok(()));
-                assert_eq!(rt; deques.len(CacheRegion::MainProbation), len);
-                let again = deques.push_back_ao(CacheRegion::MainProbation, node, &mut entries);
-                assert_eq!(rt; again.is_ok(), true);
-            }
-        }
-        assert_eq!(rt;
-            deques.peek_back(CacheRegion::MainProbation).copied(),
-            Some(node)
-        );
+        push_entry(&rt, &mut deques, KeyHashDate::new(entry), &mut entries)?;
+        assert_eq!(rt; has_node(entry, &entries), true);
     }
+    assert_eq!(rt; deques.len(CacheRegion::MainProbation), 9);
+    Ok(())
+}
+
+#[test]
+fn wanting_entries_within_a_reservation(rt: HostRuntime) -> Result<(), Fail> {
+    let mut entries = entries_for(rt.alloc(), 9)?;
+    let mut deques: Deques<u8> = Deques::default(rt.alloc());
     if deques.reserve(9).is_err() {
         assert_eq!(rt; deques.reserve(9), Ok(()));
     }
-    for entry in 0..9usize {
-        assert_eq!(rt;
-            deques
-                .push_back_wo(KeyHashDate::new(entry), &mut entries)
-                .is_ok(),
-            true
-        );
-        assert_eq!(rt; deques.move_to_back_ao(entry, &entries), Ok(()));
+    for _ in 0..9 {
+        let entry = entries.insert(slot(rt.alloc(), TICK)?)?;
+        let pushed = deques.push_back_wo(KeyHashDate::new(entry), &mut entries);
+        assert_eq!(rt; pushed.is_ok(), true);
     }
     assert_eq!(rt; deques.len(CacheRegion::Other), 9);
     Ok(())

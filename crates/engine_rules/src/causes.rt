@@ -1,0 +1,44 @@
+//! Why a value left, and why a predicate is refused.
+ghost use Rattle.std.specs.Prelude.{◌≡◌, ◌↔◌, ◌⊎◌, IsTrue, Some, codes};
+
+use std::fmt;
+
+/// Why a value left a cache.
+#[derive(Clone, Copy, Debug, PartialEq, Eq)]
+pub enum RemovalCause {
+    /// Its time had come.
+    Expired,
+    /// It was removed by its key, or covered by a clear or a predicate.
+    Explicit,
+    /// Another value was written under its key.
+    Replaced,
+    /// The cache was heavier than its capacity.
+    Size,
+}
+
+impl RemovalCause {
+    /// Whether the cache let the value go by itself: it expired, or there was no room for it.
+    pub fn was_evicted(self) -> bool
+        ensures { IsTrue result ↔ ((self ≡ RemovalCause.Expired) ⊎ (self ≡ RemovalCause.Size)) }
+    {
+        match self {
+            RemovalCause::Expired | RemovalCause::Size => true,
+            RemovalCause::Explicit | RemovalCause::Replaced => false,
+        }
+    }
+}
+
+/// Why a predicate is refused.
+#[derive(Clone, Copy, Debug, PartialEq, Eq)]
+pub enum PredicateError {
+    /// The cache was made without support for predicates.
+    InvalidationClosuresDisabled,
+}
+
+impl fmt::Display for PredicateError {
+    ghost output = { λ _. Some (codes "invalidation closures are disabled") };
+
+    fn fmt<W: fmt::Write>(&self, f: &mut fmt::Formatter<W>) -> fmt::Result {
+        f.write_str("invalidation closures are disabled")
+    }
+}

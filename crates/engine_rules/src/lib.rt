@@ -1,0 +1,13 @@
+//! What a cache is told beside its keys and values: how much a value weighs, how long it lives, what a predicate covers,
+//! who is evicted, and why a value left.
+#![tactic(auto)]
+
+mod causes;
+mod expiry;
+mod rules;
+mod settings;
+
+pub use causes::{PredicateError, RemovalCause};
+pub use expiry::{Expiration, Expiry, NoExpiry};
+pub use rules::{Bundle, NoPredicate, Predicate, Rules, WeighOne, Weigher};
+pub use settings::{EvictionPolicy, ExpirationPolicy, Policy};

@@ -1,0 +1,145 @@
+//! Rules, through their bounds.
+ghost use Rattle.std.specs.Prelude.{ℕ, Option, Some, nat_lt, nat_eq};
+
+use engine_rules::{
+    Bundle, Expiration, Expiry, NoExpiry, NoPredicate, Predicate, Rules, WeighOne, Weigher,
+};
+use policy_base::Instant;
+use std::test::Fail;
+use std::time::Duration;
+
+/// A value lives a second from its creation on, and as long again as it had left from each read on.
+#[derive(Drop)]
+struct OneSecond;
+
+impl Expiry<u8, u32> for OneSecond {
+    ghost created = { λ _ _ _ _. Some 1_000_000_000 };
+
+    ghost read = { λ _ _ _ _ left _. left };
+
+    ghost updated = { λ _ _ _ _ _. Some 1_000_000_000 };
+
+    fn expire_after_create(
+        &self,
+        _key: &u8,
+        _value: &u32,
+        _created_at: Instant,
+    ) -> Option<Duration> {
+        Some(Duration::from_nanos(1_000_000_000))
+    }
+
+    fn expire_after_read(
+        &self,
+        _key: &u8,
+        _value: &u32,
+        _read_at: Instant,
+        remaining: Option<Duration>,
+        _last_modified_at: Instant,
+    ) -> Option<Duration> {
+        remaining
+    }
+
+    fn expire_after_update(
+        &self,
+        _key: &u8,
+        _value: &u32,
+        _updated_at: Instant,
+        _remaining: Option<Duration>,
+    ) -> Option<Duration> {
+        Some(Duration::from_nanos(1_000_000_000))
+    }
+}
+
+/// A value weighs what it is.
+#[derive(Drop)]
+struct WeighValue;
+
+impl Weigher<u8, u32> for WeighValue {
+    ghost weight_of = { λ _ _ value. value };
+
+    fn weigh(&self, _key: &u8, value: &u32) -> u32 {
+        *value
+    }
+}
+
+/// Covers the values below a limit.
+#[derive(Drop)]
+struct Below {
+    limit: u32,
+}
+
+impl Predicate<u8, u32> for Below {
+    ghost covers = { λ below _ value. nat_lt value below.limit };
+
+    fn is_match(&self, _key: &u8, value: &u32) -> bool {
+        *value < self.limit
+    }
+}
+
+/// What rules say of a value that is updated when a second is left to it.
+fn updated<R: Rules<u8, u32>>(rules: &R, value: u32) -> Expiration {
+    rules.updated_expiration(
+        &1,
+        &value,
+        Instant::from_nanos(5),
+        Some(Duration::from_secs(1)),
+    )
+}
+
+/// What rules say of a value that is read when half a second is left to it.
+fn read<R: Rules<u8, u32>>(rules: &R, value: u32) -> Expiration {
+    let half = Some(Duration::from_millis(500));
+    rules.read_expiration(
+        &1,
+        &value,
+        Instant::from_nanos(5),
+        half,
+        Instant::from_nanos(2),
+    )
+}
+
+#[test]
+fn a_bundle_asks_its_parts(rt: HostRuntime) {
+    let rules: Bundle<OneSecond, WeighValue, Below, u8> = Bundle::new(OneSecond, WeighValue);
+    assert_eq!(rt; rules.weight(&1, &30), 30);
+    assert_eq!(rt; rules.is_covered(&Below { limit: 10 }, &1, &9), true);
+    assert_eq!(rt; rules.is_covered(&Below { limit: 10 }, &1, &10), false);
+    assert_eq!(rt;
+        rules.created_expiration(&1, &30, Instant::from_nanos(5)),
+        Some(Duration::from_secs(1))
+    );
+}
+
+#[test]
+fn an_answer_of_what_is_left_changes_nothing(rt: HostRuntime) {
+    let rules: Bundle<OneSecond, WeighValue, Below, u8> = Bundle::new(OneSecond, WeighValue);
+    assert_eq!(rt; updated(&rules, 30), Expiration::Keep);
+    assert_eq!(rt; read(&rules, 30), Expiration::Keep);
+    assert_eq!(rt;
+        rules.updated_expiration(&1, &30, Instant::from_nanos(5), None),
+        Expiration::Set(Some(Duration::from_secs(1)))
+    );
+}
+
+#[test]
+fn the_plain_parts(rt: HostRuntime) {
+    let rules: Bundle<NoExpiry, WeighOne, NoPredicate, u8> = Bundle::new(NoExpiry, WeighOne);
+    assert_eq!(rt; updated(&rules, 30), Expiration::Keep);
+    assert_eq!(rt; read(&rules, 30), Expiration::Keep);
+    let weight = weight_of(&rules, 30);
+    assert_eq!(rt; weight, 1);
+    assert_eq!(rt; is_covered(&rules, &NoPredicate, 30), false);
+    assert_eq!(rt; created(&rules, 30), None);
+}
+
+fn weight_of<R: Rules<u8, u32>>(rules: &R, value: u32) -> u32 {
+    rules.weight(&1, &value)
+}
+
+fn is_covered<R: Rules<u8, u32>>(rules: &R, predicate: &R::Predicate, value: u32) -> bool {
+    rules.is_covered(predicate, &1, &value)
+}
+
+fn created<R: Rules<u8, u32>>(rules: &R, value: u32) -> Option<Duration> {
+    rules.created_expiration(&1, &value, Instant::from_nanos(5))
+}
