@@ -137,7 +137,7 @@ apart-append (h ∷ held) n a absent =
     ∙ and_from _ _ parts.0 (and_from _ _ (not_from_false (same h.value.key n.value.key) other) refl))
     (apart-append held n parts.1 others.1)
 
-value_at-append : (held : List HeldValue) (n : HeldValue) (q : List ℕ) → is_absent n.value.key held ≡ true
+pub value_at-append : (held : List HeldValue) (n : HeldValue) (q : List ℕ) → is_absent n.value.key held ≡ true
     → value_at (held ++ n ∷ []) q ≡ cond (same q n.value.key) (Some n) (value_at held q)
 value_at-append [] n q absent = refl
 value_at-append (h ∷ held) n q absent =

@@ -1,0 +1,63 @@
+use Rattle.std.proofs.Common.{◌≡◌, ◌+◌, None, map, length, sym, ap, ◌∙◌, subst, arith}
+use Rattle.std.proofs.lemmas.List.{length-append}
+use Rattle.audit_model.specs.Changes.{all_held_after}
+use Rattle.audit_model.specs.Situation.{HeldValue}
+use Rattle.cache_store.specs.Promises.{Done, syncing}
+use Rattle.cache_store.specs.Handing.{Hands}
+use Rattle.cache_store.specs.Running.{weight_in}
+use Rattle.plain_sweep.specs.Swept.{swept}
+use Rattle.plain_sweep.proofs.Sweeping.{swept_number}
+use Rattle.plain_store.specs.Standing.{Stands}
+use Rattle.plain_store.specs.Drawing.{is_among}
+use Rattle.plain_store.proofs.Calls.{one_part, run_does}
+use Rattle.plain_store.proofs.Keeping.{kept_swept, always_within, weight_is, all_timely, no_recency}
+use Rattle.plain_store.proofs.store.PlainStoreStore.run_all.Goals as goal
+
+pub invariant_of-self : goal.invariant_of-self
+invariant_of-self g c =
+    let store = c.args.self.now in
+    record {
+      kept = rw c.sweep.ensures.kept (kept_swept store.config c.args.now (weight_in 0 store.table) store.table store.kept);
+      room = c.sweep.ensures.room;
+      unused = λ _. c.clear.ensures.items;
+    }
+
+pub returns-clause-done : goal.returns-clause-done
+returns-clause-done g c = λ held stands.
+    let store = c.args.self.now in
+    let w = weight_in 0 store.table in
+    let s = swept store.config c.args.now 0 None w store.table in
+    let d : Done store.config c.args.now syncing held (Stands store.config s.kept) (Hands one_part store.notes.items c.sweep.new.notes.items) =
+    run_does store.config c.args.now w store.table held store.notes.items c.sweep.new.notes.items store.kept.apart c.sweep.ensures.told stands in
+    let xs = all_held_after store.config c.args.now held syncing d.told in
+    let k = kept_swept store.config c.args.now w store.table store.kept in
+    record {
+      told = d.told;
+      right = d.right;
+      left = (
+        subst (λ t. Stands store.config t xs) (sym c.sweep.ensures.kept) d.left,
+        always_within store.config store.kept.served (map (λ (h : HeldValue). h.value) xs),
+        c.len.ensures.number ∙ ap length c.sweep.ensures.kept ∙ sym d.left.same.number,
+        c.weigh_part.ensures ∙ ap (weight_in 0) c.sweep.ensures.kept ∙ sym (weight_is s.kept xs k.apart k.parted d.left.same),
+      );
+      handed = d.handed;
+    }
+
+pub returns-clause-timely : goal.returns-clause-timely
+returns-clause-timely g c = λ held stands.
+    let store = c.args.self.now in
+    all_timely store.config store.made c.args.now (weight_in 0 store.table) store.table held store.kept (subst (λ t. Stands store.config t held) c.sweep.ensures.kept stands)
+
+pub returns-clause-few : goal.returns-clause-few
+returns-clause-few g c =
+    let store = c.args.self.now in
+    let s = swept store.config c.args.now 0 None (weight_in 0 store.table) store.table in
+    let n = swept_number store.config c.args.now 0 None (weight_in 0 store.table) store.table in
+    let l : length c.sweep.new.notes.items ≡ length store.notes.items + length s.told = ap length c.sweep.ensures.told ∙ length-append store.notes.items s.told in
+    omega arith
+
+pub returns-clause-recency : goal.returns-clause-recency
+returns-clause-recency g c = λ n settled keys p. absurd (no_recency c.args.self.now.config c.args.self.now.kept.served n p)
+
+pub returns-clause-released : goal.returns-clause-released
+returns-clause-released g c = λ part id. ap (λ xs. is_among xs id) c.clear.ensures.items

@@ -1,0 +1,5 @@
+pub mod Drawing
+pub mod Putting
+pub mod Standing
+pub mod Doing
+pub mod Laws

@@ -1,0 +1,125 @@
+//! What one key holds: looked up, written and removed.
+ghost use Rattle.std.specs.Prelude.{◌≡◌, ◌≤◌, ◌<◌, ◌+◌, ◌++◌, ◌∷◌, [], List, ℕ, length, true, false, Some, None, if◌then◌else◌, IfOk, OnOk, OnErr, vec_len, vec_capacity};
+ghost use Rattle.std.specs.Option.{option_map};
+ghost use Rattle.std.specs.VecDeque.{deque_len, deque_capacity};
+ghost use Rattle.audit_model.specs.Situation.{is_dead_at};
+ghost use Rattle.plain_table.specs.Items.{held_of, value_at, without, to_front, used_at};
+ghost use Rattle.plain_sweep.specs.Swept.{cause_of_replaced, cause_of_deleted};
+ghost use Rattle.plain_store.specs.Putting.{live_in, Writes, replaced_note, deleted_note};
+
+use audit_model::{Config, Note, RemovalCause};
+use plain_sweep::{is_dead, is_live, tell};
+use plain_table::{Kept, Table};
+use std::alloc::AllocError;
+use std::collections::VecDeque;
+
+/// The bytes of a key's live value.
+pub fn live_bytes<'a>(table: &'a Table, config: &Config, key: &[u8], now: u64) -> Option<&'a [u8]>
+    ensures { option_map (λ bytes. bytes.now) result ≡ option_map (λ h. h.value.bytes) (live_in config.now now table.now key.now) }
+{
+    match table.get(key) {
+        Some(kept) => {
+            if is_live(config, kept, now) {
+                Some(kept.bytes.as_slice())
+            } else {
+                None
+            }
+        }
+        None => None,
+    }
+}
+
+/// Writes the bytes of a key's live value behind `found`, with room for one more, and answers whether there are any.
+pub fn write_found(
+    table: &Table,
+    config: &Config,
+    key: &[u8],
+    now: u64,
+    found: &mut Vec<u8>,
+) -> Result<bool, AllocError>
+    ensures ok { IfOk result (λ is_found. Writes (live_in config.now now table.now key.now) is_found found.old.items found.new.items) }
+    ensures err { OnErr result (found.new.items ≡ found.old.items) }
+    ensures room { vec_capacity found.old ≤ vec_capacity found.new }
+    ensures spare { IfOk result (λ is_found. is_found ≡ true → vec_len found.new < vec_capacity found.new) }
+{
+    match live_bytes(table, config, key, now) {
+        Some(bytes) => {
+            found.try_reserve(bytes.len() + 1)?;
+            found.extend_from_slice(bytes).unwrap();
+            Ok(true)
+        }
+        None => Ok(false),
+    }
+}
+
+/// Uses the value of a key, where it was found.
+pub fn use_found(table: &mut Table, is_found: bool, key: &[u8], now: u64)
+    ensures { table.new ≡ (if is_found then to_front (used_at now) key.now table.old else table.old) }
+{
+    if is_found {
+        table.touch(key, now);
+    }
+}
+
+/// Gives a key a value, which comes first, and tells the older one. There is room for two notes.
+pub fn put(
+    table: &mut Table,
+    notes: &mut VecDeque<Note>,
+    config: &Config,
+    key: Vec<u8>,
+    kept: Kept,
+    now: u64,
+) -> Result<(), AllocError>
+    requires room { deque_len notes.old + length table.old + 1 ≤ deque_capacity notes.old }
+    requires light { kept.weight ≤ 8192 }
+    ensures put { OnOk result (table.new ≡ held_of key.items kept ∷ without key.items table.old) }
+    ensures told { OnOk result (notes.new.items ≡ notes.old.items ++ replaced_note config.now now (value_at table.old key.items)) }
+    ensures unchanged { OnErr result (table.new ≡ table.old) }
+    ensures nothing_told { OnErr result (notes.new.items ≡ notes.old.items) }
+    ensures room { deque_len notes.new + length table.new ≤ deque_capacity notes.new }
+{
+    match table.replace(&key, kept) {
+        Ok(older) => {
+            let cause = cause_of_replaced(config, &older, now);
+            tell(notes, cause, key, older);
+            Ok(())
+        }
+        Err(kept) => table.insert(key, kept),
+    }
+}
+
+/// Why a value leaves that is written over.
+fn cause_of_replaced(config: &Config, kept: &Kept, now: u64) -> RemovalCause
+    ensures { (key : List ℕ) → result ≡ cause_of_replaced (is_dead_at config.now now (held_of key kept.now)) kept.now.covered }
+{
+    if is_dead(config, kept, now) {
+        return RemovalCause::Expired;
+    }
+    if kept.covered {
+        return RemovalCause::Explicit;
+    }
+    RemovalCause::Replaced
+}
+
+/// Lets the value of a key go, and tells it.
+pub fn take(table: &mut Table, notes: &mut VecDeque<Note>, config: &Config, key: &[u8], now: u64)
+    requires { deque_len notes.old + length table.old ≤ deque_capacity notes.old }
+    ensures rest { table.new ≡ without key.now table.old }
+    ensures told { notes.new.items ≡ notes.old.items ++ deleted_note config.now now (value_at table.old key.now) }
+    ensures room { deque_len notes.new + length table.new ≤ deque_capacity notes.new }
+{
+    if let Some((key, kept)) = table.remove(key) {
+        let cause = cause_of_deleted(config, &kept, now);
+        tell(notes, cause, key, kept);
+    }
+}
+
+/// Why a value leaves that is deleted.
+fn cause_of_deleted(config: &Config, kept: &Kept, now: u64) -> RemovalCause
+    ensures { (key : List ℕ) → result ≡ cause_of_deleted (is_dead_at config.now now (held_of key kept.now)) }
+{
+    if is_dead(config, kept, now) {
+        return RemovalCause::Expired;
+    }
+    RemovalCause::Explicit
+}
