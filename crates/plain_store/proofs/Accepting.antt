@@ -6,10 +6,9 @@ use Rattle.std.proofs.lemmas.Bool.{and_from, and_parts, not-true}
 use Rattle.std.proofs.lemmas.List.Folds.{list_all-append, find-append}
 use Rattle.std.proofs.lemmas.Option.{none-some}
 use Rattle.audit_model.specs.Bytewise.{same}
-use Rattle.audit_model.specs.Changes.{newly_held, left_held, use_after}
-use Rattle.audit_model.specs.Commands.{Deed}
+use Rattle.audit_model.specs.Changes.{newly_held, use_after}
 use Rattle.audit_model.specs.History.{Value}
-use Rattle.audit_model.specs.Notes.{are_true_notes, candidates_of, newcomer, is_succeeded, is_true_note, first_of}
+use Rattle.audit_model.specs.Notes.{newcomer, is_succeeded, is_true_note, first_of}
 use Rattle.audit_model.specs.Situation.{HeldValue, candidate_at, is_dead_at, is_live_at}
 use Rattle.audit_model.specs.Values.{without_key}
 use Rattle.audit_model.specs.View.{Candidate}
@@ -22,7 +21,6 @@ use Rattle.plain_table.proofs.Keys.{same-refl, same-flip_false, equal_from_same,
 use Rattle.plain_table.proofs.Held.{key_from_some, absent_from_none, without-absent, absent-without, none_from_absent, key_of}
 use Rattle.plain_sweep.specs.Holding.{plain, Corresponds}
 use Rattle.plain_sweep.specs.Swept.{note_of, cause_of_replaced}
-use Rattle.plain_sweep.proofs.Sweeping.{left}
 use Rattle.plain_sweep.proofs.Corresponding.{corresponds-without, corresponds-new, value_at-append}
 use Rattle.plain_sweep.proofs.Truth.{first_of-map, without-map, replaced_truly}
 use Rattle.plain_store.specs.Putting.{replaced_note}
@@ -75,8 +73,8 @@ module _ (config : Config) (now : ℕ) (used : Option (List ℕ)) (value : Value
       go true k =
           let is_q : value.key ≡ q = equal_from_same value.key h.value.key k ∙ key_from_some q (held ++ newly_held value ∷ []) h e in
           let there : Some (newly_held value) ≡ Some h =
-              sym (ap (λ b. cond b (Some (newly_held value)) (value_at held value.key)) (same-refl value.key)) ∙ sym (value_at-append held (newly_held value) value.key absent)
-              ∙ ap (value_at (held ++ newly_held value ∷ [])) is_q ∙ e in
+          sym (ap (λ b. cond b (Some (newly_held value)) (value_at held value.key)) (same-refl value.key)) ∙ sym (value_at-append held (newly_held value) value.key absent)
+          ∙ ap (value_at (held ++ newly_held value ∷ [])) is_q ∙ e in
           let is : newly_held value ≡ h = cc in
           either_way (same value.key h.value.key && is_live_at config now h) h.last_use (sym (ap (λ (g : HeldValue). g.last_use) is) ∙ at_now)
 
@@ -113,7 +111,7 @@ module _ (config : Config) (now : ℕ) (used : Option (List ℕ)) (value : Value
           let m : Note = note_of (cause_of_replaced (is_dead_at config now h) h.covered) h in
           let absent : is_absent value.key (without value.key held) ≡ true = absent-without value.key held s.same.apart in
           let rest : without h.value.key (held ++ newly_held value ∷ []) ≡ without value.key held ++ newly_held value ∷ [] =
-              ap (λ k. without k (held ++ newly_held value ∷ [])) is_key ∙ without_key-append key_of value.key held (newly_held value ∷ []) h e in
+          ap (λ k. without k (held ++ newly_held value ∷ [])) is_key ∙ without_key-append key_of value.key held (newly_held value ∷ []) h e in
           record {
             told = m ∷ [];
             right =
@@ -121,12 +119,12 @@ module _ (config : Config) (now : ℕ) (used : Option (List ℕ)) (value : Value
                 (ap (is_true_note config (map (candidate_at config now) held) (accepting used value) m)
                 (find-append (λ (c : Candidate). same h.value.key c.value.key) (map (candidate_at config now) held) (newcomer config value ∷ [])
                 ∙ ap (λ o. option_or o (first_of h.value.key (newcomer config value ∷ [])))
-                  (first_of-map (candidate_at config now) (λ g. refl) h.value.key held ∙ ap (option_map (candidate_at config now)) (ap (value_at held) is_key ∙ e)))
+                (first_of-map (candidate_at config now) (λ g. refl) h.value.key held ∙ ap (option_map (candidate_at config now)) (ap (value_at held) is_key ∙ e)))
                 ∙ replaced_truly config (map (candidate_at config now) held) value h.value h.evictable (is_dead_at config now h) h.covered used (same_from_equal h.value.key value.key is_key))
                 (ap (list_all (λ c. not (is_succeeded (accepting used value) c)))
                 (ap (λ k. without_key (λ (c : Candidate). c.value.key) k (map (candidate_at config now) held ++ newcomer config value ∷ [])) is_key
                 ∙ without_key-append (λ (c : Candidate). c.value.key) value.key (map (candidate_at config now) held) (newcomer config value ∷ []) (candidate_at config now h)
-                  (first_of-map (candidate_at config now) (λ g. refl) value.key held ∙ ap (option_map (candidate_at config now)) e)
+                (first_of-map (candidate_at config now) (λ g. refl) value.key held ∙ ap (option_map (candidate_at config now)) e)
                 ∙ ap (λ cs. cs ++ newcomer config value ∷ []) (without-map (candidate_at config now) (λ g. refl) value.key held))
                 ∙ none_rewritten_or_new config now used value (without value.key held) absent);
             left =

@@ -1,35 +1,32 @@
 -- What the calls of a plain store do.
-use Rattle.std.proofs.Common.{◌≡◌, ℕ, suc, ◌+◌, ◌≤◌, ◌==◌, Bool, cond, true, false, not, ◌&&◌, ◌||◌, List, [], ◌∷◌, ◌++◌, map, length, Option, option_map, Some, None, All, is_none, if◌then◌else◌, nat_eq, refl, sym, ap, ◌∙◌, subst, arith}
-use Rattle.std.specs.List.{list_all, sum_by, find, starts_with}
-use Rattle.std.specs.Option.{option_map_or}
-use Rattle.std.proofs.lemmas.Bool.{and_from, and_parts, not-true, not_from_false, eqb-true, or_from}
+use Rattle.std.proofs.Common.{◌≡◌, ℕ, suc, ◌≤◌, Bool, cond, true, false, not, ◌&&◌, ◌||◌, List, [], ◌∷◌, ◌++◌, map, drop, length, Option, option_map, Some, None, All, if◌then◌else◌, nat_eq, refl, sym, ap, ◌∙◌, subst, arith}
+use Rattle.std.specs.List.{list_all, find, starts_with}
+use Rattle.std.specs.Option.{option_map_or, option_to_list}
+use Rattle.std.proofs.lemmas.Bool.{and_from, and_parts, not-true}
 use Rattle.std.proofs.lemmas.List.{append-nil, length-map}
 use Rattle.std.proofs.lemmas.Option.{none-some}
 use Rattle.audit_model.specs.Bytewise.{same}
-use Rattle.audit_model.specs.Changes.{newly_held, left_held, held_after, all_held_after, use_after}
-use Rattle.audit_model.specs.Commands.{Deed, Covering, Nothing, Everything, Prefixed, covers_key, is_this}
-use Rattle.audit_model.specs.History.{Value, share, part_count}
-use Rattle.audit_model.specs.Notes.{are_true_notes, candidates_of, is_over, is_within, is_succeeded, is_true_note, overfills}
+use Rattle.audit_model.specs.Changes.{held_after, use_after}
+use Rattle.audit_model.specs.Commands.{Covering, Nothing, Everything, covers_key}
+use Rattle.audit_model.specs.History.{Value}
+use Rattle.audit_model.specs.Notes.{are_true_notes, is_succeeded, is_true_note}
 use Rattle.audit_model.specs.Situation.{HeldValue, candidate_at, is_dead_at, is_live_at, live_at}
-use Rattle.audit_model.specs.View.{Candidate}
 use Rattle.audit_model.specs.declared.config.Config.{Config}
 use Rattle.audit_model.specs.declared.transcript.Note.{Note}
 use Rattle.audit_model.specs.declared.transcript.RemovalCause.{RemovalCause}
 use Rattle.audit_model.specs.declared.transcript.RemovalCause.TheVariants.{Expired, Explicit, Replaced, Size}
-use Rattle.cache_store.specs.Handing.{Hands, TellsNone, ArePartByPart}
-use Rattle.cache_store.specs.Promises.{Done, Finds, no_deed, using, deleting, syncing, covering}
-use Rattle.cache_store.specs.Running.{weight_in}
-use Rattle.plain_table.specs.Items.{value_at, without, is_absent, are_apart, to_front, used_at}
+use Rattle.cache_store.specs.Handing.{Hands, Takes, TellsNone, ArePartByPart}
+use Rattle.cache_store.specs.Promises.{Done, Finds, using, deleting, syncing, covering}
+use Rattle.plain_table.specs.Items.{value_at, without, is_absent, are_apart, used_at}
 use Rattle.plain_table.proofs.Keys.{same-refl, same-flip_false, equal_from_same, same_from_equal}
-use Rattle.plain_table.proofs.Held.{all_found, key_from_some, to_front-some, length-without, absent_from_none, without-absent, absent-without}
+use Rattle.plain_table.proofs.Held.{key_from_some, length-without, absent_from_none, without-absent, absent-without}
 use Rattle.plain_sweep.specs.Holding.{plain, Corresponds}
-use Rattle.plain_sweep.specs.Swept.{note_of, exceeds, cause_at, swept, covered_by, cause_of_deleted}
+use Rattle.plain_sweep.specs.Swept.{note_of, swept, covered_by, cause_of_deleted}
 use Rattle.plain_sweep.proofs.Sweeping.{left, swept_tells, kept_is}
 use Rattle.plain_sweep.proofs.Corresponding.{value_at-map, value_at-without, apart-map, corresponds-without, corresponds-left, corresponds-map}
 use Rattle.plain_sweep.proofs.Truth.{says_from, Says, tell_truly, first_of-map, without-map, deleted_truly}
-use Rattle.plain_sweep.proofs.Weights.{over_is, exceeds-more}
 use Rattle.plain_store.specs.Putting.{if_live, live_in, Writes, deleted_note}
-use Rattle.plain_store.specs.Standing.{are_evictable, Stands}
+use Rattle.plain_store.specs.Standing.{Stands}
 use Rattle.plain_store.specs.Doing.{or_no, after_plain, corresponds-as, evictable_after, stands_after, none_succeeded, right_to_tell_none}
 
 abbrev pub one_part : List ℕ → ℕ
@@ -244,9 +241,9 @@ run_does config now weight items held old new a same_notes s =
           ap (λ cs. are_true_notes config (map cand held) syncing cs told) (append-nil (map cand held))
           ∙ ap (are_true_notes config (map cand held) syncing (map cand held)) (sym (append-nil told))
           ∙ tell_truly cand (λ h. refl) config now 0 None weight syncing (map cand held) (λ h. true)
-            (λ h cause w p le e. judged_truly config now held h cause (says_from config now 0 false h cause e).1)
-            told [] items held a s.same (all_always held) (swept_tells config now 0 None weight items a)
-            (none_succeeded config now None Nothing true (left told held));
+          (λ h cause w p le e. judged_truly config now held h cause (says_from config now 0 false h cause e).1)
+          told [] items held a s.same (all_always held) (swept_tells config now 0 None weight items a)
+          (none_succeeded config now None Nothing true (left told held));
       left =
           stands_after config now held syncing told (swept config now 0 None weight items).kept refl (λ q h e. refl)
           (subst (λ ys. Corresponds (swept config now 0 None weight items).kept (left told ys)) (sym (append-nil held))
@@ -289,11 +286,11 @@ remove_does config now key items held old new a same_notes s = go (value_at held
           right =
               ap (λ cs. are_true_notes config (map (candidate_at config now) held) (deleting key) cs (n ∷ [])) (append-nil (map (candidate_at config now) held))
               ∙ and_from _ _
-                (ap (λ o. is_true_note config (map (candidate_at config now) held) (deleting key) n o)
-                (first_of-map (candidate_at config now) (λ g. refl) h.value.key held ∙ ap (option_map (candidate_at config now)) (ap (value_at held) is_key ∙ e))
-                ∙ deleted_truly config (map (candidate_at config now) held) key h.value h.evictable (is_dead_at config now h) h.covered (same_from_equal h.value.key key is_key))
-                (ap (list_all (λ c. not (is_succeeded (deleting key) c))) (without-map (candidate_at config now) (λ g. refl) h.value.key held ∙ ap (λ k. map (candidate_at config now) (without k held)) is_key)
-                ∙ deleted_none config now key (without key held) absent_left);
+              (ap (λ o. is_true_note config (map (candidate_at config now) held) (deleting key) n o)
+              (first_of-map (candidate_at config now) (λ g. refl) h.value.key held ∙ ap (option_map (candidate_at config now)) (ap (value_at held) is_key ∙ e))
+              ∙ deleted_truly config (map (candidate_at config now) held) key h.value h.evictable (is_dead_at config now h) h.covered (same_from_equal h.value.key key is_key))
+              (ap (list_all (λ c. not (is_succeeded (deleting key) c))) (without-map (candidate_at config now) (λ g. refl) h.value.key held ∙ ap (λ k. map (candidate_at config now) (without k held)) is_key)
+              ∙ deleted_none config now key (without key held) absent_left);
           left =
               stands_after config now held (deleting key) (n ∷ []) (without key items) refl (λ q g f. refl)
               (subst (λ ys. Corresponds (without key items) (without h.value.key ys)) (sym (append-nil held))
@@ -308,3 +305,17 @@ starts_with_none (k ∷ key) = refl
 -- each key begins with nothing
 pub covers_all : covers_by [] Everything
 covers_all = starts_with_none
+
+-- ---- notes that are taken
+
+longer : (n : Note) (notes : List Note) → n ∷ notes ≡ notes → ⊥
+longer n notes e = let l : suc (length notes) ≡ length notes = ap length e in omega arith
+
+none_left : (old new : List Note) → old ≡ new → new ≡ drop 1 old → old ≡ []
+none_left [] new e d = refl
+none_left (n ∷ old) new e d = absurd (longer n old (e ∙ d))
+
+-- the first note is taken
+pub takes_first : (old new : List Note) (r : Option Note) → old ≡ option_to_list r ++ new → new ≡ drop 1 old → Takes one_part old new r
+takes_first old new None e d = let none = none_left old new e d in (none, sym e ∙ none)
+takes_first old new (Some n) e d = record { before = []; behind = new; was = e; is = refl; first = λ k x h. absurd (omega arith) }

@@ -1,5 +1,5 @@
 -- Identifiers that were drawn.
-use Rattle.std.proofs.Common.{◌≡◌, ℕ, suc, ◌+◌, ◌<◌, ◌≤◌, inl, inr, Bool, true, false, ◌||◌, List, [], ◌∷◌, ◌++◌, refl, sym, ap, ◌∙◌, subst, arith}
+use Rattle.std.proofs.Common.{◌≡◌, ℕ, suc, ◌+◌, ◌<◌, ◌≤◌, inl, inr, Bool, true, false, ◌||◌, List, [], ◌∷◌, ◌++◌, refl, sym, ap, ◌∙◌, arith}
 use Rattle.std.proofs.lemmas.Bool.{cases_lt}
 use Rattle.audit_model.specs.Bytewise.{same}
 use Rattle.plain_table.proofs.Keys.{same_from_equal, equal_from_same}
@@ -65,7 +65,7 @@ pub registers_from : (old new : Stream) (before after : List (List ℕ)) → Reg
 registers_from old new before after r = record {
   number = suc r.draws.place;
   stream = r.draws.stream;
-  registered = λ part. (r.draws.place, (omega arith, λ id e. go (is_among before id) (same r.id id) id refl refl (sym (ap (λ xs. is_among xs id) r.added ∙ among-append before r.id id) ∙ e)));
+  registered = λ part. (r.draws.place, omega arith, λ id e. go (is_among before id) (same r.id id) id refl refl (sym (ap (λ xs. is_among xs id) r.added ∙ among-append before r.id id) ∙ e));
 }
   where
     go : (a b : Bool) (id : List ℕ) → is_among before id ≡ a → same r.id id ≡ b → (is_among before id || same r.id id) ≡ true → (is_among before id || same id (identifier_at r.draws.place old)) ≡ true

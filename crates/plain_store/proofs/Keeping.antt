@@ -1,5 +1,5 @@
 -- What holds of a plain store's items stays so.
-use Rattle.std.proofs.Common.{◌≡◌, ℕ, ◌==◌, ◌≤◌, ◌+◌, Bool, cond, true, false, not, ◌&&◌, ◌||◌, List, [], ◌∷◌, ◌++◌, map, length, Option, Some, None, if◌then◌else◌, refl, sym, ap, ◌∙◌, subst, arith}
+use Rattle.std.proofs.Common.{◌≡◌, ℕ, ◌==◌, ◌≤◌, ◌+◌, Bool, cond, true, false, not, ◌&&◌, ◌||◌, List, [], ◌∷◌, map, length, Option, Some, None, Result, Ok, Err, OnOk, OnErr, if◌then◌else◌, refl, sym, ap, ◌∙◌, subst, arith}
 use Rattle.std.specs.List.{list_all, sum_by}
 use Rattle.std.specs.Option.{option_map_or}
 use Rattle.std.proofs.lemmas.Bool.{and_from, and_parts, not-true}
@@ -12,9 +12,9 @@ use Rattle.audit_model.specs.Situation.{HeldValue, is_live_at, is_dead_at}
 use Rattle.audit_model.specs.declared.config.Config.{Config}
 use Rattle.cache_store.specs.Recency.{IsPlainLru}
 use Rattle.cache_store.specs.Running.{weight_in, is_timely}
-use Rattle.plain_table.specs.Items.{value_at, without, is_absent, are_apart, to_front, used_at}
-use Rattle.plain_table.proofs.Held.{key_of, all-without_key, apart-without, absent-without, to_front-some, to_front-none, length-to_front, all_found, key_from_some}
-use Rattle.plain_sweep.specs.Holding.{plain, Corresponds}
+use Rattle.plain_table.specs.Items.{value_at, without, are_apart, to_front, used_at}
+use Rattle.plain_table.proofs.Held.{key_of, all-without_key, apart-without, absent-without, length-to_front, all_found, key_from_some}
+use Rattle.plain_sweep.specs.Holding.{Corresponds}
 use Rattle.plain_sweep.specs.Swept.{covered_by, swept}
 use Rattle.plain_sweep.proofs.Sweeping.{kept_is, kept_all}
 use Rattle.plain_sweep.proofs.Corresponding.{apart-left, apart-map}
@@ -154,3 +154,9 @@ pub new_item_is : (now : ℕ) (key key' bytes bytes' : List ℕ) (weight weight'
     → new_item now key bytes weight own ≡ new_item now key' bytes' weight' own'
 new_item_is now key key' bytes bytes' weight weight' own own' a b c d =
     ap (λ x. new_item now x bytes weight own) a ∙ ap (λ x. new_item now key' x weight own) b ∙ ap (λ x. new_item now key' bytes' x own) c ∙ ap (λ x. new_item now key' bytes' weight' x) d
+
+-- a value that is put, or refused
+pub kept_put : (config : Config) (items new : List HeldValue) (h : HeldValue) {T E : Type 0} (r : Result T E) (key : List ℕ) → is_here h ≡ true
+    → OnOk r (new ≡ h ∷ without h.value.key items) → OnErr r (new ≡ items) → AreKept config items → AreKept config new
+kept_put config items new h (Ok t) key here ok err k = subst (AreKept config) (sym ok) (kept_first config h items here k)
+kept_put config items new h (Err e) key here ok err k = subst (AreKept config) (sym err) k

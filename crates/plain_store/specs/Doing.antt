@@ -1,27 +1,20 @@
 -- What a step leaves, and that its notes are true.
-use Rattle.std.proofs.Common.{◌≡◌, ℕ, suc, ◌+◌, ◌≤◌, ◌==◌, Bool, cond, true, false, not, ◌&&◌, ◌||◌, List, [], ◌∷◌, ◌++◌, map, length, Option, option_map, Some, None, is_none, if◌then◌else◌, IsTrue, refl, sym, ap, ◌∙◌, subst, arith}
-use Rattle.std.specs.List.{list_all, sum_by, find}
-use Rattle.std.proofs.lemmas.Bool.{and_from, and_parts, not-true, not_from_false, eqb-true}
+use Rattle.std.proofs.Common.{◌≡◌, ℕ, suc, Bool, cond, true, false, not, ◌&&◌, ◌||◌, List, [], ◌∷◌, map, length, Option, option_map, Some, None, refl, sym, ap, ◌∙◌, arith}
+use Rattle.std.specs.List.{list_all, sum_by}
+use Rattle.std.proofs.lemmas.Bool.{and_from, and_parts}
 use Rattle.std.proofs.lemmas.List.{append-nil}
-use Rattle.std.proofs.lemmas.List.Folds.{list_all-append}
 use Rattle.std.proofs.lemmas.List.Sums.{sum_by-cons}
 use Rattle.std.proofs.lemmas.List.Sorted.{sum_by-IsPermutation}
-use Rattle.std.proofs.lemmas.Option.{none-some}
-use Rattle.audit_model.specs.Bytewise.{same}
-use Rattle.audit_model.specs.Changes.{newly_held, left_held, held_after, all_held_after, use_after}
+use Rattle.audit_model.specs.Changes.{left_held, held_after, all_held_after, use_after}
 use Rattle.audit_model.specs.Commands.{Deed, Covering, Nothing, covers_key}
 use Rattle.audit_model.specs.History.{Value}
-use Rattle.audit_model.specs.Notes.{are_true_notes, candidates_of, is_over, is_succeeded, is_true_note, overfills}
-use Rattle.audit_model.specs.Situation.{HeldValue, candidate_at, is_dead_at, is_live_at}
-use Rattle.audit_model.specs.View.{Candidate}
+use Rattle.audit_model.specs.Notes.{are_true_notes, candidates_of, is_over, is_succeeded}
+use Rattle.audit_model.specs.Situation.{HeldValue, candidate_at}
 use Rattle.audit_model.specs.declared.config.Config.{Config}
 use Rattle.audit_model.specs.declared.transcript.Note.{Note}
 use Rattle.cache_store.specs.Promises.{no_deed}
-use Rattle.plain_table.specs.Items.{value_at, without, is_absent, are_apart}
-use Rattle.plain_table.proofs.Keys.{same-refl, equal_from_same, same_from_equal}
-use Rattle.plain_table.proofs.Held.{all_found, key_from_some}
+use Rattle.plain_table.specs.Items.{value_at, are_apart}
 use Rattle.plain_sweep.specs.Holding.{plain, Corresponds}
-use Rattle.plain_sweep.proofs.Sweeping.{left}
 use Rattle.plain_sweep.proofs.Corresponding.{value_at-map, apart-map, permutation}
 use Rattle.plain_store.specs.Standing.{are_evictable, Stands}
 

@@ -1,9 +1,9 @@
 -- What holds of each plain store.
-use Rattle.std.specs.Prelude.{◌≡◌, ℕ, ◌<◌, true, List, [], ◌∷◌, map, None, Some, IsTrue, refl, IsPermutation}
-use Rattle.std.proofs.Common.{sym, ap, ◌∙◌, subst, arith}
+use Rattle.std.specs.Prelude.{◌≡◌, ℕ, ◌<◌, true, List, [], ◌∷◌, map, IsTrue, refl, IsPermutation}
+use Rattle.std.proofs.Common.{sym, ap, subst, arith}
 use Rattle.std.proofs.lemmas.List.{append-nil}
 use Rattle.std.proofs.lemmas.List.Sorted.{IsPermutation-map}
-use Rattle.audit_model.specs.Changes.{all_held_after, left_held}
+use Rattle.audit_model.specs.Changes.{all_held_after}
 use Rattle.audit_model.specs.History.{part_count}
 use Rattle.audit_model.specs.Situation.{HeldValue}
 use Rattle.audit_model.specs.declared.config.Config.{Config}

@@ -1,5 +1,5 @@
 -- Which values are held where a plain store has these items.
-use Rattle.std.specs.Prelude.{◌≡◌, ℕ, suc, ◌≤◌, ◌+◌, ◌==◌, Bool, true, false, not, ◌&&◌, ◌||◌, List, map, take, length, Option, None}
+use Rattle.std.specs.Prelude.{◌≡◌, ℕ, suc, ◌==◌, Bool, true, not, ◌||◌, List, map, take, None}
 use Rattle.std.specs.List.{list_all}
 use Rattle.audit_model.specs.History.{part_count}
 use Rattle.audit_model.specs.Notes.{is_over}
@@ -7,10 +7,8 @@ use Rattle.audit_model.specs.Situation.{HeldValue}
 use Rattle.audit_model.specs.declared.config.Config.{Config}
 use Rattle.cache_store.specs.Promises.{Frame}
 use Rattle.cache_store.specs.Recency.{IsPlainLru}
-use Rattle.cache_store.specs.Running.{weight_in}
 use Rattle.plain_table.specs.Items.{are_apart}
 use Rattle.plain_sweep.specs.Holding.{Corresponds}
-use Rattle.plain_sweep.specs.Swept.{exceeds}
 
 -- what stays, whether a `DROPIF` was accepted, and the latest moment
 abbrev pub frame_of : Config → ℕ → Bool → ℕ → Frame

@@ -14,12 +14,7 @@ use std::alloc::AllocError;
 use std::collections::VecDeque;
 
 /// The bytes of a key's live value.
-pub fn live_bytes<'a>(
-    table: &'a Table,
-    config: &Config,
-    key: &[u8],
-    now: u64,
-) -> Option<&'a [u8]>
+pub fn live_bytes<'a>(table: &'a Table, config: &Config, key: &[u8], now: u64) -> Option<&'a [u8]>
     ensures { option_map (λ bytes. bytes.now) result ≡ option_map (λ h. h.value.bytes) (live_in config.now now table.now key.now) }
 {
     match table.get(key) {
@@ -107,13 +102,7 @@ fn cause_of_replaced(config: &Config, kept: &Kept, now: u64) -> RemovalCause
 }
 
 /// Lets the value of a key go, and tells it.
-pub fn take(
-    table: &mut Table,
-    notes: &mut VecDeque<Note>,
-    config: &Config,
-    key: &[u8],
-    now: u64,
-)
+pub fn take(table: &mut Table, notes: &mut VecDeque<Note>, config: &Config, key: &[u8], now: u64)
     requires { deque_len notes.old + length table.old ≤ deque_capacity notes.old }
     ensures rest { table.new ≡ without key.now table.old }
     ensures told { notes.new.items ≡ notes.old.items ++ deleted_note config.now now (value_at table.old key.now) }

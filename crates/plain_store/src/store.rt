@@ -127,7 +127,14 @@ impl<R: Rng + Drop> Store for PlainStore<R> {
             covered: false,
         };
         self.notes.reserve(self.table.len() + 1)?;
-        put(&mut self.table, &mut self.notes, &self.config, key, kept, now)?;
+        put(
+            &mut self.table,
+            &mut self.notes,
+            &self.config,
+            key,
+            kept,
+            now,
+        )?;
         self.latest = now;
         Ok(0)
     }
@@ -156,14 +163,7 @@ impl<R: Rng + Drop> Store for PlainStore<R> {
     }
 
     fn run_all(&mut self, now: u64) -> Counts {
-        sweep(
-            &mut self.table,
-            &mut self.notes,
-            &self.config,
-            None,
-            0,
-            now,
-        );
+        sweep(&mut self.table, &mut self.notes, &self.config, None, 0, now);
         self.register.clear();
         self.latest = now;
         Counts {

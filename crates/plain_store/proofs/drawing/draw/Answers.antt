@@ -1,6 +1,5 @@
-use Rattle.std.proofs.Common.{◌≡◌, ℕ, List, refl, sym, ap, ◌∙◌, subst, arith}
-use Rattle.rand_core.specs.Stream.{Stream}
-use Rattle.plain_store.specs.Drawing.{Draws, DrawsSome, is_among}
+use Rattle.std.proofs.Common.{sym, ap, ◌∙◌, arith}
+use Rattle.plain_store.specs.Drawing.{is_among}
 use Rattle.plain_store.proofs.Drawn.{draws_none_yet, draws_it, draws_more}
 use Rattle.plain_store.proofs.drawing.draw.Goals as goal
 

@@ -1,4 +1,4 @@
-use Rattle.std.proofs.Common.{◌∷◌, ap, sym, subst, ◌∙◌}
+use Rattle.std.proofs.Common.{ap, sym, subst, ◌∙◌}
 use Rattle.plain_table.specs.Items.{items_of, held_of}
 use Rattle.plain_store.proofs.Sorting.{Listed, listed_start, listed_more, listed_skip, listed_end}
 use Rattle.plain_store.proofs.listing.live_keys.Goals as goal

@@ -26,6 +26,6 @@ pub returns-in-Err-clause-put : goal.returns-in-Err-clause-put
 returns-in-Err-clause-put c =
     let absent : value_at c.args.table.now c.args.key.items ≡ None = rw c.deref.ensures.value at c.in-Err.ensures.absent in
     let same_rest : c.replace.new.self ≡ without c.args.key.items c.args.table.now =
-        c.in-Err.ensures.unchanged ∙ sym (without-absent c.args.key.items c.args.table.now (absent_from_none c.args.key.items c.args.table.now absent)) in
+    c.in-Err.ensures.unchanged ∙ sym (without-absent c.args.key.items c.args.table.now (absent_from_none c.args.key.items c.args.table.now absent)) in
     subst (λ xs. OnOk c.insert.result (c.insert.new.self ≡ held_of c.args.key.items c.args.kept ∷ xs)) same_rest
     (subst (λ k. OnOk c.insert.result (c.insert.new.self ≡ held_of c.args.key.items k ∷ c.replace.new.self)) c.in-Err.ensures.returned c.insert.ensures.ok)

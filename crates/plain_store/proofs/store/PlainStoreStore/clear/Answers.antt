@@ -1,4 +1,4 @@
-use Rattle.std.proofs.Common.{[], refl, ap}
+use Rattle.std.proofs.Common.{[], refl}
 use Rattle.audit_model.specs.Commands.{Everything}
 use Rattle.plain_store.proofs.Calls.{cover_does, covers_all}
 use Rattle.plain_store.proofs.Keeping.{kept_covered, covered_room}

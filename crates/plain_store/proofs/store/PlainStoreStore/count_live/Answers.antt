@@ -1,13 +1,15 @@
-use Rattle.std.proofs.Common.{length, map, filter, sym, ap, ◌∙◌}
+use Rattle.std.proofs.Common.{length, filter, sym, ap, ◌∙◌}
 use Rattle.std.proofs.lemmas.List.{length-map}
 use Rattle.audit_model.specs.Situation.{HeldValue, is_live_at}
 use Rattle.plain_store.proofs.Sorting.{live_keys_are, length-sorted, keys_of_live}
 use Rattle.plain_store.proofs.store.PlainStoreStore.count_live.Goals as goal
 
-pub returns-clause-number : goal.returns-clause-number
-returns-clause-number g c = λ held stands.
-    let store = c.args.self.now in
-    c.count_live.ensures
-    ∙ sym (length-map (filter (is_live_at store.config c.args.now) store.table) (λ (h : HeldValue). h.value.key))
-    ∙ sym (length-sorted (keys_of_live store.config c.args.now store.table))
-    ∙ sym (ap length (live_keys_are store.config c.args.now store.table held store.kept.apart stands.same))
+pub returns : goal.returns
+returns g c = record {
+  number = λ held stands.
+      let store = c.args.self.now in
+      c.count_live.ensures
+      ∙ sym (length-map (filter (is_live_at store.config c.args.now) store.table) (λ (h : HeldValue). h.value.key))
+      ∙ sym (length-sorted (keys_of_live store.config c.args.now store.table))
+      ∙ sym (ap length (live_keys_are store.config c.args.now store.table held store.kept.apart stands.same));
+}

@@ -1,10 +1,19 @@
-use Rattle.std.proofs.Common.{refl, ap, ◌∙◌}
+use Rattle.std.proofs.Common.{refl, ◌∙◌}
 use Rattle.audit_model.specs.Commands.{Prefixed}
 use Rattle.plain_store.specs.Laws.{has_a_part}
 use Rattle.plain_store.proofs.Calls.{cover_does}
 use Rattle.plain_store.proofs.Drawn.{registers_from, used_up, dropped_from, alone_from}
 use Rattle.plain_store.proofs.Keeping.{kept_covered, covered_room}
 use Rattle.plain_store.proofs.store.PlainStoreStore.drop_prefix.Goals as goal
+
+pub invariant_of-self : goal.invariant_of-self
+invariant_of-self g c =
+    let store = c.args.self.now in
+    record {
+      kept = rw c.cover.ensures (kept_covered store.config c.args.prefix.now store.table store.kept);
+      room = covered_room c.args.prefix.now _ _ store.table c.cover.new.table c.cover.ensures store.room;
+      unused = λ e. cc;
+    }
 
 pub returns-in-Ok-clause-done : goal.returns-in-Ok-clause-done
 returns-in-Ok-clause-done g c = λ held stands.

@@ -1,12 +1,10 @@
-use Rattle.std.proofs.Common.{◌≡◌, if◌then◌else◌, length, refl, sym, subst, ap, ◌∙◌, arith}
-use Rattle.plain_table.specs.Items.{to_front, used_at}
-use Rattle.plain_store.specs.Standing.{Stands}
+use Rattle.std.proofs.Common.{length, refl, ap, ◌∙◌, arith}
 use Rattle.plain_store.proofs.Calls.{look_up_does, finds_from}
 use Rattle.plain_store.proofs.Keeping.{looked_is, kept_if_used, room_if_used, no_recency}
 use Rattle.plain_store.proofs.store.PlainStoreStore.look_up.Goals as goal
 
-pub invariant_of-self : goal.invariant_of-self
-invariant_of-self g c =
+pub invariant_of-self-2 : goal.invariant_of-self-2
+invariant_of-self-2 g c =
     let store = c.args.self.now in
     record {
       kept = rw c.use_found.ensures (kept_if_used store.config c.args.now c.args.key.now store.table c.in_ok-is_found.is_found store.kept);

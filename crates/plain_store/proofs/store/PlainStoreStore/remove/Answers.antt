@@ -1,4 +1,3 @@
-use Rattle.std.proofs.Common.{ap, ◌∙◌}
 use Rattle.plain_store.proofs.Calls.{remove_does}
 use Rattle.plain_store.proofs.Keeping.{kept_without}
 use Rattle.plain_store.proofs.store.PlainStoreStore.remove.Goals as goal

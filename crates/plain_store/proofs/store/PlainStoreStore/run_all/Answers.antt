@@ -1,5 +1,7 @@
-use Rattle.std.proofs.Common.{◌≡◌, ◌+◌, ◌++◌, None, length, sym, ap, ◌∙◌, subst, arith}
+use Rattle.std.proofs.Common.{◌≡◌, ◌+◌, None, map, length, sym, ap, ◌∙◌, subst, arith}
 use Rattle.std.proofs.lemmas.List.{length-append}
+use Rattle.audit_model.specs.Changes.{all_held_after}
+use Rattle.audit_model.specs.Situation.{HeldValue}
 use Rattle.cache_store.specs.Promises.{Done, syncing}
 use Rattle.cache_store.specs.Handing.{Hands}
 use Rattle.cache_store.specs.Running.{weight_in}
@@ -26,16 +28,17 @@ returns-clause-done g c = λ held stands.
     let w = weight_in 0 store.table in
     let s = swept store.config c.args.now 0 None w store.table in
     let d : Done store.config c.args.now syncing held (Stands store.config s.kept) (Hands one_part store.notes.items c.sweep.new.notes.items) =
-        run_does store.config c.args.now w store.table held store.notes.items c.sweep.new.notes.items store.kept.apart c.sweep.ensures.told stands in
+    run_does store.config c.args.now w store.table held store.notes.items c.sweep.new.notes.items store.kept.apart c.sweep.ensures.told stands in
+    let xs = all_held_after store.config c.args.now held syncing d.told in
     let k = kept_swept store.config c.args.now w store.table store.kept in
     record {
       told = d.told;
       right = d.right;
       left = (
-        subst (λ t. Stands store.config t _) (sym c.sweep.ensures.kept) d.left,
-        always_within store.config store.kept.served _,
-        c.len-number.ensures.number ∙ ap length c.sweep.ensures.kept ∙ sym d.left.same.number,
-        c.weigh_part-weight.ensures ∙ ap (weight_in 0) c.sweep.ensures.kept ∙ sym (weight_is s.kept _ k.apart k.parted d.left.same),
+        subst (λ t. Stands store.config t xs) (sym c.sweep.ensures.kept) d.left,
+        always_within store.config store.kept.served (map (λ (h : HeldValue). h.value) xs),
+        c.len.ensures.number ∙ ap length c.sweep.ensures.kept ∙ sym d.left.same.number,
+        c.weigh_part.ensures ∙ ap (weight_in 0) c.sweep.ensures.kept ∙ sym (weight_is s.kept xs k.apart k.parted d.left.same),
       );
       handed = d.handed;
     }

@@ -1,4 +1,4 @@
-use Rattle.std.proofs.Common.{◌++◌, map, Result, Ok, Err, OnOk, sym, ap, ◌∙◌}
+use Rattle.std.proofs.Common.{◌++◌, map, sym, ap, ◌∙◌}
 use Rattle.std.specs.List.{concat}
 use Rattle.audit_model.specs.Bytewise.{text_line}
 use Rattle.plain_store.proofs.Sorting.{live_keys_are, on_ok}
@@ -9,5 +9,5 @@ returns-clause-written g c =
     let store = c.args.self.now in
     on_ok c.write_keys.result _ _
     (λ e held stands.
-      e ∙ ap (λ ks. c.args.output.now.items ++ concat (map text_line ks)) (sym (live_keys_are store.config c.args.now store.table held store.kept.apart stands.same)))
+    e ∙ ap (λ ks. c.args.output.now.items ++ concat (map text_line ks)) (sym (live_keys_are store.config c.args.now store.table held store.kept.apart stands.same)))
     c.write_keys.ensures.written
