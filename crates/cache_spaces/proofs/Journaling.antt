@@ -1,6 +1,6 @@
 -- What namespaces and their transcripts are, input by input.
 use Rattle.std.proofs.Common.{◌≡◌, ◌≢◌, ℕ, zero, suc, ◌<◌, ◌-◌, List, [], ◌∷◌, ◌++◌, length, Some, None, refl, sym, ap, ◌∙◌, subst, inl, inr, arith, get_or, take, ◌+◌, length-append, ◌≤◌}
-use Rattle.std.specs.Prelude.{◌⊎◌, slice_set, Result, Ok, Err, OnOk, OnErr, IfErr, IsTrue, is_none, not}
+use Rattle.std.specs.Prelude.{◌⊎◌, slice_set, Result, Ok, Err, OnOk, OnErr, IfErr, IsTrue, is_none}
 use Rattle.std.proofs.Math.Seq.{take-suc}
 use Rattle.std.specs.List.{slice_get}
 use Rattle.std.proofs.lemmas.List.{length-set, set-get_or, take_all}

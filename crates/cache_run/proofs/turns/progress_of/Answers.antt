@@ -1,6 +1,8 @@
-use Rattle.std.proofs.Common.{◌≡◌, sym, ◌∙◌, inr}
+use Rattle.std.proofs.Common.{◌≡◌, ◌≤◌, sym, ◌∙◌, inr, arith, ⊎_elim, length}
+use Rattle.std.proofs.lemmas.Option.{slice_get_within}
 use Rattle.cache_run.specs.Connected.{IsOver, IsReady, IsTaken}
-use Rattle.cache_run.proofs.Connecting.{connected-here, ended-where-closed}
+use Rattle.cache_run.proofs.Connecting.{connected-here, ended-where-closed, not-unknown}
+use Rattle.cache_spaces.specs.Services.{spaces_of}
 use Rattle.cache_spaces.specs.Spaces.{closing_of}
 use Rattle.cache_run.proofs.turns.progress_of.Goals as goal
 
@@ -15,3 +17,13 @@ returns-in-Ok-Some c = λ remaining.
     let r = c.requires.taken in
     let is : c.in-Ok-Some.field-0 ≡ closing_of r.space c.args.conn.number = c.in-Ok-Some.ensures.closing r.space r.at in
     connected-here IsTaken (IsOver remaining) _ _ _ r (inr (ended-where-closed _ c.in-Ok-Some.field-0-0 r.left.0 (sym is ∙ c.in-Ok-Some.field-0-is)))
+
+pub unreachable-requires : goal.unreachable-requires
+unreachable-requires c =
+    let r = c.requires.taken in
+    ⊎_elim
+    (λ p.
+    let inside = slice_get_within (spaces_of c.args.service.now) c.args.conn.namespace r.space r.at in
+    let outside : length (spaces_of c.args.service.now) ≤ c.args.conn.namespace = p.1 in
+    absurd (omega arith))
+    (λ unknown. not-unknown r.space c.args.conn.number c.in-Err.field-0 r.positive r.known (unknown r.space r.at)) c.in-Err.ensures.refused

@@ -7,14 +7,14 @@ use Rattle.cache_spaces.proofs.making.new_spaces.Goals as goal
 
 pub loop-config-preserved : goal.loop-config-preserved
 loop-config-preserved c = record {
-  new = new-more c.loop-config.spaces.items _ c.args.configs.now c.args.generator c.args.made c.loop-config.config-index c.new.result _ c.loop-config-test.true c.loop-config.invariant.number c.loop-config.invariant.new
+  new = new-more c.loop-config.spaces.items _ c.args.configs.now c.args.generator c.args.made c.loop-config.config-index c.in_ok-new.field-0 _ c.loop-config-test.true c.loop-config.invariant.number c.loop-config.invariant.new
       (record {
-        stands = c.new.ensures.stands;
-        configured = c.new.ensures.config;
+        stands = c.in_ok-new.ensures.stands;
+        configured = c.in_ok-new.ensures.config;
         served = all-at is_served c.args.configs.now c.loop-config.config-index _ c.loop-config-test.true c.requires.configs;
-        connections = c.new.ensures.connections;
-        notices = c.new.ensures.notices;
-        forked = c.new.ensures.generator ∙ c.fork.ensures.seeded ∙ ap (λ s. of_seed (fill_bytes 32 s).0) c.loop-config.invariant.forked;
+        connections = c.in_ok-new.ensures.connections;
+        notices = c.in_ok-new.ensures.notices;
+        forked = c.in_ok-new.ensures.generator ∙ c.fork.ensures.seeded ∙ ap (λ s. of_seed (fill_bytes 32 s).0) c.loop-config.invariant.forked;
       })
       c.in_ok-push.ensures.items;
   number = ap length c.in_ok-push.ensures.items ∙ length-append c.loop-config.spaces.items _ ∙ ap (λ n. n + 1) c.loop-config.invariant.number;

@@ -1,7 +1,14 @@
 use Rattle.std.proofs.Common.{arith}
+use Rattle.cache_namespace.proofs.Places.{at-place}
 use Rattle.cache_spaces.proofs.Journaling.{same-transcript, put-back}
 use Rattle.cache_spaces.proofs.Putting.{put-at, at-of, refuses-at}
 use Rattle.cache_spaces.proofs.playing.step_in.Goals as goal
+
+pub record_input-requires : goal.record_input-requires
+record_input-requires c = record {
+  quiet = c.requires.quiet c.namespace_of-namespace.result c.index_mut-space.result.now
+      (at-place c.args.service.now.spaces.items c.namespace_of-namespace.result c.index_mut-space.result.now (let f = c.if-namespace-len.false in omega arith) c.index_mut-space.ensures.value);
+}
 
 pub returns-in-Ok-clause-ok : goal.returns-in-Ok-clause-ok
 returns-in-Ok-clause-ok c =

@@ -1,6 +1,7 @@
-use Rattle.std.proofs.Common.{ap, false, ◌∙◌}
+use Rattle.std.proofs.Common.{ap, ◌∙◌}
 use Rattle.cache_namespace.specs.Shown.{situation}
-use Rattle.cache_spaces.specs.Spaces.{Holds}
+use Rattle.cache_store.specs.Promises.{Frame}
+use Rattle.plain_store.specs.Standing as plain
 use Rattle.cache_spaces.proofs.Moving.{moves-from, stands-on}
 use Rattle.cache_spaces.proofs.space.Space.feed.Goals as goal
 
@@ -8,11 +9,13 @@ pub returns-in-Ok-clause-moves : goal.returns-in-Ok-clause-moves
 returns-in-Ok-clause-moves c = λ s stands.
     let old = c.args.self.now.inner in
     let new = c.feed.new.self in
-    moves-from old.config (record { part_of = λ key. 0; made = old.store.made }) (Holds c.args.self.now) (Holds c.feed.new.self) old.store.dropped new.store.dropped old.latest new.latest old.connections.items new.connections.items _ _ _ _ _ _ _ s stands c.in-Ok.ensures.ran
+    moves-from old.config (record { part_of = λ key. 0; made = old.store.made }) (plain.Stands old.store.config old.store.table) (plain.Stands new.store.config new.store.table) old.store.dropped new.store.dropped old.latest new.latest old.connections.items new.connections.items _ _ _ _ _ _ _ s stands c.in-Ok.ensures.ran
 
 pub returns-in-Err-clause-stands : goal.returns-in-Err-clause-stands
 returns-in-Err-clause-stands c = λ s stands.
     let old = c.args.self.now.inner in
     let new = c.feed.new.self in
-    stands-on (Holds c.args.self.now) (Holds c.feed.new.self) old.store.dropped new.store.dropped old.latest new.latest old.connections.items new.connections.items s stands c.in-Err.ensures.unchanged.stands
-    (λ values. ap (λ n. situation n new.connections.items new.store.dropped values) c.in-Err.ensures.latest ∙ c.in-Err.ensures.same.situation old.latest false values)
+    stands-on (plain.Stands old.store.config old.store.table) (plain.Stands new.store.config new.store.table) old.store.dropped new.store.dropped old.latest new.latest old.connections.items new.connections.items s stands c.in-Err.ensures.unchanged.stands
+    (λ values.
+    ap (λ n. situation n new.connections.items new.store.dropped values) c.in-Err.ensures.latest ∙ c.in-Err.ensures.same.situation old.latest new.store.dropped values
+    ∙ ap (λ d. situation old.latest old.connections.items d values) (ap (λ (f : Frame). f.dropped) c.in-Err.ensures.unchanged.frame))
