@@ -65,7 +65,7 @@ fn a_prefix_covers_what_came_before_it(rt: HostRuntime) -> Result<(), Fail> {
     store.accept(b"ab", b"1", None, false, 5)?;
     store.accept(b"b", b"2", None, false, 5)?;
     if store.drop_prefix(b"a", 5).is_err() {
-        return Err(Fail);
+        assert!(rt; false);
     }
     store.accept(b"ac", b"3", None, false, 5)?;
     assert_eq!(rt; store.count_live(5), 2);
