@@ -17,7 +17,7 @@ pub use policy_timers::{
 /// Functions whose contracts are laws.
 pub mod laws {
     pub use policy_deques::Deques;
-pub use policy_queue::{names_stand, stale_names_stay_stale, walks_give_each_once};
+    pub use policy_queue::{names_stand, stale_names_stay_stale, walks_give_each_once};
     pub use policy_sketch::own_counts_stand;
     pub use policy_timers::laws::{advances_give_the_due, next_event};
 }

@@ -43,36 +43,6 @@ fn a_node_that_left_is_stale(rt: HostRuntime) -> Result<(), Fail> {
 }
 
 #[test]
-fn moves_ten_thousand_times(rt: HostRuntime) -> Result<(), Fail> {
-    let mut queue: Deque<u64> = Deque::new(rt.alloc(), CacheRegion::Other);
-    let mut ids: Vec<NodeId> = Vec::new(rt.alloc());
-    for element in 0..1000 {
-        ids.push(push(&mut queue, element)?)?;
-    }
-    for _ in 0..10000 {
-        queue.move_front_to_back();
-    }
-    assert_eq!(rt; queue.peek_front().copied(), Some(0));
-    assert_eq!(rt; queue.len(), 1000);
-    for id in &ids {
-        assert_eq!(rt; queue.contains(*id), true);
-    }
-    Ok(())
-}
-
-#[test]
-fn pushes_within_a_reservation(rt: HostRuntime) -> Result<(), Fail> {
-    let mut queue: Deque<u64> = Deque::new(rt.alloc(), CacheRegion::Other);
-    assert_eq!(rt; queue.reserve(2).is_ok(), true);
-    push(&mut queue, 1)?;
-    push(&mut queue, 2)?;
-    assert_eq!(rt; queue.pop_front(), Some(1));
-    assert_eq!(rt; queue.pop_front(), Some(2));
-    assert_eq!(rt; queue.pop_front(), None);
-    Ok(())
-}
-
-#[test]
 fn a_move_empties_one_place_and_takes_another(rt: HostRuntime) -> Result<(), Fail> {
     let mut queue: Deque<u64> = Deque::new(rt.alloc(), CacheRegion::Other);
     assert_eq!(rt; queue.reserve(4).is_ok(), true);
