@@ -1,0 +1,3 @@
+pub mod Weights
+pub mod Deeds
+pub mod Scenes

@@ -1,0 +1,10 @@
+//! The judge of transcripts.
+#![tactic(auto)]
+
+mod deed;
+mod held;
+mod notes;
+mod times;
+mod weights;
+
+pub use held::Held;
