@@ -137,3 +137,14 @@ pub at-end : (scene : Scene) (cs : List Told) (notes : List Note) (i : ℕ) → 
 at-end scene cs notes i h =
     ap (are_true_notes scene.config.now (held_in scene) (deed_in scene) (map (candidate_in scene) cs)) (drop-all notes i h)
     ∙ list_all-map (candidate_in scene) (λ c. not (is_succeeded (deed_in scene) c)) cs
+
+map-itself : {X : Type 0} (xs : List X) → map (λ x. x) xs ≡ xs
+map-itself [] = refl
+map-itself (x ∷ xs) = ap (λ ys. x ∷ ys) (map-itself xs)
+
+module _ {X : Type 0} (key_of : X → List ℕ) (key : List ℕ) (xs : List X) where
+  pub picked-itself : (i : ℕ) (d : X) → position (λ x. same key (key_of x)) xs ≡ Some i → without_key key_of key xs ≡ remove xs i
+  picked-itself i d e = ap (without_key key_of key) (sym (map-itself xs)) ∙ (picked-at (λ x. x) key_of key xs i d e).rest ∙ map-itself (remove xs i)
+
+  pub missed-itself : position (λ x. same key (key_of x)) xs ≡ None → without_key key_of key xs ≡ xs
+  missed-itself e = ap (without_key key_of key) (sym (map-itself xs)) ∙ (missed-at (λ x. x) key_of key xs e).rest ∙ map-itself xs

@@ -1,6 +1,7 @@
 //! The judge of transcripts.
 #![tactic(auto)]
 
+mod after;
 mod deed;
 mod held;
 mod notes;

@@ -90,7 +90,7 @@ fn first_cause(scene: &Scene<'_>, c: Candidate<'_>) -> RemovalCause
 }
 
 /// Whether the two are the same cause.
-fn same_cause(a: RemovalCause, b: RemovalCause) -> bool
+pub fn same_cause(a: RemovalCause, b: RemovalCause) -> bool
     ensures { result ≡ same_cause a b }
 {
     match (a, b) {
@@ -117,7 +117,7 @@ fn is_true_note(scene: &Scene<'_>, note: &Note, c: Candidate<'_>) -> bool
 }
 
 /// Where the key's first value stands.
-fn position_of(cs: &[Candidate<'_>], key: &[u8]) -> Option<usize>
+pub fn position_of(cs: &[Candidate<'_>], key: &[u8]) -> Option<usize>
     ensures { result ≡ position (λ c. same key.now c.held.now.value.key) cs.entry.now }
 {
     cs.iter().position(|c| key == c.held.key())
