@@ -1,5 +1,5 @@
 -- Notes judged one after another.
-use Rattle.std.proofs.Common.{◌≡◌, refl, ap, ◌∙◌, sym, ℕ, suc, ◌+◌, Bool, true, false, cond, List, [], ◌∷◌, ◌++◌, map, zero, length, is_some, nat_lt, not, ◌&&◌, ◌<◌, ◌≤◌, ◌||◌, true≢false, arith, take, drop, get_or, position, Option, Some, None}
+use Rattle.std.proofs.Common.{◌≡◌, refl, ap, ◌∙◌, sym, ℕ, suc, ◌+◌, Bool, true, false, cond, List, [], ◌∷◌, map, zero, length, is_some, nat_lt, not, ◌&&◌, ◌<◌, ◌≤◌, ◌||◌, true≢false, arith, drop, get_or, position, Some, None}
 use Rattle.std.specs.List.{find, remove, list_any, position_or_len, list_all}
 use Rattle.std.proofs.lemmas.Bool.Decides.{nat_tests}
 use Rattle.std.proofs.lemmas.List.Quantifiers.{position-Some}
@@ -10,7 +10,7 @@ use Rattle.audit_model.specs.Bytewise.{same}
 use Rattle.audit_model.specs.Notes.{is_over, overfills, just_accepted, first_of, is_true_note, are_true_notes, is_succeeded}
 use Rattle.audit_model.specs.Commands.{Deed}
 use Rattle.audit_model.specs.declared.transcript.Note.{Note}
-use Rattle.audit_model.specs.Situation.{HeldValue, candidate_at}
+use Rattle.audit_model.specs.Situation.{candidate_at}
 use Rattle.audit_model.specs.Values.{without_key}
 use Rattle.audit_model.specs.View.{Candidate}
 use Rattle.audit_model.specs.declared.config.Config.{Config}

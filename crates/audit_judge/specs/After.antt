@@ -11,7 +11,6 @@ use Rattle.audit_model.specs.declared.config.Config.{Config}
 use Rattle.audit_model.specs.Bytewise.{same}
 use Rattle.audit_model.specs.declared.transcript.Note.{Note}
 use Rattle.audit_model.specs.declared.transcript.RemovalCause.TheVariants.{Size}
-use Rattle.audit_judge.specs.Weights.{values_of}
 use Rattle.audit_judge.specs.declared.notes.Candidate.{Candidate as Told}
 
 -- the values that may be told

@@ -3,7 +3,7 @@ use Rattle.std.specs.Prelude.{ℕ, List, map, Option}
 use Rattle.std.specs.Option.{option_map}
 use Rattle.audit_model.specs.Commands.{Deed}
 use Rattle.audit_model.specs.History.{Value}
-use Rattle.audit_model.specs.Situation.{HeldValue, candidate_at}
+use Rattle.audit_model.specs.Situation.{candidate_at}
 use Rattle.audit_model.specs.View.{Candidate}
 use Rattle.audit_model.specs.declared.config.Config.{Config}
 use Rattle.audit_judge.specs.Deeds.{deed_with}

@@ -1,5 +1,6 @@
 //! A value that is held.
 ghost use Rattle.std.specs.Prelude.{◌≡◌, true};
+ghost use Rattle.audit_model.specs.Changes.{newly_held};
 
 use audit_model::Bytes;
 use std::marker::Model;
@@ -24,11 +25,38 @@ impl Model for Held {
     ghost Value = { HeldValue };
 
     ghost view = { λ h. record {
-        value = record { key = h.key; bytes = h.bytes; part = h.part; weight = h.weight; accepted_at = h.accepted_at; own_deadline = h.own_deadline };
-        last_use = h.last_use; covered = h.covered; evictable = h.evictable } };
+      value = record { key = h.key; bytes = h.bytes; part = h.part; weight = h.weight; accepted_at = h.accepted_at; own_deadline = h.own_deadline };
+      last_use = h.last_use;
+      covered = h.covered;
+      evictable = h.evictable;
+    } };
 }
 
 impl Held {
+    /// A value that is accepted into a part at `moment`, with its own deadline; both in nanoseconds.
+    pub fn accepted(
+        key: Bytes,
+        bytes: Bytes,
+        part: u64,
+        weight: u64,
+        moment: u64,
+        own_deadline: Option<u64>,
+    ) -> Held
+        ensures { result ≡ newly_held (record { key = key; bytes = bytes; part = part; weight = weight; accepted_at = moment; own_deadline = own_deadline }) }
+    {
+        Held {
+            key,
+            bytes,
+            part,
+            weight,
+            accepted_at: moment,
+            own_deadline,
+            last_use: moment,
+            covered: false,
+            evictable: false,
+        }
+    }
+
     /// Its key.
     pub fn key(&self) -> &[u8]
         ensures { result.now ≡ self.now.value.key }

@@ -1,4 +1,4 @@
-//! The judge of transcripts.
+//! The judgement of what a step does to the values held: which it may tell, with which causes, and what is held then.
 #![tactic(auto)]
 
 mod after;
@@ -8,4 +8,8 @@ mod notes;
 mod times;
 mod weights;
 
+pub use after::do_deed;
+pub use deed::{Covering, Deed};
 pub use held::Held;
+pub use times::live;
+pub use weights::{is_over, part_count};

@@ -5,7 +5,7 @@ ghost use Rattle.audit_model.specs.Values.{after_ms};
 ghost use Rattle.std.specs.Option.{option_map};
 
 use crate::held::Held;
-use audit_model::{Config};
+use audit_model::Config;
 
 const NANOS: u64 = 1_000_000;
 
@@ -52,5 +52,6 @@ pub fn is_live(config: &Config, now: u64, held: &Held) -> bool
 pub fn live<'a>(config: &Config, now: u64, held: &'a [Held], key: &[u8]) -> Option<&'a Held>
     ensures { option_map (λ h. h.now.value) result ≡ live_at config.now now held.now key.now }
 {
-    held.iter().find(|h| h.key() == key && is_live(config, now, h))
+    held.iter()
+        .find(|h| h.key() == key && is_live(config, now, h))
 }

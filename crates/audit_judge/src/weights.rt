@@ -86,9 +86,7 @@ pub fn is_over_with(config: &Config, held: &[Held], newcomer: &Held, part: u64) 
     ensures { result ≡ is_over config.now part (just_accepted (values_of held.now) (Some newcomer.now.value)) }
 {
     match config.capacity {
-        Some(capacity) => {
-            share(config, capacity) < weight_with(held, newcomer, part)
-        }
+        Some(capacity) => { share(config, capacity) < weight_with(held, newcomer, part) }
         None => false,
     }
 }

@@ -1,5 +1,5 @@
-use Rattle.std.proofs.Common.{◌≡◌, ap, ◌∙◌, sym, subst, map, ◌++◌, length}
-use Rattle.std.specs.Option.{option_map, option_to_list}
+use Rattle.std.proofs.Common.{ap, ◌∙◌, subst, map, ◌++◌, length}
+use Rattle.std.specs.Option.{option_map}
 use Rattle.audit_model.specs.Values.{untold}
 use Rattle.audit_judge.specs.After.{Judges, passed_on_by}
 use Rattle.audit_judge.specs.Deeds.{deed_with}

@@ -1,4 +1,4 @@
-use Rattle.std.proofs.Common.{◌≡◌, ap, ◌∙◌, sym, position}
+use Rattle.std.proofs.Common.{ap, ◌∙◌, sym, position}
 use Rattle.audit_model.specs.Bytewise.{same}
 use Rattle.audit_judge.proofs.Judging.{picked-itself, missed-itself}
 use Rattle.audit_judge.proofs.after.forget_one.Goals as goal

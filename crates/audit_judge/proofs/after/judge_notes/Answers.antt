@@ -1,4 +1,4 @@
-use Rattle.std.proofs.Common.{◌≡◌, ap, ◌∙◌, sym, map}
+use Rattle.std.proofs.Common.{ap, ◌∙◌, sym, map}
 use Rattle.std.specs.Option.{option_map}
 use Rattle.std.proofs.lemmas.Simd.{map-map}
 use Rattle.audit_model.specs.Notes.{tells_size, are_true_notes}
@@ -12,7 +12,7 @@ pub returns-then-are_true_notes : goal.returns-then-are_true_notes
 returns-then-are_true_notes c =
     let deed = deed_with c.args.deed (option_map (λ h. h.now.value) c.args.newcomer) in (
       ap (λ cs. are_true_notes c.args.config.now (map (candidate_at c.args.config.now c.args.now) c.args.held.now) deed cs c.args.notes.now) (sym c.in_ok-cs.ensures)
-      ∙ sym c.are_true_notes.ensures ∙ c.if-are_true_notes.true,
+          ∙ sym c.are_true_notes.ensures ∙ c.if-are_true_notes.true,
       λ part.
           c.in_ok-sized.ensures part
           ∙ ap (λ vs. tells_size part vs c.args.notes.now)

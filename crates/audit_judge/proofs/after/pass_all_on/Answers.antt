@@ -1,7 +1,6 @@
-use Rattle.std.proofs.Common.{◌≡◌, ap, ◌∙◌, sym, arith}
+use Rattle.std.proofs.Common.{◌∙◌, arith}
 use Rattle.audit_judge.specs.Deeds.{deed_with}
-use Rattle.audit_model.specs.Notes.{is_over}
-use Rattle.audit_judge.specs.After.{is_among, passed_on_by}
+use Rattle.audit_judge.specs.After.{passed_on_by}
 use Rattle.audit_judge.specs.Weights.{values_of}
 use Rattle.audit_judge.proofs.Passing.{pass-next, all-done}
 use Rattle.audit_judge.proofs.after.pass_all_on.Goals as goal

@@ -1,4 +1,4 @@
-use Rattle.std.proofs.Common.{◌≡◌, ap, ◌∙◌, sym, get_or, Some, None}
+use Rattle.std.proofs.Common.{ap, ◌∙◌, sym, get_or, Some, None}
 use Rattle.std.specs.List.{find}
 use Rattle.audit_model.specs.Bytewise.{same}
 use Rattle.audit_judge.specs.After.{told_values}

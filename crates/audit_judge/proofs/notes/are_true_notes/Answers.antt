@@ -1,4 +1,4 @@
-use Rattle.std.proofs.Common.{◌≡◌, ap, ◌∙◌, sym, suc, ◌∷◌, not, map, length, drop, drop-cons, Some, None, arith}
+use Rattle.std.proofs.Common.{ap, ◌∙◌, sym, suc, ◌∷◌, not, map, drop, drop-cons}
 use Rattle.std.specs.List.{list_all}
 use Rattle.std.specs.Option.{option_map}
 use Rattle.audit_model.specs.Notes.{are_true_notes, first_of, is_succeeded}

@@ -1,7 +1,7 @@
-use Rattle.std.proofs.Common.{◌≡◌, ap, ◌∙◌, sym, map, position, Some}
+use Rattle.std.proofs.Common.{ap, ◌∙◌, sym, map, position, Some}
 use Rattle.audit_model.specs.Bytewise.{same}
 use Rattle.audit_judge.specs.Scenes.{candidate_of}
-use Rattle.audit_judge.proofs.Judging.{Picked, picked-at, Missed, missed-at}
+use Rattle.audit_judge.proofs.Judging.{picked-at, missed-at}
 use Rattle.audit_judge.proofs.notes.take_first.Goals as goal
 
 pub returns-in-Some-clause-found : goal.returns-in-Some-clause-found

@@ -1,4 +1,4 @@
-use Rattle.std.proofs.Common.{◌≡◌, ap, ◌∙◌, sym, ◌+◌, Some, None}
+use Rattle.std.proofs.Common.{ap, ◌∙◌, sym, ◌+◌}
 use Rattle.std.specs.Option.{option_map, option_map_or}
 use Rattle.audit_model.specs.Values.{without_key}
 use Rattle.audit_judge.specs.Weights.{weight_in, weight_of_part, values_of}

@@ -1,4 +1,4 @@
-use Rattle.std.proofs.Common.{◌≡◌, ℕ, ◌≤◌, ◌*◌, take}
+use Rattle.std.proofs.Common.{◌≡◌, ◌≤◌, ◌*◌, take}
 use Rattle.audit_judge.specs.Weights.{weight_of_part, values_of}
 use Rattle.audit_judge.proofs.weights.weight_of_part.Given as goal
 
