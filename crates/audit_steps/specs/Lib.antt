@@ -1,0 +1,4 @@
+pub mod Standings
+pub mod Acts
+pub mod Judged
+pub mod States
