@@ -1,0 +1,5 @@
+//! Tests of the judgement of a step.
+#![tactic(auto)]
+
+#[cfg(test)]
+mod steps;
