@@ -1,0 +1,3 @@
+pub mod Weighing
+pub mod Judging
+pub mod Passing

@@ -1,0 +1,4 @@
+pub mod Weights
+pub mod Deeds
+pub mod Scenes
+pub mod After
