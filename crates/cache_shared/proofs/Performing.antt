@@ -1,6 +1,6 @@
 -- What is recorded happens.
-use Rattle.std.proofs.Common.{◌≡◌, ℕ, zero, suc, ◌+◌, List, [], ◌∷◌, ◌++◌, length, length-append, Some, refl, sym, ap, ◌∙◌, arith}
-use Rattle.std.specs.Prelude.{slice_set, Result, Ok, Err, OnOk, IfOk}
+use Rattle.std.proofs.Common.{◌≡◌, ℕ, zero, suc, ◌+◌, ◌≤◌, List, [], ◌∷◌, ◌++◌, length, length-append, Some, refl, sym, ap, ◌∙◌, arith}
+use Rattle.std.specs.Prelude.{slice_set, Result, Ok, Err, OnOk, IfOk, IfErr}
 use Rattle.std.specs.List.{slice_get}
 use Rattle.std.proofs.lemmas.Option.{none-some}
 use Rattle.audit_model.specs.declared.input.Input.{Input}
@@ -67,6 +67,11 @@ pub counts-result : {E : Type 0} (i : Input) (r : Result Output E) (before after
     → OnOk r (RecordsAt i before after old new) → OnOk r (record_count after ≡ record_count before + 1)
 counts-result i (Ok output) before after old new taken = counts i before after old new taken
 counts-result i (Err e) before after old new taken = tt
+
+-- a namespace that the service does not have has no journal
+pub none-result : {A E : Type 0} (P : E → Type 0) (r : Result A E) (n m k : ℕ) → n ≡ m → IfErr r (λ e. P e × (m ≤ k)) → IfErr r (λ e. n ≤ k)
+none-result P (Ok x) n m k same refused = tt
+none-result P (Err e) n m k same refused = let le = refused.1 in omega (arith, same, le)
 
 pub reached : (spaces : List Space) (journals : List Transcript) → WerePlayed spaces journals → Reached spaces (record_count journals)
 reached spaces journals w = record {

@@ -52,7 +52,7 @@ pub record Happens (i : Input) (output : Output) (was is : Space) : Type 0 where
 abbrev pub Performs : Input → Output → List Space → List Space → Type 0
 Performs i output old new = At old new (namespace_of i) (Happens i output)
 
--- the count of a seat is used up, or the service refuses the input
+-- the count of a seat is used up, or there is no memory for a receipt, or the service refuses the input
 abbrev pub RefusesStep : Input → ServiceError → ℕ → List Space → List Space → Type 0
 RefusesStep i e count old new =
-    ((e ≡ error.UsedUp) × (count ≡ 2 ^ 64 - 1) × (new ≡ old)) ⊎ Refuses old new (namespace_of i) e (RefusedInput i e)
+    ((e ≡ error.UsedUp) × (count ≡ 2 ^ 64 - 1) × (new ≡ old)) ⊎ (((e ≡ error.OutOfMemory) × (new ≡ old)) ⊎ Refuses old new (namespace_of i) e (RefusedInput i e))

@@ -2,10 +2,13 @@
 #![tactic(auto)]
 
 mod desk;
+mod judging;
 mod recorded;
+mod seat;
 mod shared;
 mod under;
 
-pub use desk::{Desk, Finished, Seat, Seating};
+pub use desk::{Desk, Finished};
+pub use seat::{Seat, Seating};
 pub use shared::SharedService;
 pub use under::Core;

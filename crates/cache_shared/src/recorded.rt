@@ -1,6 +1,6 @@
 //! The core that keeps its journals.
 use crate::under::Core;
-use audit_model::Input;
+use audit_model::{Input, ServiceError, Transcript};
 use cache_spaces::{Output, RecordedService, Refusal};
 
 impl Core for RecordedService {
@@ -11,11 +11,17 @@ impl Core for RecordedService {
 
     ghost events = { λ recorded. record_count (journals_of recorded) };
 
+    ghost journals = { journals_of };
+
     fn step(&mut self, input: Input) -> Result<Output, Refusal> {
         RecordedService::step(self, input)
     }
 
     fn stands(&self) {
         let _ = self.service();
+    }
+
+    fn journal(&self, namespace: u64) -> Result<&Transcript, ServiceError> {
+        RecordedService::journal(self, namespace)
     }
 }

@@ -1,11 +1,13 @@
 //! What a shared service needs of the service under its lock.
-ghost use Rattle.std.specs.Prelude.{◌≡◌, ℕ, ◌+◌, IfOk, IfErr, OnOk, OnErr};
+ghost use Rattle.std.specs.Prelude.{◌≡◌, ℕ, ◌+◌, ◌≤◌, List, Some, length, IfOk, IfErr, OnOk, OnErr};
+ghost use Rattle.std.specs.List.{slice_get};
+ghost use Rattle.audit_model.specs.declared.transcript.Transcript.{Transcript};
 ghost use Rattle.cache_shared.specs.Events.{Performs, Reached};
 ghost use Rattle.cache_spaces.specs.Recorded.{RefusedInput, namespace_of};
 ghost use Rattle.cache_spaces.specs.Services.{Refuses, spaces_of};
 ghost use Rattle.cache_spaces.specs.declared.service.Service.{Service};
 
-use audit_model::Input;
+use audit_model::{Input, ServiceError, Transcript};
 use cache_spaces::{Output, Refusal};
 
 /// A service that takes inputs one by one.
@@ -15,6 +17,9 @@ pub trait Core: Drop {
 
     /// How many inputs it took.
     ghost events: { Self → ℕ };
+
+    /// The journals of its namespaces.
+    ghost journals: { Self → List Transcript };
 
     /// Takes an input: its event happens, and the output is what the event came to.
     ///
@@ -29,4 +34,10 @@ pub trait Core: Drop {
     /// There are journals of as many records as inputs were taken, which obey and lead to where the service stands.
     fn stands(&self)
         ensures { ∥ Reached (spaces_of (service self.now)) (events self.now) ∥₁ };
+
+    /// The journal of a namespace. Refused with `NoNamespace`.
+    fn journal(&self, namespace: u64) -> Result<&Transcript, ServiceError>
+        ensures journal { IfOk result (λ journal. slice_get (journals self.now) namespace ≡ Some journal.now) }
+        ensures refused { IfErr result (λ e. (e ≡ ServiceError.NoNamespace) × (length (spaces_of (service self.now)) ≤ namespace)) }
+        ensures none { IfErr result (λ e. length (journals self.now) ≤ namespace) };
 }
