@@ -3,21 +3,14 @@ use Rattle.std.proofs.Common.{◌≡◌, ℕ, suc, ◌-◌, List, [], ◌∷◌,
 use Rattle.std.specs.List.{slice_get}
 use Rattle.std.proofs.lemmas.Option.{none-some, same_Some}
 use Rattle.audit_model.specs.declared.transcript.Record.{Record}
-use Rattle.audit_model.specs.declared.transcript.Step.{Step}
-use Rattle.cache_namespace.specs.Ran.{ends_held}
 use Rattle.cache_spaces.specs.Outputs.{output_after, output_for}
-use Rattle.cache_spaces.specs.declared.outputs.Output.TheVariants.{Done}
+use Rattle.audit_receipts.specs.declared.output.Output.TheVariants.{Done}
 
 -- the last but for the first is the last
 last-behind : {X : Type 0} (x y : X) (xs : List X) → slice_get (x ∷ y ∷ xs) (length (x ∷ y ∷ xs) - 1) ≡ slice_get (y ∷ xs) (length (y ∷ xs) - 1)
 last-behind x y xs =
     let e : length (x ∷ y ∷ xs) - 1 ≡ suc (length (y ∷ xs) - 1) = omega arith in
     ap (slice_get (x ∷ y ∷ xs)) e
-
-pub held-last : (steps : List Step) (step : Step) → slice_get steps (length steps - 1) ≡ Some step → step.held ≡ ends_held steps
-held-last [] step e = absurd (none-some step e)
-held-last (x ∷ []) step e = ap (λ (s : Step). s.held) (sym (same_Some x step e))
-held-last (x ∷ y ∷ steps) step e = held-last (y ∷ steps) step (sym (last-behind x y steps) ∙ e)
 
 pub output-last : (namespace : ℕ) (records : List Record) (entry : Record) → slice_get records (length records - 1) ≡ Some entry → output_for namespace entry ≡ output_after namespace records
 output-last namespace [] entry e = absurd (none-some entry e)

@@ -5,10 +5,11 @@ ghost use Rattle.cache_spaces.specs.Played.{WerePlayed};
 ghost use Rattle.cache_spaces.specs.Recorded.{AreEmpty, RecordsAt, RefusedInput, namespace_of};
 ghost use Rattle.cache_spaces.specs.Services.{are_taken, AreNew, Refuses, spaces_of};
 
-use crate::outputs::{Output, last_output};
+use crate::outputs::last_output;
 use crate::playing::{empty_transcripts, namespace_of, step_in};
 use crate::service::Service;
 use audit_model::{Config, Input, Instant, ServiceError, Transcript};
+use audit_receipts::Output;
 use rand_xoshiro::Xoshiro256PlusPlus;
 use std::alloc::Global;
 

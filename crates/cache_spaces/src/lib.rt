@@ -9,7 +9,7 @@ mod recording;
 mod service;
 mod space;
 
+pub use audit_receipts::Output;
 pub use journals::{RecordedService, Refusal};
-pub use outputs::Output;
 pub use playing::play;
 pub use service::{AnswerError, Fed, Service};

@@ -1,0 +1,12 @@
+//! Receipts: what a service answered to an input, with the number of the input's record.
+#![tactic(auto)]
+
+mod asking;
+mod output;
+mod receipt;
+mod standing;
+
+pub use asking::copy_input;
+pub use output::{Output, output_of};
+pub use receipt::Receipt;
+pub use standing::{are_of, receipts_stand, stands};

@@ -1,0 +1,80 @@
+-- Lists of receipts that grow.
+use Rattle.std.proofs.Common.{◌≡◌, ◌≢◌, ℕ, zero, suc, ◌+◌, ◌<◌, List, [], ◌∷◌, ◌++◌, length, map, get_or, Some, None, Vec, Global, refl, sym, ap, subst, ◌∙◌, arith}
+use Rattle.std.specs.Prelude.{slice_set, Result, Ok, Err, OnErr, IfOk}
+use Rattle.std.specs.List.{slice_get}
+use Rattle.audit_model.specs.declared.input.Input.{Input}
+use Rattle.audit_receipts.specs.declared.output.Output.{Output}
+use Rattle.std.proofs.lemmas.Option.{none-some, same_Some}
+use Rattle.audit_receipts.specs.declared.receipt.Receipt.{Receipt}
+use Rattle.cache_shared.specs.Seats.{receipts_at, receipt_for, Gains, SameReceipts}
+
+-- an empty list more
+pub same-more : (lists : List (Vec Receipt Global)) (added : Vec Receipt Global) → added.items ≡ [] → (k : ℕ) → receipts_at (lists ++ added ∷ []) k ≡ receipts_at lists k
+same-more [] added e zero = e
+same-more [] added e (suc k) = refl
+same-more (x ∷ lists) added e zero = refl
+same-more (x ∷ lists) added e (suc k) = same-more lists added e k
+
+-- the list that is there
+pub receipts-there : (lists : List (Vec Receipt Global)) (k : ℕ) (list : Vec Receipt Global) → slice_get lists k ≡ Some list → list.items ≡ receipts_at lists k
+receipts-there [] k list at = absurd (none-some list at)
+receipts-there (x ∷ lists) zero list at = ap (λ (v : Vec Receipt Global). v.items) (sym (same_Some x list at))
+receipts-there (x ∷ lists) (suc k) list at = receipts-there lists k list at
+
+pub receipts-none : (lists : List (Vec Receipt Global)) (k : ℕ) → slice_get lists k ≡ None → [] ≡ receipts_at lists k
+receipts-none [] k at = refl
+receipts-none (x ∷ lists) zero at = absurd (none-some x (sym at))
+receipts-none (x ∷ lists) (suc k) at = receipts-none lists k at
+
+-- another list in its place
+pub set-own : (lists : List (Vec Receipt Global)) (k : ℕ) (list : Vec Receipt Global) → k < length lists → receipts_at (slice_set lists k list) k ≡ list.items
+set-own [] k list lt = absurd (omega arith)
+set-own (x ∷ lists) zero list lt = refl
+set-own (x ∷ lists) (suc k) list lt = set-own lists k list (omega arith)
+
+pub set-others : (lists : List (Vec Receipt Global)) (k j : ℕ) (list : Vec Receipt Global) → j ≢ k → receipts_at (slice_set lists k list) j ≡ receipts_at lists j
+set-others [] k j list ne = refl
+set-others (x ∷ lists) zero zero list ne = absurd (ne refl)
+set-others (x ∷ lists) zero (suc j) list ne = refl
+set-others (x ∷ lists) (suc k) zero list ne = refl
+set-others (x ∷ lists) (suc k) (suc j) list ne = set-others lists k j list (λ e. ne (ap suc e))
+
+pub own-there : (lists : List (Vec Receipt Global)) (k : ℕ) (d : Vec Receipt Global) → k < length lists → (get_or lists k d).items ≡ receipts_at lists k
+own-there [] k d lt = absurd (omega arith)
+own-there (x ∷ lists) zero d lt = refl
+own-there (x ∷ lists) (suc k) d lt = own-there lists k d (omega arith)
+
+-- the same receipts in its place
+pub set-stays : (lists : List (Vec Receipt Global)) (k : ℕ) (d list : Vec Receipt Global) → k < length lists → list.items ≡ (get_or lists k d).items → (j : ℕ) → receipts_at (slice_set lists k list) j ≡ receipts_at lists j
+set-stays [] k d list lt e j = absurd (omega arith)
+set-stays (x ∷ lists) zero d list lt e zero = e
+set-stays (x ∷ lists) zero d list lt e (suc j) = refl
+set-stays (x ∷ lists) (suc k) d list lt e zero = refl
+set-stays (x ∷ lists) (suc k) d list lt e (suc j) = set-stays lists k d list (omega arith) e j
+
+pub stays : (before mid : List (Vec Receipt Global)) (k : ℕ) (d list : Vec Receipt Global) → SameReceipts before mid → k < length mid → list.items ≡ (get_or mid k d).items → SameReceipts before (slice_set mid k list)
+stays before mid k d list same lt e = λ j. set-stays mid k d list lt e j ∙ same j
+
+pub gains : (before mid : List (Vec Receipt Global)) (k : ℕ) (d list : Vec Receipt Global) (x : Receipt) → SameReceipts before mid → k < length mid → list.items ≡ (get_or mid k d).items ++ x ∷ [] → Gains before (slice_set mid k list) k x
+gains before mid k d list x same lt e = record {
+  own = set-own mid k list lt ∙ e ∙ ap (λ (t : List Receipt). t ++ x ∷ []) (own-there mid k d lt ∙ same k);
+  others = λ j ne. set-others mid k j list ne ∙ same j;
+}
+
+-- the same of an answer, and of a refusal
+pub gains-result : {E : Type 0} (Number : ℕ → Type 0) (i : Input) (r : Result Output E) (before mid : List (Vec Receipt Global)) (k m : ℕ) (old list : Vec Receipt Global)
+    → SameReceipts before mid → k < length mid → old ≡ get_or mid k old → k ≡ m
+    → IfOk r (λ output. (number : ℕ) × Number number × (list.items ≡ old.items ++ receipt_for i output number ∷ []))
+    → IfOk r (λ output. (number : ℕ) × Number number × Gains before (slice_set mid k list) m (receipt_for i output number))
+gains-result Number i (Ok output) before mid k m old list same lt value e (number, which, grown) = (
+  number,
+  which,
+  subst (λ n. Gains before (slice_set mid k list) n (receipt_for i output number)) e
+      (gains before mid k old list (receipt_for i output number) same lt (grown ∙ ap (λ (v : Vec Receipt Global). v.items ++ receipt_for i output number ∷ []) value)),
+)
+gains-result Number i (Err x) before mid k m old list same lt value e kept = tt
+
+pub stays-result : {E : Type 0} (r : Result Output E) (before mid : List (Vec Receipt Global)) (k : ℕ) (old list : Vec Receipt Global)
+    → SameReceipts before mid → k < length mid → old ≡ get_or mid k old → OnErr r (list.items ≡ old.items) → OnErr r (SameReceipts before (slice_set mid k list))
+stays-result (Ok output) before mid k old list same lt value kept = tt
+stays-result (Err e) before mid k old list same lt value kept = stays before mid k old list same lt (kept ∙ ap (λ (v : Vec Receipt Global). v.items) value)

@@ -1,0 +1,5 @@
+pub mod Agreeing
+pub mod Counting
+pub mod Keeping
+pub mod Marked
+pub mod Performing

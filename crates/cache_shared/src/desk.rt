@@ -1,0 +1,274 @@
+//! What lies under the lock.
+ghost use Rattle.std.specs.Prelude.{◌≡◌, ℕ, ◌+◌, ◌≤◌, ◌<◌, ◌++◌, ◌∷◌, [], true, Some, length, map, sum_by, vec_len, vec_capacity, IfOk, IfErr, OnOk, OnErr};
+ghost use Rattle.std.specs.List.{slice_get};
+ghost use Rattle.audit_model.specs.declared.transcript.Transcript.{Transcript};
+ghost use Rattle.cache_shared.specs.Events.{Performs, Reached, RefusesStep};
+ghost use Rattle.cache_shared.specs.Seats.{AgreeAll, Gains, SameReceipts, receipt_for};
+ghost use Rattle.cache_spaces.specs.Recorded.{namespace_of};
+ghost use Rattle.cache_spaces.specs.Services.{spaces_of};
+
+use crate::judging::agree;
+use crate::seat::{Seat, Seating, make_lists, namespace_of};
+use crate::under::Core;
+use audit_model::{Input, ServiceError};
+use audit_receipts::{Receipt, copy_input};
+use cache_spaces::{Output, Refusal};
+use std::alloc::Global;
+use std::sync::ledger::{Blank, Book, Share};
+
+/// The service under the lock, with the book of all seats' events and the parts that no seat has.
+#[derive(Drop)]
+pub struct Desk<L: Seating, C: Core> {
+    pub(crate) core: C,
+    book: Book<L>,
+    rest: Share<L>,
+    left: u64,
+    parts: u64,
+    ghost counted: { C.events core ≡ book.total },
+    ghost spare: { rest.parts ≡ left },
+    ghost idle: { rest.amount ≡ 0 },
+    ghost whole: { parts ≡ L.all },
+    ghost fewer: { left ≤ parts },
+}
+
+/// What a shared service leaves.
+#[derive(Drop)]
+pub struct Finished<C: Core> {
+    pub service: C,
+    /// For each seat, in the order in which they were handed in, a list of receipts for each namespace that it used and those before it.
+    pub receipts: Vec<Vec<Vec<Receipt>>>,
+}
+
+impl<L: Seating, C: Core> Desk<L, C> {
+    /// A desk without seats, over a service of no events. Its ledger is cut into `parts`, one for each seat.
+    pub fn new(core: C, blank: Blank, parts: u64) -> Desk<L, C>
+        requires empty { C.events core ≡ 0 }
+        requires name { blank.name ≡ L.name }
+        requires parts { (blank.parts ≡ L.parts) × (L.all ≡ L.parts) × (parts ≡ L.parts) }
+        ensures { result.core ≡ core }
+    {
+        let (book, rest) = blank.open::<L>();
+        Desk {
+            core,
+            book,
+            rest,
+            left: parts,
+            parts,
+        }
+    }
+
+    /// A seat, where the ledger has a part left. Refused with `UsedUp`. Takes no memory.
+    pub fn seat(&mut self, alloc: Global) -> Result<Seat<L>, ServiceError>
+        ensures seat { IfOk result (λ seat. (seat.count ≡ 0) × (seat.receipts.items ≡ [])) }
+        ensures core { self.new.core ≡ self.old.core }
+        ensures refused { IfErr result (λ e. (e ≡ ServiceError.UsedUp) × (self.old.left ≡ 0)) }
+    {
+        if self.left == 0 {
+            return Err(ServiceError::UsedUp);
+        }
+        Ok(self.cut(alloc))
+    }
+
+    /// A seat of one part.
+    fn cut(&mut self, alloc: Global) -> Seat<L>
+        requires { 0 < self.old.left }
+        ensures seat { (result.count ≡ 0) × (result.receipts.items ≡ []) }
+        ensures core { self.new.core ≡ self.old.core }
+    {
+        let Desk { rest, left, .. } = self;
+        let share = rest.split_off(1, 0);
+        *left -= 1;
+        Seat {
+            share,
+            count: 0,
+            receipts: Vec::new(alloc),
+        }
+    }
+
+    /// Takes an input for a seat. Where it is taken, the seat counts one more, and has one receipt more: of this input and its output.
+    ///
+    /// An input that is refused is handed back, and leaves no receipt and no count; then nothing has changed. Besides the service's
+    /// refusals, `OutOfMemory` where there is none for the receipt, and `UsedUp` where the seat's count is used up.
+    pub fn step(
+        &mut self,
+        alloc: Global,
+        seat: &mut Seat<L>,
+        input: Input,
+    ) -> Result<Output, Refusal>
+        ensures taken { IfOk result (λ output. Performs input output (spaces_of (C.service self.old.core)) (spaces_of (C.service self.new.core))) }
+        ensures count { OnOk result ((C.events self.new.core ≡ C.events self.old.core + 1) × (seat.new.count ≡ seat.old.count + 1)) }
+        ensures receipt { IfOk result (λ output. (number : ℕ) × ((journal : Transcript) → slice_get (C.journals self.new.core) (namespace_of input) ≡ Some journal → number ≡ length journal.records) × Gains seat.old.receipts.items seat.new.receipts.items (namespace_of input) (receipt_for input output number)) }
+        ensures refused { IfErr result (λ refusal. RefusesStep input refusal.error seat.old.count (spaces_of (C.service self.old.core)) (spaces_of (C.service self.new.core))) }
+        ensures uncounted { OnErr result ((C.events self.new.core ≡ C.events self.old.core) × (seat.new.count ≡ seat.old.count)) }
+        ensures same { OnErr result (SameReceipts seat.old.receipts.items seat.new.receipts.items) }
+        ensures back { IfErr result (λ refusal. refusal.input ≡ input) }
+    {
+        let namespace = namespace_of(&input);
+        match self.core.journal(namespace) {
+            Ok(_) => {}
+            Err(error) => return Err(Refusal { error, input }),
+        }
+        let Seat {
+            share,
+            count,
+            receipts,
+        } = seat;
+        match make_lists(alloc, receipts, namespace as usize) {
+            Ok(()) => self.keep(
+                alloc,
+                share,
+                count,
+                &mut receipts[namespace as usize],
+                input,
+            ),
+            Err(_) => Err(Refusal {
+                error: ServiceError::OutOfMemory,
+                input,
+            }),
+        }
+    }
+
+    /// Takes an input, and counts it on the share, with a receipt. Its room and the copy come first.
+    fn keep(
+        &mut self,
+        alloc: Global,
+        share: &mut Share<L>,
+        count: &mut u64,
+        own: &mut Vec<Receipt>,
+        input: Input,
+    ) -> Result<Output, Refusal>
+        requires { (share.old.parts ≡ 1) × (share.old.amount ≡ count.old) }
+        ensures share { (share.new.parts ≡ 1) × (share.new.amount ≡ count.new) }
+        ensures taken { IfOk result (λ output. Performs input output (spaces_of (C.service self.old.core)) (spaces_of (C.service self.new.core))) }
+        ensures count { OnOk result ((C.events self.new.core ≡ C.events self.old.core + 1) × (count.new ≡ count.old + 1)) }
+        ensures receipt { IfOk result (λ output. (number : ℕ) × ((journal : Transcript) → slice_get (C.journals self.new.core) (namespace_of input) ≡ Some journal → number ≡ length journal.records) × (own.new.items ≡ own.old.items ++ receipt_for input output number ∷ [])) }
+        ensures refused { IfErr result (λ refusal. RefusesStep input refusal.error count.old (spaces_of (C.service self.old.core)) (spaces_of (C.service self.new.core))) }
+        ensures uncounted { OnErr result ((C.events self.new.core ≡ C.events self.old.core) × (count.new ≡ count.old)) }
+        ensures same { OnErr result (own.new.items ≡ own.old.items) }
+        ensures back { IfErr result (λ refusal. refusal.input ≡ input) }
+    {
+        if own.reserve(1).is_err() {
+            return Err(Refusal {
+                error: ServiceError::OutOfMemory,
+                input,
+            });
+        }
+        let Ok(copy) = copy_input(alloc, &input) else {
+            return Err(Refusal {
+                error: ServiceError::OutOfMemory,
+                input,
+            });
+        };
+        let namespace = namespace_of(&input);
+        let output = match self.count_one(share, count, input) {
+            Ok(output) => output,
+            Err(refusal) => return Err(refusal),
+        };
+        own.push_reserved(Receipt {
+            namespace,
+            number: self.last_number(namespace),
+            input: copy,
+            output,
+        });
+        Ok(output)
+    }
+
+    /// The number of the last record of a namespace's journal.
+    fn last_number(&self, namespace: u64) -> u64
+        ensures { (journal : Transcript) → slice_get (C.journals self.now.core) namespace ≡ Some journal → result ≡ length journal.records }
+    {
+        match self.core.journal(namespace) {
+            Ok(journal) => journal.records.len() as u64,
+            Err(_) => 0,
+        }
+    }
+
+    /// Takes an input, and counts it on the share.
+    fn count_one(
+        &mut self,
+        share: &mut Share<L>,
+        count: &mut u64,
+        input: Input,
+    ) -> Result<Output, Refusal>
+        requires { (share.old.parts ≡ 1) × (share.old.amount ≡ count.old) }
+        ensures share { (share.new.parts ≡ 1) × (share.new.amount ≡ count.new) }
+        ensures taken { IfOk result (λ output. Performs input output (spaces_of (C.service self.old.core)) (spaces_of (C.service self.new.core))) }
+        ensures count { OnOk result ((C.events self.new.core ≡ C.events self.old.core + 1) × (count.new ≡ count.old + 1)) }
+        ensures refused { IfErr result (λ refusal. RefusesStep input refusal.error count.old (spaces_of (C.service self.old.core)) (spaces_of (C.service self.new.core))) }
+        ensures uncounted { OnErr result ((C.events self.new.core ≡ C.events self.old.core) × (count.new ≡ count.old)) }
+        ensures back { IfErr result (λ refusal. refusal.input ≡ input) }
+    {
+        let Desk { core, book, .. } = self;
+        let Some(next) = count.checked_add(1) else {
+            return Err(Refusal {
+                error: ServiceError::UsedUp,
+                input,
+            });
+        };
+        let output = match core.step(input) {
+            Ok(output) => output,
+            Err(refusal) => return Err(refusal),
+        };
+        book.add(share, 1);
+        *count = next;
+        Ok(output)
+    }
+
+    /// Whether these are all seats that were made.
+    pub fn are_all(&self, seats: &Vec<Seat<L>>) -> bool
+        ensures { result ≡ true → vec_len seats.now + self.now.left ≡ self.now.parts }
+    {
+        seats.len() as u64 == self.parts - self.left
+    }
+
+    /// Whether the receipts of these seats stand in the journals, each of whose records has one. Without memory `false`.
+    pub fn agrees(&self, alloc: Global, seats: &[Seat<L>]) -> bool
+        ensures { result ≡ true → AgreeAll (C.journals self.now.core) (λ seat. seat.receipts.items) seats.now }
+    {
+        for namespace in 0..u64::MAX {
+            match self.core.journal(namespace) {
+                Ok(journal) => {
+                    if !agree(alloc, namespace, journal, seats) {
+                        return false;
+                    }
+                }
+                Err(_) => return true,
+            }
+        }
+        false
+    }
+
+    /// Takes the service out, with the receipts of all seats that were made.
+    pub fn close(self, seats: Vec<Seat<L>>, mut receipts: Vec<Vec<Vec<Receipt>>>) -> Finished<C>
+        requires ledger { L.all ≡ L.parts }
+        requires all { vec_len seats + self.left ≡ self.parts }
+        requires none { receipts.items ≡ [] }
+        requires room { vec_len seats ≤ vec_capacity receipts }
+        ensures service { result.service ≡ self.core }
+        ensures count { C.events result.service ≡ sum_by (λ seat. seat.count) seats.items }
+        ensures receipts { result.receipts.items ≡ map (λ seat. seat.receipts) seats.items }
+        ensures reached { ∥ Reached (spaces_of (C.service result.service)) (C.events result.service) ∥₁ }
+    {
+        let Desk {
+            core,
+            mut book,
+            mut rest,
+            ..
+        } = self;
+        for seat in seats {
+            let Seat {
+                share,
+                count: _,
+                receipts: own,
+            } = seat;
+            rest.merge(share);
+            receipts.push_reserved(own);
+        }
+        book.audit(&mut rest);
+        core.stands();
+        Finished {
+            service: core,
+            receipts,
+        }
+    }
+}

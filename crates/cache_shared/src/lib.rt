@@ -1,0 +1,14 @@
+//! A service that threads share under one lock.
+#![tactic(auto)]
+
+mod desk;
+mod judging;
+mod recorded;
+mod seat;
+mod shared;
+mod under;
+
+pub use desk::{Desk, Finished};
+pub use seat::{Seat, Seating};
+pub use shared::SharedService;
+pub use under::Core;

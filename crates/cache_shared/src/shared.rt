@@ -1,0 +1,167 @@
+//! The shared form.
+ghost use Rattle.std.specs.Prelude.{◌≡◌, ℕ, ◌+◌, ◌≤◌, [], map, sum_by, vec_len, vec_capacity, IfOk, IfErr, OnOk, OnErr};
+ghost use Rattle.cache_shared.specs.Events.{Reached};
+ghost use Rattle.cache_shared.specs.Seats.{AgreeAll, Gains, SameReceipts, receipt_for};
+ghost use Rattle.cache_spaces.specs.Recorded.{namespace_of};
+ghost use Rattle.cache_spaces.specs.Services.{spaces_of};
+
+use crate::desk::{Desk, Finished};
+use crate::seat::{Seat, Seating};
+use crate::under::Core;
+use audit_model::{Input, ServiceError};
+use audit_receipts::Receipt;
+use cache_spaces::{Output, RecordedService, Refusal};
+use std::alloc::{AllocError, Global};
+use std::sync::ledger::Blank;
+use std::sync::{Arc, Condvar, Mutex, Wait};
+
+/// The lock, and what tells of changes.
+#[derive(Drop)]
+struct Inner<L: Seating, C: Core> {
+    desk: Mutex<Option<Desk<L, C>>>,
+    changed: Condvar,
+}
+
+/// A service that threads share. Each input is taken in one hold of its one lock.
+///
+/// Whenever the lock is taken, there are journals that obey and lead to where the service stands, of as many records as inputs were
+/// taken. `L` is the ledger of its seats.
+#[derive(Drop)]
+pub struct SharedService<L: Seating, C: Core = RecordedService> {
+    inner: Arc<Inner<L, C>>,
+    alloc: Global,
+}
+
+impl<L: Seating, C: Core> Clone for SharedService<L, C> {
+    fn clone(&self) -> Result<SharedService<L, C>, AllocError> {
+        Ok(SharedService {
+            inner: Arc::try_clone(&self.inner)?,
+            alloc: self.alloc,
+        })
+    }
+}
+
+impl<L: Seating, C: Core> SharedService<L, C> {
+    /// A shared form of a service of no events, over a new ledger of so many parts, one for each seat. Without memory both are handed
+    /// back.
+    pub fn new(
+        alloc: Global,
+        core: C,
+        blank: Blank,
+        parts: u64,
+    ) -> Result<SharedService<L, C>, (C, Blank)>
+        requires empty { C.events core ≡ 0 }
+        requires name { blank.name ≡ L.name }
+        requires parts { (blank.parts ≡ L.parts) × (L.all ≡ L.parts) × (parts ≡ L.parts) }
+        ensures back { IfErr result (λ both. (both.0 ≡ core) × (both.1 ≡ blank)) }
+    {
+        let Ok(mut inner) = Arc::new(
+            alloc,
+            Inner {
+                desk: Mutex::new(None),
+                changed: Condvar::new(),
+            },
+        ) else {
+            return Err((core, blank));
+        };
+        match Arc::get_mut(&mut inner) {
+            Some(open) => *open.desk.get_mut() = Some(Desk::new(core, blank, parts)),
+            None => return Err((core, blank)),
+        }
+        Ok(SharedService { inner, alloc })
+    }
+
+    /// A seat for one thread. Refused with `UsedUp` where the ledger has no part left. Takes no memory.
+    pub fn seat(&self, rt: &impl Wait) -> Result<Seat<L>, ServiceError>
+        ensures seat { IfOk result (λ seat. (seat.count ≡ 0) × (seat.receipts.items ≡ [])) }
+        ensures refused { IfErr result (λ e. e ≡ ServiceError.UsedUp) }
+    {
+        let mut guard = self.inner.desk.lock(rt);
+        match &mut *guard {
+            Some(desk) => desk.seat(self.alloc),
+            None => Err(ServiceError::UsedUp),
+        }
+    }
+
+    /// Takes one input for a seat, in one hold of the lock. Where it is taken, the seat counts one more, and has one receipt more: of
+    /// this input and its output.
+    ///
+    /// An input that is refused is handed back, and leaves no receipt and no count; then nothing has changed.
+    pub fn step(&self, rt: &impl Wait, seat: &mut Seat<L>, input: Input) -> Result<Output, Refusal>
+        ensures count { OnOk result (seat.new.count ≡ seat.old.count + 1) }
+        ensures receipt { IfOk result (λ output. (number : ℕ) × Gains seat.old.receipts.items seat.new.receipts.items (namespace_of input) (receipt_for input output number)) }
+        ensures uncounted { OnErr result (seat.new.count ≡ seat.old.count) }
+        ensures same { OnErr result (SameReceipts seat.old.receipts.items seat.new.receipts.items) }
+        ensures back { IfErr result (λ refusal. refusal.input ≡ input) }
+    {
+        let mut guard = self.inner.desk.lock(rt);
+        let taken = match &mut *guard {
+            Some(desk) => desk.step(self.alloc, seat, input),
+            None => Err(Refusal {
+                error: ServiceError::UsedUp,
+                input,
+            }),
+        };
+        drop(guard);
+        self.inner.changed.notify_all();
+        taken
+    }
+
+    /// The service with each seat's receipts, where this is the last clone, all seats are there, and there is memory. Else both are handed
+    /// back.
+    ///
+    /// Then the service has taken as many inputs as these seats count together, each seat's receipts of a namespace are in their order a
+    /// part of its journal, and over all seats each record has one receipt.
+    pub fn finish(
+        self,
+        seats: Vec<Seat<L>>,
+    ) -> Result<Finished<C>, (SharedService<L, C>, Vec<Seat<L>>)>
+        requires ledger { L.all ≡ L.parts }
+        ensures count { IfOk result (λ finished. C.events finished.service ≡ sum_by (λ seat. seat.count) seats.items) }
+        ensures receipts { IfOk result (λ finished. finished.receipts.items ≡ map (λ seat. seat.receipts) seats.items) }
+        ensures agree { IfOk result (λ finished. AgreeAll (C.journals finished.service) (λ seat. seat.receipts.items) seats.items) }
+        ensures reached { IfOk result (λ finished. ∥ Reached (spaces_of (C.service finished.service)) (C.events finished.service) ∥₁) }
+        ensures back { IfErr result (λ both. both.1 ≡ seats) }
+    {
+        let mut shared = self;
+        let alloc = shared.alloc;
+        let mut receipts = Vec::new(alloc);
+        let Ok(()) = receipts.reserve(seats.len()) else {
+            return Err((shared, seats));
+        };
+        let closed = match Arc::get_mut(&mut shared.inner) {
+            Some(inner) => close_if_all(alloc, inner.desk.get_mut(), seats, receipts),
+            None => Err(seats),
+        };
+        match closed {
+            Ok(finished) => Ok(finished),
+            Err(seats) => Err((shared, seats)),
+        }
+    }
+}
+
+/// Closes the desk, where these are all seats, and their receipts stand.
+fn close_if_all<L: Seating, C: Core>(
+    alloc: Global,
+    slot: &mut Option<Desk<L, C>>,
+    seats: Vec<Seat<L>>,
+    receipts: Vec<Vec<Vec<Receipt>>>,
+) -> Result<Finished<C>, Vec<Seat<L>>>
+    requires ledger { L.all ≡ L.parts }
+    requires none { receipts.items ≡ [] }
+    requires room { vec_len seats ≤ vec_capacity receipts }
+    ensures count { IfOk result (λ finished. C.events finished.service ≡ sum_by (λ seat. seat.count) seats.items) }
+    ensures receipts { IfOk result (λ finished. finished.receipts.items ≡ map (λ seat. seat.receipts) seats.items) }
+    ensures agree { IfOk result (λ finished. AgreeAll (C.journals finished.service) (λ seat. seat.receipts.items) seats.items) }
+    ensures reached { IfOk result (λ finished. ∥ Reached (spaces_of (C.service finished.service)) (C.events finished.service) ∥₁) }
+    ensures back { IfErr result (λ back. back ≡ seats) }
+{
+    let Some(desk) = slot.take() else {
+        return Err(seats);
+    };
+    if !desk.are_all(&seats) || !desk.agrees(alloc, seats.as_slice()) {
+        *slot = Some(desk);
+        return Err(seats);
+    }
+    Ok(desk.close(seats, receipts))
+}

@@ -1,0 +1,51 @@
+use crate::four::{Outcome, four};
+use crate::pair::{Pair, judge_pair};
+use std::test::*;
+
+#[test]
+fn four_threads_are_recorded(rt: HostRuntime) -> Result<(), Fail> {
+    let out = four(&rt, rt.alloc(), 4);
+    let want = Outcome {
+        records: 208,
+        counts: 208,
+        receipts: 208,
+        is_missing_seat_refused: true,
+        is_clone_refused: true,
+    };
+    assert!(rt; out == Some(want));
+    Ok(())
+}
+
+#[test]
+fn a_ledger_may_have_spare_parts(rt: HostRuntime) -> Result<(), Fail> {
+    let out = four(&rt, rt.alloc(), 9);
+    let want = Outcome {
+        records: 208,
+        counts: 208,
+        receipts: 208,
+        is_missing_seat_refused: true,
+        is_clone_refused: true,
+    };
+    assert!(rt; out == Some(want));
+    Ok(())
+}
+
+#[test]
+fn no_seat_without_a_part(rt: HostRuntime) -> Result<(), Fail> {
+    assert!(rt; four(&rt, rt.alloc(), 3) == None);
+    Ok(())
+}
+
+#[test]
+fn receipts_of_two_threads(rt: HostRuntime) -> Result<(), Fail> {
+    let want = Pair {
+        counts: (2, 2),
+        are_once: true,
+        stand: (true, true),
+        stands_reversed: false,
+        stands_changed: false,
+        is_unknown_left_out: true,
+    };
+    assert!(rt; judge_pair(&rt, rt.alloc()) == Some(want));
+    Ok(())
+}
