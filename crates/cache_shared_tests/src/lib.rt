@@ -6,3 +6,4 @@ mod inputs;
 mod pair;
 #[cfg(test)]
 mod tests;
+mod wanting;

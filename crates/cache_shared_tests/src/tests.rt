@@ -1,5 +1,6 @@
 use crate::four::{Outcome, four};
 use crate::pair::{Pair, judge_pair};
+use crate::wanting::want;
 use std::test::*;
 
 #[test]
@@ -47,5 +48,11 @@ fn receipts_of_two_threads(rt: HostRuntime) -> Result<(), Fail> {
         is_unknown_left_out: true,
     };
     assert!(rt; judge_pair(&rt, rt.alloc()) == Some(want));
+    Ok(())
+}
+
+#[test]
+fn refused_memory_leaves_all_as_it_was(rt: HostRuntime) -> Result<(), Fail> {
+    assert!(rt; want(&rt, rt.alloc()) == Some(true));
     Ok(())
 }
