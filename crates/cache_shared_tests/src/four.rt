@@ -145,7 +145,12 @@ fn two<L: Seating + Send + Sync, R: Threads + Wait + Sync>(
 
 /// Runs four threads over a service of no events, with a ledger of so many parts.
 pub fn four<R: Threads + Wait + Sync>(rt: &R, alloc: Global, parts: u64) -> Option<Outcome> {
-    let core = match RecordedService::new(alloc, &[PLAIN], Xoshiro256PlusPlus::seed_from_u64(1), Instant { nanos: 0 }) {
+    let core = match RecordedService::new(
+        alloc,
+        &[PLAIN],
+        Xoshiro256PlusPlus::seed_from_u64(1),
+        Instant { nanos: 0 },
+    ) {
         Ok(core) => core,
         Err(_) => return None,
     };

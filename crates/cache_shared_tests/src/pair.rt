@@ -179,7 +179,12 @@ fn run<L: Seating + Send + Sync, R: Threads + Wait + Sync>(
 
 /// Two threads, each with a connection of its own, and what is seen of their receipts.
 pub fn judge_pair<R: Threads + Wait + Sync>(rt: &R, alloc: Global) -> Option<Pair> {
-    let core = match RecordedService::new(alloc, &[PLAIN], Xoshiro256PlusPlus::seed_from_u64(1), Instant { nanos: 0 }) {
+    let core = match RecordedService::new(
+        alloc,
+        &[PLAIN],
+        Xoshiro256PlusPlus::seed_from_u64(1),
+        Instant { nanos: 0 },
+    ) {
         Ok(core) => core,
         Err(_) => return None,
     };

@@ -8,6 +8,8 @@ use audit_model::{Conn, Input, Instant};
 use audit_receipts::Output;
 use cache_shared::{Finished, Seat, Seating, SharedService};
 use cache_spaces::{RecordedService, Refusal};
+use rand_core::SeedableRng;
+use rand_xoshiro::Xoshiro256PlusPlus;
 use std::alloc::{AllocError, Global};
 use std::marker::Brand;
 use std::sync::Wait;
@@ -101,7 +103,12 @@ pub fn want<R: Wait>(rt: &R, alloc: Global) -> Option<bool> {
 
 /// The same, or `None` where the service could not be made.
 fn want_once<R: Wait>(rt: &R, alloc: Global) -> Option<bool> {
-    let core = match RecordedService::new(alloc, &[PLAIN], Instant { nanos: 0 }) {
+    let core = match RecordedService::new(
+        alloc,
+        &[PLAIN],
+        Xoshiro256PlusPlus::seed_from_u64(1),
+        Instant { nanos: 0 },
+    ) {
         Ok(core) => core,
         Err(_) => return None,
     };
