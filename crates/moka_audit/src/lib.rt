@@ -10,3 +10,4 @@ pub use audit_model::{
     LineError, LoadId, Note, Outcome, Record, RemovalCause, Seq, ServiceError, Step, Transcript,
     Weight,
 };
+pub use audit_receipts::{Output, Receipt, receipts_stand};
