@@ -8,12 +8,11 @@ use Rattle.audit_model.specs.declared.transcript.Record.{Record}
 use Rattle.audit_model.specs.declared.transcript.Transcript.{Transcript}
 use Rattle.audit_receipts.specs.declared.output.Output.{Output}
 use Rattle.cache_spaces.proofs.Journaling.{were-led, were-obeys, were-count}
-use Rattle.cache_spaces.specs.Moves.{At}
 use Rattle.cache_spaces.specs.Outputs.{output_after, output_for}
 use Rattle.cache_spaces.specs.Played.{WerePlayed}
-use Rattle.cache_spaces.specs.Recorded.{RecordsAt, RecordsInput, namespace_of}
+use Rattle.cache_spaces.specs.Recorded.{RecordsAt, namespace_of}
 use Rattle.cache_spaces.specs.declared.space.Space.{Space}
-use Rattle.cache_shared.specs.Events.{Happens, Performs, Reached, record_count}
+use Rattle.cache_shared.specs.Events.{Performs, Reached, record_count}
 use Rattle.cache_shared.proofs.Counting.{count-more}
 
 -- what was put at a place stands there

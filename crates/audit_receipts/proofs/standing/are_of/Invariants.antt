@@ -1,4 +1,4 @@
-use Rattle.std.proofs.Common.{◌≡◌, ℕ, drop}
+use Rattle.std.proofs.Common.{drop}
 use Rattle.audit_receipts.specs.Receipts.{AreOf}
 use Rattle.audit_receipts.proofs.standing.are_of.Given as goal
 

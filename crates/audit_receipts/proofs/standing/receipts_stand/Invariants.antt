@@ -1,4 +1,4 @@
-use Rattle.std.proofs.Common.{◌≡◌, ℕ, drop}
+use Rattle.std.proofs.Common.{drop}
 use Rattle.audit_receipts.specs.Receipts.{StandFrom}
 use Rattle.audit_receipts.proofs.standing.receipts_stand.Given as goal
 

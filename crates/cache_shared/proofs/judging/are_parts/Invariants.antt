@@ -1,4 +1,4 @@
-use Rattle.std.proofs.Common.{◌≡◌, ℕ, drop}
+use Rattle.std.proofs.Common.{drop}
 use Rattle.cache_shared.specs.Seats.{ArePartsOf, receipts_at}
 use Rattle.cache_shared.proofs.judging.are_parts.Given as goal
 

@@ -1,4 +1,4 @@
-use Rattle.std.proofs.Common.{◌≡◌, sym, subst}
+use Rattle.std.proofs.Common.{subst}
 use Rattle.cache_shared.specs.Marks.{AllMarked}
 use Rattle.cache_shared.proofs.Marked.{once_of}
 use Rattle.cache_shared.proofs.judging.judge.Goals as goal

@@ -1,4 +1,4 @@
-use Rattle.std.proofs.Common.{◌≡◌, ℕ, ◌+◌, vec_len}
+use Rattle.std.proofs.Common.{◌≡◌, ◌+◌, vec_len}
 use Rattle.cache_shared.specs.Seats.{SameReceipts}
 use Rattle.cache_shared.proofs.seat.make_lists.Given as goal
 

@@ -1,4 +1,3 @@
-use Rattle.std.proofs.Common.{◌≡◌, ℕ}
 use Rattle.cache_shared.specs.Seats.{AgreeBelow}
 use Rattle.cache_shared.proofs.desk.Desk.agrees.Given as goal
 

@@ -1,4 +1,4 @@
-use Rattle.std.proofs.Common.{◌≡◌, ◌<◌, rules, length}
+use Rattle.std.proofs.Common.{◌<◌, rules, length}
 use Rattle.cache_shared.proofs.Keeping.{gains-result, stays-result}
 use Rattle.cache_shared.proofs.desk.Desk.step.Goals as goal
 
