@@ -1,1 +1,2 @@
 mod Sorting
+mod Judged

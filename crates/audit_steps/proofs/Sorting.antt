@@ -134,7 +134,6 @@ live-push config now (d ∷ done) h =
     ∙ put_if-either (is_live_at config now d) (is_live_at config now h) d.value.key h.value.key (live_keys_at config now done)
     ∙ sym (ap (put_if (is_live_at config now h) h.value.key) (live-cons config now d done))
 
-
 abbrev pub texts : List (Bor (List ℕ)) → List (List ℕ)
 texts ks = map (λ k. k.now) ks
 

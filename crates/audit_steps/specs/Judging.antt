@@ -3,20 +3,26 @@ use Rattle.std.specs.Prelude.{◌≡◌, IfSome, ℕ, Bool, true, false, not, �
 use Rattle.std.specs.List.{list_all}
 use Rattle.std.specs.Option.{option_eq, option_map, option_to_list}
 use Rattle.audit_model.specs.Bytewise.{same, text_line}
-use Rattle.audit_model.specs.Changes.{left_held}
+use Rattle.audit_model.specs.Changes.{left_held, after_step}
 use Rattle.audit_model.specs.Commands.{deed_of, syncs}
 use Rattle.audit_model.specs.Follows.{line_in}
-use Rattle.audit_model.specs.History.{Action, Value, part_count}
+use Rattle.audit_model.specs.History.{Action, Effect, Value, part_count}
 use Rattle.audit_model.specs.Notes.{is_within}
 use Rattle.audit_model.specs.Replies.{Offer, reply_of, may_refuse, offer_of, value_from}
 use Rattle.audit_model.specs.Situation.{Situation, HeldValue, connection_in, view_in}
-use Rattle.audit_model.specs.Steps.{Task, PlacedStep, effect_in, is_in_turn, is_held_rightly, has_right_line, has_right_reply, has_right_load, is_quiet_where_silent}
+use Rattle.audit_model.specs.Steps.{Task, PlacedStep, effect_in, is_right, is_in_turn, is_held_rightly, has_right_line, has_right_reply, has_right_load, is_quiet_where_silent}
 use Rattle.audit_model.specs.View.{View}
 use Rattle.audit_model.specs.declared.config.Config.{Config}
 use Rattle.audit_model.specs.declared.transcript.Step.{Step}
 use Rattle.audit_judge.specs.After.{IsNew}
 use Rattle.audit_steps.specs.declared.accepting.Proposal.{Proposal}
 use Rattle.audit_steps.specs.declared.accepting.PartOf.{PartOf}
+
+-- the step in its place, doing that and accepting that value
+abbrev pub placed_with : Config → Situation → Option Task → Action → Step → Option Value → PlacedStep
+placed_with config s task action step value =
+    let effect : Effect = record { at = s.latest; action = action; reply = step.reply; load = step.load; value = value; notes = step.notices } in
+    record { task = task; line = line_in task (connection_in step.conn s); seen = view_in config s; step = step; effect = effect; held = map (λ h. h.value) (left_held s.held (deed_of effect) step.notices) }
 
 -- the step in its place, doing that
 abbrev pub placed_by : Config → Situation → Option Task → Action → Step → PlacedStep
@@ -73,3 +79,9 @@ Takes config now part offer (Some newcomer) =
 -- the same of a step that does that
 abbrev pub Accepts : Config → Situation → Action → Option ℕ → Option (Option HeldValue) → Type 0
 Accepts config s action part newcomer = Takes config s.latest part (offer_of config (view_in config s) action) newcomer
+
+-- the step is right and its value has its key's part exactly where the answer is true; and then this situation and these parts are left
+pub record IsJudged (config : Config) (s : Situation) (parts : List PartOf) (task : Option Task) (step : Step) (placed : PlacedStep) (b : Bool) (t : Situation) (more : List PartOf) : Type 0 where
+  pub right : b ≡ (is_right config placed && agrees_with parts placed.effect.value)
+  pub left : b ≡ true → t ≡ after_step config s task step placed.effect
+  pub kept : b ≡ true → more ≡ parts ++ parts_of placed.effect.value

@@ -3,6 +3,7 @@
 
 mod accepting;
 mod doing;
+mod judging;
 mod keys;
 mod owing;
 mod replies;
@@ -10,4 +11,5 @@ mod shown;
 
 pub use accepting::PartOf;
 pub use doing::Doing;
+pub use judging::judge;
 pub use shown::{Duty, Shown, show};
