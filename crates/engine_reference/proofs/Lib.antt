@@ -1,0 +1,2 @@
+pub mod HeldRecords
+pub mod TellingSteps

@@ -1,0 +1,17 @@
+//! Laws of the reference cache. Each function does nothing: its contract is the law.
+ghost use Rattle.engine_reference.specs.Laws.{StepsTell, RunsTell, NothingTakenForSize};
+
+/// A step of a run tells what it takes away once, and takes for weight only where a running weight is above the capacity.
+pub fn steps_tell<K, V, P, S, R>()
+    ensures { StepsTell K V P S R }
+{}
+
+/// A run tells all that it takes away once, where removals are told, and nothing else; the other entries stay.
+pub fn runs_tell<K, V, P, S, R>()
+    ensures { RunsTell K V P S R }
+{}
+
+/// Without a capacity a run takes nothing for weight.
+pub fn nothing_taken_for_size<K, V, P, S, R>()
+    ensures { NothingTakenForSize K V P S R }
+{}
