@@ -1,15 +1,10 @@
 -- What is held after a record was changed or taken away.
-use Rattle.std.proofs.Common.{◌≡◌, refl, ap, sym, ◌∙◌, ℕ, Bool, true, false, cond, List, [], ◌∷◌, ◌++◌, Option, Some, None, eqb, ◌==◌}
-use Rattle.std.specs.Prelude.{IsPermutation}
+use Rattle.std.proofs.Common.{◌≡◌, refl, ap, sym, ◌∙◌, ℕ, suc, Bool, true, false, cond, List, [], ◌∷◌, ◌++◌, Option, Some, None, eqb, ◌==◌}
+use Rattle.std.specs.Prelude.{slice_get, remove}
 use Rattle.std.proofs.lemmas.Bool.{eqb-true}
-use Rattle.std.proofs.lemmas.List.Sorted.{IsPermutation-refl, IsPermutation-cons, IsPermutation-trans, IsPermutation-append_left, IsPermutation-append_comm}
 use Rattle.engine_reference.specs.declared.data.Entry.{Entry}
 use Rattle.engine_reference.specs.declared.data.Record.{Record}
 use Rattle.engine_reference.specs.Records.{record_at, without_record, changed_at, held_entries}
-
--- two elements change places
-pub IsPermutation-exchange : {X : Type 0} (x y : X) (xs : List X) → IsPermutation (x ∷ y ∷ xs) (y ∷ x ∷ xs)
-IsPermutation-exchange x y xs = IsPermutation-append_left xs (x ∷ y ∷ []) (y ∷ x ∷ []) (IsPermutation-append_comm (x ∷ []) (y ∷ []))
 
 module _ {K V : Type 0} where
   pub record_at-number : (rs : List (Record K V)) (number : ℕ) (r : Record K V) → record_at rs number ≡ Some r → r.number ≡ number
@@ -41,21 +36,43 @@ module _ {K V : Type 0} where
       go true h later = let same : x ≡ r = cc in sym (ap (λ h. cond h (x.entry ∷ held_entries rs) (held_entries rs)) (ap (λ y. y.is_held) same ∙ out))
       go false h later = ap (λ es. cond x.is_held (x.entry ∷ es) es) (later h out)
 
+  -- where a held entry stands, and that it goes from there
+  pub record GoesFrom (rs : List (Record K V)) (number : ℕ) (e : Entry K V) : Type 0 where
+    pub place : ℕ
+    pub there : slice_get (held_entries rs) place ≡ Some e
+    pub after : held_entries (without_record number rs) ≡ remove (held_entries rs) place
+
   -- a record that is held goes: its entry goes, and the others stay
-  pub held-without : (rs : List (Record K V)) (number : ℕ) (r : Record K V) → record_at rs number ≡ Some r → r.is_held ≡ true
-      → IsPermutation (held_entries rs) (r.entry ∷ held_entries (without_record number rs))
+  pub held-without : (rs : List (Record K V)) (number : ℕ) (r : Record K V) → record_at rs number ≡ Some r → r.is_held ≡ true → GoesFrom rs number r.entry
   held-without [] number r there held = absurd (cc)
-  held-without (x ∷ rs) number r there held = go (x.number == number) there (held-without rs number r)
+  held-without (x ∷ rs) number r there held = go (x.number == number) refl there (held-without rs number r)
     where
-      past : (b : Bool) → IsPermutation (held_entries rs) (r.entry ∷ held_entries (without_record number rs))
-          → IsPermutation (cond b (x.entry ∷ held_entries rs) (held_entries rs)) (r.entry ∷ cond b (x.entry ∷ held_entries (without_record number rs)) (held_entries (without_record number rs)))
-      past true p = IsPermutation-trans _ _ _ (IsPermutation-cons x.entry _ _ p) (IsPermutation-exchange x.entry r.entry _)
-      past false p = p
-      go : (b : Bool) → cond b (Some x) (record_at rs number) ≡ Some r
-          → (record_at rs number ≡ Some r → r.is_held ≡ true → IsPermutation (held_entries rs) (r.entry ∷ held_entries (without_record number rs)))
-          → IsPermutation (held_entries (x ∷ rs)) (r.entry ∷ held_entries (cond b rs (x ∷ without_record number rs)))
-      go true h later =
+      past : (b : Bool) → x.is_held ≡ b → eqb x.number number ≡ false → GoesFrom rs number r.entry → GoesFrom (x ∷ rs) number r.entry
+      past true h t p = record {
+        place = suc p.place;
+        there = ap (λ b. slice_get (cond b (x.entry ∷ held_entries rs) (held_entries rs)) (suc p.place)) h ∙ p.there;
+        after = ap (λ b. held_entries (cond b rs (x ∷ without_record number rs))) t
+            ∙ ap (λ b. cond b (x.entry ∷ held_entries (without_record number rs)) (held_entries (without_record number rs))) h
+            ∙ ap (λ es. x.entry ∷ es) p.after
+            ∙ sym (ap (λ b. remove (cond b (x.entry ∷ held_entries rs) (held_entries rs)) (suc p.place)) h)
+      }
+      past false h t p = record {
+        place = p.place;
+        there = ap (λ b. slice_get (cond b (x.entry ∷ held_entries rs) (held_entries rs)) p.place) h ∙ p.there;
+        after = ap (λ b. held_entries (cond b rs (x ∷ without_record number rs))) t
+            ∙ ap (λ b. cond b (x.entry ∷ held_entries (without_record number rs)) (held_entries (without_record number rs))) h
+            ∙ p.after
+            ∙ sym (ap (λ b. remove (cond b (x.entry ∷ held_entries rs) (held_entries rs)) p.place) h)
+      }
+      go : (b : Bool) → eqb x.number number ≡ b → cond b (Some x) (record_at rs number) ≡ Some r
+          → (record_at rs number ≡ Some r → r.is_held ≡ true → GoesFrom rs number r.entry)
+          → GoesFrom (x ∷ rs) number r.entry
+      go true t h later =
           let same : x ≡ r = cc in
           let whole : held_entries (x ∷ rs) ≡ r.entry ∷ held_entries rs = ap (λ h. cond h (x.entry ∷ held_entries rs) (held_entries rs)) (ap (λ y. y.is_held) same ∙ held) ∙ ap (λ y. y.entry ∷ held_entries rs) same in
-          rw whole (IsPermutation-refl (r.entry ∷ held_entries rs))
-      go false h later = past x.is_held (later h held)
+          record {
+            place = 0;
+            there = ap (λ es. slice_get es 0) whole;
+            after = ap (λ b. held_entries (cond b rs (x ∷ without_record number rs))) t ∙ sym (ap (λ es. remove es 0) whole)
+          }
+      go false t h later = past x.is_held refl t (later h held)

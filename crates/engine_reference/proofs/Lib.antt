@@ -1,2 +1,3 @@
 pub mod HeldRecords
 pub mod TellingSteps
+pub mod StayingVisible

@@ -1,5 +1,5 @@
 //! Laws of the reference cache. Each function does nothing: its contract is the law.
-ghost use Rattle.engine_reference.specs.Laws.{StepsTell, RunsTell, NothingTakenForSize};
+ghost use Rattle.engine_reference.specs.Laws.{StepsTell, RunsTell, NothingTakenForSize, RunsKeepVisible};
 
 /// A step of a run tells what it takes away once, and takes for weight only where a running weight is above the capacity.
 pub fn steps_tell<K, V, P, S, R>()
@@ -14,4 +14,9 @@ pub fn runs_tell<K, V, P, S, R>()
 /// Without a capacity a run takes nothing for weight.
 pub fn nothing_taken_for_size<K, V, P, S, R>()
     ensures { NothingTakenForSize K V P S R }
+{}
+
+/// What was visible and was not taken away by a run stays visible, and nothing else becomes visible.
+pub fn runs_keep_visible<K, V, P, S, R>()
+    ensures { RunsKeepVisible K V P S R }
 {}
