@@ -1,5 +1,5 @@
 -- What is held after a record was changed or taken away.
-use Rattle.std.proofs.Common.{◌≡◌, refl, ap, sym, ◌∙◌, ℕ, suc, Bool, true, false, cond, List, [], ◌∷◌, ◌++◌, Option, Some, None, eqb, ◌==◌}
+use Rattle.std.proofs.Common.{◌≡◌, refl, ap, sym, ◌∙◌, ℕ, suc, Bool, true, false, cond, List, [], ◌∷◌, Some, eqb, ◌==◌}
 use Rattle.std.specs.Prelude.{slice_get, remove}
 use Rattle.std.proofs.lemmas.Bool.{eqb-true}
 use Rattle.engine_reference.specs.declared.data.Entry.{Entry}
@@ -54,7 +54,7 @@ module _ {K V : Type 0} where
         after = ap (λ b. held_entries (cond b rs (x ∷ without_record number rs))) t
             ∙ ap (λ b. cond b (x.entry ∷ held_entries (without_record number rs)) (held_entries (without_record number rs))) h
             ∙ ap (λ es. x.entry ∷ es) p.after
-            ∙ sym (ap (λ b. remove (cond b (x.entry ∷ held_entries rs) (held_entries rs)) (suc p.place)) h)
+            ∙ sym (ap (λ b. remove (cond b (x.entry ∷ held_entries rs) (held_entries rs)) (suc p.place)) h);
       }
       past false h t p = record {
         place = p.place;
@@ -62,8 +62,9 @@ module _ {K V : Type 0} where
         after = ap (λ b. held_entries (cond b rs (x ∷ without_record number rs))) t
             ∙ ap (λ b. cond b (x.entry ∷ held_entries (without_record number rs)) (held_entries (without_record number rs))) h
             ∙ p.after
-            ∙ sym (ap (λ b. remove (cond b (x.entry ∷ held_entries rs) (held_entries rs)) p.place) h)
+            ∙ sym (ap (λ b. remove (cond b (x.entry ∷ held_entries rs) (held_entries rs)) p.place) h);
       }
+
       go : (b : Bool) → eqb x.number number ≡ b → cond b (Some x) (record_at rs number) ≡ Some r
           → (record_at rs number ≡ Some r → r.is_held ≡ true → GoesFrom rs number r.entry)
           → GoesFrom (x ∷ rs) number r.entry
@@ -73,6 +74,6 @@ module _ {K V : Type 0} where
           record {
             place = 0;
             there = ap (λ es. slice_get es 0) whole;
-            after = ap (λ b. held_entries (cond b rs (x ∷ without_record number rs))) t ∙ sym (ap (λ es. remove es 0) whole)
+            after = ap (λ b. held_entries (cond b rs (x ∷ without_record number rs))) t ∙ sym (ap (λ es. remove es 0) whole);
           }
       go false t h later = past x.is_held refl t (later h held)

@@ -1,17 +1,16 @@
 -- What look-ups see after a stretch of maintenance.
-use Rattle.std.proofs.Common.{◌≡◌, refl, ap, sym, ◌∙◌, ℕ, zero, suc, Bool, true, false, cond, not, ◌&&◌, ◌||◌, List, [], ◌∷◌, ◌++◌, Option, Some, None, map, inl, inr, ◌⊎◌}
-use Rattle.std.specs.Prelude.{slice_get, remove, nat_lt, if◌then◌else◌}
+use Rattle.std.proofs.Common.{◌≡◌, refl, ap, sym, ◌∙◌, ℕ, zero, suc, Bool, true, false, cond, not, ◌&&◌, List, [], ◌∷◌, Option, Some, None, inl, inr, ◌⊎◌}
+use Rattle.std.specs.Prelude.{slice_get, remove, if◌then◌else◌}
 use Rattle.std.specs.Cmp.{IsEquivalence}
 use Rattle.std.specs.Option.{option_map}
 use Rattle.engine_reference.specs.declared.data.Entry.{Entry}
 use Rattle.engine_reference.specs.declared.data.Record.{Record}
-use Rattle.engine_reference.specs.Laws.{RunsKeepVisible, RunKeepsVisible}
+use Rattle.engine_reference.specs.Laws.{RunsKeepVisible}
 use Rattle.engine_reference.specs.Records.{held_at, held_entries}
-use Rattle.engine_reference.specs.Runs.{Runs}
 use Rattle.engine_reference.specs.State.{State, Answers}
-use Rattle.engine_reference.specs.Telling.{Removal, Tells, KeepsCover, TakesAway, AreApart, IsAmong, StaysVisible, entry_of, removed_entries}
+use Rattle.engine_reference.specs.Telling.{Removal, KeepsCover, TakesAway, AreApart, IsAmong, StaysVisible, entry_of, removed_entries}
 use Rattle.engine_reference.specs.Times.{has_come}
-use Rattle.engine_reference.specs.Visible.{visible, visible_record, is_visible, is_covered, passing}
+use Rattle.engine_reference.specs.Visible.{visible, is_visible, is_covered, passing}
 use Rattle.engine_reference.proofs.TellingSteps.{run_tells}
 
 -- what a choice gives that is none
@@ -94,9 +93,11 @@ module _ {K V : Type 0} (eq : K → K → Bool) (laws : IsEquivalence eq) where
       later : (eq q x.entry.key ≡ false) → StaysOrGoes eq xs (remove old h.0) new q → StaysOrGoes eq (x ∷ xs) old new q
       later other (inl same) = inl (same ∙ remove_other old h.0 x.entry q h.1 other)
       later other (inr gone) = inr (gone.0, (gone.1.0, inr gone.1.1, sym (remove_other old h.0 x.entry q h.1 other) ∙ gone.1.2))
+
       now : (eq q x.entry.key ≡ true) → StaysOrGoes eq xs (remove old h.0) new q → StaysOrGoes eq (x ∷ xs) old new q
       now same (inl stays) = let r = remove_same old h.0 x.entry q apart h.1 same in inr (stays ∙ r.1, (x, inl refl, r.0))
       now same (inr gone) = let r = remove_same old h.0 x.entry q apart h.1 same in inr (gone.0, (x, inl refl, r.0))
+
       go : (b : Bool) → eq q x.entry.key ≡ b → StaysOrGoes eq xs (remove old h.0) new q → StaysOrGoes eq (x ∷ xs) old new q
       go true t r = now t r
       go false t r = later t r
@@ -111,10 +112,12 @@ module _ {K V : Type 0} (eq : K → K → Bool) where
       here : (b : Bool) → option_map (λ r. r.entry) (if b then Some r else None) ≡ (if b then Some r.entry else None)
       here true = refl
       here false = refl
+
       matching : (b : Bool) → option_map (λ r. r.entry) (passing (λ r. test r.entry) (held_at eq rs q)) ≡ passing test (entry_of eq (held_entries rs) q)
           → option_map (λ r. r.entry) (passing (λ r. test r.entry) (cond b (Some r) (held_at eq rs q))) ≡ passing test (cond b (Some r.entry) (entry_of eq (held_entries rs) q))
       matching true later = here (test r.entry)
       matching false later = later
+
       go : (h : Bool) → option_map (λ r. r.entry) (passing (λ r. test r.entry) (held_at eq rs q)) ≡ passing test (entry_of eq (held_entries rs) q)
           → option_map (λ r. r.entry) (passing (λ r. test r.entry) (cond (h && eq q r.entry.key) (Some r) (held_at eq rs q))) ≡ passing test (entry_of eq (cond h (r.entry ∷ held_entries rs) (held_entries rs)) q)
       go true later = matching (eq q r.entry.key) later
@@ -139,17 +142,20 @@ module _ {K V P S R : Type 0} (eq : K → K → Bool) (answers : Answers K V P R
   stays_visible xs old new keeps moment q (inl same) = inl (
       visible_by_entries new moment q
       ∙ passing-same (is_visible answers new moment) (is_visible answers old moment) (entry_of eq (held_entries new.records) q)
-          (λ e found. let p = entry_of-there eq (held_entries new.records) q e found in same_test old new moment p.0 e keeps p.1)
+      (λ e found. let p = entry_of-there eq (held_entries new.records) q e found in same_test old new moment p.0 e keeps p.1)
       ∙ ap (λ o. passing (is_visible answers old moment) o) same
       ∙ sym (visible_by_entries old moment q))
   stays_visible xs old new keeps moment q (inr taken) = go (is_visible answers old moment taken.1.0.entry) refl
     where
       gone : Removal K V
       gone = taken.1.0
+
       nothing : visible answers eq new moment q ≡ None
       nothing = visible_by_entries new moment q ∙ ap (λ o. passing (is_visible answers new moment) o) taken.0
+
       before : visible answers eq old moment q ≡ cond (is_visible answers old moment gone.entry) (Some gone.entry) None
       before = visible_by_entries old moment q ∙ ap (λ o. passing (is_visible answers old moment) o) taken.1.2
+
       go : (b : Bool) → is_visible answers old moment gone.entry ≡ b → StaysVisible eq answers xs old new moment q
       go true e = inr (nothing, (gone, taken.1.1, before ∙ ap (λ b. cond b (Some gone.entry) None) e))
       go false e = inl (nothing ∙ sym (before ∙ ap (λ b. cond b (Some gone.entry) None) e))
@@ -162,5 +168,5 @@ module _ (K V P S R : Type 0) where
         removals = c.removals;
         tells = c.tells;
         apart = taken_apart eq laws c.removals (held_entries old.records) (held_entries new.records) apart c.tells.entries;
-        stays = λ moment key. stays_visible eq answers c.removals old new c.keeps moment key (taken_looks eq laws c.removals (held_entries old.records) (held_entries new.records) apart c.tells.entries key)
+        stays = λ moment key. stays_visible eq answers c.removals old new c.keeps moment key (taken_looks eq laws c.removals (held_entries old.records) (held_entries new.records) apart c.tells.entries key);
       }

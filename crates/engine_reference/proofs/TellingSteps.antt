@@ -1,5 +1,5 @@
 -- Each step tells what it takes away.
-use Rattle.std.proofs.Common.{◌≡◌, refl, ap, sym, ◌∙◌, ℕ, zero, suc, ◌+◌, ◌&&◌, ◌||◌, Bool, true, false, true≢false, cond, not, List, [], ◌∷◌, ◌++◌, Option, Some, None, map, is_some, append_assoc, append-nil, inl, inr, ◌⊎◌}
+use Rattle.std.proofs.Common.{◌≡◌, refl, ap, sym, ◌∙◌, ℕ, zero, suc, ◌+◌, ◌&&◌, ◌||◌, Bool, true, false, true≢false, cond, not, List, [], ◌∷◌, ◌++◌, Option, Some, None, is_some, append_assoc, append-nil, inl, inr, ◌⊎◌}
 use Rattle.std.specs.List.{list_any}
 use Rattle.std.proofs.lemmas.Bool.{and_parts, not-true}
 use Rattle.engine_reference.specs.declared.data.Registered.{Registered}
@@ -18,12 +18,12 @@ use Rattle.engine_reference.specs.declared.data.Write.{Write}
 use Rattle.engine_reference.specs.declared.data.Read.TheVariants.{Hit, Miss}
 use Rattle.engine_reference.specs.declared.data.Write.TheVariants.{Put, Removed}
 use Rattle.engine_reference.specs.Admission.{Verdict, admit, displace, refuse, verdict, verdict_of_full, is_above}
-use Rattle.engine_reference.specs.Laws.{StepTells, StepsTell, StretchTells, RunsTell, TakesNoneForSize, NothingTakenForSize}
+use Rattle.engine_reference.specs.Laws.{StepTells, StepsTell, RunsTell, NothingTakenForSize}
 use Rattle.engine_reference.specs.Records.{record_at, held_entries, admitted_weight, settled_in, without, without_record, moved_to_back}
 use Rattle.engine_reference.specs.Runs.{covers_none, is_due_for, Step, reads, writes, grows, leaves, evicts, ends, Steps, Runs, with_left, left, all_left, after_read, after_hit, after_write, after_put, after_removal, counting, put_off, judged, is_overtaken, running_weight, oldest_weight}
 use Rattle.engine_reference.specs.State.{State, Answers}
 use Rattle.engine_reference.specs.Telling.{TakesAway, KeepsCover, Removal, Tells, Keeps, NoneWith, notices_of, removed_entries, notice_of_removal}
-use Rattle.engine_reference.specs.Visible.{told, notice_of, is_covered, is_covered_by}
+use Rattle.engine_reference.specs.Visible.{told, is_covered_by}
 use Rattle.engine_reference.proofs.HeldRecords.{record_at-number, held-changed, held-without, held-without_other}
 
 module _ {K V : Type 0} where
@@ -93,7 +93,7 @@ module _ {K V P S R : Type 0} where
   pub Tells-nothing : (old new : State K V P S R) → new.notices ≡ old.notices → held_entries new.records ≡ held_entries old.records → Tells old [] new
   Tells-nothing old new notices held = record {
     notices = notices ∙ sym (append-nil old.notices) ∙ ap (λ ns. old.notices ++ ns) (sym (notices_of-none old.settings.tells));
-    entries = held
+    entries = held;
   }
 
   pub Tells-trans : (a b c : State K V P S R) (xs ys : List (Removal K V)) → b.settings ≡ a.settings → Tells a xs b → Tells b ys c → Tells a (xs ++ ys) c
@@ -102,7 +102,7 @@ module _ {K V P S R : Type 0} where
         ∙ ap (λ settings. (a.notices ++ notices_of a.settings.tells xs) ++ notices_of settings.tells ys) same
         ∙ append_assoc a.notices (notices_of a.settings.tells xs) (notices_of a.settings.tells ys)
         ∙ ap (λ ns. a.notices ++ ns) (sym (notices_of-append a.settings.tells xs ys));
-    entries = TakesAway-trans xs ys (held_entries a.records) (held_entries b.records) (held_entries c.records) h.entries k.entries
+    entries = TakesAway-trans xs ys (held_entries a.records) (held_entries b.records) (held_entries c.records) h.entries k.entries;
   }
 
   -- the same after a change that tells nothing and keeps what is held
@@ -128,15 +128,16 @@ module _ {K V P S R : Type 0} where
     where
       here : record_at s.records r.number ≡ Some r
       here = ap (λ n. record_at s.records n) (record_at-number s.records number r there) ∙ there
+
       go : (b : Bool) → r.is_held ≡ b → Stretch why s (with_left why s (Some r))
       go true held = record {
         removals = (record { cause = why; entry = r.entry }) ∷ [];
         tells = record {
           notices = ap (λ h. cond h (told s.settings.tells why r.entry s.notices) s.notices) held ∙ told_once s.settings.tells why r.entry s.notices;
-          entries = let h = held-without s.records r.number r here held in (h.place, h.there, h.after)
+          entries = let h = held-without s.records r.number r here held in (h.place, h.there, h.after);
         };
         keeps = record { settings = refl; cleared = refl; rules = refl; unsent = refl; predicates = refl };
-        only = λ other. (other, tt)
+        only = λ other. (other, tt);
       }
       go false out = Stretch-nothing why s (with_left why s (Some r)) (record { settings = refl; cleared = refl; rules = refl; unsent = refl; predicates = refl })
           (ap (λ h. cond h (told s.settings.tells why r.entry s.notices) s.notices) out) (held-without_other s.records r.number r here out)
@@ -153,7 +154,7 @@ module _ {K V P S R : Type 0} where
         removals = first.removals ++ rest.removals;
         tells = Tells-trans s (left why r.number s) (all_left why (r ∷ rs) s) first.removals rest.removals first.keeps.settings first.tells rest.tells;
         keeps = Keeps-trans s (left why r.number s) (all_left why (r ∷ rs) s) first.keeps rest.keeps;
-        only = λ other. NoneWith-append cause.Size first.removals rest.removals (first.only other) (rest.only other)
+        only = λ other. NoneWith-append cause.Size first.removals rest.removals (first.only other) (rest.only other);
       }
 
   -- ---- writes
@@ -192,14 +193,17 @@ module _ {K V P S R : Type 0} where
     where
       full : Verdict K V
       full = if is_above s.settings.capacity u.weight then refuse else verdict_of_full s.settings.policy s.sketch u (settled_in s.records s.access)
+
       by_room : (b : Bool) → is_above s.settings.capacity (admitted_weight s.records + u.weight) ≡ b → WriteTells u.weight s (judged u r s (cond b full admit))
       by_room true above =
           let h = judged-tells u r s full in
           record { removals = h.removals; tells = h.tells; keeps = h.keeps; for_size = inr above }
       by_room false below = nothing_written u.weight s (counting u s) (Keeps-counting u s) refl (counting-held u s)
+
       by_admission : (b : Bool) → WriteTells u.weight s (cond b (counting u s) (judged u r s (verdict s u)))
       by_admission true = nothing_written u.weight s (counting u s) (Keeps-counting u s) refl (counting-held u s)
       by_admission false = by_room (is_above s.settings.capacity (admitted_weight s.records + u.weight)) refl
+
       by_generation : (b : Bool) → WriteTells u.weight s (cond b (cond (is_some r.counts) (counting u s) (judged u r s (verdict s u))) s)
       by_generation true = by_admission (is_some r.counts)
       by_generation false = nothing_written u.weight s s (Keeps-refl s) refl refl
@@ -210,8 +214,10 @@ module _ {K V P S R : Type 0} where
     where
       here : record_at s.records r.number ≡ Some r
       here = ap (λ n. record_at s.records n) (record_at-number s.records number r there) ∙ there
+
       gone : State K V P S R
       gone = record s { records = without_record r.number s.records; access = without r.number s.access }
+
       go : (b : Bool) → r.is_held ≡ b → WriteTells 0 s (cond b s gone)
       go true held = nothing_written 0 s s (Keeps-refl s) refl refl
       go false out = nothing_written 0 s gone (record { settings = refl; cleared = refl; rules = refl; unsent = refl; predicates = refl }) refl (held-without_other s.records r.number r here out)
@@ -228,18 +234,24 @@ module _ {K V P S R : Type 0} where
 module _ {K V P S R : Type 0} (answers : Answers K V P R) where
   cover : (old new : State K V P S R) → Keeps old new → KeepsCover answers old new
   cover old new h = record {
-    settings = h.settings; cleared = h.cleared; rules = h.rules; unsent = h.unsent;
+    settings = h.settings;
+    cleared = h.cleared;
+    rules = h.rules;
+    unsent = h.unsent;
     covered = λ place e there. ap (λ c. nat_lt e.step c || list_any (λ p. is_covered_by answers new.rules p e) new.predicates) h.cleared
         ∙ ap (λ r. nat_lt e.step old.cleared || list_any (λ p. is_covered_by answers r p e) new.predicates) h.rules
-        ∙ ap (λ ps. nat_lt e.step old.cleared || list_any (λ p. is_covered_by answers old.rules p e) ps) h.predicates
+        ∙ ap (λ ps. nat_lt e.step old.cleared || list_any (λ p. is_covered_by answers old.rules p e) ps) h.predicates;
   }
 
   cover-trans : (a b c : State K V P S R) (ys : List (Removal K V)) → Tells b ys c → KeepsCover answers a b → KeepsCover answers b c → KeepsCover answers a c
   cover-trans a b c ys tells h k = record {
-    settings = k.settings ∙ h.settings; cleared = k.cleared ∙ h.cleared; rules = k.rules ∙ h.rules; unsent = k.unsent ∙ h.unsent;
+    settings = k.settings ∙ h.settings;
+    cleared = k.cleared ∙ h.cleared;
+    rules = k.rules ∙ h.rules;
+    unsent = k.unsent ∙ h.unsent;
     covered = λ place e there.
         let before = TakesAway-from (removed_entries ys) (held_entries b.records) (held_entries c.records) place e tells.entries there in
-        k.covered place e there ∙ h.covered before.0 e before.1
+        k.covered place e there ∙ h.covered before.0 e before.1;
   }
 
   write-tells : (old new : State K V P S R) (w : Write) (rest : List Write) → old.writes ≡ w ∷ rest → new ≡ after_write w (record old { writes = rest }) → StepTells K V P S R answers old new
@@ -250,7 +262,7 @@ module _ {K V P S R : Type 0} (answers : Answers K V P R) where
         removals = h.removals;
         tells = Tells-popped old (after_write (Put u) s) old.reads rest h.removals h.tells;
         keeps = cover old _ (Keeps-popped old (after_write (Put u) s) old.reads rest h.keeps);
-        for_size = elim h.for_size [ inl none ↦ inl none | inr above ↦ inr (ap (λ ws. is_above old.settings.capacity (admitted_weight old.records + oldest_weight ws)) e ∙ above) ]
+        for_size = elim h.for_size [ inl none ↦ inl none | inr above ↦ inr (ap (λ ws. is_above old.settings.capacity (admitted_weight old.records + oldest_weight ws)) e ∙ above) ];
       })
   write-tells old new (Removed number) rest e after =
       let s = record old { writes = rest } in
@@ -259,7 +271,7 @@ module _ {K V P S R : Type 0} (answers : Answers K V P R) where
         removals = h.removals;
         tells = Tells-popped old (after_write (Removed number) s) old.reads rest h.removals h.tells;
         keeps = cover old _ (Keeps-popped old (after_write (Removed number) s) old.reads rest h.keeps);
-        for_size = elim h.for_size [ inl none ↦ inl none | inr above ↦ inr (ap (λ ws. is_above old.settings.capacity (admitted_weight old.records + oldest_weight ws)) e ∙ above) ]
+        for_size = elim h.for_size [ inl none ↦ inl none | inr above ↦ inr (ap (λ ws. is_above old.settings.capacity (admitted_weight old.records + oldest_weight ws)) e ∙ above) ];
       })
 
   step-nothing : (old new : State K V P S R) → Keeps old new → new.notices ≡ old.notices → held_entries new.records ≡ held_entries old.records → StepTells K V P S R answers old new
@@ -271,6 +283,7 @@ module _ {K V P S R : Type 0} (answers : Answers K V P R) where
     where
       moved : State K V P S R
       moved = record s { access = moved_to_back r.number s.access }
+
       go : (b : Bool) → StepTells K V P S R answers old (cond b moved s)
       go true = step-nothing old moved (record { settings = keeps.settings; cleared = keeps.cleared; rules = keeps.rules; unsent = keeps.unsent; predicates = keeps.predicates }) notices held
       go false = step-nothing old s keeps notices held
@@ -294,17 +307,22 @@ module _ {K V P S R : Type 0} (answers : Answers K V P R) (now : ℕ) where
   step_tells old new (evicts r applied above next after) =
       let h = left-tells cause.Size r.number old in
       rw after (record {
-        removals = h.removals; tells = h.tells; keeps = cover answers old _ h.keeps;
-        for_size = inr (ap (λ w. is_above old.settings.capacity w) (ap (λ ws. admitted_weight old.records + oldest_weight ws) applied.writes ∙ add-zero (admitted_weight old.records)) ∙ above)
+        removals = h.removals;
+        tells = h.tells;
+        keeps = cover answers old _ h.keeps;
+        for_size = inr (ap (λ w. is_above old.settings.capacity w) (ap (λ ws. admitted_weight old.records + oldest_weight ws) applied.writes ∙ add-zero (admitted_weight old.records)) ∙ above);
       })
   step_tells old new (ends place p applied there none after) = rw after (record {
     removals = [];
     tells = Tells-nothing old _ refl refl;
     keeps = record {
-      settings = refl; cleared = refl; rules = refl; unsent = refl;
-      covered = λ k e held. ap (λ b. nat_lt e.step old.cleared || b) (list_any-remove (λ q. is_covered_by answers old.rules q e) old.predicates place p there (none_covered answers old.rules p old.records k e none held))
+      settings = refl;
+      cleared = refl;
+      rules = refl;
+      unsent = refl;
+      covered = λ k e held. ap (λ b. nat_lt e.step old.cleared || b) (list_any-remove (λ q. is_covered_by answers old.rules q e) old.predicates place p there (none_covered answers old.rules p old.records k e none held));
     };
-    for_size = inl tt
+    for_size = inl tt;
   })
 
   -- ---- chains
@@ -330,7 +348,7 @@ module _ {K V P S R : Type 0} (answers : Answers K V P R) (now : ℕ) where
         keeps = cover-trans answers old mid new rest.removals rest.tells first.keeps rest.keeps;
         none = λ e. NoneWith-append cause.Size first.removals rest.removals
             (none_without old first.removals (running_weight old) first.for_size e)
-            (rest.none (ap (λ settings. settings.capacity) first.keeps.settings ∙ e))
+            (rest.none (ap (λ settings. settings.capacity) first.keeps.settings ∙ e));
       }
 
   pub run_tells : (old new : State K V P S R) → Runs answers now old new → ChainTells old new
@@ -340,7 +358,7 @@ module _ {K V P S R : Type 0} (answers : Answers K V P R) (now : ℕ) where
         removals = c.removals;
         tells = Tells-after old h.last _ c.removals c.tells refl refl;
         keeps = record { settings = c.keeps.settings; cleared = c.keeps.cleared; rules = c.keeps.rules; unsent = c.keeps.unsent; covered = c.keeps.covered };
-        none = c.none
+        none = c.none;
       })
 
 module _ (K V P S R : Type 0) where
