@@ -1,0 +1,6 @@
+//! The reference cache: what a cache of one part is, said by definitions, and the laws that hold of them.
+#![tactic(auto)]
+
+mod data;
+
+pub use data::{Entry, Notice, Read, Record, Registered, Unsent, Upsert, Write};
