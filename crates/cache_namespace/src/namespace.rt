@@ -1,10 +1,11 @@
 //! One namespace: its connections over its store.
-ghost use Rattle.std.specs.Prelude.{◌-◌, ◌≡◌, ◌≢◌, ◌<◌, ◌≤◌, ◌^◌, ◌+◌, ◌++◌, ◌∷◌, [], None, Some, ℕ, Bool, true, false, List, IfOk, OnOk, OnErr, IsErrOf, length, slice_set, IfSome, IfErr, IsErr, is_none, ◌↔◌};
+ghost use Rattle.std.specs.Prelude.{◌-◌, ◌≡◌, ◌≢◌, ◌<◌, ◌≤◌, ◌^◌, ◌+◌, ◌++◌, ◌∷◌, [], None, Some, ℕ, Bool, true, false, List, IfOk, OnOk, OnErr, IsErrOf, length, slice_set, IfSome, IfErr, IsErr, IsTrue, is_none, ◌↔◌};
 ghost use Rattle.cache_namespace.specs.declared.connection.Connection.{Connection as Open};
 ghost use Rattle.std.specs.List.{slice_get};
 ghost use Rattle.audit_model.specs.Situation.{Situation, HeldValue};
 ghost use Rattle.cache_store.specs.Identifiers.{DrawsAlone};
 ghost use Rattle.cache_store.specs.Promises.{IsUnchanged};
+ghost use Rattle.cache_store.specs.Running.{is_bounded};
 ghost use Rattle.cache_namespace.specs.Drawing.{identifiers};
 ghost use Rattle.cache_steps.specs.Right.{KeepsFrame};
 ghost use Rattle.cache_namespace.specs.Gathered.{Gathered, IsFresh};
@@ -170,6 +171,7 @@ impl<S: Store> Namespace<S> {
         ensures number { IfOk result (λ number. number ≡ length self.old.connections.items + 1) }
         ensures ran { IfOk result (λ number. (values : List HeldValue) (was : Gathered) → S.stands self.old.store values → Takes self.old.config (making_of (S.frame self.old.store)) (situation self.old.latest self.old.connections.items (S.frame self.old.store).dropped values) (event.Open number) false false (S.stands self.new.store) (situation self.new.latest self.new.connections.items (S.frame self.new.store).dropped) (identifiers (S.stream self.old.store) (S.registered self.old.store)) (identifiers (S.stream self.new.store) (S.registered self.new.store)) was was) }
         ensures rest { self.new ≡ record self.old { connections = self.new.connections } }
+        ensures bounded { OnOk result ((values : List HeldValue) → S.stands self.new.store values → IsTrue (is_bounded self.old.config values)) }
         ensures connections { OnOk result ((c : Open) × (c.output.items ≡ []) × (c.closing ≡ None) × (self.new.connections.items ≡ self.old.connections.items ++ c ∷ [])) }
         ensures err { OnErr result (self.new.connections.items ≡ self.old.connections.items) }
     {
@@ -193,6 +195,8 @@ impl<S: Store> Namespace<S> {
         requires ready { IsReadyToHold kept.old }
         ensures ran { IfOk result (λ is_held. (values : List HeldValue) → S.stands self.old.store values → Takes self.old.config (making_of (S.frame self.old.store)) (situation self.old.latest self.old.connections.items (S.frame self.old.store).dropped values) (fed number piece.now moment) is_held (is_quit (closing_at self.new.connections.items (number - 1))) (S.stands self.new.store) (situation self.new.latest self.new.connections.items (S.frame self.new.store).dropped) (identifiers (S.stream self.old.store) (S.registered self.old.store)) (identifiers (S.stream self.new.store) (S.registered self.new.store)) (gathered (text_at self.old.connections.items (number - 1)) kept.old (S.untaken self.old.store)) (gathered (text_at self.new.connections.items (number - 1)) kept.new (S.untaken self.new.store))) }
         ensures others { OnOk result ((place : ℕ) → place ≢ number - 1 → slice_get self.new.connections.items place ≡ slice_get self.old.connections.items place) }
+        ensures bounded { OnOk result ((values : List HeldValue) → S.stands self.new.store values → IsTrue (is_bounded self.old.config values)) }
+        ensures made { (S.frame self.new.store).made ≡ (S.frame self.old.store).made }
         ensures part_of { (S.frame self.new.store).part_of ≡ (S.frame self.old.store).part_of }
         ensures sound { IsSound self.new.config (S.frame self.new.store) self.new.latest }
         ensures config { self.new.config ≡ self.old.config }
@@ -240,6 +244,7 @@ impl<S: Store> Namespace<S> {
         ensures ran { OnOk result ((values : List HeldValue) (was : Gathered) → S.stands self.old.store values → Takes self.old.config (making_of (S.frame self.old.store)) (situation self.old.latest self.old.connections.items (S.frame self.old.store).dropped values) (event.Close number) false false (S.stands self.new.store) (situation self.new.latest self.new.connections.items (S.frame self.new.store).dropped) (identifiers (S.stream self.old.store) (S.registered self.old.store)) (identifiers (S.stream self.new.store) (S.registered self.new.store)) was was) }
         ensures texts { (place : ℕ) → text_at self.new.connections.items place ≡ text_at self.old.connections.items place }
         ensures others { (place : ℕ) → place ≢ number - 1 → slice_get self.new.connections.items place ≡ slice_get self.old.connections.items place }
+        ensures bounded { OnOk result ((values : List HeldValue) → S.stands self.new.store values → IsTrue (is_bounded self.old.config values)) }
         ensures closed { OnOk result (closing_at self.new.connections.items (number - 1) ≡ Some Closing.Asked) }
         ensures open { OnOk result (closing_at self.old.connections.items (number - 1) ≡ None) }
         ensures count { length self.new.connections.items ≡ length self.old.connections.items }

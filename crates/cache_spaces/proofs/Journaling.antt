@@ -24,14 +24,17 @@ use Rattle.audit_model.specs.declared.transcript.Transcript.{Transcript}
 use Rattle.cache_namespace.proofs.Places.{at-replaced}
 use Rattle.cache_namespace.specs.Taken.{text_at}
 use Rattle.cache_spaces.specs.Journals.{LeadsSo}
-use Rattle.cache_spaces.specs.Moves.{At}
+use Rattle.cache_spaces.specs.Moves.{At, are_timely_in}
 use Rattle.cache_spaces.specs.Played.{ArePlayed, HasPlayed, HavePlayed, Plays, WerePlayed}
 use Rattle.cache_spaces.specs.Recorded.{AreQuiet, AreEmpty, RecordsInput, RecordsAt, RefusedInput, namespace_of}
 use Rattle.cache_spaces.specs.Serves.{SameSpace}
 use Rattle.cache_spaces.specs.Services.{AreNew, Refuses}
 use Rattle.cache_spaces.specs.Spaces.{config_of}
+use Rattle.cache_spaces.specs.Throughout.{are_bounded_from, are_timely_from, is_bounded_throughout, is_timely_throughout}
 use Rattle.cache_spaces.specs.declared.space.Space.{Space}
 use Rattle.cache_spaces.proofs.Noting.{same-or-not}
+use Rattle.cache_spaces.proofs.Chaining.{so-of-one-more}
+use Rattle.cache_store.specs.Running.{is_bounded}
 
 absent : {X A : Type 0} {x : X} → None ≡ Some x → A
 absent e = absurd (none-some _ e)
@@ -84,6 +87,9 @@ played-none configs generator moment transcripts spaces new count empty = record
         last = empty_situation moment.nanos;
         stands = n.stands;
         belongs = (ap (λ (x : Transcript). x.records) e, refl);
+        made_is = n.made_is;
+        timely = ap (λ (x : Transcript). are_timely_from config moment.nanos x.records) e;
+        bounded = ap (λ (x : Transcript). are_bounded_from config moment.nanos x.records) e;
         quiet = record { outputs = λ number. ap (λ cs. text_at cs (number - 1)) n.connections; notices = n.notices };
       };
 }
@@ -107,6 +113,9 @@ left-alone config k moment inputs i transcript space h = record {
   last = h.last;
   stands = h.stands;
   belongs = belongs_on.left_out config k inputs i transcript.records (empty_situation moment.nanos) h.last h.belongs;
+  made_is = h.made_is;
+  timely = h.timely;
+  bounded = h.bounded;
   quiet = h.quiet;
 }
 
@@ -119,6 +128,9 @@ same-kept config k moment inputs transcript was is same h = record {
   last = h.last;
   stands = same.stands h.last h.stands;
   belongs = h.belongs;
+  made_is = same.made ∙ h.made_is;
+  timely = h.timely;
+  bounded = h.bounded;
   quiet = record { outputs = λ n. same.outputs n ∙ h.quiet.outputs n; notices = same.notices ∙ h.quiet.notices };
 }
 
@@ -129,6 +141,8 @@ taken-here config k moment inputs i t u was is here h made r =
     let l = r.records.leads h.last h.stands in
     let e : event_in k h.last.opened i ≡ Some entry.event =
     ap (λ n. event_in n h.last.opened i) here ∙ ap (λ (s : Situation). event_in (namespace_of i) s.opened i) h.stands.same ∙ r.event ∙ ap Some (sym r.records.event) in
+    let leads = (belongs_step_by_step.belongs config k moment inputs t.records h.last h.belongs).0 in
+    let follows = subst (λ x. Follows x h.last entry l.next) h.configured l.follows in
     record {
       made = made ∙ h.made;
       configured = r.records.config ∙ h.configured;
@@ -136,7 +150,14 @@ taken-here config k moment inputs i t u was is here h made r =
       last = l.next;
       stands = l.stands;
       belongs = subst (λ rs. BelongsIn config k (empty_situation moment.nanos) (inputs ++ i ∷ []) rs l.next) (sym r.records.added)
-          (belongs_on.taken config k inputs i t.records entry (empty_situation moment.nanos) h.last l.next h.belongs e (subst (λ x. Follows x h.last entry l.next) h.configured l.follows));
+          (belongs_on.taken config k inputs i t.records entry (empty_situation moment.nanos) h.last l.next h.belongs e follows);
+      made_is = r.records.made ∙ h.made_is;
+      timely = subst (λ rs. IsTrue (are_timely_from config moment.nanos rs)) (sym r.records.added)
+          (so-of-one-more (λ s x y. are_timely_in config moment.nanos s x) config (empty_situation moment.nanos) t.records entry h.last l.next h.timely leads follows
+          (subst (λ x. IsTrue (are_timely_in x moment.nanos h.last entry)) h.configured (subst (λ n. IsTrue (are_timely_in (config_of was) n h.last entry)) h.made_is l.timely)));
+      bounded = subst (λ rs. IsTrue (are_bounded_from config moment.nanos rs)) (sym r.records.added)
+          (so-of-one-more (λ s x y. is_bounded config y.held) config (empty_situation moment.nanos) t.records entry h.last l.next h.bounded leads follows
+          (subst (λ x. IsTrue (is_bounded x l.next.held)) h.configured l.bounded));
       quiet = l.quiet;
     }
 
@@ -206,7 +227,16 @@ abbrev pub played-one : (config : Config) (k : ℕ) (moment : Instant) (inputs :
 played-one config k moment inputs transcript space h =
     let b = belongs_step_by_step.belongs config k transcript.made inputs transcript.records h.last (subst (λ (m : Instant). BelongsIn config k (empty_situation m.nanos) inputs transcript.records h.last) (sym h.made) h.belongs) in
     let o = one-part-obeys config transcript h.last (one-part config h.served) b.0 in
-    record { made = h.made; belongs = b.1; last = h.last; leads = b.0; obeys = o.0; admitted = o.1 }
+    record {
+      made = h.made;
+      belongs = b.1;
+      last = h.last;
+      leads = b.0;
+      obeys = o.0;
+      admitted = o.1;
+      timely = subst (λ (m : Instant). IsTrue (are_timely_from config m.nanos transcript.records)) (sym h.made) h.timely;
+      bounded = subst (λ (m : Instant). IsTrue (are_bounded_from config m.nanos transcript.records)) (sym h.made) h.bounded;
+    }
 
 pub played-all : (configs : List Config) (moment : Instant) (inputs : List Input) (transcripts : List Transcript) (spaces : List Space)
     → HavePlayed configs moment inputs transcripts spaces → ArePlayed configs moment inputs transcripts
@@ -290,6 +320,14 @@ pub were-obeys : (spaces : List Space) (journals : List Transcript) (k : ℕ) (s
 were-obeys spaces journals k space journal w s t =
     let p = played-one (config_of space) k w.moment w.inputs journal space (were-at spaces journals k space journal w s t) in
     (p.obeys, p.admitted)
+
+pub were-timely : (spaces : List Space) (journals : List Transcript) (k : ℕ) (space : Space) (journal : Transcript) → WerePlayed spaces journals
+    → slice_get spaces k ≡ Some space → slice_get journals k ≡ Some journal → IsTrue (is_timely_throughout (config_of space) journal)
+were-timely spaces journals k space journal w s t = (played-one (config_of space) k w.moment w.inputs journal space (were-at spaces journals k space journal w s t)).timely
+
+pub were-bounded : (spaces : List Space) (journals : List Transcript) (k : ℕ) (space : Space) (journal : Transcript) → WerePlayed spaces journals
+    → slice_get spaces k ≡ Some space → slice_get journals k ≡ Some journal → IsTrue (is_bounded_throughout (config_of space) journal)
+were-bounded spaces journals k space journal w s t = (played-one (config_of space) k w.moment w.inputs journal space (were-at spaces journals k space journal w s t)).bounded
 
 pub were-led : (spaces : List Space) (journals : List Transcript) (k : ℕ) (space : Space) (journal : Transcript) → WerePlayed spaces journals
     → slice_get spaces k ≡ Some space → slice_get journals k ≡ Some journal → LeadsSo space journal

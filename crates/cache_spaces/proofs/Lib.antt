@@ -1,6 +1,7 @@
 pub mod Moving
 pub mod Putting
 pub mod Noting
+pub mod Chaining
 pub mod Journaling
 pub mod Newly
 pub mod Lasts

@@ -11,6 +11,7 @@ use Rattle.cache_namespace.specs.Taken.{Takes, is_quit, record_of}
 use Rattle.cache_namespace.specs.declared.connection.Connection.{Connection}
 use Rattle.cache_namespace.specs.Drawing.{Identifiers}
 use Rattle.cache_namespace.specs.Making.{Making}
+use Rattle.cache_store.specs.Running.{is_bounded}
 use Rattle.std.specs.List.{slice_get}
 use Rattle.std.specs.Option.{option_map_or}
 use Rattle.cache_namespace.specs.Taken.{text_at, closing_at}
@@ -24,8 +25,9 @@ use Rattle.cache_spaces.specs.Spaces.{StandsWith, Stands, closing_of, config_of,
 pub moves-from : (config : Config) (making : Making) (Holds Left : List HeldValue → Type 0) (dropped drops : Bool) (latest now : ℕ) (old new : List Connection) (happened : Event) (is_held quit : Bool) (drawn drawing : Identifiers) (was is : Gathered) (s : Situation)
     → StandsWith Holds dropped latest old s
     → ((values : List HeldValue) → Holds values → Takes config making (situation latest old dropped values) happened is_held quit Left (situation now new drops) drawn drawing was is)
+    → ((values : List HeldValue) → Left values → IsTrue (is_bounded config values))
     → Moves config making.made s happened is_held quit (StandsWith Left drops now new) drawn drawing was is
-moves-from config making Holds Left dropped drops latest now old new happened is_held quit drawn drawing was is s stands takes =
+moves-from config making Holds Left dropped drops latest now old new happened is_held quit drawn drawing was is s stands takes bounded =
     let t = takes stands.values stands.held in
     record {
       steps = t.steps;
@@ -33,6 +35,7 @@ moves-from config making Holds Left dropped drops latest now old new happened is
       stands = record { values = t.left; held = t.stands; same = refl };
       follows = subst (λ x. Follows config x (record_of happened t.steps) (situation now new drops t.left)) (sym stands.same) t.follows;
       timely = subst (λ x. IsTrue (are_timely_in config making.made x (record_of happened t.steps))) (sym stands.same) t.timely;
+      bounded = bounded t.left t.stands;
       ends = t.ends;
       quits = t.quits;
       draws = t.draws;
@@ -55,6 +58,7 @@ serves-from was is number s happened is_held kept m = record {
   stands = m.stands;
   follows = m.follows;
   timely = m.timely;
+  bounded = m.bounded;
   ends = m.ends;
   quits = m.quits;
   draws = m.draws;
@@ -73,6 +77,7 @@ serves-still was is number s happened is_held m none output notices = record {
   stands = m.stands;
   follows = m.follows;
   timely = m.timely;
+  bounded = m.bounded;
   ends = m.ends;
   quits = m.quits ∙ sym none;
   draws = m.draws;

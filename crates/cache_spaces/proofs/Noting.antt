@@ -1,6 +1,6 @@
 -- The records of what a namespace takes.
 use Rattle.std.proofs.Common.{◌≡◌, ◌≢◌, ℕ, ◌-◌, Bool, false, List, [], ◌∷◌, ◌++◌, Option, Some, None, refl, sym, ap, ◌∙◌, subst, inl, inr, zero, suc, arith}
-use Rattle.std.specs.Prelude.{length, Result, Ok, Err, OnOk, IfErr, unwrap_or, ◌⊎◌, MatchOption, true, ◌==◌, if◌then◌else◌}
+use Rattle.std.specs.Prelude.{length, Result, Ok, Err, OnOk, IfErr, unwrap_or, ◌⊎◌, IsTrue, MatchOption, true, ◌==◌, if◌then◌else◌}
 use Rattle.std.proofs.lemmas.Bool.{eq-eqb}
 use Rattle.audit_model.specs.declared.input.ServiceError.{ServiceError}
 use Rattle.audit_model.specs.declared.input.ServiceError.TheVariants as error
@@ -18,7 +18,7 @@ use Rattle.cache_namespace.specs.Kept.{steps_of}
 use Rattle.cache_namespace.specs.Taken.{record_of}
 use Rattle.cache_namespace.specs.declared.connection.Connection.{Connection}
 use Rattle.cache_namespace.specs.declared.kept.Kept.{Kept}
-use Rattle.cache_spaces.specs.Moves.{Moves}
+use Rattle.cache_spaces.specs.Moves.{Moves, are_timely_in}
 use Rattle.cache_spaces.specs.Recorded.{IsQuiet, Records, RecordsInput, Refused, RefusedInput, namespace_of}
 use Rattle.cache_spaces.specs.Spaces.{Stands, config_of, connections_of, identifiers_of, made_of, notices_of, output_of, gathered_in}
 use Rattle.cache_spaces.specs.declared.space.Space.{Space}
@@ -42,10 +42,10 @@ unwrapped g steps e = go g.kept e
 
 -- an event without steps
 pub recorded-still : (was is : Space) (happened : Event) (before after : List Record)
-    → IsQuiet was → ((n : ℕ) → output_of is n ≡ output_of was n) → notices_of is ≡ notices_of was → config_of is ≡ config_of was
+    → IsQuiet was → ((n : ℕ) → output_of is n ≡ output_of was n) → notices_of is ≡ notices_of was → config_of is ≡ config_of was → made_of is ≡ made_of was
     → ((s : Situation) (g : Gathered) → Stands was s → Moves (config_of was) (made_of was) s happened false false (Stands is) (identifiers_of was) (identifiers_of is) g g)
     → after ≡ before ++ record_of happened [] ∷ [] → Records happened before after was is
-recorded-still was is happened before after quiet outputs notices config moves added = record {
+recorded-still was is happened before after quiet outputs notices config made moves added = record {
   entry = record_of happened [];
   event = refl;
   added = added;
@@ -57,9 +57,12 @@ recorded-still was is happened before after quiet outputs notices config moves a
         next = m.next;
         stands = m.stands;
         follows = subst (λ x. Follows (config_of was) s (record_of happened x) m.next) none m.follows;
+        timely = subst (λ x. IsTrue (are_timely_in (config_of was) (made_of was) s (record_of happened x))) none m.timely;
+        bounded = m.bounded;
         quiet = record { outputs = λ n. outputs n ∙ quiet.outputs n; notices = notices ∙ quiet.notices };
       };
   config = config;
+  made = made;
 }
 
 fresh-when : (g : Gathered) (steps : List Step) → g.kept ≡ Some steps → IsFresh g → (g.text ≡ []) × (g.waiting ≡ [])
@@ -68,10 +71,10 @@ fresh-when g steps e f = subst (λ o. IsFresh (record { text = g.text; kept = o;
 -- a feed, with the steps that were kept
 pub recorded-fed : (was is : Space) (conn : ℕ) (happened : Event) (is_held quit : Bool) (before after : List Record) (old new : Option Kept)
     → IsQuiet was → steps_of old ≡ Some [] → IsFresh (gathered_in is conn new)
-    → ((place : ℕ) → place ≢ conn - 1 → slice_get (connections_of is) place ≡ slice_get (connections_of was) place) → config_of is ≡ config_of was
+    → ((place : ℕ) → place ≢ conn - 1 → slice_get (connections_of is) place ≡ slice_get (connections_of was) place) → config_of is ≡ config_of was → made_of is ≡ made_of was
     → ((s : Situation) → Stands was s → Moves (config_of was) (made_of was) s happened is_held quit (Stands is) (identifiers_of was) (identifiers_of is) (gathered_in was conn old) (gathered_in is conn new))
     → after ≡ before ++ record_of happened (unwrap_or (steps_of new) []) ∷ [] → Records happened before after was is
-recorded-fed was is conn happened is_held quit before after old new quiet started fresh others config moves added = record {
+recorded-fed was is conn happened is_held quit before after old new quiet started fresh others config made moves added = record {
   entry = record_of happened (unwrap_or (steps_of new) []);
   event = refl;
   added = added;
@@ -84,9 +87,12 @@ recorded-fed was is conn happened is_held quit before after old new quiet starte
         next = m.next;
         stands = m.stands;
         follows = subst (λ x. Follows (config_of was) s (record_of happened x) m.next) (sym (ap (λ o. unwrap_or o []) kept)) m.follows;
+        timely = subst (λ x. IsTrue (are_timely_in (config_of was) (made_of was) s (record_of happened x))) (sym (ap (λ o. unwrap_or o []) kept)) m.timely;
+        bounded = m.bounded;
         quiet = record { outputs = λ n. output-at n (same-or-not (n - 1) (conn - 1)) none.0; notices = none.1 };
       };
   config = config;
+  made = made;
 }
   where
     output-at : (n : ℕ) → (n - 1 ≡ conn - 1) ⊎ (n - 1 ≢ conn - 1) → output_of is conn ≡ [] → output_of is n ≡ []

@@ -12,11 +12,12 @@ use Rattle.audit_model.specs.declared.input.Input.{Input}
 use Rattle.audit_model.specs.declared.transcript.Transcript.{Transcript}
 use Rattle.cache_spaces.specs.Served.{is_served}
 use Rattle.cache_spaces.specs.Recorded.{IsQuiet}
-use Rattle.cache_spaces.specs.Spaces.{Stands, config_of}
+use Rattle.cache_spaces.specs.Spaces.{Stands, config_of, made_of}
+use Rattle.cache_spaces.specs.Throughout.{are_bounded_from, are_timely_from, is_bounded_throughout, is_timely_throughout}
 use Rattle.cache_spaces.specs.declared.space.Space.{Space}
 
--- the namespace's transcript: it begins at that moment, belongs to the inputs, leads to a situation and obeys, and none of its events is one
--- that is refused
+-- The namespace's transcript: it begins at that moment, belongs to the inputs, leads to a situation and obeys, and none of its events is one
+-- that is refused. Each of its `SYNC`s leaves timely values, and after each event each part is within its bound.
 pub record Plays (config : Config) (namespace : ℕ) (moment : Instant) (inputs : List Input) (transcript : Transcript) : Type 0 where
   pub made : transcript.made ≡ moment
   pub belongs : Belongs config namespace transcript inputs
@@ -24,6 +25,8 @@ pub record Plays (config : Config) (namespace : ℕ) (moment : Instant) (inputs 
   pub leads : LeadsTo config transcript last
   pub obeys : Obeys config transcript
   pub admitted : IsAdmitted config transcript
+  pub timely : IsTrue (is_timely_throughout config transcript)
+  pub bounded : IsTrue (is_bounded_throughout config transcript)
 
 -- one transcript a configuration, in their order
 pub record ArePlayed (configs : List Config) (moment : Instant) (inputs : List Input) (transcripts : List Transcript) : Type 0 where
@@ -39,6 +42,9 @@ pub record HasPlayed (config : Config) (namespace : ℕ) (moment : Instant) (inp
   pub last : Situation
   pub stands : Stands space last
   pub belongs : BelongsIn config namespace (empty_situation moment.nanos) inputs transcript.records last
+  pub made_is : made_of space ≡ moment.nanos
+  pub timely : IsTrue (are_timely_from config moment.nanos transcript.records)
+  pub bounded : IsTrue (are_bounded_from config moment.nanos transcript.records)
   pub quiet : IsQuiet space
 
 -- each namespace has taken the inputs

@@ -17,18 +17,20 @@ use Rattle.audit_model.specs.declared.input.ServiceError.{ServiceError}
 use Rattle.audit_model.specs.declared.input.ServiceError.TheVariants as error
 use Rattle.audit_model.specs.declared.transcript.Note.{Note}
 use Rattle.cache_namespace.specs.Taken.{IsOpenOrEnded, is_quit, record_of, known}
+use Rattle.cache_store.specs.Running.{is_bounded}
 use Rattle.cache_spaces.specs.Moves.{are_timely_in}
 use Rattle.cache_spaces.specs.Spaces.{Stands, config_of, connections_of, identifiers_of, made_of, notices_of, output_of, closing_of}
 use Rattle.cache_spaces.specs.declared.space.Space.{Space}
 
 -- The event's record follows; its replies stand behind the output of that connection, and its notes behind the notices. Each `SYNC`
--- leaves timely values, a `QUIT` closes the connection, and identifiers were drawn as its steps say: `ERR id` only where a thousand were, each of which was registered.
+-- leaves timely values, each part weighs at most its share and 64 values of 8192 bytes where a capacity is set, a `QUIT` closes the connection, and identifiers were drawn as its steps say: `ERR id` only where a thousand were, each of which was registered.
 pub record Serves (was is : Space) (number : ℕ) (s : Situation) (happened : Event) (is_held : Bool) : Type 0 where
   pub steps : List Step
   pub next : Situation
   pub stands : Stands is next
   pub follows : Follows (config_of was) s (record_of happened steps) next
   pub timely : IsTrue (are_timely_in (config_of was) (made_of was) s (record_of happened steps))
+  pub bounded : IsTrue (is_bounded (config_of was) next.held)
   pub ends : ends_held steps ≡ is_held
   pub quits : ends_quit (config_of was) steps ≡ is_quit (closing_of is number)
   pub draws : StepsDraw (config_of was) steps (identifiers_of was) (identifiers_of is)
@@ -53,6 +55,7 @@ pub record Takes (was is : Space) (number : ℕ) (happened : Event) (is_held : B
   pub serves : (s : Situation) → Stands was s → Serves was is number s happened is_held
   pub others : (place : ℕ) → place ≢ number - 1 → slice_get (connections_of is) place ≡ slice_get (connections_of was) place
   pub config : config_of is ≡ config_of was
+  pub made : made_of is ≡ made_of was
   pub left : Leaves happened (closing_of was number) (closing_of is number) (output_of is number)
   pub count : length (connections_of is) ≡ count_after happened (length (connections_of was))
 
@@ -60,6 +63,7 @@ pub record Takes (was is : Space) (number : ℕ) (happened : Event) (is_held : B
 pub record SameSpace (was is : Space) : Type 0 where
   pub stands : (s : Situation) → Stands was s → Stands is s
   pub config : config_of is ≡ config_of was
+  pub made : made_of is ≡ made_of was
   pub outputs : (number : ℕ) → output_of is number ≡ output_of was number
   pub closings : (number : ℕ) → closing_of is number ≡ closing_of was number
   pub notices : notices_of is ≡ notices_of was
@@ -73,6 +77,7 @@ pub record TakesOutput (was is : Space) (number : ℕ) (text : List ℕ) : Type 
   pub others : (place : ℕ) → place ≢ number - 1 → slice_get (connections_of is) place ≡ slice_get (connections_of was) place
   pub closings : (n : ℕ) → closing_of is n ≡ closing_of was n
   pub config : config_of is ≡ config_of was
+  pub made : made_of is ≡ made_of was
   pub notices : notices_of is ≡ notices_of was
   pub count : length (connections_of is) ≡ length (connections_of was)
 
@@ -83,6 +88,7 @@ pub record TakesNotice (was is : Space) (note : Option Note) : Type 0 where
   pub none : IsNone note → notices_of was ≡ []
   pub connections : connections_of is ≡ connections_of was
   pub config : config_of is ≡ config_of was
+  pub made : made_of is ≡ made_of was
 
 -- the connection was never opened
 pub record IsUnknown (space : Space) (number : ℕ) (e : ServiceError) : Type 0 where

@@ -1,5 +1,5 @@
 //! A service that keeps its journals.
-ghost use Rattle.std.specs.Prelude.{◌≡◌, ◌≤◌, ◌<◌, ◌^◌, ◌↔◌, ◌⊎◌, ◌∷◌, [], Some, false, IfOk, IfErr, OnOk, OnErr, IsErrOf, MatchOption, length};
+ghost use Rattle.std.specs.Prelude.{◌≡◌, ◌≤◌, ◌<◌, ◌^◌, ◌↔◌, ◌⊎◌, ◌∷◌, [], Some, false, IfOk, IfErr, OnOk, OnErr, IsErrOf, IsTrue, MatchOption, length};
 ghost use Rattle.std.specs.List.{slice_get};
 ghost use Rattle.cache_spaces.specs.Played.{WerePlayed};
 ghost use Rattle.cache_spaces.specs.Recorded.{AreEmpty, RecordsAt, RefusedInput, namespace_of};
@@ -37,6 +37,7 @@ impl RecordedService {
     ghost use Rattle.cache_spaces.specs.Outputs.{output_after};
     ghost use Rattle.cache_spaces.specs.Services.{IsSpace};
     ghost use Rattle.cache_spaces.specs.Spaces.{config_of};
+    ghost use Rattle.cache_spaces.specs.Throughout.{is_bounded_throughout, is_timely_throughout};
     ghost use Rattle.cache_spaces.specs.declared.space.Space.{Space as Seen};
 
     /// A service of these configurations, made at that moment, with empty journals. Refused as `Service::new` is.
@@ -105,6 +106,10 @@ impl RecordedService {
     pub fn journal(&self, namespace: u64) -> Result<&Transcript, ServiceError>
         ensures journal { IfOk result (λ journal. slice_get (journals_of self.now) namespace ≡ Some journal.now) }
         ensures obeys { IfOk result (λ journal. (space : Seen) → IsSpace (spaces_of (service_of self.now)) namespace space → Obeys (config_of space) journal.now × IsAdmitted (config_of space) journal.now) }
+        // each `SYNC` leaves timely values
+        ensures timely { IfOk result (λ journal. (space : Seen) → IsSpace (spaces_of (service_of self.now)) namespace space → IsTrue (is_timely_throughout (config_of space) journal.now)) }
+        // after each event each part is within its bound
+        ensures bounded { IfOk result (λ journal. (space : Seen) → IsSpace (spaces_of (service_of self.now)) namespace space → IsTrue (is_bounded_throughout (config_of space) journal.now)) }
         ensures stands { IfOk result (λ journal. (space : Seen) → IsSpace (spaces_of (service_of self.now)) namespace space → ∥ LeadsSo space journal.now ∥₁) }
         ensures refused { IfErr result (λ e. (e ≡ ServiceError.NoNamespace) × (length (spaces_of (service_of self.now)) ≤ namespace)) }
     {

@@ -71,6 +71,7 @@ impl Space {
         ensures moves { IfOk result (λ is_held. (s : Situation) → Stands self.old s → Moves (config_of self.old) (made_of self.old) s (fed number piece.now moment) is_held (is_quit (closing_of self.new number)) (Stands self.new) (identifiers_of self.old) (identifiers_of self.new) (gathered_in self.old number kept.old) (gathered_in self.new number kept.new)) }
         ensures others { OnOk result ((place : ℕ) → place ≢ number - 1 → slice_get (connections_of self.new) place ≡ slice_get (connections_of self.old) place) }
         ensures config { config_of self.new ≡ config_of self.old }
+        ensures made { made_of self.new ≡ made_of self.old }
         ensures fresh { IsFresh (gathered_in self.new number kept.new) }
         ensures refused { IfErr result (RefusedFor (config_of self.old) (connections_of self.old) (fed number piece.now moment) (holds_at (connections_of self.old) number)) }
         ensures stands { OnErr result ((s : Situation) → Stands self.old s → Stands self.new s) }
@@ -128,6 +129,7 @@ impl Space {
         ensures count { length (connections_of self.new) ≡ length (connections_of self.old) }
         ensures stands { (s : Situation) → Stands self.old s → Stands self.new s }
         ensures config { config_of self.new ≡ config_of self.old }
+        ensures made { made_of self.new ≡ made_of self.old }
         ensures notices { notices_of self.new ≡ notices_of self.old }
         ensures refused { IsErr result ↔ ((known (connections_of self.old)).was_opened number ≡ false) }
         ensures error { IfErr result (λ e. e ≡ ServiceError.NoConnection) }
@@ -156,6 +158,7 @@ impl Space {
         ensures stands { (s : Situation) → Stands self.old s → Stands self.new s }
         ensures connections { connections_of self.new ≡ connections_of self.old }
         ensures config { config_of self.new ≡ config_of self.old }
+        ensures made { made_of self.new ≡ made_of self.old }
     {
         self.inner.store.next_notice()
     }

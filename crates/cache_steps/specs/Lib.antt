@@ -1,3 +1,4 @@
 pub mod Drawing
+pub mod Loading
 pub mod Right
 pub mod Sums

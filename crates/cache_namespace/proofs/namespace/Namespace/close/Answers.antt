@@ -1,4 +1,7 @@
-use Rattle.std.proofs.Common.{◌≡◌, ◌-◌, [], None, ap, ◌∙◌, arith}
+use Rattle.std.proofs.Common.{◌≡◌, ◌-◌, [], None, ap, ◌∙◌, subst, arith}
+use Rattle.std.specs.Prelude.{IsTrue}
+use Rattle.audit_model.specs.declared.config.Config.{Config}
+use Rattle.cache_store.specs.Running.{is_bounded}
 use Rattle.std.specs.Option.{option_map_or}
 use Rattle.cache_namespace.specs.declared.connection.Connection.{Connection}
 use Rattle.cache_namespace.specs.Drawing.{identifiers}
@@ -40,3 +43,6 @@ returns-clause-open g c =
     let number_is = c.in-Ok.ensures.place.0 in
     let at : c.args.number - 1 ≡ c.in-Ok.index = omega arith in
     ap (closing_at c.args.self.now.connections.items) at ∙ closing-none c.args.self.now.connections.items c.in-Ok.index (rw c.deref.ensures.value at c.in-Ok.ensures.open)
+
+pub returns-clause-bounded : goal.returns-clause-bounded
+returns-clause-bounded g c = λ values m. subst (λ (k : Config). IsTrue (is_bounded k values)) c.requires.sound.config (g.met.S.Store.bounded c.args.self.now.store values m)

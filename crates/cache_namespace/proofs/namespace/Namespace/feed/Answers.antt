@@ -1,6 +1,10 @@
 use Rattle.std.proofs.Common.{◌≡◌, subst, ◌-◌, Err, ap, ◌∙◌, arith, refl, inl, inr}
+use Rattle.std.specs.Prelude.{IsTrue}
 use Rattle.std.specs.List.{slice_get}
+use Rattle.audit_model.specs.declared.config.Config.{Config}
 use Rattle.audit_model.specs.declared.input.ServiceError.TheVariants as error
+use Rattle.cache_store.specs.Promises.{Frame}
+use Rattle.cache_store.specs.Running.{is_bounded}
 use Rattle.cache_namespace.specs.Drawing.{identifiers}
 use Rattle.cache_namespace.specs.Taken.{IsOpenOrEnded, closing_at}
 use Rattle.cache_namespace.specs.Making.{making_of}
@@ -54,3 +58,8 @@ pub returns-in-Ok-feed_at-clause-closing : goal.returns-in-Ok-feed_at-clause-clo
 returns-in-Ok-feed_at-clause-closing g c =
     let number_is = c.in-Ok.ensures.place.0 in
     subst (λ i. IsOpenOrEnded (closing_at c.feed_at.new.connections.items i)) (let at : c.in-Ok.index ≡ c.args.number - 1 = omega arith in at) c.in-Ok-feed_at.ensures.closing
+
+pub returns-in-Ok-feed_at-clause-bounded : goal.returns-in-Ok-feed_at-clause-bounded
+returns-in-Ok-feed_at-clause-bounded g c = λ values m.
+    let same : (g.S.Store.frame c.feed_at.new.store).config ≡ c.args.self.now.config = ap (λ (f : Frame). f.config) c.feed_at.ensures.frame.rest ∙ c.requires.sound.config in
+    subst (λ (k : Config). IsTrue (is_bounded k values)) same (g.met.S.Store.bounded c.feed_at.new.store values m)
