@@ -8,3 +8,4 @@ pub use Rattle.cache_spaces.specs.Recorded.{RecordsAt, RefusedInput}
 pub use Rattle.cache_spaces.specs.Serves.{Serves, Takes, SameSpace, TakesOutput, TakesNotice}
 pub use Rattle.cache_spaces.specs.Services.{AreNew, Refuses, spaces_of}
 pub use Rattle.cache_spaces.specs.Spaces.{Stands, config_of, connections_of, notices_of, output_of, closing_of}
+pub use Rattle.cache_spaces.specs.Throughout.{HasExactKeys, is_bounded_throughout, is_timely_throughout}

@@ -1,5 +1,5 @@
 //! A service that keeps its journals.
-ghost use Rattle.std.specs.Prelude.{◌≡◌, ◌≤◌, ◌<◌, ◌^◌, ◌↔◌, ◌⊎◌, ◌∷◌, [], Some, false, IfOk, IfErr, OnOk, OnErr, IsErrOf, IsTrue, MatchOption, length};
+ghost use Rattle.std.specs.Prelude.{◌≡◌, ℕ, ◌≤◌, ◌<◌, ◌^◌, ◌↔◌, ◌⊎◌, ◌∷◌, [], Some, false, IfOk, IfErr, OnOk, OnErr, IsErrOf, IsTrue, MatchOption, length};
 ghost use Rattle.std.specs.List.{slice_get};
 ghost use Rattle.cache_spaces.specs.Played.{WerePlayed};
 ghost use Rattle.cache_spaces.specs.Recorded.{AreEmpty, RecordsAt, RefusedInput, namespace_of};
@@ -33,11 +33,12 @@ pub struct RecordedService {
 impl RecordedService {
     ghost use Rattle.audit_model.specs.Belongs.{IsAdmitted};
     ghost use Rattle.audit_model.specs.Obeys.{Obeys};
+    ghost use Rattle.cache_store.specs.Recency.{IsPlainLru};
     ghost use Rattle.cache_spaces.specs.Journals.{LeadsSo, journals_of, service_of};
     ghost use Rattle.cache_spaces.specs.Outputs.{output_after};
     ghost use Rattle.cache_spaces.specs.Services.{IsSpace};
     ghost use Rattle.cache_spaces.specs.Spaces.{config_of};
-    ghost use Rattle.cache_spaces.specs.Throughout.{is_bounded_throughout, is_timely_throughout};
+    ghost use Rattle.cache_spaces.specs.Throughout.{HasExactKeys, is_bounded_throughout, is_timely_throughout};
     ghost use Rattle.cache_spaces.specs.declared.space.Space.{Space as Seen};
 
     /// A service of these configurations, made at that moment, with empty journals. Refused as `Service::new` is.
@@ -110,6 +111,8 @@ impl RecordedService {
         ensures timely { IfOk result (λ journal. (space : Seen) → IsSpace (spaces_of (service_of self.now)) namespace space → IsTrue (is_timely_throughout (config_of space) journal.now)) }
         // after each event each part is within its bound
         ensures bounded { IfOk result (λ journal. (space : Seen) → IsSpace (spaces_of (service_of self.now)) namespace space → IsTrue (is_bounded_throughout (config_of space) journal.now)) }
+        // each `SYNC` behind one command leaves exactly the keys of the recency list
+        ensures exact { IfOk result (λ journal. (space : Seen) → IsSpace (spaces_of (service_of self.now)) namespace space → (places : ℕ) → IsPlainLru (config_of space) places → ∥ HasExactKeys (config_of space) places journal.now ∥₁) }
         ensures stands { IfOk result (λ journal. (space : Seen) → IsSpace (spaces_of (service_of self.now)) namespace space → ∥ LeadsSo space journal.now ∥₁) }
         ensures refused { IfErr result (λ e. (e ≡ ServiceError.NoNamespace) × (length (spaces_of (service_of self.now)) ≤ namespace)) }
     {
