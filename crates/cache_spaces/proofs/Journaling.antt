@@ -35,6 +35,8 @@ use Rattle.cache_spaces.specs.Spaces.{config_of, recency_of}
 use Rattle.cache_spaces.specs.Throughout.{HasExactKeys, HaveKeysFrom, are_bounded_from, are_timely_from, is_bounded_throughout, is_timely_throughout, order_at_end}
 use Rattle.cache_spaces.specs.declared.space.Space.{Space}
 use Rattle.cache_spaces.proofs.Noting.{same-or-not}
+use Rattle.cache_spaces.proofs.Listing.{keeps-list}
+use Rattle.cache_spaces.specs.Recent.{KeepsList}
 use Rattle.cache_spaces.proofs.Chaining.{keys-one-more, order-at-end-more, so-of-one-more}
 use Rattle.cache_namespace.specs.Ordered.{OrdersSteps}
 use Rattle.cache_steps.specs.Order.{AgreesWith, Settled}
@@ -252,6 +254,7 @@ abbrev pub played-one : (config : Config) (k : ℕ) (moment : Instant) (inputs :
 played-one config k moment inputs transcript space h =
     let b = belongs_step_by_step.belongs config k transcript.made inputs transcript.records h.last (subst (λ (m : Instant). BelongsIn config k (empty_situation m.nanos) inputs transcript.records h.last) (sym h.made) h.belongs) in
     let o = one-part-obeys config transcript h.last (one-part config h.served) b.0 in
+    let exact : (places : ℕ) → IsPlainLru config places → HasExactKeys config places transcript = λ places plain. subst (λ (m : Instant). HaveKeysFrom config (suc places) (Settled []) (empty_situation m.nanos) transcript.records) (sym h.made) (h.exact places plain) in
     record {
       made = h.made;
       belongs = b.1;
@@ -261,7 +264,8 @@ played-one config k moment inputs transcript space h =
       admitted = o.1;
       timely = subst (λ (m : Instant). IsTrue (are_timely_from config m.nanos transcript.records)) (sym h.made) h.timely;
       bounded = subst (λ (m : Instant). IsTrue (are_bounded_from config m.nanos transcript.records)) (sym h.made) h.bounded;
-      exact = λ places plain. subst (λ (m : Instant). HaveKeysFrom config (suc places) (Settled []) (empty_situation m.nanos) transcript.records) (sym h.made) (h.exact places plain);
+      exact = exact;
+      recent = λ places plain. keeps-list config places transcript (exact places plain);
     }
 
 pub played-all : (configs : List Config) (moment : Instant) (inputs : List Input) (transcripts : List Transcript) (spaces : List Space)
@@ -358,6 +362,10 @@ were-bounded spaces journals k space journal w s t = (played-one (config_of spac
 pub were-exact : (spaces : List Space) (journals : List Transcript) (k : ℕ) (space : Space) (journal : Transcript) → WerePlayed spaces journals
     → slice_get spaces k ≡ Some space → slice_get journals k ≡ Some journal → (places : ℕ) → IsPlainLru (config_of space) places → HasExactKeys (config_of space) places journal
 were-exact spaces journals k space journal w s t = (played-one (config_of space) k w.moment w.inputs journal space (were-at spaces journals k space journal w s t)).exact
+
+pub were-recent : (spaces : List Space) (journals : List Transcript) (k : ℕ) (space : Space) (journal : Transcript) → WerePlayed spaces journals
+    → slice_get spaces k ≡ Some space → slice_get journals k ≡ Some journal → (places : ℕ) → IsPlainLru (config_of space) places → KeepsList (config_of space) places journal
+were-recent spaces journals k space journal w s t = (played-one (config_of space) k w.moment w.inputs journal space (were-at spaces journals k space journal w s t)).recent
 
 pub were-led : (spaces : List Space) (journals : List Transcript) (k : ℕ) (space : Space) (journal : Transcript) → WerePlayed spaces journals
     → slice_get spaces k ≡ Some space → slice_get journals k ≡ Some journal → LeadsSo space journal

@@ -13,6 +13,7 @@ use Rattle.audit_model.specs.declared.transcript.Transcript.{Transcript}
 use Rattle.cache_steps.specs.Order.{AgreesWith, Settled}
 use Rattle.cache_store.specs.Recency.{IsPlainLru}
 use Rattle.cache_spaces.specs.Served.{is_served}
+use Rattle.cache_spaces.specs.Recent.{KeepsList}
 use Rattle.cache_spaces.specs.Recorded.{IsQuiet}
 use Rattle.cache_spaces.specs.Spaces.{Stands, config_of, made_of, recency_of}
 use Rattle.cache_spaces.specs.Throughout.{HasExactKeys, HaveKeysFrom, are_bounded_from, are_timely_from, is_bounded_throughout, is_timely_throughout, order_at_end}
@@ -31,6 +32,7 @@ pub record Plays (config : Config) (namespace : ℕ) (moment : Instant) (inputs 
   pub timely : IsTrue (is_timely_throughout config transcript)
   pub bounded : IsTrue (is_bounded_throughout config transcript)
   pub exact : (places : ℕ) → IsPlainLru config places → HasExactKeys config places transcript
+  pub recent : (places : ℕ) → IsPlainLru config places → KeepsList config places transcript
 
 -- one transcript a configuration, in their order
 pub record ArePlayed (configs : List Config) (moment : Instant) (inputs : List Input) (transcripts : List Transcript) : Type 0 where

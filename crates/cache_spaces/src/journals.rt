@@ -36,6 +36,7 @@ impl RecordedService {
     ghost use Rattle.cache_store.specs.Recency.{IsPlainLru};
     ghost use Rattle.cache_spaces.specs.Journals.{LeadsSo, journals_of, service_of};
     ghost use Rattle.cache_spaces.specs.Outputs.{output_after};
+    ghost use Rattle.cache_spaces.specs.Recent.{KeepsList};
     ghost use Rattle.cache_spaces.specs.Services.{IsSpace};
     ghost use Rattle.cache_spaces.specs.Spaces.{config_of};
     ghost use Rattle.cache_spaces.specs.Throughout.{HasExactKeys, is_bounded_throughout, is_timely_throughout};
@@ -113,6 +114,8 @@ impl RecordedService {
         ensures bounded { IfOk result (λ journal. (space : Seen) → IsSpace (spaces_of (service_of self.now)) namespace space → IsTrue (is_bounded_throughout (config_of space) journal.now)) }
         // each `SYNC` behind one command leaves exactly the keys of the recency list
         ensures exact { IfOk result (λ journal. (space : Seen) → IsSpace (spaces_of (service_of self.now)) namespace space → (places : ℕ) → IsPlainLru (config_of space) places → ∥ HasExactKeys (config_of space) places journal.now ∥₁) }
+        // where its steps are commands of a recency list, each followed at once by a `SYNC`, the keys of that list are held, and no other
+        ensures recent { IfOk result (λ journal. (space : Seen) → IsSpace (spaces_of (service_of self.now)) namespace space → (places : ℕ) → IsPlainLru (config_of space) places → ∥ KeepsList (config_of space) places journal.now ∥₁) }
         ensures stands { IfOk result (λ journal. (space : Seen) → IsSpace (spaces_of (service_of self.now)) namespace space → ∥ LeadsSo space journal.now ∥₁) }
         ensures refused { IfErr result (λ e. (e ≡ ServiceError.NoNamespace) × (length (spaces_of (service_of self.now)) ≤ namespace)) }
     {
