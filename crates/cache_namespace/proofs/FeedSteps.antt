@@ -209,7 +209,7 @@ ready-held config base number making held bytes rest line n Stands dropped drawn
           let a = r.ordered places order plain agrees in (
             subst (AgreesWith drawing.recency places) (sym (order-behind-more config (suc places) order r.steps (held_step number line))) tt,
             keys-in-turn config number making (suc places) order (r.steps ++ held_step number line ∷ []) _ _ runs
-            (runs-keys-more config number making (suc places) order r.steps _ (set_in from r.left (ready number rest)) (held_step number line) r.runs a.1 tt),
+                (runs-keys-more config number making (suc places) order r.steps _ (set_in from r.left (ready number rest)) (held_step number line) r.runs a.1 tt),
           );
       gathered = gathers ∙ ap (λ g. gather g (held_step number line ∷ [])) r.gathered ∙ gather-more old r.steps (held_step number line ∷ []);
     }

@@ -119,8 +119,8 @@ follows-feed config making latest m i moment old new cs dropped dropping x piece
           let a = f.ordered places order plain agrees in (
             a.0,
             subst (λ o. HaveKeys config (suc places) order (option_map_or (λ c. with_connection false (record c { unread = c.unread ++ piece }) (situation (max moment latest) cs dropped x)) o (situation (max moment latest) cs dropped x))
-            (tasks_to_feed m (option_map_or (λ (c : model.Connection). is_holding c.standing) o false)) f.steps) (sym found)
-            (subst (λ b. HaveKeys config (suc places) order (set_in (situation (max moment latest) cs dropped x) x (with_piece piece (shown m old))) (tasks_to_feed m b) f.steps) (sym (holding-shown m old)) a.1),
+                (tasks_to_feed m (option_map_or (λ (c : model.Connection). is_holding c.standing) o false)) f.steps) (sym found)
+                (subst (λ b. HaveKeys config (suc places) order (set_in (situation (max moment latest) cs dropped x) x (with_piece piece (shown m old))) (tasks_to_feed m b) f.steps) (sym (holding-shown m old)) a.1),
           );
       gathered = f.gathered;
     }

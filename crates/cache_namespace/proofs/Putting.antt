@@ -6,7 +6,7 @@ use Rattle.audit_model.specs.Situation.{Situation, HeldValue, is_overlong, witho
 use Rattle.audit_model.specs.declared.config.Config.{Config}
 use Rattle.audit_model.specs.declared.command.Closing.{Closing}
 use Rattle.audit_model.specs.declared.command.Closing.TheVariants as by
-use Rattle.cache_namespace.specs.Drawing.{Workings, identifiers_in}
+use Rattle.cache_namespace.specs.Drawing.{Workings}
 use Rattle.cache_namespace.specs.Making.{Making}
 use Rattle.cache_namespace.specs.Gathered.{Gathered}
 use Rattle.cache_namespace.specs.Lines.{ended, set_in, ready, with_drops}

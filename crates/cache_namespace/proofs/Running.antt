@@ -141,7 +141,7 @@ ran-more config base number making held bytes mid rest line n quit Stood Stands 
           let next = order_by (suc places) (reading config line) before in (
             subst (AgreesWith drawing.recency places) (sym (order-behind-more config (suc places) order r.steps step)) b.0,
             runs-keys-more config number making (suc places) order r.steps _ s step r.runs a.1
-            (subst (λ (x : Situation). HasKeys next x.held) (sym after) (has-ended next quit (with_drops (from.dropped || drops effect) from) (held_when_run config s action step) (ready number (behind_lines 1 mid)) b.1)),
+                (subst (λ (x : Situation). HasKeys next x.held) (sym after) (has-ended next quit (with_drops (from.dropped || drops effect) from) (held_when_run config s action step) (ready number (behind_lines 1 mid)) b.1)),
           );
       gathered = one.gathered ∙ ap (λ g. gather g (step ∷ [])) r.gathered ∙ gather-more old r.steps (step ∷ []);
     }

@@ -1,5 +1,5 @@
 -- The recency list of commands each followed by a `SYNC`.
-use Rattle.std.proofs.Common.{◌≡◌, ℕ, suc, max, Bool, true, false, ◌&&◌, List, [], ◌∷◌, ◌++◌, Option, Some, None, if◌then◌else◌, refl, sym, ap, ◌∙◌, subst}
+use Rattle.std.proofs.Common.{◌≡◌, ℕ, suc, max, Bool, true, false, List, [], ◌∷◌, ◌++◌, Option, Some, None, if◌then◌else◌, refl, sym, ap, ◌∙◌, subst}
 use Rattle.std.specs.Prelude.{Ok, MatchOption}
 use Rattle.std.specs.List.{flat_map, fold}
 use Rattle.std.specs.Option.{option_and_then, option_map_or}

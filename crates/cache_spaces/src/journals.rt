@@ -34,7 +34,7 @@ impl RecordedService {
     ghost use Rattle.audit_model.specs.Belongs.{IsAdmitted};
     ghost use Rattle.audit_model.specs.Obeys.{Obeys};
     ghost use Rattle.cache_store.specs.Recency.{IsPlainLru};
-    ghost use Rattle.cache_spaces.specs.Journals.{LeadsSo, journals_of, service_of};
+    ghost use Rattle.cache_spaces.specs.Journals.{IsSoOfEach, LeadsSo, journals_of, service_of};
     ghost use Rattle.cache_spaces.specs.Outputs.{output_after};
     ghost use Rattle.cache_spaces.specs.Recent.{KeepsList};
     ghost use Rattle.cache_spaces.specs.Services.{IsSpace};
@@ -74,6 +74,12 @@ impl RecordedService {
         ensures refused { IfErr result (λ refusal. Refuses (spaces_of (service_of self.old)) (spaces_of (service_of self.new)) (namespace_of input) refusal.error (RefusedInput input refusal.error)) }
         ensures back { IfErr result (λ refusal. refusal.input ≡ input) }
         ensures unrecorded { OnErr result (journals_of self.new ≡ journals_of self.old) }
+        // each `SYNC` leaves timely values
+        ensures timely { IsSoOfEach (λ space journal. IsTrue (is_timely_throughout (config_of space) journal)) self.new }
+        // after each event each part is within its bound
+        ensures bounded { IsSoOfEach (λ space journal. IsTrue (is_bounded_throughout (config_of space) journal)) self.new }
+        // where the steps are commands of a recency list, each followed at once by a `SYNC`, the keys of that list are held, and no other
+        ensures recent { IsSoOfEach (λ space journal. (places : ℕ) → IsPlainLru (config_of space) places → ∥ KeepsList (config_of space) places journal ∥₁) self.new }
     {
         match self.record(&input) {
             Ok(output) => Ok(output),

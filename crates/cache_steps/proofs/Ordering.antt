@@ -1,7 +1,7 @@
 -- How commands change the order of use.
-use Rattle.std.proofs.Common.{◌≡◌, ℕ, zero, suc, ◌≤◌, ◌+◌, Bool, true, false, not, ◌||◌, List, [], ◌∷◌, length, take, Option, Some, None, cond, refl, sym, ap, ◌∙◌, subst, arith}
+use Rattle.std.proofs.Common.{◌≡◌, ℕ, zero, suc, ◌≤◌, Bool, true, false, not, ◌||◌, List, [], ◌∷◌, length, take, Option, cond, refl, sym, ap, ◌∙◌, subst, arith}
 use Rattle.std.specs.Prelude.{Ok, Err, if◌then◌else◌}
-use Rattle.std.specs.List.{list_any, filter}
+use Rattle.std.specs.List.{list_any}
 use Rattle.std.proofs.lemmas.List.{take_all}
 use Rattle.audit_model.specs.Bytewise.{same}
 use Rattle.audit_model.specs.Grammar.{Reading}
@@ -91,29 +91,29 @@ pub moves-get : (config : Config) (Old New : Recency) (key : List ℕ)
     → ((n : ℕ) (keys : List (List ℕ)) → IsPlainLru config n → Old true keys → New false (used_first key keys)) → MovesOrder config Old New (Ok (says.Get key))
 moves-get config Old New key moves = record {
   moves = λ n order plain agrees.
-    moves-used Old New n (says.Get key) (used_first key) false (λ keys r. moves n keys plain r)
-    (λ keys l. sym (take_all (suc n) (used_first key keys) (let h = used-shorter key keys in omega arith))) order agrees;
+      moves-used Old New n (says.Get key) (used_first key) false (λ keys r. moves n keys plain r)
+      (λ keys l. sym (take_all (suc n) (used_first key keys) (let h = used-shorter key keys in omega arith))) order agrees;
 }
 
 pub moves-del : (config : Config) (Old New : Recency) (key : List ℕ)
     → ((n : ℕ) (keys : List (List ℕ)) → IsPlainLru config n → Old true keys → New false (without key keys)) → MovesOrder config Old New (Ok (says.Del key))
 moves-del config Old New key moves = record {
   moves = λ n order plain agrees.
-    moves-used Old New n (says.Del key) (without key) false (λ keys r. moves n keys plain r)
-    (λ keys l. sym (take_all (suc n) (without key keys) (let h = without-shorter key keys in omega arith))) order agrees;
+      moves-used Old New n (says.Del key) (without key) false (λ keys r. moves n keys plain r)
+      (λ keys l. sym (take_all (suc n) (without key keys) (let h = without-shorter key keys in omega arith))) order agrees;
 }
 
 -- a command that asks
 pub moves-has : (config : Config) (Old : Recency) (key : List ℕ) → MovesOrder config Old Old (Ok (says.Has key))
 moves-has config Old key = record {
   moves = λ n order plain agrees.
-    moves-used Old Old n (says.Has key) (λ keys. keys) true (λ keys r. r) (λ keys l. sym (take_all (suc n) keys l)) order agrees;
+      moves-used Old Old n (says.Has key) (λ keys. keys) true (λ keys r. r) (λ keys l. sym (take_all (suc n) keys l)) order agrees;
 }
 
 pub moves-keys : (config : Config) (Old : Recency) → MovesOrder config Old Old (Ok says.Keys)
 moves-keys config Old = record {
   moves = λ n order plain agrees.
-    moves-used Old Old n says.Keys (λ keys. keys) true (λ keys r. r) (λ keys l. sym (take_all (suc n) keys l)) order agrees;
+      moves-used Old Old n says.Keys (λ keys. keys) true (λ keys r. r) (λ keys l. sym (take_all (suc n) keys l)) order agrees;
 }
 
 -- a `SYNC`
