@@ -80,7 +80,7 @@ stops-partial base left number rest there partial =
     ap (λ c. option_map_or (λ k. is_ready k.standing && is_some (first_line k.unread)) c false) (found-there base left number (ready number rest) there (ap (λ b. b || false) (IsPartial-not_long rest partial)))
     ∙ ap is_some (IsPartial-first_line rest partial)
 
-find-dropped : (n : ℕ) (cs : List Connection) → find (λ c. c.number == n) (without_number n cs) ≡ None
+pub find-dropped : (n : ℕ) (cs : List Connection) → find (λ c. c.number == n) (without_number n cs) ≡ None
 find-dropped n [] = refl
 find-dropped n (c ∷ cs) = go (find-dropped n cs) (c.number == n) refl
   where

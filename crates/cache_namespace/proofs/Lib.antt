@@ -3,6 +3,8 @@ pub mod Drawn
 pub mod FeedSteps
 pub mod FeedTaken
 pub mod Following
+pub mod Framing
+pub mod LoadTurns
 pub mod Places
 pub mod Placing
 pub mod Putting

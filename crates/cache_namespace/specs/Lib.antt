@@ -7,4 +7,5 @@ pub mod Ran
 pub mod Shown
 pub mod Stops
 pub mod Taken
+pub mod Waiting
 pub mod Whole

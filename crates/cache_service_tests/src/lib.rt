@@ -4,6 +4,8 @@
 #[cfg(test)]
 mod commanding;
 #[cfg(test)]
+mod limiting;
+#[cfg(test)]
 mod playing;
 #[cfg(test)]
 mod recording;

@@ -23,20 +23,17 @@ fn generator() -> Xoshiro256PlusPlus {
 #[test]
 fn configurations(rt: HostRuntime) -> Result<(), Fail> {
     let alloc = rt.alloc();
-    let limited = Config {
-        capacity: Some(1),
-        ..PLAIN
-    };
+    let parted = Config { parts: 2, ..PLAIN };
     assert_eq!(rt;
         Service::new(alloc, &[], generator(), START).err(),
         Some(ServiceError::Config)
     );
     assert_eq!(rt;
-        Service::new(alloc, &[limited], generator(), START).err(),
+        Service::new(alloc, &[parted], generator(), START).err(),
         Some(ServiceError::Config)
     );
     assert_eq!(rt;
-        Service::new(alloc, &[PLAIN, limited], generator(), START).err(),
+        Service::new(alloc, &[PLAIN, parted], generator(), START).err(),
         Some(ServiceError::Config)
     );
     assert_eq!(rt;
@@ -76,7 +73,7 @@ fn configurations(rt: HostRuntime) -> Result<(), Fail> {
     let _longest = Service::new(alloc, &[longest], generator(), START)?;
     let _most = Service::new(alloc, &[PLAIN; 16], generator(), START)?;
     assert_eq!(rt;
-        Service::new(alloc, &[limited], generator(), LATE).err(),
+        Service::new(alloc, &[parted], generator(), LATE).err(),
         Some(ServiceError::Moment)
     );
     let _service = Service::new(alloc, &[PLAIN], generator(), LAST)?;

@@ -1,6 +1,6 @@
 -- What namespaces and their transcripts are, input by input.
 use Rattle.std.proofs.Common.{◌≡◌, ◌≢◌, ℕ, zero, suc, ◌<◌, ◌-◌, List, [], ◌∷◌, ◌++◌, length, Some, None, refl, sym, ap, ◌∙◌, subst, inl, inr, arith, get_or, take, ◌+◌, length-append, ◌≤◌}
-use Rattle.std.specs.Prelude.{◌⊎◌, slice_set, Result, Ok, Err, OnOk, OnErr, IfErr, IsTrue, is_none}
+use Rattle.std.specs.Prelude.{◌⊎◌, slice_set, Result, Ok, Err, OnOk, OnErr, IfErr, IsTrue}
 use Rattle.std.proofs.Math.Seq.{take-suc}
 use Rattle.std.specs.List.{slice_get}
 use Rattle.std.proofs.lemmas.List.{length-set, set-get_or, take_all}
@@ -218,7 +218,7 @@ played-left configs moment inputs i ts us old new e Cause played same refused =
 -- a configuration that is served has one part
 abbrev pub one-part : (config : Config) → IsTrue (is_served config) → part_count config ≡ 1
 one-part config served =
-    let p = eqb-true config.parts 1 (and_parts (is_valid config) _ (and_parts _ (is_none config.capacity) served).0).1 in
+    let p = eqb-true config.parts 1 (and_parts (is_valid config) _ served).1 in
     ap (λ n. part_count (record config { parts = n })) p
 
 -- what was played, in one namespace

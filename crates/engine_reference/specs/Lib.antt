@@ -6,3 +6,4 @@ pub mod Admission
 pub mod Runs
 pub mod Calls
 pub mod Telling
+pub mod Laws

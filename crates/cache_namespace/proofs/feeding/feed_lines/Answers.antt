@@ -1,4 +1,4 @@
-use Rattle.std.proofs.Common.{◌≡◌, ℕ, true, false, List, [], ◌++◌, refl, ap, sym, subst}
+use Rattle.std.proofs.Common.{◌≡◌, true, false, [], ◌++◌, refl, ap, sym, subst}
 use Rattle.audit_model.specs.Grammar.{reading}
 use Rattle.audit_model.specs.Steps.{action_by}
 use Rattle.cache_steps.specs.Right.{step_saying, held_when_run}

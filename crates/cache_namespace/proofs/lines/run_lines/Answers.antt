@@ -1,4 +1,4 @@
-use Rattle.std.proofs.Common.{◌≡◌, ℕ, Bool, true, false, List, refl, sym, ap, subst, ◌∙◌}
+use Rattle.std.proofs.Common.{◌≡◌, true, false, refl, ap, ◌∙◌}
 use Rattle.cache_store.specs.Promises.{Frame}
 use Rattle.cache_namespace.specs.Lines.{ready, set_in, with_drops}
 use Rattle.cache_namespace.specs.Making.{making_of}

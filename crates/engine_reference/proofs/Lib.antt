@@ -1,0 +1,6 @@
+pub mod HeldRecords
+pub mod TellingSteps
+pub mod StayingVisible
+pub mod CountsKept
+pub mod Seeing
+pub mod Unapplied
