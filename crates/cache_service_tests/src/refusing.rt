@@ -1,47 +1,47 @@
 //! What a service refuses, in which order, and what stands after it.
-use crate::script::{FIRST, PLAIN, Row, first_wrong};
+use crate::script::{FIRST, PLAIN, Row, first_wrong, new_service};
 use audit_model::{Closing, Config, Conn, Instant, LoadId, Outcome, ServiceError};
 use cache_spaces::{Fed, Service};
 use rand_core::SeedableRng;
 use rand_xoshiro::Xoshiro256PlusPlus;
+use std::alloc::Global;
 use std::test::Fail;
 
 const START: Instant = Instant { nanos: 0 };
 
-/// The last moment that is taken, and the next one.
-const LAST: Instant = Instant {
-    nanos: (1 << 63) - 1,
+/// The last moment that is taken, and the next one, in nanoseconds.
+const LAST_NANOS: u64 = (1 << 63) - 1;
+
+const LATE_NANOS: u64 = 1 << 63;
+
+const UNKNOWN: Conn = Conn {
+    namespace: 0,
+    number: 2,
 };
 
-const LATE: Instant = Instant { nanos: 1 << 63 };
+const NOWHERE: Conn = Conn {
+    namespace: 1,
+    number: 1,
+};
 
 /// A generator.
 fn generator() -> Xoshiro256PlusPlus {
     Xoshiro256PlusPlus::seed_from_u64(1)
 }
 
+/// Why a service of these configurations is refused, if it is.
+fn refused(alloc: Global, configs: &[Config], nanos: u64) -> Option<ServiceError> {
+    match new_service(alloc, configs, nanos) {
+        Ok(_) => None,
+        Err(error) => Some(error),
+    }
+}
+
 #[test]
-fn configurations(rt: HostRuntime) -> Result<(), Fail> {
-    let alloc = rt.alloc();
-    let parted = Config { parts: 2, ..PLAIN };
-    assert_eq!(rt;
-        Service::new(alloc, &[], generator(), START).err(),
-        Some(ServiceError::Config)
-    );
-    assert_eq!(rt;
-        Service::new(alloc, &[parted], generator(), START).err(),
-        Some(ServiceError::Config)
-    );
-    assert_eq!(rt;
-        Service::new(alloc, &[PLAIN, parted], generator(), START).err(),
-        Some(ServiceError::Config)
-    );
-    assert_eq!(rt;
-        Service::new(alloc, &[PLAIN; 17], generator(), START).err(),
-        Some(ServiceError::Config)
-    );
+fn configurations_out_of_range(rt: HostRuntime) -> Result<(), Fail> {
     for config in [
         Config { parts: 0, ..PLAIN },
+        Config { parts: 2, ..PLAIN },
         Config {
             parts: 257,
             ..PLAIN
@@ -61,39 +61,42 @@ fn configurations(rt: HostRuntime) -> Result<(), Fail> {
         },
     ] {
         assert_eq!(rt;
-            Service::new(alloc, &[config], generator(), START).err(),
+            refused(rt.alloc(), &[config], 0),
             Some(ServiceError::Config)
         );
+        assert_eq!(rt;
+            refused(rt.alloc(), &[PLAIN, config], 0),
+            Some(ServiceError::Config)
+        );
+        assert_eq!(rt;
+            refused(rt.alloc(), &[config], LATE_NANOS),
+            Some(ServiceError::Moment)
+        );
     }
+    Ok(())
+}
+
+#[test]
+fn numbers_of_namespaces(rt: HostRuntime) -> Result<(), Fail> {
+    assert_eq!(rt; refused(rt.alloc(), &[], 0), Some(ServiceError::Config));
+    assert_eq!(rt; refused(rt.alloc(), &[PLAIN; 16], 0), None);
+    assert_eq!(rt;
+        refused(rt.alloc(), &[PLAIN; 17], 0),
+        Some(ServiceError::Config)
+    );
+    Ok(())
+}
+
+#[test]
+fn the_last_of_their_ranges(rt: HostRuntime) -> Result<(), Fail> {
     let longest = Config {
         own_deadlines: true,
         idle_ms: Some(999_999_999_999),
         ..PLAIN
     };
-    let _longest = Service::new(alloc, &[longest], generator(), START)?;
-    let _most = Service::new(alloc, &[PLAIN; 16], generator(), START)?;
-    assert_eq!(rt;
-        Service::new(alloc, &[parted], generator(), LATE).err(),
-        Some(ServiceError::Moment)
-    );
-    let _service = Service::new(alloc, &[PLAIN], generator(), LAST)?;
+    assert_eq!(rt; refused(rt.alloc(), &[longest], LAST_NANOS), None);
     Ok(())
 }
-
-/// The last moment that is taken, and the next one, in nanoseconds.
-const LAST_NANOS: u64 = (1 << 63) - 1;
-
-const LATE_NANOS: u64 = 1 << 63;
-
-const UNKNOWN: Conn = Conn {
-    namespace: 0,
-    number: 2,
-};
-
-const NOWHERE: Conn = Conn {
-    namespace: 1,
-    number: 1,
-};
 
 #[test]
 fn connections(rt: HostRuntime) -> Result<(), Fail> {
@@ -131,9 +134,11 @@ fn connections(rt: HostRuntime) -> Result<(), Fail> {
 
 #[test]
 fn an_earlier_moment_is_the_latest(rt: HostRuntime) -> Result<(), Fail> {
-    let mut service = Service::new(rt.alloc(), &[PLAIN], generator(), LAST)?;
-    let conn = service.open(0)?;
-    assert_eq!(rt; service.feed(conn, b"SYNC\n", START), Ok(Fed::All));
+    let rows = [
+        Row::Feed(FIRST, LAST_NANOS, b"SYNC\n", Ok(Fed::All)),
+        Row::Feed(FIRST, 0, b"SYNC\n", Ok(Fed::All)),
+    ];
+    assert_eq!(rt; first_wrong(rt.alloc(), PLAIN, &rows), Ok(None));
     Ok(())
 }
 
