@@ -12,3 +12,4 @@ pub mod Recording
 pub mod Running
 pub mod Stepping
 pub mod Table
+pub mod Knowing
