@@ -298,7 +298,7 @@ module _ {K V P S R : Type 0} where
         named = λ v p. elim (before s.unsent s.writes u v p) [ inl k ↦ (let less = h.named v k in omega arith) | inr same ↦ subst (λ z. number_of z < s.next_number + 1) same (omega arith) ];
       }
   written-sound eq answers s key hash value now step (Some r) e h =
-      let entry = next_entry answers s r.entry value now step in
+      let entry = next_entry answers s r.entry key value now step in
       let f = λ (x : Record K V). record x { entry = entry; writes = x.writes + 1 } in
       let rs = changed_at r.number f s.records in
       let u : Unsent = record { ticket = s.next_ticket; write = Put (record { number = r.number; write = r.writes + 1; weight = entry.weight; hash = hash; kept = held_weight rs }) } in
