@@ -1,4 +1,4 @@
-//! Tests of the service: rows of requests, refusals, and refused allocations.
+//! Tests of the service: rows of requests, refusals, journals.
 #![tactic(auto)]
 
 #[cfg(test)]
@@ -12,6 +12,6 @@ mod recording;
 #[cfg(test)]
 mod refusing;
 #[cfg(test)]
-mod serving;
+mod script;
 #[cfg(test)]
-mod wanting;
+mod serving;

@@ -4,3 +4,7 @@ pub mod StayingVisible
 pub mod CountsKept
 pub mod Seeing
 pub mod Unapplied
+pub mod Accounts
+pub mod SoundSteps
+pub mod SoundCalls
+pub mod Evicting

@@ -1,5 +1,5 @@
 -- Laws of the reference cache.
-use Rattle.std.specs.Prelude.{◌≡◌, ◌⊎◌, Bool, ℕ, List, ◌∷◌, Some, None, true, false}
+use Rattle.std.specs.Prelude.{◌-◌, ◌<◌, ◌≤◌, [], length, min, slice_get, ◌≡◌, ◌⊎◌, Bool, ℕ, List, ◌∷◌, Some, None, true, false}
 use Rattle.policy_sketch.specs.Counts.{incremented}
 use Rattle.engine_rules.specs.declared.causes.RemovalCause.{RemovalCause}
 use Rattle.engine_rules.specs.declared.causes.RemovalCause.TheVariants as cause
@@ -10,12 +10,13 @@ use Rattle.engine_reference.specs.declared.data.Read.{Read}
 use Rattle.engine_reference.specs.declared.data.Read.TheVariants.{Hit, Miss}
 use Rattle.engine_reference.specs.declared.data.Write.{Write}
 use Rattle.engine_reference.specs.declared.data.Write.TheVariants.{Put}
-use Rattle.engine_reference.specs.Calls.{sent, removed_by, cleared_by, with_predicate}
+use Rattle.engine_reference.specs.Calls.{written, sent, removed_by, removal_told, LooksUp, cleared_by, with_predicate, with_room, without_notice}
 use Rattle.engine_reference.specs.Visible.{visible}
-use Rattle.engine_reference.specs.Admission.{is_above}
+use Rattle.engine_reference.specs.Admission.{is_above, shortest_front}
 use Rattle.std.specs.Cmp.{IsEquivalence}
-use Rattle.engine_reference.specs.Records.{held_entries, record_at, is_settled}
-use Rattle.engine_reference.specs.Runs.{Step, Runs, running_weight, after_write, left, next_to_evict, is_overtaken}
+use Rattle.engine_reference.specs.Records.{admitted_weight, settled_in, held_entries, held_weight, record_at, is_settled}
+use Rattle.engine_reference.specs.Soundness.{IsSound}
+use Rattle.engine_reference.specs.Runs.{covers_none, RunsToEnd, Step, Runs, running_weight, after_write, left, next_to_evict, is_overtaken}
 use Rattle.engine_reference.specs.State.{State, Answers}
 use Rattle.engine_reference.specs.Telling.{AreApart, StaysVisible, Removal, Tells, KeepsCover, NoneWith}
 
@@ -114,3 +115,48 @@ module _ (K V P S R : Type 0) where
         → record_at s.records number ≡ Some r → is_settled r ≡ false → (u.number ≡ number → is_overtaken u r ≡ true) → IsStill number r (after_write (Put u) s)
     pub excess : (s : State K V P S R) (victim : Record K V) (number : ℕ) (r : Record K V)
         → record_at s.records number ≡ Some r → is_settled r ≡ false → next_to_evict s ≡ Some victim → IsStill number r (left cause.Size victim.number s)
+
+  -- ---- counts
+
+  -- a run keeps a sound state sound
+  abbrev pub RunsStaySound : Type 0
+  RunsStaySound = (answers : Answers K V P R) (now : ℕ) (old new : State K V P S R) → IsSound old → Runs answers now old new → IsSound new
+
+  -- the counts are those of what is held, which is within the capacity, and no predicate covers any of it
+  pub record CountsExactly (answers : Answers K V P R) (s : State K V P S R) : Type 0 where
+    pub number : s.number ≡ length (held_entries s.records)
+    pub weight : s.weight ≡ min (held_weight s.records) 18446744073709551615
+    pub within : (capacity : ℕ) → s.settings.capacity ≡ Some capacity → 0 < capacity → held_weight s.records ≤ capacity
+    pub uncovered : (place : ℕ) (p : Registered P) → slice_get s.predicates place ≡ Some p → covers_none answers s.rules p s.records ≡ true
+
+  -- after an uncut run that began with all tickets sent
+  abbrev pub CountsAreExact : Type 0
+  CountsAreExact =
+      (answers : Answers K V P R) (now : ℕ) (old new : State K V P S R) → IsSound old → old.unsent ≡ [] → RunsToEnd answers now old new → CountsExactly answers new
+
+  -- an empty cache is sound, and each call keeps it so
+  pub record CallsStaySound : Type 0 where
+    pub empty : (s : State K V P S R) → s.records ≡ [] → s.access ≡ [] → s.unsent ≡ [] → s.writes ≡ [] → IsSound s
+    pub written : (eq : K → K → Bool) (answers : Answers K V P R) (s : State K V P S R) (key : K) (hash : ℕ) (value : V) (now step : ℕ) → IsSound s → IsSound (written answers eq s key hash value now step)
+    pub sent : (ticket : ℕ) (s : State K V P S R) → IsSound s → IsSound (sent ticket s)
+    pub removed : (eq : K → K → Bool) (key : K) (s : State K V P S R) → IsSound s → IsSound (removed_by eq key s)
+    pub removal_told : (answers : Answers K V P R) (number now : ℕ) (s : State K V P S R) → IsSound s → IsSound (removal_told answers number now s)
+    pub looks_up : (answers : Answers K V P R) (eq : K → K → Bool) (key : K) (hash now : ℕ) (old new : State K V P S R) → IsSound old → LooksUp answers eq key hash now old new → IsSound new
+    pub cleared : (step : ℕ) (s : State K V P S R) → IsSound s → IsSound (cleared_by step s)
+    pub covered : (p : Registered P) (s : State K V P S R) → IsSound s → IsSound (with_predicate p s)
+    pub room : (s : State K V P S R) → IsSound s → IsSound (with_room s)
+    pub taken : (s : State K V P S R) → IsSound s → IsSound (without_notice s)
+
+  -- ---- evictions
+
+  -- the settled record used longest ago goes, again and again, each time because the weight is above the capacity
+  abbrev pub Evictions : State K V P S R → List (Record K V) → State K V P S R → Type 0
+  Evictions s [] t = t ≡ s
+  Evictions s (r ∷ rs) t = (is_above s.settings.capacity (admitted_weight s.records) ≡ true) × (next_to_evict s ≡ Some r) × Evictions (left cause.Size r.number s) rs t
+
+  -- what goes until the weight is within the capacity is the shortest front of the settled records of the access list that reaches the excess
+  abbrev pub EvictsShortestFront : Type 0
+  EvictsShortestFront =
+      (s t : State K V P S R) (victims : List (Record K V)) (capacity : ℕ) → IsSound s → s.settings.capacity ≡ Some capacity
+      → Evictions s victims t → admitted_weight t.records ≤ capacity
+      → shortest_front (admitted_weight s.records - capacity) (settled_in s.records s.access) ≡ Some victims

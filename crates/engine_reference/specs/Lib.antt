@@ -7,3 +7,4 @@ pub mod Runs
 pub mod Calls
 pub mod Telling
 pub mod Laws
+pub mod Soundness

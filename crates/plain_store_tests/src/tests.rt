@@ -217,7 +217,7 @@ fn a_second_drop_finds_no_identifier(rt: HostRuntime) -> Result<(), Fail> {
     Ok(())
 }
 
-// run this with each allocation refused in turn, by `rt try --test --fail-alloc 1..`
+// run these with each allocation refused in turn, by `rt try --test --fail-alloc 1..`
 #[test]
 fn a_refused_call_changes_nothing(rt: HostRuntime) -> Result<(), Fail> {
     let mut store = PlainStore::new(rt.alloc(), PLAIN, 5, SplitMix64::seed_from_u64(1))?;
@@ -225,11 +225,29 @@ fn a_refused_call_changes_nothing(rt: HostRuntime) -> Result<(), Fail> {
         assert_eq!(rt; store.len(), 0);
         store.accept(b"key", b"one", None, false, 5)?;
     }
+    assert!(rt; store.find(b"key", 5) == Some(b"one".as_slice()));
+    Ok(())
+}
+
+#[test]
+fn a_refused_call_keeps_the_older_value(rt: HostRuntime) -> Result<(), Fail> {
+    let mut store = PlainStore::new(rt.alloc(), PLAIN, 5, SplitMix64::seed_from_u64(1))?;
+    store.accept(b"key", b"one", None, false, 5)?;
     if store.accept(b"key", b"two", None, false, 5).is_err() {
         assert!(rt; store.find(b"key", 5) == Some(b"one".as_slice()));
-        assert!(rt; store.next_notice().is_none());
         store.accept(b"key", b"two", None, false, 5)?;
     }
     assert!(rt; tells(store.next_notice(), RemovalCause::Replaced, b"key", b"one"));
+    assert!(rt; store.next_notice().is_none());
+    Ok(())
+}
+
+#[test]
+fn a_refused_call_tells_nothing(rt: HostRuntime) -> Result<(), Fail> {
+    let mut store = PlainStore::new(rt.alloc(), PLAIN, 5, SplitMix64::seed_from_u64(1))?;
+    store.accept(b"key", b"one", None, false, 5)?;
+    if store.accept(b"key", b"two", None, false, 5).is_err() {
+        assert!(rt; store.next_notice().is_none());
+    }
     Ok(())
 }
