@@ -13,3 +13,4 @@ pub mod Recording
 pub mod Running
 pub mod Stepping
 pub mod Table
+pub mod Knowing

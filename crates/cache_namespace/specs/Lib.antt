@@ -3,6 +3,7 @@ pub mod Gathered
 pub mod Kept
 pub mod Lines
 pub mod Making
+pub mod Ordered
 pub mod Ran
 pub mod Shown
 pub mod Stops

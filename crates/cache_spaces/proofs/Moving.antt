@@ -1,7 +1,8 @@
 -- What a namespace's calls say of each situation that it stands for.
 use Rattle.std.proofs.Common.{◌≡◌, ◌≢◌, ℕ, zero, suc, Bool, false, List, [], ◌∷◌, ◌++◌, length, Option, Some, None, refl, sym, ap, ◌∙◌, subst}
 use Rattle.std.specs.Prelude.{IsTrue}
-use Rattle.audit_model.specs.Follows.{Follows}
+use Rattle.audit_model.specs.Follows.{Follows, after_event, tasks_in}
+use Rattle.audit_model.specs.Places.{steps_of}
 use Rattle.audit_model.specs.Situation.{Situation, HeldValue}
 use Rattle.audit_model.specs.declared.config.Config.{Config}
 use Rattle.audit_model.specs.declared.event.Event.{Event}
@@ -10,8 +11,9 @@ use Rattle.cache_namespace.specs.Shown.{situation}
 use Rattle.cache_namespace.specs.Taken.{Takes, is_quit, record_of}
 use Rattle.cache_namespace.specs.Waiting.{UnderWay}
 use Rattle.cache_namespace.specs.declared.connection.Connection.{Connection}
-use Rattle.cache_namespace.specs.Drawing.{Identifiers}
+use Rattle.cache_namespace.specs.Drawing.{Workings}
 use Rattle.cache_namespace.specs.Making.{Making}
+use Rattle.cache_namespace.specs.Ordered.{OrdersSteps}
 use Rattle.cache_store.specs.Running.{is_bounded}
 use Rattle.std.specs.List.{slice_get}
 use Rattle.std.specs.Option.{option_map_or}
@@ -20,10 +22,10 @@ use Rattle.cache_namespace.specs.declared.kept.Kept.{Kept}
 use Rattle.cache_spaces.specs.Moves.{Moves, are_timely_in}
 use Rattle.cache_spaces.specs.Serves.{Serves}
 use Rattle.cache_spaces.specs.declared.space.Space.{Space}
-use Rattle.cache_spaces.specs.Spaces.{StandsWith, Stands, closing_of, config_of, gathered_in, identifiers_of, made_of, output_of, notices_of}
+use Rattle.cache_spaces.specs.Spaces.{StandsWith, Stands, closing_of, config_of, gathered_in, workings_of, made_of, output_of, notices_of}
 
 -- an event that is taken, whatever values are held
-pub moves-from : (config : Config) (making : Making) (Holds Left : List HeldValue → Type 0) (dropped drops : Bool) (latest now : ℕ) (l left : UnderWay) (old new : List Connection) (happened : Event) (is_held quit : Bool) (drawn drawing : Identifiers) (was is : Gathered) (s : Situation)
+pub moves-from : (config : Config) (making : Making) (Holds Left : List HeldValue → Type 0) (dropped drops : Bool) (latest now : ℕ) (l left : UnderWay) (old new : List Connection) (happened : Event) (is_held quit : Bool) (drawn drawing : Workings) (was is : Gathered) (s : Situation)
     → StandsWith Holds dropped latest l old s
     → ((values : List HeldValue) → Holds values → Takes config making (situation latest l old dropped values) happened is_held quit Left (situation now left new drops) drawn drawing was is)
     → ((values : List HeldValue) → Left values → IsTrue (is_bounded config values))
@@ -40,6 +42,7 @@ moves-from config making Holds Left dropped drops latest now l left old new happ
       ends = t.ends;
       quits = t.quits;
       draws = t.draws;
+      ordered = subst (λ x. OrdersSteps config drawn.recency drawing.recency (after_event happened x) (tasks_in x happened) (steps_of (record_of happened t.steps))) (sym stands.same) t.ordered;
       gathered = t.gathered;
     }
 
@@ -51,7 +54,7 @@ stands-on Holds Left dropped drops latest now l left old new s stands holds same
 
 -- a feed of which no record is made
 pub serves-from : (was is : Space) (number : ℕ) (s : Situation) (happened : Event) (is_held : Bool) (kept : Option Kept)
-    → Moves (config_of was) (made_of was) s happened is_held (is_quit (closing_of is number)) (Stands is) (identifiers_of was) (identifiers_of is) (gathered_in was number None) (gathered_in is number kept)
+    → Moves (config_of was) (made_of was) s happened is_held (is_quit (closing_of is number)) (Stands is) (workings_of was) (workings_of is) (gathered_in was number None) (gathered_in is number kept)
     → Serves was is number s happened is_held
 serves-from was is number s happened is_held kept m = record {
   steps = m.steps;
@@ -63,13 +66,14 @@ serves-from was is number s happened is_held kept m = record {
   ends = m.ends;
   quits = m.quits;
   draws = m.draws;
+  ordered = m.ordered;
   output = ap (λ (g : Gathered). g.text) m.gathered;
   notices = ap (λ (g : Gathered). g.waiting) m.gathered;
 }
 
 -- an event whose record has no replies and notes, and which no `QUIT` closes
 pub serves-still : (was is : Space) (number : ℕ) (s : Situation) (happened : Event) (is_held : Bool)
-    → Moves (config_of was) (made_of was) s happened is_held false (Stands is) (identifiers_of was) (identifiers_of is) (gathered_in was number None) (gathered_in was number None)
+    → Moves (config_of was) (made_of was) s happened is_held false (Stands is) (workings_of was) (workings_of is) (gathered_in was number None) (gathered_in was number None)
     → is_quit (closing_of is number) ≡ false → output_of is number ≡ output_of was number → notices_of is ≡ notices_of was
     → Serves was is number s happened is_held
 serves-still was is number s happened is_held m none output notices = record {
@@ -82,6 +86,7 @@ serves-still was is number s happened is_held m none output notices = record {
   ends = m.ends;
   quits = m.quits ∙ sym none;
   draws = m.draws;
+  ordered = m.ordered;
   output = output ∙ ap (λ (g : Gathered). g.text) m.gathered;
   notices = notices ∙ ap (λ (g : Gathered). g.waiting) m.gathered;
 }

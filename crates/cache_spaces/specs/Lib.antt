@@ -5,6 +5,7 @@ pub mod Serves
 pub mod Services
 pub mod Recorded
 pub mod Throughout
+pub mod Recent
 pub mod Played
 pub mod Journals
 pub mod Outputs

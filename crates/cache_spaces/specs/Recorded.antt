@@ -1,7 +1,8 @@
 -- What a namespace's record keeps of an input.
 use Rattle.std.specs.Prelude.{◌≡◌, ℕ, List, [], ◌∷◌, ◌++◌, length, ◌⊎◌, Some, IsTrue}
 use Rattle.audit_model.specs.Belongs.{refusal_of, event_in}
-use Rattle.audit_model.specs.Follows.{Follows}
+use Rattle.audit_model.specs.Follows.{Follows, after_event, tasks_in}
+use Rattle.audit_model.specs.Places.{steps_of}
 use Rattle.audit_model.specs.Situation.{Situation}
 use Rattle.audit_model.specs.declared.event.Event.{Event}
 use Rattle.audit_model.specs.declared.input.Input.{Input}
@@ -13,10 +14,11 @@ use Rattle.audit_model.specs.declared.transcript.Transcript.{Transcript}
 use Rattle.audit_model.specs.declared.event.Instant.{Instant}
 use Rattle.std.specs.List.{slice_get}
 use Rattle.cache_spaces.specs.Moves.{At, are_timely_in}
+use Rattle.cache_namespace.specs.Ordered.{OrdersSteps}
 use Rattle.cache_namespace.specs.Taken.{known}
 use Rattle.cache_store.specs.Running.{is_bounded}
 use Rattle.cache_spaces.specs.Serves.{SameSpace}
-use Rattle.cache_spaces.specs.Spaces.{Stands, config_of, connections_of, made_of, notices_of, output_of}
+use Rattle.cache_spaces.specs.Spaces.{Stands, config_of, connections_of, made_of, notices_of, output_of, recency_of}
 use Rattle.cache_spaces.specs.declared.space.Space.{Space}
 
 -- no reply and no note waits to be taken: the records hold them
@@ -32,6 +34,7 @@ pub record LeadsOnIn (was is : Space) (s : Situation) (entry : Record) : Type 0 
   pub follows : Follows (config_of was) s entry next
   pub timely : IsTrue (are_timely_in (config_of was) (made_of was) s entry)
   pub bounded : IsTrue (is_bounded (config_of was) next.held)
+  pub ordered : OrdersSteps (config_of was) (recency_of was) (recency_of is) (after_event entry.event s) (tasks_in s entry.event) (steps_of entry)
   pub quiet : IsQuiet is
 
 -- the event happened, and its record was added

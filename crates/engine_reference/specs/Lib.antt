@@ -6,3 +6,5 @@ pub mod Admission
 pub mod Runs
 pub mod Calls
 pub mod Telling
+pub mod Laws
+pub mod Soundness

@@ -2,5 +2,6 @@
 #![tactic(auto)]
 
 mod data;
+pub mod laws;
 
 pub use data::{Entry, Notice, Read, Record, Registered, Unsent, Upsert, Write};

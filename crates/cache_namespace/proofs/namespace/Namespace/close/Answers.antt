@@ -4,7 +4,7 @@ use Rattle.audit_model.specs.declared.config.Config.{Config}
 use Rattle.cache_store.specs.Running.{is_bounded}
 use Rattle.std.specs.Option.{option_map_or}
 use Rattle.cache_namespace.specs.declared.connection.Connection.{Connection}
-use Rattle.cache_namespace.specs.Drawing.{identifiers}
+use Rattle.cache_namespace.specs.Drawing.{workings}
 use Rattle.cache_namespace.specs.Taken.{closing_at}
 use Rattle.cache_namespace.specs.Making.{making_of}
 use Rattle.cache_namespace.specs.Waiting.{under_way}
@@ -18,7 +18,7 @@ returns-clause-ran g c = λ values was m.
     let old = c.args.self.now in
     let place = rw c.deref.ensures.value at c.in-Ok.ensures.place in
     let p = c.close_at.ensures in
-    taken-close old.config (making_of (g.S.Store.frame old.store)) old.latest c.args.number c.in-Ok.index (under_way old.loads) (under_way c.leave.new.self) old.connections.items c.close_at.new.connections.items (g.S.Store.frame old.store).dropped values (g.S.Store.stands old.store) (identifiers (g.S.Store.stream old.store) (g.S.Store.registered old.store)) was
+    taken-close old.config (making_of (g.S.Store.frame old.store)) old.latest c.args.number c.in-Ok.index (under_way old.loads) (under_way c.leave.new.self) old.connections.items c.close_at.new.connections.items (g.S.Store.frame old.store).dropped values (g.S.Store.stands old.store) (workings (g.S.Store.stream old.store) (g.S.Store.registered old.store) (g.S.Store.recency old.store)) was
     (left-is old.loads c.leave.new.self c.args.number c.leave.ensures.sent c.leave.ensures.pending) place.0 place.1 (rw c.deref.ensures.value at c.in-Ok.ensures.open) p.0 p.1 m
 
 pub returns-clause-texts : goal.returns-clause-texts
