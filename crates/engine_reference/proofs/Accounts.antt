@@ -9,7 +9,7 @@ use Rattle.engine_reference.specs.declared.data.Write.{Write}
 use Rattle.engine_reference.specs.declared.data.Write.TheVariants.{Put, Removed}
 use Rattle.engine_reference.specs.Records.{record_at, without_record, changed_at, without, moved_to_back}
 use Rattle.engine_reference.specs.Runs.{is_overtaken}
-use Rattle.engine_reference.specs.Soundness.{IsIn, number_of, IsPending, Each, AreNumbered, IsLastOf, Fits, IsAccounted}
+use Rattle.engine_reference.specs.Soundness.{AreOnce, IsIn, number_of, IsPending, Each, AreNumbered, IsLastOf, Fits, IsAccounted}
 
 -- what a choice gives that is none
 cond_none : {A : Type 0} (b : Bool) (x : A) (o : Option A) → cond b (Some x) o ≡ None → (b ≡ false) × (o ≡ None)
@@ -43,6 +43,47 @@ IsIn-moved n m ns h = elim (cases_eq m n) [
   | inl same ↦ IsIn-append_right m (without n ns) (n ∷ []) (inl (sym same))
   | inr apart ↦ IsIn-append_left m (without n ns) (n ∷ []) (IsIn-without n m ns apart h)
 ]
+
+-- ---- no number twice
+
+IsIn-without_from : (n m : ℕ) (ns : List ℕ) → IsIn m (without n ns) → IsIn m ns
+IsIn-without_from n m [] h = h
+IsIn-without_from n m (x ∷ ns) h = go (x == n) h (IsIn-without_from n m ns)
+  where
+    go : (b : Bool) → IsIn m (cond (not b) (x ∷ without n ns) (without n ns)) → (IsIn m (without n ns) → IsIn m ns) → (x ≡ m) ⊎ IsIn m ns
+    go true k later = inr (later k)
+    go false (inl e) later = inl e
+    go false (inr k) later = inr (later k)
+
+not_in-without : (n : ℕ) (ns : List ℕ) → IsIn n (without n ns) → ⊥
+not_in-without n [] h = h
+not_in-without n (x ∷ ns) h = go (x == n) refl h (not_in-without n ns)
+  where
+    go : (b : Bool) → eqb x n ≡ b → IsIn n (cond (not b) (x ∷ without n ns) (without n ns)) → (IsIn n (without n ns) → ⊥) → ⊥
+    go true t k later = later k
+    go false t (inl e) later = eqb-false x n t e
+    go false t (inr k) later = later k
+
+pub once-without : (n : ℕ) (ns : List ℕ) → AreOnce ns → AreOnce (without n ns)
+once-without n [] h = tt
+once-without n (x ∷ ns) h = go (x == n) (once-without n ns h.1)
+  where
+    go : (b : Bool) → AreOnce (without n ns) → AreOnce (cond (not b) (x ∷ without n ns) (without n ns))
+    go true later = later
+    go false later = ((λ k. h.0 (IsIn-without_from n x ns k)), later)
+
+in_pushed : (n m : ℕ) (ns : List ℕ) → IsIn m (ns ++ n ∷ []) → IsIn m ns ⊎ (n ≡ m)
+in_pushed n m [] (inl e) = inr e
+in_pushed n m [] (inr h) = elim h [ ]
+in_pushed n m (x ∷ ns) (inl e) = inl (inl e)
+in_pushed n m (x ∷ ns) (inr h) = elim (in_pushed n m ns h) [ inl k ↦ inl (inr k) | inr e ↦ inr e ]
+
+once-push : (n : ℕ) (ns : List ℕ) → AreOnce ns → (IsIn n ns → ⊥) → AreOnce (ns ++ n ∷ [])
+once-push n [] h other = ((λ k. k), tt)
+once-push n (x ∷ ns) h other = ((λ k. elim (in_pushed n x ns k) [ inl l ↦ h.0 l | inr e ↦ other (inl (sym e)) ]), once-push n ns h.1 (λ k. other (inr k)))
+
+pub once-moved : (n : ℕ) (ns : List ℕ) → AreOnce ns → AreOnce (moved_to_back n ns)
+once-moved n ns h = once-push n (without n ns) (once-without n ns h) (not_in-without n ns)
 
 -- ---- what is pending
 

@@ -7,3 +7,4 @@ pub mod Unapplied
 pub mod Accounts
 pub mod SoundSteps
 pub mod SoundCalls
+pub mod Evicting

@@ -224,6 +224,7 @@ module _ {K V P S R : Type 0} where
       below = h.records.below;
       accounted = each-map (IsAccounted s.unsent s.writes) (IsAccounted (without_ticket ticket s.unsent) (s.writes ++ w ∷ [])) (accounted-same s.unsent (without_ticket ticket s.unsent) s.writes (s.writes ++ w ∷ []) to from) s.records h.records.accounted;
       listed = h.records.listed;
+      once = h.records.once;
     };
     named = λ v p. h.named v (from v p);
   }
@@ -250,6 +251,7 @@ module _ {K V P S R : Type 0} where
               (λ x same k. subst (λ n. IsAccounted (s.unsent ++ (record { ticket = s.next_ticket; write = Removed n }) ∷ []) s.writes (f x)) same (accounted-removed s.unsent s.writes s.next_ticket x k))
               (λ x other k. accounted-more s.unsent s.writes u x (λ same. absurd (other (sym same))) k) s.records h.records.numbered h.records.accounted;
           listed = each-changed r.number f (λ x. is_some x.counts ≡ true → IsIn x.number s.access) (λ x. is_some x.counts ≡ true → IsIn x.number s.access) (λ x same k. k) (λ x other k. k) s.records h.records.numbered h.records.listed;
+          once = h.records.once;
         };
         named = λ v p. elim (before s.unsent s.writes u v p) [ inl k ↦ h.named v k | inr same ↦ subst (λ z. number_of z < s.next_number) same low ];
       }
@@ -264,6 +266,7 @@ module _ {K V P S R : Type 0} where
           below = each-changed r.number f (λ x. x.number < s.next_number) (λ x. x.number < s.next_number) (λ x same k. k) (λ x other k. k) s.records h.records.numbered h.records.below;
           accounted = each-changed r.number f (IsAccounted s.unsent s.writes) (IsAccounted s.unsent s.writes) (λ x same k. accounted-used s.unsent s.writes x (used_entry answers s now x.entry) refl k) (λ x other k. k) s.records h.records.numbered h.records.accounted;
           listed = each-changed r.number f (λ x. is_some x.counts ≡ true → IsIn x.number s.access) (λ x. is_some x.counts ≡ true → IsIn x.number s.access) (λ x same k. k) (λ x other k. k) s.records h.records.numbered h.records.listed;
+          once = h.records.once;
         };
         named = h.named;
       }
@@ -290,11 +293,12 @@ module _ {K V P S R : Type 0} where
               (λ r k. let less = k.0 in accounted-more s.unsent s.writes u r (λ same. absurd (omega arith)) k.1) s.records (each-both (λ r. r.number < s.next_number) (IsAccounted s.unsent s.writes) s.records h.records.below h.records.accounted))
               (accounted-first s.unsent s.writes s.next_ticket hash (held_weight rs) s.next_number x.entry h.named);
           listed = each-push (λ r. is_some r.counts ≡ true → IsIn r.number s.access) s.records x h.records.listed (λ counts. absurd (true≢false (sym counts)));
+          once = h.records.once;
         };
         named = λ v p. elim (before s.unsent s.writes u v p) [ inl k ↦ (let less = h.named v k in omega arith) | inr same ↦ subst (λ z. number_of z < s.next_number + 1) same (omega arith) ];
       }
   written-sound eq answers s key hash value now step (Some r) e h =
-      let entry = next_entry answers s r.entry value now step in
+      let entry = next_entry answers s r.entry key value now step in
       let f = λ (x : Record K V). record x { entry = entry; writes = x.writes + 1 } in
       let rs = changed_at r.number f s.records in
       let u : Unsent = record { ticket = s.next_ticket; write = Put (record { number = r.number; write = r.writes + 1; weight = entry.weight; hash = hash; kept = held_weight rs }) } in
@@ -309,6 +313,7 @@ module _ {K V P S R : Type 0} where
               (λ x other k. accounted-more s.unsent s.writes u x (λ same. absurd (other (sym same))) k.1) s.records h.records.numbered
               (each-both (λ x. x.number ≡ r.number → x ≡ r) (IsAccounted s.unsent s.writes) s.records (only_one r.number r s.records h.records.numbered (held_at-only eq s.records key r h.records.numbered e)) h.records.accounted);
           listed = each-changed r.number f (λ x. is_some x.counts ≡ true → IsIn x.number s.access) (λ x. is_some x.counts ≡ true → IsIn x.number s.access) (λ x same k. k) (λ x other k. k) s.records h.records.numbered h.records.listed;
+          once = h.records.once;
         };
         named = λ v p. elim (before s.unsent s.writes u v p) [ inl k ↦ h.named v k | inr same ↦ subst (λ z. number_of z < s.next_number) same found.0 ];
       }
@@ -320,8 +325,8 @@ module _ {K V P S R : Type 0} where
 module _ (K V P S R : Type 0) where
   pub calls_stay_sound : CallsStaySound K V P S R
   calls_stay_sound = record {
-    empty = λ s none unsent writes. record {
-      records = rw (none, unsent, writes) (record { numbered = tt; below = tt; accounted = tt; listed = tt });
+    empty = λ s none access unsent writes. record {
+      records = rw (none, access, unsent, writes) (record { numbered = tt; below = tt; accounted = tt; listed = tt; once = tt });
       named = λ w p. absurd (nothing w (subst (λ us. IsPending us [] w) unsent (subst (λ ws. IsPending s.unsent ws w) writes p)));
     };
     written = λ eq answers s key hash value now step h. written-sound eq answers s key hash value now step (held_at eq s.records key) refl h;

@@ -20,7 +20,7 @@ use Rattle.engine_reference.specs.Soundness.{IsIn, number_of, IsPending, Each, A
 use Rattle.engine_reference.specs.State.{State, Answers}
 use Rattle.engine_reference.proofs.TellingSteps.{run_tells}
 use Rattle.engine_reference.proofs.HeldRecords.{record_at-number}
-use Rattle.engine_reference.proofs.Accounts.{IsIn-without, IsIn-append_right, IsIn-moved, each-map, each-both, none_there, only_one, numbered-changed, numbered-without, each-changed, each-without, popped, popped_other, popped_counts, popped_put_off, was_pending}
+use Rattle.engine_reference.proofs.Accounts.{once-without, once-moved, IsIn-without, IsIn-append_right, IsIn-moved, each-map, each-both, none_there, only_one, numbered-changed, numbered-without, each-changed, each-without, popped, popped_other, popped_counts, popped_put_off, was_pending}
 
 module _ {K V : Type 0} (unsent : List Unsent) (next : ℕ) where
   sound-without : (ws : List Write) (n : ℕ) (rs : List (Record K V)) (ns : List ℕ) → AreSound unsent ws next rs ns → AreSound unsent ws next (without_record n rs) (without n ns)
@@ -29,6 +29,7 @@ module _ {K V : Type 0} (unsent : List Unsent) (next : ℕ) where
     below = each-without n (λ r. r.number < next) (λ r. r.number < next) (λ r other k. k) rs h.numbered h.below;
     accounted = each-without n (IsAccounted unsent ws) (IsAccounted unsent ws) (λ r other k. k) rs h.numbered h.accounted;
     listed = each-without n (λ r. is_some r.counts ≡ true → IsIn r.number ns) (λ r. is_some r.counts ≡ true → IsIn r.number (without n ns)) (λ r other k counts. IsIn-without n r.number ns other (k counts)) rs h.numbered h.listed;
+    once = once-without n ns h.once;
   }
 
   -- the oldest write is taken off, and is the last of no record that is not settled
@@ -40,6 +41,7 @@ module _ {K V : Type 0} (unsent : List Unsent) (next : ℕ) where
     accounted = each-map (λ r. IsAccounted unsent (w ∷ rest) r × ((r.applied ≡ r.writes → ⊥) → IsLastOf w r → ⊥)) (IsAccounted unsent rest) (λ r k. popped unsent rest w r k.1 k.0) rs
         (each-both (IsAccounted unsent (w ∷ rest)) (λ r. (r.applied ≡ r.writes → ⊥) → IsLastOf w r → ⊥) rs h.accounted not_last);
     listed = h.listed;
+    once = h.once;
   }
 
   -- and its record goes
@@ -51,6 +53,7 @@ module _ {K V : Type 0} (unsent : List Unsent) (next : ℕ) where
         below = k.below;
         accounted = each-without n (IsAccounted unsent (w ∷ rest)) (IsAccounted unsent rest) (λ r other a. popped_other unsent rest w r (λ e. other (e ∙ same)) a) rs h.numbered h.accounted;
         listed = k.listed;
+        once = k.once;
       }
 
   sound-counting : (u : Upsert) (rest : List Write) (rs : List (Record K V)) (ns : List ℕ) → Each (λ r. r.number ≡ u.number → r.applied < u.write) rs
@@ -68,6 +71,7 @@ module _ {K V : Type 0} (unsent : List Unsent) (next : ℕ) where
         (λ r. is_some r.counts ≡ true → IsIn r.number ns) (λ r. is_some r.counts ≡ true → IsIn r.number (moved_to_back u.number ns))
         (λ r same k counts. IsIn-append_right r.number (without u.number ns) (u.number ∷ []) (inl (sym same)))
         (λ r other k counts. IsIn-moved u.number r.number ns (k counts)) rs h.numbered h.listed;
+    once = once-moved u.number ns h.once;
   }
 
   sound-put_off : (u : Upsert) (rest : List Write) (rs : List (Record K V)) (ns : List ℕ) → Each (λ r. r.number ≡ u.number → (r.applied < u.write) × (is_overtaken u r ≡ true)) rs
@@ -82,6 +86,7 @@ module _ {K V : Type 0} (unsent : List Unsent) (next : ℕ) where
         rs h.numbered (each-both (IsAccounted unsent (Put u ∷ rest)) (λ r. r.number ≡ u.number → (r.applied < u.write) × (is_overtaken u r ≡ true)) rs h.accounted newer);
     listed = each-changed u.number (λ r. record r { applied = u.write })
         (λ r. is_some r.counts ≡ true → IsIn r.number ns) (λ r. is_some r.counts ≡ true → IsIn r.number ns) (λ r same k. k) (λ r other k. k) rs h.numbered h.listed;
+    once = h.once;
   }
 
 -- ---- what a step leaves of the queues
@@ -257,6 +262,7 @@ module _ {K V P S R : Type 0} where
           accounted = h.records.accounted;
           listed = each-map (λ r. is_some r.counts ≡ true → IsIn r.number s.access) (λ r. is_some r.counts ≡ true → IsIn r.number (moved_to_back m s.access))
               (λ r k counts. IsIn-moved m r.number s.access (k counts)) s.records h.records.listed;
+          once = once-moved m s.access h.records.once;
         };
         named = h.named;
       }
@@ -266,7 +272,7 @@ module _ {K V P S R : Type 0} where
       by_record None = record { records = h.records; named = h.named }
       by_record (Some r) = by_counts r.number (is_some r.counts)
 
-  left-is_sound : (why : RemovalCause) (n : ℕ) (s : State K V P S R) → IsSound s → IsSound (left why n s)
+  pub left-is_sound : (why : RemovalCause) (n : ℕ) (s : State K V P S R) → IsSound s → IsSound (left why n s)
   left-is_sound why n s h =
       let f = left-frame why n s in
       sound-from s.unsent s.writes s.next_number (left why n s) f.unsent f.writes f.next (left-sound s.unsent s.writes s.next_number why n s h.records) h.named

@@ -34,7 +34,7 @@ module _ {K V : Type 0} where
           let skip = ap (λ b. cond b (Some x) (record_at (changed_at m change rs) n)) t in
           elim (later h) [ inl e ↦ inl (skip ∙ e) | inr e ↦ inr (skip ∙ e) ]
 
-  record_at-without : (m : ℕ) (rs : List (Record K V)) (n : ℕ) → (m ≡ n → ⊥) → record_at (without_record m rs) n ≡ record_at rs n
+  pub record_at-without : (m : ℕ) (rs : List (Record K V)) (n : ℕ) → (m ≡ n → ⊥) → record_at (without_record m rs) n ≡ record_at rs n
   record_at-without m [] n apart = refl
   record_at-without m (x ∷ rs) n apart = go (x.number == m) refl (record_at-without m rs n apart)
     where

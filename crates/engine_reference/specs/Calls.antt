@@ -81,21 +81,23 @@ module _ {K V P S R : Type 0} (answers : Answers K V P R) where
     weight = answers.weight_of s.rules key value;
   }
 
-  -- the entry after a write over it, with its expiration as it was: the write counts as its write and its use
-  abbrev pub written_over : State K V P S R → Entry K V → V → ℕ → ℕ → Entry K V
-  written_over s e value now step = record e {
+  -- the entry after a write over it, with its expiration as it was: the write counts as its write and its use.
+  -- It has the new key, which compares alike; the old one is told
+  abbrev pub written_over : State K V P S R → Entry K V → K → V → ℕ → ℕ → Entry K V
+  written_over s e key value now step = record e {
+    key = key;
     value = value;
     step = step;
     written = now;
     used = now;
-    weight = answers.weight_of s.rules e.key value;
+    weight = answers.weight_of s.rules key value;
   }
 
   -- and what the rules make of its expiration
-  abbrev pub next_entry : State K V P S R → Entry K V → V → ℕ → ℕ → Entry K V
-  next_entry s e value now step =
-      let w = written_over s e value now step in
-      record w { expires = changed_expiration now (answers.updated s.rules e.key value now (time_left s.settings now w)) e.expires }
+  abbrev pub next_entry : State K V P S R → Entry K V → K → V → ℕ → ℕ → Entry K V
+  next_entry s e key value now step =
+      let w = written_over s e key value now step in
+      record w { expires = changed_expiration now (answers.updated s.rules key value now (time_left s.settings now w)) e.expires }
 
   -- a write of this record, with the weight of all that is held, waits to be sent
   abbrev pub with_put : (number write weight hash : ℕ) → State K V P S R → State K V P S R
@@ -113,7 +115,7 @@ module _ {K V P S R : Type 0} (answers : Answers K V P R) where
         next_number = s.next_number + 1;
       })
   with_written (Some r) s key hash value now step =
-      let e = next_entry s r.entry value now step in
+      let e = next_entry s r.entry key value now step in
       with_put r.number (r.writes + 1) e.weight hash (record s {
         records = changed_at r.number (λ x. record x { entry = e; writes = x.writes + 1 }) s.records;
         notices = told s.settings.tells (cause_of_write answers s now r.entry) r.entry s.notices;

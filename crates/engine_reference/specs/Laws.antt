@@ -1,5 +1,5 @@
 -- Laws of the reference cache.
-use Rattle.std.specs.Prelude.{◌<◌, ◌≤◌, [], length, min, slice_get, ◌≡◌, ◌⊎◌, Bool, ℕ, List, ◌∷◌, Some, None, true, false}
+use Rattle.std.specs.Prelude.{◌-◌, ◌<◌, ◌≤◌, [], length, min, slice_get, ◌≡◌, ◌⊎◌, Bool, ℕ, List, ◌∷◌, Some, None, true, false}
 use Rattle.policy_sketch.specs.Counts.{incremented}
 use Rattle.engine_rules.specs.declared.causes.RemovalCause.{RemovalCause}
 use Rattle.engine_rules.specs.declared.causes.RemovalCause.TheVariants as cause
@@ -12,9 +12,9 @@ use Rattle.engine_reference.specs.declared.data.Write.{Write}
 use Rattle.engine_reference.specs.declared.data.Write.TheVariants.{Put}
 use Rattle.engine_reference.specs.Calls.{written, sent, removed_by, removal_told, LooksUp, cleared_by, with_predicate, with_room, without_notice}
 use Rattle.engine_reference.specs.Visible.{visible}
-use Rattle.engine_reference.specs.Admission.{is_above}
+use Rattle.engine_reference.specs.Admission.{is_above, shortest_front}
 use Rattle.std.specs.Cmp.{IsEquivalence}
-use Rattle.engine_reference.specs.Records.{held_entries, held_weight, record_at, is_settled}
+use Rattle.engine_reference.specs.Records.{admitted_weight, settled_in, held_entries, held_weight, record_at, is_settled}
 use Rattle.engine_reference.specs.Soundness.{IsSound}
 use Rattle.engine_reference.specs.Runs.{covers_none, RunsToEnd, Step, Runs, running_weight, after_write, left, next_to_evict, is_overtaken}
 use Rattle.engine_reference.specs.State.{State, Answers}
@@ -136,7 +136,7 @@ module _ (K V P S R : Type 0) where
 
   -- an empty cache is sound, and each call keeps it so
   pub record CallsStaySound : Type 0 where
-    pub empty : (s : State K V P S R) → s.records ≡ [] → s.unsent ≡ [] → s.writes ≡ [] → IsSound s
+    pub empty : (s : State K V P S R) → s.records ≡ [] → s.access ≡ [] → s.unsent ≡ [] → s.writes ≡ [] → IsSound s
     pub written : (eq : K → K → Bool) (answers : Answers K V P R) (s : State K V P S R) (key : K) (hash : ℕ) (value : V) (now step : ℕ) → IsSound s → IsSound (written answers eq s key hash value now step)
     pub sent : (ticket : ℕ) (s : State K V P S R) → IsSound s → IsSound (sent ticket s)
     pub removed : (eq : K → K → Bool) (key : K) (s : State K V P S R) → IsSound s → IsSound (removed_by eq key s)
@@ -146,3 +146,17 @@ module _ (K V P S R : Type 0) where
     pub covered : (p : Registered P) (s : State K V P S R) → IsSound s → IsSound (with_predicate p s)
     pub room : (s : State K V P S R) → IsSound s → IsSound (with_room s)
     pub taken : (s : State K V P S R) → IsSound s → IsSound (without_notice s)
+
+  -- ---- evictions
+
+  -- the settled record used longest ago goes, again and again, each time because the weight is above the capacity
+  abbrev pub Evictions : State K V P S R → List (Record K V) → State K V P S R → Type 0
+  Evictions s [] t = t ≡ s
+  Evictions s (r ∷ rs) t = (is_above s.settings.capacity (admitted_weight s.records) ≡ true) × (next_to_evict s ≡ Some r) × Evictions (left cause.Size r.number s) rs t
+
+  -- what goes until the weight is within the capacity is the shortest front of the settled records of the access list that reaches the excess
+  abbrev pub EvictsShortestFront : Type 0
+  EvictsShortestFront =
+      (s t : State K V P S R) (victims : List (Record K V)) (capacity : ℕ) → IsSound s → s.settings.capacity ≡ Some capacity
+      → Evictions s victims t → admitted_weight t.records ≤ capacity
+      → shortest_front (admitted_weight s.records - capacity) (settled_in s.records s.access) ≡ Some victims

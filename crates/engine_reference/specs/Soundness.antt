@@ -12,6 +12,11 @@ abbrev pub IsIn : {X : Type 0} → X → List X → Type 0
 IsIn x [] = ⊥
 IsIn x (y ∷ ys) = (y ≡ x) ⊎ IsIn x ys
 
+-- no number twice
+abbrev pub AreOnce : List ℕ → Type 0
+AreOnce [] = Unit {0}
+AreOnce (n ∷ ns) = (IsIn n ns → ⊥) × AreOnce ns
+
 -- the record that a write is of
 abbrev pub number_of : Write → ℕ
 number_of (Put u) = u.number
@@ -58,6 +63,7 @@ module _ {K V : Type 0} where
     pub below : Each (λ r. r.number < next) records
     pub accounted : Each (IsAccounted unsent writes) records
     pub listed : Each (λ r. is_some r.counts ≡ true → IsIn r.number access) records
+    pub once : AreOnce access
 
 pub record IsSound {K V P S R : Type 0} (s : State K V P S R) : Type 0 where
   pub records : AreSound s.unsent s.writes s.next_number s.records s.access

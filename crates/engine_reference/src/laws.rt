@@ -1,5 +1,5 @@
 //! Laws of the reference cache. Each function does nothing: its contract is the law.
-ghost use Rattle.engine_reference.specs.Laws.{StepsTell, RunsTell, NothingTakenForSize, RunsKeepVisible, CountsAreKept, SendingKeepsVisible, CoverShowsNothing, UnappliedStay, CallsStaySound, RunsStaySound, CountsAreExact};
+ghost use Rattle.engine_reference.specs.Laws.{StepsTell, RunsTell, NothingTakenForSize, RunsKeepVisible, CountsAreKept, SendingKeepsVisible, CoverShowsNothing, UnappliedStay, CallsStaySound, RunsStaySound, CountsAreExact, EvictsShortestFront};
 
 /// A step of a run tells what it takes away once, and takes for weight only where a running weight is above the capacity.
 pub fn steps_tell<K, V, P, S, R>()
@@ -54,4 +54,9 @@ pub fn runs_stay_sound<K, V, P, S, R>()
 /// After an uncut run that began with all tickets sent, the counts of a sound cache are the number and weight of what is held, within a capacity above 0, and no predicate covers any of it.
 pub fn counts_are_exact<K, V, P, S, R>()
     ensures { CountsAreExact K V P S R }
+{}
+
+/// What is evicted until the weight is within the capacity is the shortest front of the settled records of the access list that reaches the excess.
+pub fn evicts_shortest_front<K, V, P, S, R>()
+    ensures { EvictsShortestFront K V P S R }
 {}
