@@ -3,6 +3,9 @@ pub mod Drawn
 pub mod FeedSteps
 pub mod FeedTaken
 pub mod Following
+pub mod Framing
+pub mod Leaving
+pub mod LoadTurns
 pub mod Places
 pub mod Placing
 pub mod Putting
@@ -10,3 +13,4 @@ pub mod Recording
 pub mod Running
 pub mod Stepping
 pub mod Table
+pub mod Knowing

@@ -18,12 +18,14 @@ use Rattle.audit_model.specs.declared.input.ServiceError.TheVariants as error
 use Rattle.audit_model.specs.declared.transcript.Record.{Record}
 use Rattle.audit_model.specs.declared.transcript.Step.{Step}
 use Rattle.cache_store.specs.Promises.{Frame}
-use Rattle.cache_namespace.specs.Drawing.{Identifiers, StepsDraw}
+use Rattle.cache_namespace.specs.Drawing.{Workings, StepsDraw, identifiers_in}
 use Rattle.cache_namespace.specs.Gathered.{Gathered, gather}
 use Rattle.cache_namespace.specs.Making.{Making}
+use Rattle.cache_namespace.specs.Ordered.{OrdersSteps}
 use Rattle.cache_namespace.specs.Lines.{ArePartedIn, are_timely, ends_quit, set_in, with_drops}
 use Rattle.cache_namespace.specs.Ran.{ends_held, with_piece}
 use Rattle.cache_namespace.specs.Shown.{shown, put_in, situation}
+use Rattle.cache_namespace.specs.Waiting.{UnderWay, no_loads}
 use Rattle.cache_namespace.specs.declared.connection.Connection.{Connection}
 
 -- the record of an event that is no answer
@@ -39,7 +41,7 @@ is_quit (Some by.Quit) = true
 is_quit other = false
 
 -- The steps of a connection's feed ran, and may have closed it.
-pub record FeedsConnection (config : Config) (base : Situation) (number : ℕ) (making : Making) (values : List HeldValue) (old : Connection) (piece : List ℕ) (new : Connection) (is_held : Bool) (Stands : List HeldValue → Type 0) (dropped : Bool) (drawn drawing : Identifiers) (was is : Gathered) : Type 0 where
+pub record FeedsConnection (config : Config) (base : Situation) (number : ℕ) (making : Making) (values : List HeldValue) (old : Connection) (piece : List ℕ) (new : Connection) (is_held : Bool) (Stands : List HeldValue → Type 0) (dropped : Bool) (drawn drawing : Workings) (was is : Gathered) : Type 0 where
   pub steps : List Step
   pub left : List HeldValue
   pub stands : Stands left
@@ -48,12 +50,13 @@ pub record FeedsConnection (config : Config) (base : Situation) (number : ℕ) (
   pub timely : IsTrue (are_timely config making.made (set_in base values (with_piece piece (shown number old))) (tasks_to_feed number old.held) steps)
   pub ends : ends_held steps ≡ is_held
   pub quits : ends_quit config steps ≡ is_quit new.closing
-  pub draws : StepsDraw config steps drawn drawing
+  pub draws : StepsDraw config steps (identifiers_in drawn) (identifiers_in drawing)
+  pub ordered : OrdersSteps config drawn.recency drawing.recency (set_in base values (with_piece piece (shown number old))) (tasks_to_feed number old.held) steps
   pub gathered : is ≡ gather was steps
 
 -- The event's record followed, with these steps, of which the last one may be held or a `QUIT`; each value that they accept stands in its
 -- key's part; each `SYNC` left timely values; identifiers were drawn as they say; their replies, steps and notes were gathered.
-pub record Takes (config : Config) (making : Making) (s : Situation) (happened : Event) (is_held quit : Bool) (Stands : List HeldValue → Type 0) (situated : List HeldValue → Situation) (drawn drawing : Identifiers) (was is : Gathered) : Type 0 where
+pub record Takes (config : Config) (making : Making) (s : Situation) (happened : Event) (is_held quit : Bool) (Stands : List HeldValue → Type 0) (situated : List HeldValue → Situation) (drawn drawing : Workings) (was is : Gathered) : Type 0 where
   pub steps : List Step
   pub left : List HeldValue
   pub stands : Stands left
@@ -62,7 +65,8 @@ pub record Takes (config : Config) (making : Making) (s : Situation) (happened :
   pub timely : IsTrue (are_timely config making.made (after_event happened s) (tasks_in s happened) (steps_of (record_of happened steps)))
   pub ends : ends_held steps ≡ is_held
   pub quits : ends_quit config steps ≡ quit
-  pub draws : StepsDraw config steps drawn drawing
+  pub draws : StepsDraw config steps (identifiers_in drawn) (identifiers_in drawing)
+  pub ordered : OrdersSteps config drawn.recency drawing.recency (after_event happened s) (tasks_in s happened) (steps_of (record_of happened steps))
   pub gathered : is ≡ gather was steps
 
 -- the replies of the connection at a place that were not taken
@@ -77,7 +81,7 @@ pub record IsSound (wanted : Config) (frame : Frame) (latest : ℕ) : Type 0 whe
 
 -- what is known of a namespace's connections
 abbrev pub known : List Connection → Known
-known connections = known_in (situation 0 connections false [])
+known connections = known_in (situation 0 no_loads connections false [])
 
 -- an event that is refused for what is known, and else for memory alone; `again` where a command is held back
 abbrev pub RefusedFor : Config → List Connection → Event → (held : Bool) → ServiceError → Type 0
@@ -86,7 +90,7 @@ RefusedFor config connections happened held e =
 
 -- a command of the connection of that number is held back
 abbrev pub holds_at : List Connection → ℕ → Bool
-holds_at connections number = is_holding_in (situation 0 connections false []) number
+holds_at connections number = is_holding_in (situation 0 no_loads connections false []) number
 
 -- why the connection at a place is closed, if it is
 abbrev pub closing_at : List Connection → ℕ → Option Closing
@@ -105,7 +109,7 @@ pub record ReplacedAt (old new : List Connection) (index : ℕ) : Type 0 where
 
 -- the connections stand for the same
 pub record SameConnections (old new : List Connection) : Type 0 where
-  pub situation : (latest : ℕ) (dropped : Bool) (values : List HeldValue) → situation latest new dropped values ≡ situation latest old dropped values
+  pub situation : (latest : ℕ) (loads : UnderWay) (dropped : Bool) (values : List HeldValue) → situation latest loads new dropped values ≡ situation latest loads old dropped values
   pub texts : (index : ℕ) → text_at new index ≡ text_at old index
   pub closings : (index : ℕ) → closing_at new index ≡ closing_at old index
 

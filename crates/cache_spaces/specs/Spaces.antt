@@ -8,9 +8,10 @@ use Rattle.cache_namespace.specs.Gathered.{Gathered}
 use Rattle.cache_namespace.specs.Kept.{gathered}
 use Rattle.cache_namespace.specs.Shown.{situation}
 use Rattle.cache_namespace.specs.Taken as taken
+use Rattle.cache_namespace.specs.Waiting.{UnderWay, under_way}
 use Rattle.cache_namespace.specs.declared.connection.Connection.{Connection}
 use Rattle.cache_namespace.specs.declared.kept.Kept.{Kept}
-use Rattle.cache_namespace.specs.Drawing.{Identifiers, identifiers}
+use Rattle.cache_namespace.specs.Drawing.{Identifiers, Workings, identifiers, workings}
 use Rattle.plain_store.specs.Drawing.{is_among}
 use Rattle.plain_store.specs.Standing as plain
 use Rattle.rand_core.specs.Steps.{stream_of, steps_u64_high}
@@ -32,6 +33,10 @@ made_of space = space.inner.store.made
 abbrev pub connections_of : Space → List Connection
 connections_of space = space.inner.connections.items
 
+-- the loads under way
+abbrev pub loads_of : Space → UnderWay
+loads_of space = under_way space.inner.loads
+
 -- the notes that were told and not taken
 abbrev pub notices_of : Space → List Note
 notices_of space = space.inner.store.notes.items
@@ -51,16 +56,24 @@ gathered_in space number kept = gathered (output_of space number) kept (notices_
 abbrev pub identifiers_of : Space → Identifiers
 identifiers_of space = identifiers (stream_of (steps_u64_high plus_plus) (generator_of space)) (λ part. is_among space.inner.store.register.items)
 
+-- the keys that it holds, the last used first: after a `SYNC`, or at most one call later
+abbrev pub recency_of : Space → Bool → List (List ℕ) → Type 0
+recency_of space = plain.AreInOrder space.inner.store.config space.inner.store.table
+
+-- what its store has beside its values
+abbrev pub workings_of : Space → Workings
+workings_of space = workings (identifiers_of space).stream (identifiers_of space).registered (recency_of space)
+
 -- its store holds these values
 abbrev pub Holds : Space → List HeldValue → Type 0
 Holds space = plain.Stands space.inner.store.config space.inner.store.table
 
--- values that may be held, and connections, that stand for that situation
-pub record StandsWith (Held : List HeldValue → Type 0) (dropped : Bool) (latest : ℕ) (connections : List Connection) (s : Situation) : Type 0 where
+-- values that may be held, loads under way and connections, that stand for that situation
+pub record StandsWith (Held : List HeldValue → Type 0) (dropped : Bool) (latest : ℕ) (loads : UnderWay) (connections : List Connection) (s : Situation) : Type 0 where
   pub values : List HeldValue
   pub held : Held values
-  pub same : s ≡ situation latest connections dropped values
+  pub same : s ≡ situation latest loads connections dropped values
 
 -- the namespace stands for that situation
 abbrev pub Stands : Space → Situation → Type 0
-Stands space s = StandsWith (Holds space) space.inner.store.dropped space.inner.latest (connections_of space) s
+Stands space s = StandsWith (Holds space) space.inner.store.dropped space.inner.latest (loads_of space) (connections_of space) s
