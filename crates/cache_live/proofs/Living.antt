@@ -1,9 +1,8 @@
 -- Journals that nobody keeps go on.
-use Rattle.std.proofs.Common.{◌≡◌, ◌≢◌, ◌∙◌, ℕ, zero, suc, ◌+◌, List, [], ◌∷◌, ◌++◌, length, length-append, Some, None, refl, sym, ap, subst, inl, inr, arith}
+use Rattle.std.proofs.Common.{◌≡◌, ◌≢◌, ◌∙◌, ℕ, zero, suc, ◌+◌, List, [], ◌∷◌, ◌++◌, length, length-append, Option, Some, Vec, Global, refl, sym, ap, subst, inl, inr, arith}
 use Rattle.std.specs.Prelude.{◌⊎◌, slice_set, map, Result, Ok, Err, OnOk, IfOk, IfErr, IsTrue}
 use Rattle.std.specs.List.{slice_get}
 use Rattle.std.proofs.lemmas.List.{length-set}
-use Rattle.std.proofs.lemmas.List.Maps.{length-map}
 use Rattle.std.proofs.lemmas.Option.{slice_get_within, none-some, same_Some}
 use Rattle.audit_laws.proofs.Journals.{leads-more}
 use Rattle.audit_laws.proofs.OnePart.{one-part-obeys}
@@ -13,6 +12,7 @@ use Rattle.audit_model.specs.declared.config.Config.{Config}
 use Rattle.audit_model.specs.declared.event.Instant.{Instant}
 use Rattle.audit_model.specs.declared.input.Input.{Input}
 use Rattle.audit_model.specs.declared.input.ServiceError.{ServiceError}
+use Rattle.audit_model.specs.declared.transcript.Note.{Note}
 use Rattle.audit_model.specs.declared.transcript.Transcript.{Transcript}
 use Rattle.audit_receipts.specs.declared.output.Output.{Output}
 use Rattle.cache_live.specs.Lived.{HasLived, Lived}
@@ -25,7 +25,7 @@ use Rattle.cache_spaces.proofs.Journaling.{got, one-part}
 use Rattle.cache_spaces.proofs.Noting.{same-or-not}
 use Rattle.cache_spaces.specs.Moves.{At}
 use Rattle.cache_spaces.specs.Recorded.{AreEmpty, namespace_of}
-use Rattle.cache_spaces.specs.Serves.{SameSpace}
+use Rattle.cache_spaces.specs.Serves.{IsUnknown, SameSpace, TakesNotice, TakesOutput}
 use Rattle.cache_spaces.specs.Served.{is_served}
 use Rattle.cache_spaces.specs.Services.{AreNew, Refuses}
 use Rattle.cache_spaces.specs.Spaces.{Stands, config_of}
@@ -144,6 +144,18 @@ lived-still F old new k n same a w =
 pub lived-refused : (Cause : Space → Type 0) (old new : List Space) (k n : ℕ) (e : ServiceError) → Refuses old new k e Cause → Lived old n → Lived new n
 lived-refused Cause old new k n e (inl none) w = subst (λ x. Lived x n) (sym none.2) w
 lived-refused Cause old new k n e (inr a) w = lived-still (λ was is. SameSpace was is × Cause was) old new k n (λ x y p. (p.0.stands, p.0.config)) a w
+
+-- replies were taken, or refused
+pub lived-text : (k number : ℕ) (old new : List Space) (n : ℕ) (r : Result (Vec ℕ Global) ServiceError)
+    → IfOk r (λ text. At old new k (λ was is. TakesOutput was is number text.items)) → IfErr r (λ e. Refuses old new k e (λ was. IsUnknown was number e)) → Lived old n → Lived new n
+lived-text k number old new n (Ok text) taken refused w = lived-still (λ was is. TakesOutput was is number text.items) old new k n (λ x y t. (t.stands, t.config)) taken w
+lived-text k number old new n (Err e) taken refused w = lived-refused (λ was. IsUnknown was number e) old new k n e refused w
+
+-- a note was taken, or refused
+pub lived-note : (k : ℕ) (old new : List Space) (n : ℕ) (r : Result (Option Note) ServiceError)
+    → IfOk r (λ note. At old new k (λ was is. TakesNotice was is note)) → IfErr r (λ e. Refuses old new k e (λ was. ⊥)) → Lived old n → Lived new n
+lived-note k old new n (Ok note) taken refused w = lived-still (λ was is. TakesNotice was is note) old new k n (λ x y t. (t.stands, t.config)) taken w
+lived-note k old new n (Err e) taken refused w = lived-refused (λ was. ⊥) old new k n e refused w
 
 -- ---- journals that obey
 

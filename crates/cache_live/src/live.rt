@@ -1,5 +1,5 @@
 //! A service that keeps nothing of what it took.
-ghost use Rattle.std.specs.Prelude.{◌≡◌, ◌≤◌, ◌<◌, ◌^◌, ◌+◌, ◌-◌, ◌↔◌, ◌⊎◌, [], None, Some, false, ⊥, ℕ, IfOk, IfErr, OnOk, OnErr, IsErrOf, length};
+ghost use Rattle.std.specs.Prelude.{◌≡◌, ◌≤◌, ◌<◌, ◌^◌, ◌+◌, ◌-◌, ◌↔◌, ◌⊎◌, [], None, Some, false, ℕ, IfOk, IfErr, OnOk, OnErr, IsErrOf, length};
 ghost use Rattle.cache_live.specs.Lived.{Lived};
 ghost use Rattle.cache_spaces.specs.Services.{are_taken, AreNew, Refuses, spaces_of};
 

@@ -23,14 +23,17 @@ impl Teller for Untold {
     }
 
     fn tell<R: Wait>(&mut self, rt: &R, note: &Note) {
-        let _told = (rt, note);
+        let _rt = rt;
+        let _note = note;
     }
 }
 
 /// Makes what a connection needs.
 pub trait Devices {
     type Clock: Clock + Drop + Send + 'static;
+
     type Loader: Loader + Drop + Send + 'static;
+
     type Teller: Teller + Send + 'static;
 
     /// A clock, a loader and a teller for one connection, if they can be had.

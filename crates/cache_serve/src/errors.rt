@@ -1,5 +1,5 @@
 //! Why a connection stops before its end.
-ghost use Rattle.std.specs.Prelude.{◌≡◌, ◌≢◌, ◌⊎◌};
+ghost use Rattle.std.specs.Prelude.{◌≡◌, ◌⊎◌};
 
 use audit_model::ServiceError;
 use cache_devices::SendError;

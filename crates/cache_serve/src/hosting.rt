@@ -1,5 +1,4 @@
 //! A thread for each connection.
-ghost use Rattle.std.specs.Prelude.{◌≡◌, ◌≤◌, ◌<◌, ◌+◌, vec_len, vec_capacity};
 
 use crate::devices::{Devices, Teller};
 use crate::serving::serve_and_tell;
@@ -160,7 +159,8 @@ fn admit<L, C, D, R>(
     stream: TcpStream,
     running: &mut Vec<Running<L>>,
     seats: &mut Vec<Seat<L>>,
-) where
+)
+where
     L: Seating + Send + Sync + 'static,
     C: Takings + Send + 'static,
     D: Devices,

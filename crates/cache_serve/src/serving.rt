@@ -1,7 +1,7 @@
 //! One connection of a shared service, from its opening to its closing.
-ghost use Rattle.std.specs.Prelude.{◌≡◌, ◌≤◌, ◌<◌, ◌⊎◌, ◌^◌, ◌-◌, ℕ, length, IfOk, IfErr, OnOk, OnErr, IsErrOf};
+ghost use Rattle.std.specs.Prelude.{◌≡◌, ◌≢◌, ◌≤◌, IfErr, IsErrOf};
 ghost use Rattle.cache_devices.specs.Failures.{HasFailed};
-ghost use Rattle.cache_devices.specs.Watched.{device, failures};
+ghost use Rattle.cache_devices.specs.Watched.{failures};
 ghost use Rattle.cache_run.specs.Turns.{HasToldLate};
 
 use crate::devices::{Teller, Untold};
@@ -27,14 +27,16 @@ fn open_connection<L: Seating, C: Takings>(
     namespace: u64,
 ) -> Result<Conn, RunError>
     ensures count { seat.old.count ≤ seat.new.count }
-    ensures causes { IfErr result (λ e. (e ≡ RunError.OutOfMemory) ⊎ (e ≡ RunError.UsedUp)) }
+    ensures causes { IfErr result (λ e. (e ≢ RunError.Read) × (e ≢ RunError.Write) × (e ≢ RunError.Moment)) }
 {
     match shared.step(rt, seat, Input::Open { namespace }) {
         Ok(Output::Opened { conn }) => Ok(conn),
-        Err(Refusal {
-            error: ServiceError::UsedUp,
-            ..
-        }) => Err(RunError::UsedUp),
+        Err(
+            Refusal {
+                error: ServiceError::UsedUp,
+                ..
+            },
+        ) => Err(RunError::UsedUp),
         _ => Err(RunError::OutOfMemory),
     }
 }
@@ -50,10 +52,12 @@ fn close_if_open<L: Seating, C: Takings>(
 {
     for _try in 0..u64::MAX {
         match shared.step(rt, seat, Input::Close { conn }) {
-            Err(Refusal {
-                error: ServiceError::OutOfMemory,
-                ..
-            }) => {}
+            Err(
+                Refusal {
+                    error: ServiceError::OutOfMemory,
+                    ..
+                },
+            ) => {}
             _ => return,
         }
     }

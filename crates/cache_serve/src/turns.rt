@@ -1,7 +1,7 @@
 //! One turn of a connection.
-ghost use Rattle.std.specs.Prelude.{◌≡◌, ◌≢◌, ◌≤◌, ◌<◌, ◌^◌, ◌⊎◌, length, IfErr, OnErr, IsErrOf};
+ghost use Rattle.std.specs.Prelude.{◌≡◌, ◌≢◌, ◌≤◌, ◌^◌, IfErr, IsErrOf};
 ghost use Rattle.cache_devices.specs.Failures.{HasFailed};
-ghost use Rattle.cache_devices.specs.Watched.{device, failures};
+ghost use Rattle.cache_devices.specs.Watched.{failures};
 ghost use Rattle.cache_run.specs.Turns.{HasToldLate};
 
 use crate::devices::Teller;
@@ -49,10 +49,12 @@ fn feed_piece<L: Seating, C: Takings>(
     match shared.step(rt, seat, input) {
         Ok(Output::Held) => Err(RunError::OutOfMemory),
         Ok(_) => Ok(Progress::More),
-        Err(Refusal {
-            error: ServiceError::Closed,
-            ..
-        }) => Ok(Progress::Over),
+        Err(
+            Refusal {
+                error: ServiceError::Closed,
+                ..
+            },
+        ) => Ok(Progress::Over),
         Err(Refusal { error, .. }) => Err(error_of_refusal(error)),
     }
 }

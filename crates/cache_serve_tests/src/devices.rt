@@ -54,7 +54,8 @@ impl Teller for Counter {
     }
 
     fn tell<R: Wait>(&mut self, rt: &R, note: &Note) {
-        let _note = (rt, note);
+        let _rt = rt;
+        let _note = note;
         self.told.fetch_add(1, Ordering::SeqCst);
     }
 }
