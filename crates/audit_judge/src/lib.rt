@@ -11,5 +11,5 @@ mod weights;
 pub use after::do_deed;
 pub use deed::{Covering, Deed};
 pub use held::Held;
-pub use times::live;
+pub use times::{is_live, live};
 pub use weights::{is_over, part_count};

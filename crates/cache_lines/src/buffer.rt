@@ -106,6 +106,13 @@ impl Buffer {
         self.start = 0;
     }
 
+    /// The bytes that no line has used.
+    pub fn as_slice(&self) -> &[u8]
+        ensures { result.now ≡ self.now.bytes }
+    {
+        &self.bytes[self.start..]
+    }
+
     /// How many bytes no line has used.
     pub fn len(&self) -> usize
         ensures { result ≡ length self.now.bytes }

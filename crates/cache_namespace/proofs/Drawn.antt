@@ -1,6 +1,6 @@
 -- Identifiers drawn by one step after another.
-use Rattle.std.proofs.Common.{◌≡◌, ℕ, zero, suc, ◌+◌, Bool, true, false, ◌&&◌, List, [], ◌∷◌, ◌++◌, Option, Some, None, refl, sym, ap, ◌∙◌, arith}
-use Rattle.std.specs.Prelude.{IsTrue, codes}
+use Rattle.std.proofs.Common.{◌≡◌, ℕ, zero, suc, ◌+◌, true, false, List, [], ◌∷◌, ◌++◌, Option, ap, ◌∙◌, arith}
+use Rattle.std.specs.Prelude.{codes}
 use Rattle.std.proofs.lemmas.Bool.{and_parts}
 use Rattle.std.proofs.lemmas.Slice.Eq.{bytes_eq-Decides}
 use Rattle.audit_model.specs.Bytewise.{same}
@@ -11,11 +11,11 @@ use Rattle.audit_model.specs.declared.transcript.Accepted.{Accepted}
 use Rattle.audit_model.specs.declared.transcript.Note.{Note}
 use Rattle.audit_model.specs.declared.transcript.Step.{Step}
 use Rattle.rand_core.specs.Stream.{Stream}
-use Rattle.cache_store.specs.Identifiers.{Register, KeepsIdentifiers, DrawsAlone, AreUsedUp, drawn, stream_after}
+use Rattle.cache_store.specs.Identifiers.{Register, KeepsIdentifiers, AreUsedUp, drawn, stream_after}
 use Rattle.cache_steps.specs.Drawing.{Draws}
 use Rattle.cache_steps.specs.Right.{step_saying}
 use Rattle.cache_steps.proofs.Drawn.{draws-none, spends-none}
-use Rattle.cache_namespace.specs.Drawing.{Identifiers, DrawsThen, Spends, StepDraws, StepsDraw, identifiers, refuses_id, says_drop}
+use Rattle.cache_namespace.specs.Drawing.{Identifiers, Spends, StepDraws, StepsDraw, says_drop}
 use Rattle.cache_namespace.specs.Lines.{held_step}
 
 pub keeps-more : (a b c : Stream) (x y z : Register) → KeepsIdentifiers a b x y → KeepsIdentifiers b c y z → KeepsIdentifiers a c x z

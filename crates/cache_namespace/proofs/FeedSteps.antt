@@ -1,5 +1,5 @@
 -- A feed's steps, from its first task to its last.
-use Rattle.std.proofs.Common.{◌≡◌, ℕ, Bool, true, false, not, ◌&&◌, ◌||◌, ◌==◌, List, [], ◌∷◌, ◌++◌, map, take, cond, Option, Some, None, if◌then◌else◌, refl, sym, ap, ◌∙◌, subst}
+use Rattle.std.proofs.Common.{◌≡◌, ℕ, suc, Bool, true, false, not, ◌&&◌, ◌||◌, ◌==◌, List, [], ◌∷◌, ◌++◌, map, take, cond, Option, Some, None, if◌then◌else◌, refl, sym, ap, ◌∙◌, subst}
 use Rattle.std.specs.Prelude.{is_some, unwrap_or}
 use Rattle.std.specs.List.{find, list_all, cons_option}
 use Rattle.std.proofs.Math.Bool.{or-false}
@@ -26,12 +26,15 @@ use Rattle.cache_lines.proofs.Lines.{IsLine-first_line, IsPartial-first_line, Is
 use Rattle.cache_steps.specs.Right.{step_saying, placed_by, held_when_run}
 use Rattle.cache_steps.proofs.Answering.{same-refl, none_succeeded}
 use Rattle.cache_store.specs.Promises.{no_deed}
-use Rattle.cache_namespace.specs.Drawing.{Identifiers}
+use Rattle.cache_namespace.specs.Drawing.{Workings, identifiers_in}
 use Rattle.cache_namespace.specs.Making.{Making}
 use Rattle.cache_namespace.specs.Gathered.{Gathered, gather}
 use Rattle.cache_namespace.specs.Lines.{ArePartedIn, Runs, IsThere, are_timely, ended, ends_quit, held_step, holding, is_timely_after, placed_in, ready, says_quit, set_in, with_drops}
 use Rattle.cache_namespace.specs.Ran.{RanOne, RanLines, RanReady, RanFeed, ends_held}
 use Rattle.cache_namespace.proofs.Drawn.{draws-first, draws-more, held-draws, spends-same}
+use Rattle.cache_namespace.specs.Ordered.{HasKeys, HaveKeys}
+use Rattle.cache_steps.specs.Order.{AgreesWith, order_by}
+use Rattle.cache_namespace.proofs.Knowing.{keys-in-turn, order-behind-more, runs-keys-more}
 use Rattle.cache_namespace.proofs.Placing.{found-there}
 use Rattle.cache_namespace.specs.Whole.{held_line}
 use Rattle.cache_namespace.proofs.Running.{runs-more, timely-ended, ends-quit-more, may-run, line-due, line-fits, gather-more}
@@ -80,7 +83,7 @@ stops-partial base left number rest there partial =
     ap (λ c. option_map_or (λ k. is_ready k.standing && is_some (first_line k.unread)) c false) (found-there base left number (ready number rest) there (ap (λ b. b || false) (IsPartial-not_long rest partial)))
     ∙ ap is_some (IsPartial-first_line rest partial)
 
-find-dropped : (n : ℕ) (cs : List Connection) → find (λ c. c.number == n) (without_number n cs) ≡ None
+pub find-dropped : (n : ℕ) (cs : List Connection) → find (λ c. c.number == n) (without_number n cs) ≡ None
 find-dropped n [] = refl
 find-dropped n (c ∷ cs) = go (find-dropped n cs) (c.number == n) refl
   where
@@ -162,7 +165,7 @@ starts-quit config x (y ∷ ys) quit one e = e
 -- ---- lines of a connection that is ready
 
 -- lines ran until less than one, or too long a one, was left, or a `QUIT` ran
-pub ready-stopped : (config : Config) (base : Situation) (number : ℕ) (making : Making) (held : List HeldValue) (bytes : List ℕ) (quit : Bool) (rest : List ℕ) (Stands : List HeldValue → Type 0) (dropped : Bool) (drawn drawing : Identifiers) (old new : Gathered)
+pub ready-stopped : (config : Config) (base : Situation) (number : ℕ) (making : Making) (held : List HeldValue) (bytes : List ℕ) (quit : Bool) (rest : List ℕ) (Stands : List HeldValue → Type 0) (dropped : Bool) (drawn drawing : Workings) (old new : Gathered)
     → (r : RanLines config base number making held bytes quit rest Stands dropped drawn drawing old new) → may_run_in (ended quit (with_drops dropped base) r.left (ready number rest)) number ≡ false
     → RanReady config base number making held bytes quit false rest Stands dropped drawn drawing old new
 ready-stopped config base number making held bytes quit rest Stands dropped drawn drawing old new r stops = record {
@@ -175,11 +178,14 @@ ready-stopped config base number making held bytes quit rest Stands dropped draw
   ends = ends-none r.steps r.none_held;
   quits = r.quits;
   draws = r.draws;
+  ordered = λ places order plain agrees.
+      let a = r.ordered places order plain agrees in
+      (a.0, keys-in-turn config number making (suc places) order r.steps _ _ r.runs a.1);
   gathered = r.gathered;
 }
 
 -- lines ran until memory was wanted for one
-pub ready-held : (config : Config) (base : Situation) (number : ℕ) (making : Making) (held : List HeldValue) (bytes rest line : List ℕ) (n : ℕ) (Stands : List HeldValue → Type 0) (dropped : Bool) (drawn drawing : Identifiers) (old middle new : Gathered)
+pub ready-held : (config : Config) (base : Situation) (number : ℕ) (making : Making) (held : List HeldValue) (bytes rest line : List ℕ) (n : ℕ) (Stands : List HeldValue → Type 0) (dropped : Bool) (drawn drawing : Workings) (old middle new : Gathered)
     → IsThere number base → (r : RanLines config base number making held bytes false rest Stands dropped drawn drawing old middle) → IsLine rest n → line ≡ without_return (take n rest)
     → Stands (all_held_after config base.latest r.left no_deed []) → new ≡ gather middle (held_step number line ∷ [])
     → RanReady config base number making held bytes false true rest Stands dropped drawn drawing old new
@@ -198,17 +204,23 @@ ready-held config base number making held bytes rest line n Stands dropped drawn
       timely = runs-timely config number making (r.steps ++ held_step number line ∷ []) _ _ runs;
       ends = ends-held r.steps number line;
       quits = ends-quit-more config r.steps (held_step number line) false refl;
-      draws = draws-more config r.steps (held_step number line) drawn drawing drawing r.draws (held-draws config number line drawing);
+      draws = draws-more config r.steps (held_step number line) (identifiers_in drawn) (identifiers_in drawing) (identifiers_in drawing) r.draws (held-draws config number line (identifiers_in drawing));
+      ordered = λ places order plain agrees.
+          let a = r.ordered places order plain agrees in (
+            subst (AgreesWith drawing.recency places) (sym (order-behind-more config (suc places) order r.steps (held_step number line))) tt,
+            keys-in-turn config number making (suc places) order (r.steps ++ held_step number line ∷ []) _ _ runs
+                (runs-keys-more config number making (suc places) order r.steps _ (set_in from r.left (ready number rest)) (held_step number line) r.runs a.1 tt),
+          );
       gathered = gathers ∙ ap (λ g. gather g (held_step number line ∷ [])) r.gathered ∙ gather-more old r.steps (held_step number line ∷ []);
     }
 
 -- ---- feeds
 
 -- a feed of a connection that is ready
-pub feeds-ready : (config : Config) (base : Situation) (number : ℕ) (making : Making) (held : List HeldValue) (bytes piece : List ℕ) (quit is_held : Bool) (rest : List ℕ) (Stands : List HeldValue → Type 0) (dropped : Bool) (drawn drawing : Identifiers) (old new : Gathered)
+pub feeds-ready : (config : Config) (base : Situation) (number : ℕ) (making : Making) (held : List HeldValue) (bytes piece : List ℕ) (quit is_held : Bool) (rest : List ℕ) (Stands : List HeldValue → Type 0) (dropped : Bool) (drawn drawing : Workings) (old new : Gathered)
     → RanReady config base number making held (bytes ++ piece) quit is_held rest Stands dropped drawn drawing old new → RanFeed config base number making held false bytes piece quit is_held rest Stands dropped drawn drawing old new
 feeds-ready config base number making held bytes piece quit is_held rest Stands dropped drawn drawing old new r =
-    record { steps = r.steps; left = r.left; stands = r.stands; after = r.after; parted = r.parted; timely = r.timely; ends = r.ends; quits = r.quits; draws = r.draws; gathered = r.gathered }
+    record { steps = r.steps; left = r.left; stands = r.stands; after = r.after; parted = r.parted; timely = r.timely; ends = r.ends; quits = r.quits; draws = r.draws; ordered = r.ordered; gathered = r.gathered }
 
 -- a connection that holds a line back, fed a piece
 abbrev held_with : Situation → List HeldValue → ℕ → List ℕ → List ℕ → Situation
@@ -219,7 +231,7 @@ abbrev step_released : ℕ → List ℕ → List ℕ → Option Accepted → Lis
 step_released number bytes reply accepted told = step_saying number (held_line bytes) reply accepted told
 
 -- it is right
-right-released : (config : Config) (base : Situation) (number : ℕ) (making : Making) (held : List HeldValue) (bytes piece : List ℕ) (quit : Bool) (Stood : List HeldValue → Type 0) (dropped : Bool) (drawn drawing : Identifiers) (old new : Gathered) → IsThere number base
+right-released : (config : Config) (base : Situation) (number : ℕ) (making : Making) (held : List HeldValue) (bytes piece : List ℕ) (quit : Bool) (Stood : List HeldValue → Type 0) (dropped : Bool) (drawn drawing : Workings) (old new : Gathered) → IsThere number base
     → (one : RanOne config (held_with base held number bytes piece) number making (held_line bytes) quit Stood dropped drawn drawing old new)
     → is_right config (placed_step_in config (held_with base held number bytes piece) (Some (RunHeld number)) (step_released number bytes one.reply one.accepted one.told)) ≡ true
 right-released config base number making held bytes piece quit Stood dropped drawn drawing old new there one =
@@ -228,7 +240,7 @@ right-released config base number making held bytes piece quit Stood dropped dra
     (right-in-turn config (held_with base held number bytes piece) (RunHeld number) number (held_line bytes) one.reply one.accepted one.told one.right (eq-eqb number number refl))
 
 -- what it leaves
-after-released : (config : Config) (base : Situation) (number : ℕ) (making : Making) (held : List HeldValue) (bytes piece : List ℕ) (quit : Bool) (Stood : List HeldValue → Type 0) (dropped : Bool) (drawn drawing : Identifiers) (old new : Gathered) → IsThere number base
+after-released : (config : Config) (base : Situation) (number : ℕ) (making : Making) (held : List HeldValue) (bytes piece : List ℕ) (quit : Bool) (Stood : List HeldValue → Type 0) (dropped : Bool) (drawn drawing : Workings) (old new : Gathered) → IsThere number base
     → (one : RanOne config (held_with base held number bytes piece) number making (held_line bytes) quit Stood dropped drawn drawing old new)
     → after_step config (held_with base held number bytes piece) (Some (RunHeld number)) (step_released number bytes one.reply one.accepted one.told)
     (effect_in config (view_in config (held_with base held number bytes piece)) (action_by (reading config (held_line bytes))) (step_released number bytes one.reply one.accepted one.told))
@@ -238,7 +250,7 @@ after-released config base number making held bytes piece quit Stood dropped dra
     ∙ ap (λ b. ended quit (with_drops b base) (held_when_run config (held_with base held number bytes piece) (action_by (reading config (held_line bytes))) (step_saying 0 [] one.reply one.accepted one.told)) (ready number (behind_lines 1 bytes ++ piece))) (sym one.dropped_is)
 
 -- a feed of a connection that holds a command back: that command runs first
-pub feeds-held : (config : Config) (base : Situation) (number : ℕ) (making : Making) (held : List HeldValue) (bytes piece : List ℕ) (quit is_held : Bool) (rest : List ℕ) (Stood Stands : List HeldValue → Type 0) (was dropped : Bool) (drawn middling drawing : Identifiers) (old middle new : Gathered)
+pub feeds-held : (config : Config) (base : Situation) (number : ℕ) (making : Making) (held : List HeldValue) (bytes piece : List ℕ) (quit is_held : Bool) (rest : List ℕ) (Stood Stands : List HeldValue → Type 0) (was dropped : Bool) (drawn middling drawing : Workings) (old middle new : Gathered)
     → IsThere number base
     → (one : RanOne config (held_with base held number bytes piece) number making (held_line bytes) false Stood was drawn middling old middle)
     → RanReady config (with_drops was base) number making (held_when_run config (held_with base held number bytes piece) (action_by (reading config (held_line bytes))) (step_saying 0 [] one.reply one.accepted one.told)) (behind_lines 1 bytes ++ piece) quit is_held rest Stands dropped middling drawing middle new
@@ -260,7 +272,12 @@ feeds-held config base number making held bytes piece quit is_held rest Stood St
       timely = and_from _ _ (ap (is_timely_after config making.made effect) after ∙ timely-ended config making.made effect false (with_drops was base) _ (ready number (behind_lines 1 bytes ++ piece)) one.timely) (ap (λ x. are_timely config making.made x (RunLines number ∷ []) r.steps) after ∙ r.timely);
       ends = starts step r.steps is_held refl r.ends;
       quits = starts-quit config step r.steps quit one.says r.quits;
-      draws = draws-first config step r.steps drawn middling drawing one.draws r.draws;
+      draws = draws-first config step r.steps (identifiers_in drawn) (identifiers_in middling) (identifiers_in drawing) one.draws r.draws;
+      ordered = λ places order plain agrees.
+          let b = one.ordered places order plain agrees in
+          let next = order_by (suc places) (reading config (held_line bytes)) order in
+          let a = r.ordered places next plain b.0 in
+          (a.0, (subst (λ (x : Situation). HasKeys next x.held) (sym after) b.1, subst (λ x. HaveKeys config (suc places) next x (RunLines number ∷ []) r.steps) (sym after) a.1));
       gathered = r.gathered ∙ ap (λ g. gather g r.steps) one.gathered ∙ gather-more old (step ∷ []) r.steps;
     }
   where
@@ -269,7 +286,7 @@ feeds-held config base number making held bytes piece quit is_held rest Stood St
     starts x (y ∷ ys) b e h = h
 
 -- a feed of a connection that holds a `QUIT` back: nothing runs behind it
-pub feeds-quit : (config : Config) (base : Situation) (number : ℕ) (making : Making) (held : List HeldValue) (bytes piece rest : List ℕ) (Stands : List HeldValue → Type 0) (dropped : Bool) (drawn drawing : Identifiers) (old new : Gathered)
+pub feeds-quit : (config : Config) (base : Situation) (number : ℕ) (making : Making) (held : List HeldValue) (bytes piece rest : List ℕ) (Stands : List HeldValue → Type 0) (dropped : Bool) (drawn drawing : Workings) (old new : Gathered)
     → IsThere number base → RanOne config (held_with base held number bytes piece) number making (held_line bytes) true Stands dropped drawn drawing old new
     → RanFeed config base number making held true bytes piece true false rest Stands dropped drawn drawing old new
 feeds-quit config base number making held bytes piece rest Stands dropped drawn drawing old new there one =
@@ -291,6 +308,10 @@ feeds-quit config base number making held bytes piece rest Stands dropped drawn 
       timely = and_from _ _ (ap (is_timely_after config making.made effect) after ∙ timely-ended config making.made effect true (with_drops dropped base) left (ready number (behind_lines 1 bytes ++ piece)) one.timely) refl;
       ends = refl;
       quits = one.says;
-      draws = draws-first config step [] drawn drawing drawing one.draws (spends-same drawing);
+      draws = draws-first config step [] (identifiers_in drawn) (identifiers_in drawing) (identifiers_in drawing) one.draws (spends-same (identifiers_in drawing));
+      ordered = λ places order plain agrees.
+          let b = one.ordered places order plain agrees in
+          let next = order_by (suc places) (reading config (held_line bytes)) order in
+          (b.0, (subst (λ (x : Situation). HasKeys next x.held) (sym after) b.1, tt));
       gathered = one.gathered;
     }

@@ -11,7 +11,7 @@ use Rattle.audit_model.specs.declared.input.ServiceError.{ServiceError}
 use Rattle.audit_model.specs.declared.input.ServiceError.TheVariants as error
 use Rattle.audit_model.specs.declared.transcript.Note.{Note}
 use Rattle.cache_namespace.specs.Kept.{gathered}
-use Rattle.cache_namespace.specs.Drawing.{Identifiers}
+use Rattle.cache_namespace.specs.Drawing.{Workings}
 use Rattle.cache_namespace.specs.Making.{Making}
 use Rattle.cache_namespace.specs.Gathered.{Gathered}
 use Rattle.cache_namespace.specs.Lines.{IsThere}
@@ -22,7 +22,7 @@ use Rattle.cache_namespace.specs.declared.kept.Kept.{Kept}
 use Rattle.cache_namespace.proofs.Places.{closing-is, replaced-is}
 use Rattle.cache_namespace.proofs.Following.{follows-feed, found-open, listed-open, follows-close, refused-late, admitted, holds-is}
 
-pub taken-feed : (config : Config) (making : Making) (latest now m i k moment : ℕ) (old new : List Connection) (dropped dropping : Bool) (values : List HeldValue) (piece : List ℕ) (is_held : Bool) (Stood Stands : List HeldValue → Type 0) (drawn drawing : Identifiers)
+pub taken-feed : (config : Config) (making : Making) (latest now m i k moment : ℕ) (old new : List Connection) (dropped dropping : Bool) (values : List HeldValue) (piece : List ℕ) (is_held : Bool) (Stood Stands : List HeldValue → Type 0) (drawn drawing : Workings)
     (kept_old kept_new : Option Kept) (waiting_old waiting_new : List Note)
     → m ≡ i + 1 → k ≡ m - 1 → now ≡ max moment latest → i < length old → moment < 2 ^ 63 → ((c : Connection) → slice_get old i ≡ Some c → c.closing ≡ None)
     → (p : ReplacedAt old new i)
@@ -74,7 +74,7 @@ memory-is config cs m i moment piece why e lt is_open low cause = go (slice_get 
         subst (λ o. MatchOption o ((why ≡ error.OutOfMemory) ⊎ ((why ≡ error.HeldAgain) × (holds_at cs m ≡ true))) (λ refused. why ≡ refused))
         (sym (admitted config m i moment c cs piece (omega arith) lt place (is_open c at) low)) (held c (holds-is m i c cs (omega arith) lt place (is_open c at)) (cause c at))
 
-pub taken-close : (config : Config) (making : Making) (latest m i : ℕ) (old new : List Connection) (dropped : Bool) (values : List HeldValue) (Stands : List HeldValue → Type 0) (drawn : Identifiers) (was : Gathered)
+pub taken-close : (config : Config) (making : Making) (latest m i : ℕ) (old new : List Connection) (dropped : Bool) (values : List HeldValue) (Stands : List HeldValue → Type 0) (drawn : Workings) (was : Gathered)
     → m ≡ i + 1 → i < length old → ((c : Connection) → slice_get old i ≡ Some c → c.closing ≡ None) → (p : ReplacedAt old new i) → p.is.closing ≡ Some by.Asked → Stands values
     → Takes config making (situation latest old dropped values) (event.Close m) false false Stands (situation latest new dropped) drawn drawn was was
 taken-close config making latest m i old new dropped values Stands drawn was e lt is_open p closed stands =

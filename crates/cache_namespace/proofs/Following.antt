@@ -1,5 +1,5 @@
 -- Events of a namespace, as records that follow.
-use Rattle.std.proofs.Common.{◌≡◌, ℕ, suc, ◌+◌, ◌<◌, ◌≤◌, ◌^◌, max, Bool, true, false, not, ◌&&◌, ◌||◌, ◌==◌, List, [], ◌∷◌, ◌++◌, length, map, Option, Some, None, if◌then◌else◌, refl, sym, ap, ◌∙◌, arith, get_or, length-append, nat_lt, nat_le}
+use Rattle.std.proofs.Common.{◌≡◌, ℕ, suc, ◌+◌, ◌<◌, ◌≤◌, ◌^◌, max, Bool, true, false, not, ◌&&◌, ◌||◌, ◌==◌, List, [], ◌∷◌, ◌++◌, length, map, Option, Some, None, if◌then◌else◌, refl, sym, ap, ◌∙◌, arith, get_or, length-append, nat_lt, nat_le, subst}
 use Rattle.std.specs.Prelude.{is_some, is_none, slice_set, IsTrue}
 use Rattle.std.specs.List.{find, list_all}
 use Rattle.audit_laws.specs.Leading.{is_parted}
@@ -17,10 +17,11 @@ use Rattle.audit_model.specs.declared.config.Config.{Config}
 use Rattle.audit_model.specs.declared.command.Closing.{Closing}
 use Rattle.audit_model.specs.declared.event.Event.TheVariants as event
 use Rattle.audit_model.specs.declared.input.ServiceError.TheVariants as error
-use Rattle.cache_namespace.specs.Drawing.{Identifiers}
+use Rattle.cache_namespace.specs.Drawing.{Workings, identifiers_in}
 use Rattle.cache_namespace.specs.Making.{Making}
 use Rattle.cache_namespace.specs.Gathered.{Gathered}
 use Rattle.cache_namespace.specs.Lines.{are_timely, set_in, ready}
+use Rattle.cache_namespace.specs.Ordered.{HaveKeys}
 use Rattle.cache_namespace.specs.Ran.{standing_with, with_piece}
 use Rattle.cache_namespace.specs.Shown.{shown, is_listed, is_open_with, open_from, situation, put_in}
 use Rattle.cache_namespace.specs.Taken.{is_quit, FeedsConnection, Takes, fed, known, holds_at}
@@ -80,7 +81,7 @@ known-open latest m i c cs dropped x e lt at listed =
     (and_from (nat_lt 0 m) (nat_le m (length cs)) (lt-ltb 0 m (omega arith)) (le-leb m (length cs) (omega arith)), ap is_some (found-open m i c cs e lt at listed))
 
 -- a feed's record follows
-pub follows-feed : (config : Config) (making : Making) (latest m i moment : ℕ) (old new : Connection) (cs : List Connection) (dropped dropping : Bool) (x : List HeldValue) (piece : List ℕ) (is_held : Bool) (Stands : List HeldValue → Type 0) (drawn drawing : Identifiers) (was is : Gathered)
+pub follows-feed : (config : Config) (making : Making) (latest m i moment : ℕ) (old new : Connection) (cs : List Connection) (dropped dropping : Bool) (x : List HeldValue) (piece : List ℕ) (is_held : Bool) (Stands : List HeldValue → Type 0) (drawn drawing : Workings) (was is : Gathered)
     → m ≡ suc i → i < length cs → get_or cs i old ≡ old → is_listed m old ≡ true → moment < 2 ^ 63
     → FeedsConnection config (situation (max moment latest) cs dropped x) m making x old piece new is_held Stands dropping drawn drawing was is
     → Takes config making (situation latest cs dropped x) (fed m piece moment) is_held (is_quit new.closing) Stands (situation (max moment latest) (slice_set cs i new) dropping) drawn drawing was is
@@ -114,6 +115,13 @@ follows-feed config making latest m i moment old new cs dropped dropping x piece
       ends = f.ends;
       quits = f.quits;
       draws = f.draws;
+      ordered = λ places order plain agrees.
+          let a = f.ordered places order plain agrees in (
+            a.0,
+            subst (λ o. HaveKeys config (suc places) order (option_map_or (λ c. with_connection false (record c { unread = c.unread ++ piece }) (situation (max moment latest) cs dropped x)) o (situation (max moment latest) cs dropped x))
+                (tasks_to_feed m (option_map_or (λ (c : model.Connection). is_holding c.standing) o false)) f.steps) (sym found)
+                (subst (λ b. HaveKeys config (suc places) order (set_in (situation (max moment latest) cs dropped x) x (with_piece piece (shown m old))) (tasks_to_feed m b) f.steps) (sym (holding-shown m old)) a.1),
+          );
       gathered = f.gathered;
     }
 
@@ -131,7 +139,7 @@ listed-open m c = go c.closing c.held c.unread.bytes c.short
     go None false bytes h = not-long (is_long_line bytes) h
 
 -- a new connection's record follows
-pub follows-open : (config : Config) (making : Making) (latest m : ℕ) (new : Connection) (cs : List Connection) (dropped : Bool) (x : List HeldValue) (Stands : List HeldValue → Type 0) (drawn : Identifiers) (was : Gathered)
+pub follows-open : (config : Config) (making : Making) (latest m : ℕ) (new : Connection) (cs : List Connection) (dropped : Bool) (x : List HeldValue) (Stands : List HeldValue → Type 0) (drawn : Workings) (was : Gathered)
     → m ≡ suc (length cs) → new.closing ≡ None → new.held ≡ false → new.unread.bytes ≡ [] → Stands x
     → Takes config making (situation latest cs dropped x) (event.Open m) false false Stands (situation latest (cs ++ new ∷ []) dropped) drawn drawn was was
 follows-open config making latest m new cs dropped x Stands drawn was e is_open free empty stands =
@@ -150,12 +158,13 @@ follows-open config making latest m new cs dropped x Stands drawn was e is_open 
       timely = refl;
       ends = refl;
       quits = refl;
-      draws = spends-same drawn;
+      draws = spends-same (identifiers_in drawn);
+      ordered = λ places order plain agrees. (agrees, tt);
       gathered = sym (gather-none was);
     }
 
 -- a closing's record follows
-pub follows-close : (config : Config) (making : Making) (latest m i : ℕ) (old new : Connection) (cs : List Connection) (dropped : Bool) (x : List HeldValue) (by : Closing) (Stands : List HeldValue → Type 0) (drawn : Identifiers) (was : Gathered)
+pub follows-close : (config : Config) (making : Making) (latest m i : ℕ) (old new : Connection) (cs : List Connection) (dropped : Bool) (x : List HeldValue) (by : Closing) (Stands : List HeldValue → Type 0) (drawn : Workings) (was : Gathered)
     → m ≡ suc i → i < length cs → get_or cs i old ≡ old → old.closing ≡ None → new.closing ≡ Some by → Stands x
     → Takes config making (situation latest cs dropped x) (event.Close m) false false Stands (situation latest (slice_set cs i new) dropped) drawn drawn was was
 follows-close config making latest m i old new cs dropped x by Stands drawn was e lt at is_open closed stands =
@@ -175,7 +184,8 @@ follows-close config making latest m i old new cs dropped x by Stands drawn was 
       timely = refl;
       ends = refl;
       quits = refl;
-      draws = spends-same drawn;
+      draws = spends-same (identifiers_in drawn);
+      ordered = λ places order plain agrees. (agrees, tt);
       gathered = sym (gather-none was);
     }
 

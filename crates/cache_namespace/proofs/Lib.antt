@@ -3,6 +3,8 @@ pub mod Drawn
 pub mod FeedSteps
 pub mod FeedTaken
 pub mod Following
+pub mod Framing
+pub mod LoadTurns
 pub mod Places
 pub mod Placing
 pub mod Putting
@@ -10,3 +12,4 @@ pub mod Recording
 pub mod Running
 pub mod Stepping
 pub mod Table
+pub mod Knowing

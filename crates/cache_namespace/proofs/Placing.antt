@@ -10,7 +10,7 @@ use Rattle.cache_namespace.specs.Lines.{ended, set_in, IsThere}
 abbrev pub numbered : ℕ → Connection → Connection
 numbered n c = record c { number = n }
 
-abbrev swap : ℕ → Connection → Connection → Connection
+abbrev pub swap : ℕ → Connection → Connection → Connection
 swap n c d = if d.number == n then numbered n c else d
 
 here : (n : ℕ) → (n == n) ≡ true
@@ -29,7 +29,7 @@ found-swapped n c (d ∷ ds) h = go (found-swapped n c ds) (d.number == n) refl 
         ∙ ap (λ b. cond b (Some d) (find (λ k. k.number == n) (map (swap n c) ds))) e
         ∙ next g
 
-swapped-again : (n : ℕ) (c d : Connection) (ks : List Connection) → map (swap n d) (map (swap n c) ks) ≡ map (swap n d) ks
+pub swapped-again : (n : ℕ) (c d : Connection) (ks : List Connection) → map (swap n d) (map (swap n c) ks) ≡ map (swap n d) ks
 swapped-again n c d [] = refl
 swapped-again n c d (k ∷ ks) = ap (λ x. x ∷ map (swap n d) (map (swap n c) ks)) (go (k.number == n) refl) ∙ ap (λ xs. swap n d k ∷ xs) (swapped-again n c d ks)
   where
@@ -37,7 +37,7 @@ swapped-again n c d (k ∷ ks) = ap (λ x. x ∷ map (swap n d) (map (swap n c) 
     go true e = ap (λ b. swap n d (if b then numbered n c else k)) e ∙ ap (λ b. if b then numbered n d else numbered n c) (here n) ∙ sym (ap (λ b. if b then numbered n d else k) e)
     go false e = ap (λ b. swap n d (if b then numbered n c else k)) e
 
-dropped-swapped : (n : ℕ) (c : Connection) (ks : List Connection) → without_number n (map (swap n c) ks) ≡ without_number n ks
+pub dropped-swapped : (n : ℕ) (c : Connection) (ks : List Connection) → without_number n (map (swap n c) ks) ≡ without_number n ks
 dropped-swapped n c [] = refl
 dropped-swapped n c (k ∷ ks) = go (dropped-swapped n c ks) (k.number == n) refl
   where

@@ -6,7 +6,7 @@ use Rattle.audit_model.specs.Situation.{Situation, HeldValue, is_overlong, witho
 use Rattle.audit_model.specs.declared.config.Config.{Config}
 use Rattle.audit_model.specs.declared.command.Closing.{Closing}
 use Rattle.audit_model.specs.declared.command.Closing.TheVariants as by
-use Rattle.cache_namespace.specs.Drawing.{Identifiers}
+use Rattle.cache_namespace.specs.Drawing.{Workings}
 use Rattle.cache_namespace.specs.Making.{Making}
 use Rattle.cache_namespace.specs.Gathered.{Gathered}
 use Rattle.cache_namespace.specs.Lines.{ended, set_in, ready, with_drops}
@@ -37,9 +37,9 @@ pub put-quit : (base : Situation) (left : List HeldValue) (number : ℕ) (held :
 put-quit base left number held bytes rest = refl
 
 -- the steps of a feed, with the connection as it is then
-pub feeds-to : (config : Config) (base : Situation) (number : ℕ) (making : Making) (values : List HeldValue) (old new : Connection) (piece : List ℕ) (quit is_held : Bool) (rest : List ℕ) (Stands : List HeldValue → Type 0) (dropped : Bool) (drawn drawing : Identifiers) (was is : Gathered)
+pub feeds-to : (config : Config) (base : Situation) (number : ℕ) (making : Making) (values : List HeldValue) (old new : Connection) (piece : List ℕ) (quit is_held : Bool) (rest : List ℕ) (Stands : List HeldValue → Type 0) (dropped : Bool) (drawn drawing : Workings) (was is : Gathered)
     → (r : RanFeed config base number making values old.held old.unread.bytes piece quit is_held rest Stands dropped drawn drawing was is)
     → ((left : List HeldValue) → ended quit (with_drops dropped base) left (standing_with number is_held rest) ≡ put_in (with_drops dropped base) left number new) → quit ≡ is_quit new.closing
     → FeedsConnection config base number making values old piece new is_held Stands dropped drawn drawing was is
 feeds-to config base number making values old new piece quit is_held rest Stands dropped drawn drawing was is r puts ends =
-    record { steps = r.steps; left = r.left; stands = r.stands; after = r.after ∙ ap Some (puts r.left); parted = r.parted; timely = r.timely; ends = r.ends; quits = r.quits ∙ ends; draws = r.draws; gathered = r.gathered }
+    record { steps = r.steps; left = r.left; stands = r.stands; after = r.after ∙ ap Some (puts r.left); parted = r.parted; timely = r.timely; ends = r.ends; quits = r.quits ∙ ends; draws = r.draws; ordered = r.ordered; gathered = r.gathered }

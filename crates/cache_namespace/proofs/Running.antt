@@ -1,5 +1,5 @@
 -- A connection's lines run, one after another.
-use Rattle.std.proofs.Common.{◌≡◌, ℕ, ◌+◌, Bool, true, false, not, ◌&&◌, ◌||◌, List, [], ◌∷◌, ◌++◌, take, drop, Option, Some, None, refl, sym, ap, ◌∙◌, subst, append_assoc}
+use Rattle.std.proofs.Common.{◌≡◌, ℕ, suc, ◌+◌, Bool, true, false, not, ◌&&◌, ◌||◌, List, [], ◌∷◌, ◌++◌, take, drop, Option, Some, None, refl, sym, ap, ◌∙◌, subst, append_assoc}
 use Rattle.std.specs.Prelude.{is_some}
 use Rattle.std.specs.List.{flat_map}
 use Rattle.std.specs.Option.{option_map_or}
@@ -22,11 +22,16 @@ use Rattle.audit_model.specs.declared.transcript.Step.{Step}
 use Rattle.cache_lines.specs.Next.{IsLine}
 use Rattle.cache_lines.proofs.Lines.{IsLine-first_line, IsLine-behind_lines, IsLine-not_long}
 use Rattle.cache_steps.specs.Right.{step_saying, placed_by, held_when_run}
-use Rattle.cache_namespace.specs.Drawing.{Identifiers, Spends}
+use Rattle.cache_namespace.specs.Drawing.{Workings, identifiers_in, Spends}
 use Rattle.cache_namespace.specs.Making.{Making}
 use Rattle.cache_namespace.specs.Gathered.{Gathered, IsFresh, gather, reply_in}
 use Rattle.cache_namespace.specs.Lines.{Runs, IsThere, ended, ends_quit, has_its_part, is_timely_after, placed_in, ready, says_quit, set_in, with_drops}
 use Rattle.cache_namespace.specs.Ran.{RanOne, RanLines}
+use Rattle.cache_namespace.specs.Ordered.{HasKeys, order_behind}
+use Rattle.cache_steps.specs.Order.{AgreesWith, order_by}
+use Rattle.cache_steps.proofs.Ordering.{agrees-kept}
+use Rattle.cache_store.specs.Recency.{KeepsRecency}
+use Rattle.cache_namespace.proofs.Knowing.{has-ended, order-behind-more, runs-keys-more}
 use Rattle.cache_namespace.proofs.Drawn.{draws-more, draws-spend, spends-same}
 use Rattle.cache_namespace.proofs.Placing.{found-there}
 use Rattle.cache_namespace.proofs.Stepping.{right-in-turn, after-line}
@@ -102,7 +107,7 @@ all-more : (p : Step → Bool) (xs : List Step) (x : Step) → list_all p xs ≡
 all-more p xs x all one = list_all-append p xs (x ∷ []) ∙ and_from (list_all p xs) (p x && true) all (and_from (p x) true one refl)
 
 -- one more line ran
-pub ran-more : (config : Config) (base : Situation) (number : ℕ) (making : Making) (held : List HeldValue) (bytes mid rest line : List ℕ) (n : ℕ) (quit : Bool) (Stood Stands : List HeldValue → Type 0) (was dropped : Bool) (drawn middling drawing : Identifiers) (old middle new : Gathered)
+pub ran-more : (config : Config) (base : Situation) (number : ℕ) (making : Making) (held : List HeldValue) (bytes mid rest line : List ℕ) (n : ℕ) (quit : Bool) (Stood Stands : List HeldValue → Type 0) (was dropped : Bool) (drawn middling drawing : Workings) (old middle new : Gathered)
     → IsThere number base → (r : RanLines config base number making held bytes false mid Stood was drawn middling old middle) → IsLine mid n → line ≡ without_return (take n mid) → (quit ≡ false → rest ≡ drop (n + 1) mid)
     → RanOne config (set_in (with_drops was base) r.left (ready number mid)) number making line quit Stands dropped middling drawing middle new
     → RanLines config base number making held bytes quit rest Stands dropped drawn drawing old new
@@ -128,7 +133,16 @@ ran-more config base number making held bytes mid rest line n quit Stood Stands 
           ∙ ended-rest quit (λ e. IsLine-behind_lines mid n at ∙ sym (skips e)) (held_when_run config s action step));
       none_held = all-more (λ (x : Step). not x.held) r.steps step r.none_held refl;
       quits = ends-quit-more config r.steps step quit one.says;
-      draws = draws-more config r.steps step drawn middling drawing r.draws one.draws;
+      draws = draws-more config r.steps step (identifiers_in drawn) (identifiers_in middling) (identifiers_in drawing) r.draws one.draws;
+      ordered = λ places order plain agrees.
+          let a = r.ordered places order plain agrees in
+          let before = order_behind config (suc places) order r.steps in
+          let b = one.ordered places before plain a.0 in
+          let next = order_by (suc places) (reading config line) before in (
+            subst (AgreesWith drawing.recency places) (sym (order-behind-more config (suc places) order r.steps step)) b.0,
+            runs-keys-more config number making (suc places) order r.steps _ s step r.runs a.1
+                (subst (λ (x : Situation). HasKeys next x.held) (sym after) (has-ended next quit (with_drops (from.dropped || drops effect) from) (held_when_run config s action step) (ready number (behind_lines 1 mid)) b.1)),
+          );
       gathered = one.gathered ∙ ap (λ g. gather g (step ∷ [])) r.gathered ∙ gather-more old r.steps (step ∷ []);
     }
   where
@@ -138,23 +152,23 @@ ran-more config base number making held bytes mid rest line n quit Stood Stands 
     ended-rest false is left = ap (λ b. set_in (with_drops dropped base) left (ready number b)) (is refl)
 
 -- the same, with the parts and the end in other words
-pub ran-as : (config : Config) (s : Situation) (number : ℕ) (making remaking : Making) (line : List ℕ) (quit quits : Bool) (Stands : List HeldValue → Type 0) (dropped : Bool) (drawn drawing : Identifiers) (old new : Gathered)
+pub ran-as : (config : Config) (s : Situation) (number : ℕ) (making remaking : Making) (line : List ℕ) (quit quits : Bool) (Stands : List HeldValue → Type 0) (dropped : Bool) (drawn drawing : Workings) (old new : Gathered)
     → making ≡ remaking → quit ≡ quits → RanOne config s number making line quit Stands dropped drawn drawing old new → RanOne config s number remaking line quits Stands dropped drawn drawing old new
 ran-as config s number making remaking line quit quits Stands dropped drawn drawing old new parts ends one =
     subst (λ b. RanOne config s number remaking line b Stands dropped drawn drawing old new) ends
     (subst (λ (p : Making). RanOne config s number p line quit Stands dropped drawn drawing old new) parts one)
 
 -- no line ran yet
-pub ran-none : (config : Config) (base : Situation) (number : ℕ) (making : Making) (held : List HeldValue) (bytes : List ℕ) (Stands : List HeldValue → Type 0) (dropped : Bool) (drawn : Identifiers) (old : Gathered)
+pub ran-none : (config : Config) (base : Situation) (number : ℕ) (making : Making) (held : List HeldValue) (bytes : List ℕ) (Stands : List HeldValue → Type 0) (dropped : Bool) (drawn : Workings) (old : Gathered)
     → Stands held → base.dropped ≡ dropped → RanLines config base number making held bytes false bytes Stands dropped drawn drawn old old
 ran-none config base number making held bytes Stands dropped drawn old m same =
-    record { steps = []; left = held; stands = m; runs = ap (λ b. set_in (with_drops b base) held (ready number bytes)) (sym same); none_held = refl; quits = refl; draws = spends-same drawn; gathered = sym (gather-none old) }
+    record { steps = []; left = held; stands = m; runs = ap (λ b. set_in (with_drops b base) held (ready number bytes)) (sym same); none_held = refl; quits = refl; draws = spends-same (identifiers_in drawn); ordered = λ places order plain agrees. (agrees, tt); gathered = sym (gather-none old) }
 
 -- a line that was refused changed nothing
-pub ran-kept : (config : Config) (base : Situation) (number : ℕ) (making : Making) (held : List HeldValue) (bytes rest : List ℕ) (Stood Stands : List HeldValue → Type 0) (was dropped : Bool) (drawn middling drawing : Identifiers) (old middle new : Gathered)
-    → RanLines config base number making held bytes false rest Stood was drawn middling old middle → ((left : List HeldValue) → Stood left → Stands left) → dropped ≡ was → Spends middling drawing → new ≡ middle
+pub ran-kept : (config : Config) (base : Situation) (number : ℕ) (making : Making) (held : List HeldValue) (bytes rest : List ℕ) (Stood Stands : List HeldValue → Type 0) (was dropped : Bool) (drawn middling drawing : Workings) (old middle new : Gathered)
+    → RanLines config base number making held bytes false rest Stood was drawn middling old middle → ((left : List HeldValue) → Stood left → Stands left) → dropped ≡ was → Spends (identifiers_in middling) (identifiers_in drawing) → KeepsRecency middling.recency drawing.recency → new ≡ middle
     → RanLines config base number making held bytes false rest Stands dropped drawn drawing old new
-ran-kept config base number making held bytes rest Stood Stands was dropped drawn middling drawing old middle new r stays kept spends same =
+ran-kept config base number making held bytes rest Stood Stands was dropped drawn middling drawing old middle new r stays kept spends keeping same =
     record {
       steps = r.steps;
       left = r.left;
@@ -162,7 +176,10 @@ ran-kept config base number making held bytes rest Stood Stands was dropped draw
       runs = subst (λ b. Runs config number making (set_in base held (ready number bytes)) r.steps (set_in (with_drops b base) r.left (ready number rest))) (sym kept) r.runs;
       none_held = r.none_held;
       quits = r.quits;
-      draws = draws-spend config r.steps drawn middling drawing r.draws spends;
+      draws = draws-spend config r.steps (identifiers_in drawn) (identifiers_in middling) (identifiers_in drawing) r.draws spends;
+      ordered = λ places order plain agrees.
+          let a = r.ordered places order plain agrees in
+          (agrees-kept middling.recency drawing.recency places (order_behind config (suc places) order r.steps) keeping a.0, a.1);
       gathered = same ∙ r.gathered;
     }
 

@@ -1,5 +1,5 @@
 -- The identifiers that steps draw, one step after another.
-use Rattle.std.specs.Prelude.{◌≡◌, Bool, true, false, ◌&&◌, List, [], ◌∷◌, Some, Ok, codes}
+use Rattle.std.specs.Prelude.{◌≡◌, ℕ, Bool, true, false, ◌&&◌, List, [], ◌∷◌, Some, Ok, codes}
 use Rattle.std.specs.Option.{option_eq}
 use Rattle.audit_model.specs.Bytewise.{same}
 use Rattle.audit_model.specs.Grammar.{Reading, reading}
@@ -18,6 +18,18 @@ pub record Identifiers : Type 0 where
 
 abbrev pub identifiers : Stream → Register → Identifiers
 identifiers stream registered = record { stream = stream; registered = registered }
+
+-- what a store has beside its values: its identifiers, and its order of use
+pub record Workings : Type 1 where
+  pub stream : Stream
+  pub registered : Register
+  pub recency : Bool → List (List ℕ) → Type 0
+
+abbrev pub workings : Stream → Register → (Bool → List (List ℕ) → Type 0) → Workings
+workings stream registered recency = record { stream = stream; registered = registered; recency = recency }
+
+abbrev pub identifiers_in : Workings → Identifiers
+identifiers_in w = identifiers w.stream w.registered
 
 -- the line is a `DROPIF`
 abbrev pub says_drop : Reading → Bool

@@ -3,8 +3,10 @@ pub mod Gathered
 pub mod Kept
 pub mod Lines
 pub mod Making
+pub mod Ordered
 pub mod Ran
 pub mod Shown
 pub mod Stops
 pub mod Taken
+pub mod Waiting
 pub mod Whole

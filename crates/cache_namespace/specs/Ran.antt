@@ -1,5 +1,5 @@
 -- What one line did.
-use Rattle.std.specs.Prelude.{◌≡◌, ℕ, Bool, false, not, ◌||◌, List, [], ◌∷◌, ◌++◌, Option, Some, IsTrue, if◌then◌else◌}
+use Rattle.std.specs.Prelude.{◌≡◌, ℕ, suc, Bool, false, not, ◌||◌, List, [], ◌∷◌, ◌++◌, Option, Some, IsTrue, if◌then◌else◌}
 use Rattle.std.specs.List.{list_all}
 use Rattle.audit_model.specs.Follows.{after_steps}
 use Rattle.audit_model.specs.Places.{tasks_to_feed}
@@ -14,14 +14,17 @@ use Rattle.audit_model.specs.declared.transcript.Accepted.{Accepted}
 use Rattle.audit_model.specs.declared.transcript.Note.{Note}
 use Rattle.audit_model.specs.declared.transcript.Step.{Step}
 use Rattle.cache_steps.specs.Right.{DoesRight, step_saying, held_when_run, dropped_when_run}
-use Rattle.cache_namespace.specs.Drawing.{Identifiers, StepDraws, StepsDraw}
+use Rattle.cache_namespace.specs.Drawing.{Workings, StepDraws, StepsDraw, identifiers_in}
 use Rattle.cache_namespace.specs.Gathered.{Gathered, gather}
 use Rattle.cache_store.specs.Running.{is_timely}
 use Rattle.cache_namespace.specs.Making.{Making}
+use Rattle.cache_namespace.specs.Ordered.{HasKeys, OrdersLines, OrdersSteps}
+use Rattle.cache_steps.specs.Order.{Order, AgreesWith, order_by}
+use Rattle.cache_store.specs.Recency.{IsPlainLru}
 use Rattle.cache_namespace.specs.Lines.{ArePartedIn, IsPlain, are_timely, Runs, ended, ends_quit, has_its_part, ready, says_quit, set_in, with_drops}
 
 -- The line's step was right but for its turn, its values stand, and its reply and notes were gathered.
-pub record RanOne (config : Config) (s : Situation) (number : ℕ) (making : Making) (line : List ℕ) (quit : Bool) (Stands : List HeldValue → Type 0) (dropped : Bool) (drawn drawing : Identifiers) (old new : Gathered) : Type 0 where
+pub record RanOne (config : Config) (s : Situation) (number : ℕ) (making : Making) (line : List ℕ) (quit : Bool) (Stands : List HeldValue → Type 0) (dropped : Bool) (drawn drawing : Workings) (old new : Gathered) : Type 0 where
   pub reply : List ℕ
   pub accepted : Option Accepted
   pub told : List Note
@@ -32,7 +35,10 @@ pub record RanOne (config : Config) (s : Situation) (number : ℕ) (making : Mak
   pub left : Stands (held_when_run config s (action_by (reading config line)) (step_saying 0 [] reply accepted told))
   pub timely : IsTrue (not (is_sync (action_by (reading config line))) || list_all (is_timely config making.made s.latest) (held_when_run config s (action_by (reading config line)) (step_saying 0 [] reply accepted told)))
   pub dropped_is : dropped ≡ dropped_when_run config s (action_by (reading config line)) (step_saying 0 [] reply accepted told)
-  pub draws : StepDraws config (step_saying number line reply accepted told) drawn drawing
+  pub draws : StepDraws config (step_saying number line reply accepted told) (identifiers_in drawn) (identifiers_in drawing)
+  pub ordered : (places : ℕ) (order : Order) → IsPlainLru config places → AgreesWith drawn.recency places order
+      → AgreesWith drawing.recency places (order_by (suc places) (reading config line) order)
+      × HasKeys (order_by (suc places) (reading config line) order) (held_when_run config s (action_by (reading config line)) (step_saying 0 [] reply accepted told))
   pub gathered : new ≡ gather old (step_saying number line reply accepted told ∷ [])
 
 -- the step does nothing but to values, and closes its connection or not, whatever is seen and told
@@ -45,14 +51,15 @@ HasItsPart config part_of line accepted =
     (s : Situation) (step : Step) → step.accepted ≡ accepted → IsTrue (has_its_part part_of (effect_in config (view_in config s) (action_by (reading config line)) step))
 
 -- Lines of the connection ran until those bytes were left, or the last one was a `QUIT`, and what they left stands.
-pub record RanLines (config : Config) (base : Situation) (number : ℕ) (making : Making) (held : List HeldValue) (bytes : List ℕ) (quit : Bool) (rest : List ℕ) (Stands : List HeldValue → Type 0) (dropped : Bool) (drawn drawing : Identifiers) (old new : Gathered) : Type 0 where
+pub record RanLines (config : Config) (base : Situation) (number : ℕ) (making : Making) (held : List HeldValue) (bytes : List ℕ) (quit : Bool) (rest : List ℕ) (Stands : List HeldValue → Type 0) (dropped : Bool) (drawn drawing : Workings) (old new : Gathered) : Type 0 where
   pub steps : List Step
   pub left : List HeldValue
   pub stands : Stands left
   pub runs : Runs config number making (set_in base held (ready number bytes)) steps (ended quit (with_drops dropped base) left (ready number rest))
   pub none_held : IsTrue (list_all (λ step. not step.held) steps)
   pub quits : ends_quit config steps ≡ quit
-  pub draws : StepsDraw config steps drawn drawing
+  pub draws : StepsDraw config steps (identifiers_in drawn) (identifiers_in drawing)
+  pub ordered : OrdersLines config number drawn.recency drawing.recency (set_in base held (ready number bytes)) steps
   pub gathered : new ≡ gather old steps
 
 -- the last step is held
@@ -71,7 +78,7 @@ abbrev pub with_piece : List ℕ → Connection → Connection
 with_piece piece c = record c { unread = c.unread ++ piece }
 
 -- Lines of a connection that is ready ran; the last one may be held, or a `QUIT`.
-pub record RanReady (config : Config) (base : Situation) (number : ℕ) (making : Making) (held : List HeldValue) (bytes : List ℕ) (quit is_held : Bool) (rest : List ℕ) (Stands : List HeldValue → Type 0) (dropped : Bool) (drawn drawing : Identifiers) (old new : Gathered) : Type 0 where
+pub record RanReady (config : Config) (base : Situation) (number : ℕ) (making : Making) (held : List HeldValue) (bytes : List ℕ) (quit is_held : Bool) (rest : List ℕ) (Stands : List HeldValue → Type 0) (dropped : Bool) (drawn drawing : Workings) (old new : Gathered) : Type 0 where
   pub steps : List Step
   pub left : List HeldValue
   pub stands : Stands left
@@ -80,11 +87,12 @@ pub record RanReady (config : Config) (base : Situation) (number : ℕ) (making 
   pub timely : IsTrue (are_timely config making.made (set_in base held (ready number bytes)) (RunLines number ∷ []) steps)
   pub ends : ends_held steps ≡ is_held
   pub quits : ends_quit config steps ≡ quit
-  pub draws : StepsDraw config steps drawn drawing
+  pub draws : StepsDraw config steps (identifiers_in drawn) (identifiers_in drawing)
+  pub ordered : OrdersSteps config drawn.recency drawing.recency (set_in base held (ready number bytes)) (RunLines number ∷ []) steps
   pub gathered : new ≡ gather old steps
 
 -- The steps of a feed ran: a held command first, then lines; the last one may be held, or a `QUIT`.
-pub record RanFeed (config : Config) (base : Situation) (number : ℕ) (making : Making) (held : List HeldValue) (was_held : Bool) (bytes piece : List ℕ) (quit is_held : Bool) (rest : List ℕ) (Stands : List HeldValue → Type 0) (dropped : Bool) (drawn drawing : Identifiers) (old new : Gathered) : Type 0 where
+pub record RanFeed (config : Config) (base : Situation) (number : ℕ) (making : Making) (held : List HeldValue) (was_held : Bool) (bytes piece : List ℕ) (quit is_held : Bool) (rest : List ℕ) (Stands : List HeldValue → Type 0) (dropped : Bool) (drawn drawing : Workings) (old new : Gathered) : Type 0 where
   pub steps : List Step
   pub left : List HeldValue
   pub stands : Stands left
@@ -93,5 +101,6 @@ pub record RanFeed (config : Config) (base : Situation) (number : ℕ) (making :
   pub timely : IsTrue (are_timely config making.made (set_in base held (with_piece piece (standing_with number was_held bytes))) (tasks_to_feed number was_held) steps)
   pub ends : ends_held steps ≡ is_held
   pub quits : ends_quit config steps ≡ quit
-  pub draws : StepsDraw config steps drawn drawing
+  pub draws : StepsDraw config steps (identifiers_in drawn) (identifiers_in drawing)
+  pub ordered : OrdersSteps config drawn.recency drawing.recency (set_in base held (with_piece piece (standing_with number was_held bytes))) (tasks_to_feed number was_held) steps
   pub gathered : new ≡ gather old steps

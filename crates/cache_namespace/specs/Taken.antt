@@ -18,9 +18,10 @@ use Rattle.audit_model.specs.declared.input.ServiceError.TheVariants as error
 use Rattle.audit_model.specs.declared.transcript.Record.{Record}
 use Rattle.audit_model.specs.declared.transcript.Step.{Step}
 use Rattle.cache_store.specs.Promises.{Frame}
-use Rattle.cache_namespace.specs.Drawing.{Identifiers, StepsDraw}
+use Rattle.cache_namespace.specs.Drawing.{Workings, StepsDraw, identifiers_in}
 use Rattle.cache_namespace.specs.Gathered.{Gathered, gather}
 use Rattle.cache_namespace.specs.Making.{Making}
+use Rattle.cache_namespace.specs.Ordered.{OrdersSteps}
 use Rattle.cache_namespace.specs.Lines.{ArePartedIn, are_timely, ends_quit, set_in, with_drops}
 use Rattle.cache_namespace.specs.Ran.{ends_held, with_piece}
 use Rattle.cache_namespace.specs.Shown.{shown, put_in, situation}
@@ -39,7 +40,7 @@ is_quit (Some by.Quit) = true
 is_quit other = false
 
 -- The steps of a connection's feed ran, and may have closed it.
-pub record FeedsConnection (config : Config) (base : Situation) (number : ℕ) (making : Making) (values : List HeldValue) (old : Connection) (piece : List ℕ) (new : Connection) (is_held : Bool) (Stands : List HeldValue → Type 0) (dropped : Bool) (drawn drawing : Identifiers) (was is : Gathered) : Type 0 where
+pub record FeedsConnection (config : Config) (base : Situation) (number : ℕ) (making : Making) (values : List HeldValue) (old : Connection) (piece : List ℕ) (new : Connection) (is_held : Bool) (Stands : List HeldValue → Type 0) (dropped : Bool) (drawn drawing : Workings) (was is : Gathered) : Type 0 where
   pub steps : List Step
   pub left : List HeldValue
   pub stands : Stands left
@@ -48,12 +49,13 @@ pub record FeedsConnection (config : Config) (base : Situation) (number : ℕ) (
   pub timely : IsTrue (are_timely config making.made (set_in base values (with_piece piece (shown number old))) (tasks_to_feed number old.held) steps)
   pub ends : ends_held steps ≡ is_held
   pub quits : ends_quit config steps ≡ is_quit new.closing
-  pub draws : StepsDraw config steps drawn drawing
+  pub draws : StepsDraw config steps (identifiers_in drawn) (identifiers_in drawing)
+  pub ordered : OrdersSteps config drawn.recency drawing.recency (set_in base values (with_piece piece (shown number old))) (tasks_to_feed number old.held) steps
   pub gathered : is ≡ gather was steps
 
 -- The event's record followed, with these steps, of which the last one may be held or a `QUIT`; each value that they accept stands in its
 -- key's part; each `SYNC` left timely values; identifiers were drawn as they say; their replies, steps and notes were gathered.
-pub record Takes (config : Config) (making : Making) (s : Situation) (happened : Event) (is_held quit : Bool) (Stands : List HeldValue → Type 0) (situated : List HeldValue → Situation) (drawn drawing : Identifiers) (was is : Gathered) : Type 0 where
+pub record Takes (config : Config) (making : Making) (s : Situation) (happened : Event) (is_held quit : Bool) (Stands : List HeldValue → Type 0) (situated : List HeldValue → Situation) (drawn drawing : Workings) (was is : Gathered) : Type 0 where
   pub steps : List Step
   pub left : List HeldValue
   pub stands : Stands left
@@ -62,7 +64,8 @@ pub record Takes (config : Config) (making : Making) (s : Situation) (happened :
   pub timely : IsTrue (are_timely config making.made (after_event happened s) (tasks_in s happened) (steps_of (record_of happened steps)))
   pub ends : ends_held steps ≡ is_held
   pub quits : ends_quit config steps ≡ quit
-  pub draws : StepsDraw config steps drawn drawing
+  pub draws : StepsDraw config steps (identifiers_in drawn) (identifiers_in drawing)
+  pub ordered : OrdersSteps config drawn.recency drawing.recency (after_event happened s) (tasks_in s happened) (steps_of (record_of happened steps))
   pub gathered : is ≡ gather was steps
 
 -- the replies of the connection at a place that were not taken

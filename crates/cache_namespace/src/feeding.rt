@@ -4,7 +4,8 @@ ghost use Rattle.audit_model.specs.Situation.{Situation, HeldValue};
 ghost use Rattle.audit_model.specs.declared.transcript.Note.{Note};
 ghost use Rattle.cache_store.specs.Identifiers.{DrawsAlone};
 ghost use Rattle.cache_store.specs.Promises.{IsUnchanged};
-ghost use Rattle.cache_namespace.specs.Drawing.{identifiers};
+ghost use Rattle.cache_store.specs.Recency.{KeepsRecency};
+ghost use Rattle.cache_namespace.specs.Drawing.{workings};
 ghost use Rattle.cache_steps.specs.Right.{KeepsFrame};
 ghost use Rattle.cache_namespace.specs.Gathered.{IsFresh, gather};
 ghost use Rattle.cache_namespace.specs.Kept.{IsReadyToHold, gathered};
@@ -60,7 +61,7 @@ fn run_ready<S: Store>(
     requires fresh { IsFresh (gathered text.old.items kept.old (S.untaken store.old)) }
     requires ready { IsReadyToHold kept.old }
     requires room { length piece.now ≤ unread.old.room }
-    ensures ran { (base : Situation) (held : List HeldValue) → base.latest ≡ now → base.dropped ≡ (S.frame store.old).dropped → IsThere number base → S.stands store.old held → RanReady config.now base number (making_of (S.frame store.old)) held (unread.old.bytes ++ piece.now) (is_quit result) (holds_back result) unread.new.bytes (S.stands store.new) (S.frame store.new).dropped (identifiers (S.stream store.old) (S.registered store.old)) (identifiers (S.stream store.new) (S.registered store.new)) (gathered text.old.items kept.old (S.untaken store.old)) (gathered text.new.items kept.new (S.untaken store.new)) }
+    ensures ran { (base : Situation) (held : List HeldValue) → base.latest ≡ now → base.dropped ≡ (S.frame store.old).dropped → IsThere number base → S.stands store.old held → RanReady config.now base number (making_of (S.frame store.old)) held (unread.old.bytes ++ piece.now) (is_quit result) (holds_back result) unread.new.bytes (S.stands store.new) (S.frame store.new).dropped (workings (S.stream store.old) (S.registered store.old) (S.recency store.old)) (workings (S.stream store.new) (S.registered store.new) (S.recency store.new)) (gathered text.old.items kept.old (S.untaken store.old)) (gathered text.new.items kept.new (S.untaken store.new)) }
     ensures stops { StopsFor result unread.new.bytes }
     ensures frame { KeepsFrame (S.frame store.old) (S.frame store.new) now }
     ensures fresh { IsFresh (gathered text.new.items kept.new (S.untaken store.new)) }
@@ -96,11 +97,12 @@ pub fn feed_lines<S: Store>(
     requires fresh { IsFresh (gathered text.old.items kept.old (S.untaken store.old)) }
     requires ready { IsReadyToHold kept.old }
     requires whole { IsTrue (not held || has_line unread.old.bytes) }
-    ensures ran { IfOk result (λ stop. (base : Situation) (values : List HeldValue) → base.latest ≡ now → base.dropped ≡ (S.frame store.old).dropped → IsThere number base → S.stands store.old values → RanFeed config.now base number (making_of (S.frame store.old)) values held unread.old.bytes piece.now (is_quit stop) (holds_back stop) unread.new.bytes (S.stands store.new) (S.frame store.new).dropped (identifiers (S.stream store.old) (S.registered store.old)) (identifiers (S.stream store.new) (S.registered store.new)) (gathered text.old.items kept.old (S.untaken store.old)) (gathered text.new.items kept.new (S.untaken store.new))) }
+    ensures ran { IfOk result (λ stop. (base : Situation) (values : List HeldValue) → base.latest ≡ now → base.dropped ≡ (S.frame store.old).dropped → IsThere number base → S.stands store.old values → RanFeed config.now base number (making_of (S.frame store.old)) values held unread.old.bytes piece.now (is_quit stop) (holds_back stop) unread.new.bytes (S.stands store.new) (S.frame store.new).dropped (workings (S.stream store.old) (S.registered store.old) (S.recency store.old)) (workings (S.stream store.new) (S.registered store.new) (S.recency store.new)) (gathered text.old.items kept.old (S.untaken store.old)) (gathered text.new.items kept.new (S.untaken store.new))) }
     ensures stops { IfOk result (λ stop. StopsFor stop unread.new.bytes) }
     ensures frame { KeepsFrame (S.frame store.old) (S.frame store.new) now }
     ensures fresh { IsFresh (gathered text.new.items kept.new (S.untaken store.new)) }
     ensures unread { OnErr result (unread.new.bytes ≡ unread.old.bytes) }
+    ensures unmoved { OnErr result (KeepsRecency (S.recency store.old) (S.recency store.new)) }
     ensures unchanged { OnErr result (IsUnchanged (S.stands store.old) (S.stands store.new) (S.frame store.old) (S.frame store.new) (S.untaken store.old) (S.untaken store.new)) }
     ensures spends { OnErr result (DrawsAlone (S.stream store.old) (S.stream store.new) (S.registered store.old) (S.registered store.new)) }
     ensures ungathered { OnErr result (gathered text.new.items kept.new (S.untaken store.new) ≡ gathered text.old.items kept.old (S.untaken store.old)) }

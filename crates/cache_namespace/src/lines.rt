@@ -10,9 +10,11 @@ ghost use Rattle.cache_store.specs.Handing.{Hands, ArePartByPart};
 ghost use Rattle.cache_store.specs.Identifiers.{KeepsIdentifiers, DrawsAlone, AreUsedUp};
 ghost use Rattle.cache_store.specs.Running.{is_timely};
 ghost use Rattle.cache_store.specs.Promises.{IsUnchanged};
+ghost use Rattle.cache_store.specs.Recency.{KeepsRecency};
 ghost use Rattle.cache_steps.specs.Drawing.{Draws};
+ghost use Rattle.cache_steps.specs.Order.{MovesOrder};
 ghost use Rattle.cache_steps.specs.Right.{Answers, KeepsFrame};
-ghost use Rattle.cache_namespace.specs.Drawing.{identifiers, says_drop};
+ghost use Rattle.cache_namespace.specs.Drawing.{workings, says_drop};
 ghost use Rattle.cache_namespace.specs.Gathered.{IsFresh};
 ghost use Rattle.cache_namespace.specs.Kept.{IsReadyToHold, gathered};
 ghost use Rattle.cache_namespace.specs.Making.{making_of};
@@ -59,6 +61,8 @@ fn run_line<S: Store>(
     ensures spends { OnErr result (DrawsAlone (S.stream store.old) (S.stream store.new) (S.registered store.old) (S.registered store.new)) }
     ensures few { length (S.untaken store.new) ≤ length (S.untaken store.old) + S.count store.old + 1 }
     ensures frame { OnOk result (KeepsFrame (S.frame store.old) (S.frame store.new) now) }
+    ensures order { OnOk result (MovesOrder config.now (S.recency store.old) (S.recency store.new) (reading config.now line.now)) }
+    ensures unmoved { OnErr result (KeepsRecency (S.recency store.old) (S.recency store.new)) }
     ensures unchanged { OnErr result (IsUnchanged (S.stands store.old) (S.stands store.new) (S.frame store.old) (S.frame store.new) (S.untaken store.old) (S.untaken store.new)) }
     ensures unwritten { OnErr result (text.new.items ≡ text.old.items) }
 {
@@ -158,6 +162,7 @@ fn drain<S: Store>(store: &mut S, notes: &mut Vec<Note>)
     ensures none { S.untaken store.new ≡ [] }
     ensures stands { (held : List HeldValue) → S.stands store.old held → S.stands store.new held }
     ensures frame { S.frame store.new ≡ S.frame store.old }
+    ensures recency { KeepsRecency (S.recency store.old) (S.recency store.new) }
     ensures identifiers { KeepsIdentifiers (S.stream store.old) (S.stream store.new) (S.registered store.old) (S.registered store.new) }
 {
     while let Some(note) = store.next_notice() {
@@ -195,10 +200,11 @@ fn run_one<S: Store>(
     requires short { length line.now ≤ 8192 }
     requires fresh { IsFresh (gathered text.old.items kept.old (S.untaken store.old)) }
     requires ready { IsReadyToHold kept.old }
-    ensures ok { IfOk result (λ quits. (s : Situation) → s.latest ≡ now → s.dropped ≡ (S.frame store.old).dropped → S.stands store.old s.held → RanOne config.now s number (making_of (S.frame store.old)) line.now quits (S.stands store.new) (S.frame store.new).dropped (identifiers (S.stream store.old) (S.registered store.old)) (identifiers (S.stream store.new) (S.registered store.new)) (gathered text.old.items kept.old (S.untaken store.old)) (gathered text.new.items kept.new (S.untaken store.new))) }
+    ensures ok { IfOk result (λ quits. (s : Situation) → s.latest ≡ now → s.dropped ≡ (S.frame store.old).dropped → S.stands store.old s.held → RanOne config.now s number (making_of (S.frame store.old)) line.now quits (S.stands store.new) (S.frame store.new).dropped (workings (S.stream store.old) (S.registered store.old) (S.recency store.old)) (workings (S.stream store.new) (S.registered store.new) (S.recency store.new)) (gathered text.old.items kept.old (S.untaken store.old)) (gathered text.new.items kept.new (S.untaken store.new))) }
     ensures fresh { IsFresh (gathered text.new.items kept.new (S.untaken store.new)) }
     ensures ready { IsReadyToHold kept.new }
     ensures frame { OnOk result (KeepsFrame (S.frame store.old) (S.frame store.new) now) }
+    ensures unmoved { OnErr result (KeepsRecency (S.recency store.old) (S.recency store.new)) }
     ensures unchanged { OnErr result (IsUnchanged (S.stands store.old) (S.stands store.new) (S.frame store.old) (S.frame store.new) (S.untaken store.old) (S.untaken store.new)) }
     ensures spends { OnErr result (DrawsAlone (S.stream store.old) (S.stream store.new) (S.registered store.old) (S.registered store.new)) }
     ensures ungathered { OnErr result (gathered text.new.items kept.new (S.untaken store.new) ≡ gathered text.old.items kept.old (S.untaken store.old)) }
@@ -248,7 +254,7 @@ pub fn run_lines<S: Store>(
     requires moment { now < 2 ^ 63 }
     requires fresh { IsFresh (gathered text.old.items kept.old (S.untaken store.old)) }
     requires ready { IsReadyToHold kept.old }
-    ensures ran { (base : Situation) (held : List HeldValue) → base.latest ≡ now → base.dropped ≡ (S.frame store.old).dropped → IsThere number base → S.stands store.old held → RanLines config.now base number (making_of (S.frame store.old)) held unread.old.bytes (is_quit result) unread.new.bytes (S.stands store.new) (S.frame store.new).dropped (identifiers (S.stream store.old) (S.registered store.old)) (identifiers (S.stream store.new) (S.registered store.new)) (gathered text.old.items kept.old (S.untaken store.old)) (gathered text.new.items kept.new (S.untaken store.new)) }
+    ensures ran { (base : Situation) (held : List HeldValue) → base.latest ≡ now → base.dropped ≡ (S.frame store.old).dropped → IsThere number base → S.stands store.old held → RanLines config.now base number (making_of (S.frame store.old)) held unread.old.bytes (is_quit result) unread.new.bytes (S.stands store.new) (S.frame store.new).dropped (workings (S.stream store.old) (S.registered store.old) (S.recency store.old)) (workings (S.stream store.new) (S.registered store.new) (S.recency store.new)) (gathered text.old.items kept.old (S.untaken store.old)) (gathered text.new.items kept.new (S.untaken store.new)) }
     ensures stops { StopsFor result unread.new.bytes }
     ensures frame { KeepsFrame (S.frame store.old) (S.frame store.new) now }
     ensures fresh { IsFresh (gathered text.new.items kept.new (S.untaken store.new)) }
@@ -287,13 +293,14 @@ pub fn release<S: Store>(
     requires fresh { IsFresh (gathered text.old.items kept.old (S.untaken store.old)) }
     requires ready { IsReadyToHold kept.old }
     requires whole { IsTrue (has_line unread.old.bytes) }
-    ensures ok { IfOk result (λ quits. (s : Situation) → s.latest ≡ now → s.dropped ≡ (S.frame store.old).dropped → S.stands store.old s.held → RanOne config.now s number (making_of (S.frame store.old)) (held_line unread.old.bytes) quits (S.stands store.new) (S.frame store.new).dropped (identifiers (S.stream store.old) (S.registered store.old)) (identifiers (S.stream store.new) (S.registered store.new)) (gathered text.old.items kept.old (S.untaken store.old)) (gathered text.new.items kept.new (S.untaken store.new))) }
+    ensures ok { IfOk result (λ quits. (s : Situation) → s.latest ≡ now → s.dropped ≡ (S.frame store.old).dropped → S.stands store.old s.held → RanOne config.now s number (making_of (S.frame store.old)) (held_line unread.old.bytes) quits (S.stands store.new) (S.frame store.new).dropped (workings (S.stream store.old) (S.registered store.old) (S.recency store.old)) (workings (S.stream store.new) (S.registered store.new) (S.recency store.new)) (gathered text.old.items kept.old (S.untaken store.old)) (gathered text.new.items kept.new (S.untaken store.new))) }
     ensures rest { OnOk result (unread.new.bytes ≡ behind_lines 1 unread.old.bytes) }
     ensures room { unread.new.room ≡ unread.old.room }
     ensures fresh { IsFresh (gathered text.new.items kept.new (S.untaken store.new)) }
     ensures ready { IsReadyToHold kept.new }
     ensures frame { OnOk result (KeepsFrame (S.frame store.old) (S.frame store.new) now) }
     ensures unread { OnErr result (unread.new ≡ unread.old) }
+    ensures unmoved { OnErr result (KeepsRecency (S.recency store.old) (S.recency store.new)) }
     ensures unchanged { OnErr result (IsUnchanged (S.stands store.old) (S.stands store.new) (S.frame store.old) (S.frame store.new) (S.untaken store.old) (S.untaken store.new)) }
     ensures spends { OnErr result (DrawsAlone (S.stream store.old) (S.stream store.new) (S.registered store.old) (S.registered store.new)) }
     ensures ungathered { OnErr result (gathered text.new.items kept.new (S.untaken store.new) ≡ gathered text.old.items kept.old (S.untaken store.old)) }

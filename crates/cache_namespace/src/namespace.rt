@@ -1,11 +1,13 @@
 //! One namespace: its connections over its store.
-ghost use Rattle.std.specs.Prelude.{◌-◌, ◌≡◌, ◌≢◌, ◌<◌, ◌≤◌, ◌^◌, ◌+◌, ◌++◌, ◌∷◌, [], None, Some, ℕ, Bool, true, false, List, IfOk, OnOk, OnErr, IsErrOf, length, slice_set, IfSome, IfErr, IsErr, is_none, ◌↔◌};
+ghost use Rattle.std.specs.Prelude.{◌-◌, ◌≡◌, ◌≢◌, ◌<◌, ◌≤◌, ◌^◌, ◌+◌, ◌++◌, ◌∷◌, [], None, Some, ℕ, Bool, true, false, List, IfOk, OnOk, OnErr, IsErrOf, length, slice_set, IfSome, IfErr, IsErr, IsTrue, is_none, ◌↔◌};
 ghost use Rattle.cache_namespace.specs.declared.connection.Connection.{Connection as Open};
 ghost use Rattle.std.specs.List.{slice_get};
 ghost use Rattle.audit_model.specs.Situation.{Situation, HeldValue};
 ghost use Rattle.cache_store.specs.Identifiers.{DrawsAlone};
 ghost use Rattle.cache_store.specs.Promises.{IsUnchanged};
-ghost use Rattle.cache_namespace.specs.Drawing.{identifiers};
+ghost use Rattle.cache_store.specs.Recency.{KeepsRecency};
+ghost use Rattle.cache_store.specs.Running.{is_bounded};
+ghost use Rattle.cache_namespace.specs.Drawing.{workings};
 ghost use Rattle.cache_steps.specs.Right.{KeepsFrame};
 ghost use Rattle.cache_namespace.specs.Gathered.{Gathered, IsFresh};
 ghost use Rattle.cache_namespace.specs.Kept.{IsReadyToHold, gathered, steps_of};
@@ -45,10 +47,11 @@ fn feed_connection<S: Store>(
     requires fresh { IsFresh (gathered connection.old.output.items kept.old (S.untaken store.old)) }
     requires ready { IsReadyToHold kept.old }
     requires open { connection.old.closing ≡ None }
-    ensures ran { IfOk result (λ is_held. (base : Situation) (values : List HeldValue) → base.latest ≡ now → base.dropped ≡ (S.frame store.old).dropped → IsThere number base → S.stands store.old values → FeedsConnection config.now base number (making_of (S.frame store.old)) values connection.old piece.now connection.new is_held (S.stands store.new) (S.frame store.new).dropped (identifiers (S.stream store.old) (S.registered store.old)) (identifiers (S.stream store.new) (S.registered store.new)) (gathered connection.old.output.items kept.old (S.untaken store.old)) (gathered connection.new.output.items kept.new (S.untaken store.new))) }
+    ensures ran { IfOk result (λ is_held. (base : Situation) (values : List HeldValue) → base.latest ≡ now → base.dropped ≡ (S.frame store.old).dropped → IsThere number base → S.stands store.old values → FeedsConnection config.now base number (making_of (S.frame store.old)) values connection.old piece.now connection.new is_held (S.stands store.new) (S.frame store.new).dropped (workings (S.stream store.old) (S.registered store.old) (S.recency store.old)) (workings (S.stream store.new) (S.registered store.new) (S.recency store.new)) (gathered connection.old.output.items kept.old (S.untaken store.old)) (gathered connection.new.output.items kept.new (S.untaken store.new))) }
     ensures frame { KeepsFrame (S.frame store.old) (S.frame store.new) now }
     ensures fresh { IsFresh (gathered connection.new.output.items kept.new (S.untaken store.new)) }
     ensures same { OnErr result (LooksSame connection.old connection.new) }
+    ensures unmoved { OnErr result (KeepsRecency (S.recency store.old) (S.recency store.new)) }
     ensures unchanged { OnErr result (IsUnchanged (S.stands store.old) (S.stands store.new) (S.frame store.old) (S.frame store.new) (S.untaken store.old) (S.untaken store.new)) }
     ensures spends { OnErr result (DrawsAlone (S.stream store.old) (S.stream store.new) (S.registered store.old) (S.registered store.new)) }
     ensures ungathered { OnErr result (gathered connection.new.output.items kept.new (S.untaken store.new) ≡ gathered connection.old.output.items kept.old (S.untaken store.old)) }
@@ -111,10 +114,11 @@ fn feed_at<S: Store>(
     requires ready { IsReadyToHold kept.old }
     requires inside { index < length connections.old.items }
     requires open { closing_at connections.old.items index ≡ None }
-    ensures ran { IfOk result (λ is_held. (p : ReplacedAt connections.old.items connections.new.items index) × ((base : Situation) (values : List HeldValue) → base.latest ≡ now → base.dropped ≡ (S.frame store.old).dropped → IsThere number base → S.stands store.old values → FeedsConnection config.now base number (making_of (S.frame store.old)) values p.was piece.now p.is is_held (S.stands store.new) (S.frame store.new).dropped (identifiers (S.stream store.old) (S.registered store.old)) (identifiers (S.stream store.new) (S.registered store.new)) (gathered (text_at connections.old.items index) kept.old (S.untaken store.old)) (gathered (text_at connections.new.items index) kept.new (S.untaken store.new)))) }
+    ensures ran { IfOk result (λ is_held. (p : ReplacedAt connections.old.items connections.new.items index) × ((base : Situation) (values : List HeldValue) → base.latest ≡ now → base.dropped ≡ (S.frame store.old).dropped → IsThere number base → S.stands store.old values → FeedsConnection config.now base number (making_of (S.frame store.old)) values p.was piece.now p.is is_held (S.stands store.new) (S.frame store.new).dropped (workings (S.stream store.old) (S.registered store.old) (S.recency store.old)) (workings (S.stream store.new) (S.registered store.new) (S.recency store.new)) (gathered (text_at connections.old.items index) kept.old (S.untaken store.old)) (gathered (text_at connections.new.items index) kept.new (S.untaken store.new)))) }
     ensures frame { KeepsFrame (S.frame store.old) (S.frame store.new) now }
     ensures fresh { IsFresh (gathered (text_at connections.new.items index) kept.new (S.untaken store.new)) }
     ensures same { OnErr result ((p : ReplacedAt connections.old.items connections.new.items index) × LooksSame p.was p.is) }
+    ensures unmoved { OnErr result (KeepsRecency (S.recency store.old) (S.recency store.new)) }
     ensures unchanged { OnErr result (IsUnchanged (S.stands store.old) (S.stands store.new) (S.frame store.old) (S.frame store.new) (S.untaken store.old) (S.untaken store.new)) }
     ensures spends { OnErr result (DrawsAlone (S.stream store.old) (S.stream store.new) (S.registered store.old) (S.registered store.new)) }
     ensures ungathered { OnErr result (gathered (text_at connections.new.items index) kept.new (S.untaken store.new) ≡ gathered (text_at connections.old.items index) kept.old (S.untaken store.old)) }
@@ -168,8 +172,9 @@ impl<S: Store> Namespace<S> {
     pub fn open(&mut self, alloc: Global) -> Result<u64, AllocError>
         requires sound { IsSound self.old.config (S.frame self.old.store) self.old.latest }
         ensures number { IfOk result (λ number. number ≡ length self.old.connections.items + 1) }
-        ensures ran { IfOk result (λ number. (values : List HeldValue) (was : Gathered) → S.stands self.old.store values → Takes self.old.config (making_of (S.frame self.old.store)) (situation self.old.latest self.old.connections.items (S.frame self.old.store).dropped values) (event.Open number) false false (S.stands self.new.store) (situation self.new.latest self.new.connections.items (S.frame self.new.store).dropped) (identifiers (S.stream self.old.store) (S.registered self.old.store)) (identifiers (S.stream self.new.store) (S.registered self.new.store)) was was) }
+        ensures ran { IfOk result (λ number. (values : List HeldValue) (was : Gathered) → S.stands self.old.store values → Takes self.old.config (making_of (S.frame self.old.store)) (situation self.old.latest self.old.connections.items (S.frame self.old.store).dropped values) (event.Open number) false false (S.stands self.new.store) (situation self.new.latest self.new.connections.items (S.frame self.new.store).dropped) (workings (S.stream self.old.store) (S.registered self.old.store) (S.recency self.old.store)) (workings (S.stream self.new.store) (S.registered self.new.store) (S.recency self.new.store)) was was) }
         ensures rest { self.new ≡ record self.old { connections = self.new.connections } }
+        ensures bounded { OnOk result ((values : List HeldValue) → S.stands self.new.store values → IsTrue (is_bounded self.old.config values)) }
         ensures connections { OnOk result ((c : Open) × (c.output.items ≡ []) × (c.closing ≡ None) × (self.new.connections.items ≡ self.old.connections.items ++ c ∷ [])) }
         ensures err { OnErr result (self.new.connections.items ≡ self.old.connections.items) }
     {
@@ -191,13 +196,16 @@ impl<S: Store> Namespace<S> {
         requires sound { IsSound self.old.config (S.frame self.old.store) self.old.latest }
         requires fresh { IsFresh (gathered (text_at self.old.connections.items (number - 1)) kept.old (S.untaken self.old.store)) }
         requires ready { IsReadyToHold kept.old }
-        ensures ran { IfOk result (λ is_held. (values : List HeldValue) → S.stands self.old.store values → Takes self.old.config (making_of (S.frame self.old.store)) (situation self.old.latest self.old.connections.items (S.frame self.old.store).dropped values) (fed number piece.now moment) is_held (is_quit (closing_at self.new.connections.items (number - 1))) (S.stands self.new.store) (situation self.new.latest self.new.connections.items (S.frame self.new.store).dropped) (identifiers (S.stream self.old.store) (S.registered self.old.store)) (identifiers (S.stream self.new.store) (S.registered self.new.store)) (gathered (text_at self.old.connections.items (number - 1)) kept.old (S.untaken self.old.store)) (gathered (text_at self.new.connections.items (number - 1)) kept.new (S.untaken self.new.store))) }
+        ensures ran { IfOk result (λ is_held. (values : List HeldValue) → S.stands self.old.store values → Takes self.old.config (making_of (S.frame self.old.store)) (situation self.old.latest self.old.connections.items (S.frame self.old.store).dropped values) (fed number piece.now moment) is_held (is_quit (closing_at self.new.connections.items (number - 1))) (S.stands self.new.store) (situation self.new.latest self.new.connections.items (S.frame self.new.store).dropped) (workings (S.stream self.old.store) (S.registered self.old.store) (S.recency self.old.store)) (workings (S.stream self.new.store) (S.registered self.new.store) (S.recency self.new.store)) (gathered (text_at self.old.connections.items (number - 1)) kept.old (S.untaken self.old.store)) (gathered (text_at self.new.connections.items (number - 1)) kept.new (S.untaken self.new.store))) }
         ensures others { OnOk result ((place : ℕ) → place ≢ number - 1 → slice_get self.new.connections.items place ≡ slice_get self.old.connections.items place) }
+        ensures bounded { OnOk result ((values : List HeldValue) → S.stands self.new.store values → IsTrue (is_bounded self.old.config values)) }
+        ensures made { (S.frame self.new.store).made ≡ (S.frame self.old.store).made }
         ensures part_of { (S.frame self.new.store).part_of ≡ (S.frame self.old.store).part_of }
         ensures sound { IsSound self.new.config (S.frame self.new.store) self.new.latest }
         ensures config { self.new.config ≡ self.old.config }
         ensures fresh { IsFresh (gathered (text_at self.new.connections.items (number - 1)) kept.new (S.untaken self.new.store)) }
         ensures refused { IfErr result (RefusedFor self.old.config self.old.connections.items (fed number piece.now moment) (holds_at self.old.connections.items number)) }
+        ensures unmoved { OnErr result (KeepsRecency (S.recency self.old.store) (S.recency self.new.store)) }
         ensures unchanged { OnErr result (IsUnchanged (S.stands self.old.store) (S.stands self.new.store) (S.frame self.old.store) (S.frame self.new.store) (S.untaken self.old.store) (S.untaken self.new.store)) }
         ensures spends { OnErr result (DrawsAlone (S.stream self.old.store) (S.stream self.new.store) (S.registered self.old.store) (S.registered self.new.store)) }
         ensures same { OnErr result (SameConnections self.old.connections.items self.new.connections.items) }
@@ -237,9 +245,10 @@ impl<S: Store> Namespace<S> {
     /// Closes a connection, and drops what came and was not used.
     pub fn close(&mut self, number: u64) -> Result<(), ServiceError>
         requires sound { IsSound self.old.config (S.frame self.old.store) self.old.latest }
-        ensures ran { OnOk result ((values : List HeldValue) (was : Gathered) → S.stands self.old.store values → Takes self.old.config (making_of (S.frame self.old.store)) (situation self.old.latest self.old.connections.items (S.frame self.old.store).dropped values) (event.Close number) false false (S.stands self.new.store) (situation self.new.latest self.new.connections.items (S.frame self.new.store).dropped) (identifiers (S.stream self.old.store) (S.registered self.old.store)) (identifiers (S.stream self.new.store) (S.registered self.new.store)) was was) }
+        ensures ran { OnOk result ((values : List HeldValue) (was : Gathered) → S.stands self.old.store values → Takes self.old.config (making_of (S.frame self.old.store)) (situation self.old.latest self.old.connections.items (S.frame self.old.store).dropped values) (event.Close number) false false (S.stands self.new.store) (situation self.new.latest self.new.connections.items (S.frame self.new.store).dropped) (workings (S.stream self.old.store) (S.registered self.old.store) (S.recency self.old.store)) (workings (S.stream self.new.store) (S.registered self.new.store) (S.recency self.new.store)) was was) }
         ensures texts { (place : ℕ) → text_at self.new.connections.items place ≡ text_at self.old.connections.items place }
         ensures others { (place : ℕ) → place ≢ number - 1 → slice_get self.new.connections.items place ≡ slice_get self.old.connections.items place }
+        ensures bounded { OnOk result ((values : List HeldValue) → S.stands self.new.store values → IsTrue (is_bounded self.old.config values)) }
         ensures closed { OnOk result (closing_at self.new.connections.items (number - 1) ≡ Some Closing.Asked) }
         ensures open { OnOk result (closing_at self.old.connections.items (number - 1) ≡ None) }
         ensures count { length self.new.connections.items ≡ length self.old.connections.items }

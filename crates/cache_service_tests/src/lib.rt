@@ -1,8 +1,10 @@
-//! Tests of the service: rows of requests, refusals, and refused allocations.
+//! Tests of the service: rows of requests, refusals, journals.
 #![tactic(auto)]
 
 #[cfg(test)]
 mod commanding;
+#[cfg(test)]
+mod limiting;
 #[cfg(test)]
 mod playing;
 #[cfg(test)]
@@ -10,6 +12,6 @@ mod recording;
 #[cfg(test)]
 mod refusing;
 #[cfg(test)]
-mod serving;
+mod script;
 #[cfg(test)]
-mod wanting;
+mod serving;

@@ -1,22 +1,11 @@
 //! What is played.
-use audit_model::{
-    Bytes, Config, Conn, EvictionPolicy, Input, Instant, LoadId, Outcome, Seq, ServiceError, Weight,
-};
+use crate::script::PLAIN;
+use audit_model::{Bytes, Conn, Input, Instant, LoadId, Outcome, Seq, ServiceError};
 use cache_spaces::play;
 use rand_core::SeedableRng;
 use rand_xoshiro::Xoshiro256PlusPlus;
 use std::alloc::{AllocError, Global};
 use std::test::Fail;
-
-const PLAIN: Config = Config {
-    capacity: None,
-    policy: EvictionPolicy::Lru,
-    parts: 1,
-    weight: Weight::One,
-    live_ms: None,
-    idle_ms: None,
-    own_deadlines: false,
-};
 
 const START: Instant = Instant { nanos: 7 };
 
@@ -115,5 +104,21 @@ fn fails_as_a_new_service_does(rt: HostRuntime) -> Result<(), Fail> {
     );
     let transcripts = play(alloc, &[PLAIN], generator(), START, &[])?;
     assert_eq!(rt; transcripts.len(), 1);
+    Ok(())
+}
+
+#[test]
+fn an_input_without_memory_is_left_out(rt: HostRuntime) -> Result<(), Fail> {
+    let inputs = [Input::Open { namespace: 0 }, Input::Open { namespace: 0 }];
+    let transcripts = match play(rt.alloc(), &[PLAIN], generator(), START, &inputs) {
+        Ok(transcripts) => transcripts,
+        Err(ServiceError::OutOfMemory) => play(rt.alloc(), &[PLAIN], generator(), START, &inputs)?,
+        Err(error) => return Err(Fail::from(error)),
+    };
+    let Some(transcript) = transcripts.first() else {
+        return Err(Fail::new("no transcript"));
+    };
+    assert!(rt; transcript.records.len() >= 1);
+    assert!(rt; transcript.records.len() <= 2);
     Ok(())
 }

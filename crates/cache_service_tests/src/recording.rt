@@ -1,22 +1,11 @@
 //! A service that keeps its journals.
-use audit_model::{
-    Config, Conn, EvictionPolicy, Input, Instant, LoadId, Seq, ServiceError, Weight,
-};
+use crate::script::PLAIN;
+use audit_model::{Conn, Input, Instant, LoadId, Seq, ServiceError};
 use cache_spaces::{Output, RecordedService, Refusal};
 use rand_core::SeedableRng;
 use rand_xoshiro::Xoshiro256PlusPlus;
 use std::alloc::{AllocError, Global};
 use std::test::Fail;
-
-const PLAIN: Config = Config {
-    capacity: None,
-    policy: EvictionPolicy::Lru,
-    parts: 1,
-    weight: Weight::One,
-    live_ms: None,
-    idle_ms: None,
-    own_deadlines: false,
-};
 
 /// A generator.
 fn generator() -> Xoshiro256PlusPlus {

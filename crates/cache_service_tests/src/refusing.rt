@@ -1,61 +1,47 @@
 //! What a service refuses, in which order, and what stands after it.
-use audit_model::{
-    Closing, Config, Conn, EvictionPolicy, Instant, LoadId, Outcome, ServiceError, Weight,
-};
+use crate::script::{FIRST, PLAIN, Row, first_wrong, new_service};
+use audit_model::{Closing, Config, Conn, Instant, LoadId, Outcome, ServiceError};
 use cache_spaces::{Fed, Service};
 use rand_core::SeedableRng;
 use rand_xoshiro::Xoshiro256PlusPlus;
+use std::alloc::Global;
 use std::test::Fail;
-
-const PLAIN: Config = Config {
-    capacity: None,
-    policy: EvictionPolicy::Lru,
-    parts: 1,
-    weight: Weight::One,
-    live_ms: None,
-    idle_ms: None,
-    own_deadlines: false,
-};
 
 const START: Instant = Instant { nanos: 0 };
 
-/// The last moment that is taken, and the next one.
-const LAST: Instant = Instant {
-    nanos: (1 << 63) - 1,
+/// The last moment that is taken, and the next one, in nanoseconds.
+const LAST_NANOS: u64 = (1 << 63) - 1;
+
+const LATE_NANOS: u64 = 1 << 63;
+
+const UNKNOWN: Conn = Conn {
+    namespace: 0,
+    number: 2,
 };
 
-const LATE: Instant = Instant { nanos: 1 << 63 };
+const NOWHERE: Conn = Conn {
+    namespace: 1,
+    number: 1,
+};
 
 /// A generator.
 fn generator() -> Xoshiro256PlusPlus {
     Xoshiro256PlusPlus::seed_from_u64(1)
 }
 
+/// Why a service of these configurations is refused, if it is.
+fn refused(alloc: Global, configs: &[Config], nanos: u64) -> Option<ServiceError> {
+    match new_service(alloc, configs, nanos) {
+        Ok(_) => None,
+        Err(error) => Some(error),
+    }
+}
+
 #[test]
-fn configurations(rt: HostRuntime) -> Result<(), Fail> {
-    let alloc = rt.alloc();
-    let limited = Config {
-        capacity: Some(1),
-        ..PLAIN
-    };
-    assert_eq!(rt;
-        Service::new(alloc, &[], generator(), START).err(),
-        Some(ServiceError::Config)
-    );
-    assert_eq!(rt;
-        Service::new(alloc, &[limited], generator(), START).err(),
-        Some(ServiceError::Config)
-    );
-    assert_eq!(rt;
-        Service::new(alloc, &[PLAIN, limited], generator(), START).err(),
-        Some(ServiceError::Config)
-    );
-    assert_eq!(rt;
-        Service::new(alloc, &[PLAIN; 17], generator(), START).err(),
-        Some(ServiceError::Config)
-    );
+fn configurations_out_of_range(rt: HostRuntime) -> Result<(), Fail> {
     for config in [
         Config { parts: 0, ..PLAIN },
+        Config { parts: 2, ..PLAIN },
         Config {
             parts: 257,
             ..PLAIN
@@ -75,82 +61,84 @@ fn configurations(rt: HostRuntime) -> Result<(), Fail> {
         },
     ] {
         assert_eq!(rt;
-            Service::new(alloc, &[config], generator(), START).err(),
+            refused(rt.alloc(), &[config], 0),
             Some(ServiceError::Config)
         );
+        assert_eq!(rt;
+            refused(rt.alloc(), &[PLAIN, config], 0),
+            Some(ServiceError::Config)
+        );
+        assert_eq!(rt;
+            refused(rt.alloc(), &[config], LATE_NANOS),
+            Some(ServiceError::Moment)
+        );
     }
+    Ok(())
+}
+
+#[test]
+fn numbers_of_namespaces(rt: HostRuntime) -> Result<(), Fail> {
+    assert_eq!(rt; refused(rt.alloc(), &[], 0), Some(ServiceError::Config));
+    assert_eq!(rt; refused(rt.alloc(), &[PLAIN; 16], 0), None);
+    assert_eq!(rt;
+        refused(rt.alloc(), &[PLAIN; 17], 0),
+        Some(ServiceError::Config)
+    );
+    Ok(())
+}
+
+#[test]
+fn the_last_of_their_ranges(rt: HostRuntime) -> Result<(), Fail> {
     let longest = Config {
         own_deadlines: true,
         idle_ms: Some(999_999_999_999),
         ..PLAIN
     };
-    let _longest = Service::new(alloc, &[longest], generator(), START)?;
-    let _most = Service::new(alloc, &[PLAIN; 16], generator(), START)?;
-    assert_eq!(rt;
-        Service::new(alloc, &[limited], generator(), LATE).err(),
-        Some(ServiceError::Moment)
-    );
-    let _service = Service::new(alloc, &[PLAIN], generator(), LAST)?;
+    assert_eq!(rt; refused(rt.alloc(), &[longest], LAST_NANOS), None);
     Ok(())
 }
 
 #[test]
 fn connections(rt: HostRuntime) -> Result<(), Fail> {
-    let mut service = Service::new(rt.alloc(), &[PLAIN], generator(), START)?;
-    let conn = service.open(0)?;
-    let unknown = Conn {
-        namespace: 0,
-        number: 2,
-    };
-    let nowhere = Conn {
-        namespace: 1,
-        number: 1,
-    };
-    assert_eq!(rt; service.open(1), Err(ServiceError::NoNamespace));
-    assert_eq!(rt;
-        service.feed(nowhere, b"SYNC\n", LATE),
-        Err(ServiceError::NoNamespace)
-    );
-    assert_eq!(rt;
-        service.feed(unknown, b"SYNC\n", LATE),
-        Err(ServiceError::NoConnection)
-    );
-    assert_eq!(rt;
-        service.feed(conn, b"SYNC\n", LATE),
-        Err(ServiceError::Moment)
-    );
-    assert_eq!(rt; service.feed(conn, b"SYNC\n", LAST), Ok(Fed::All));
-    assert_eq!(rt; service.close(unknown), Err(ServiceError::NoConnection));
-    assert_eq!(rt; service.close(nowhere), Err(ServiceError::NoNamespace));
-    assert_eq!(rt; service.close(conn), Ok(()));
-    assert_eq!(rt; service.close(conn), Err(ServiceError::Closed));
-    assert_eq!(rt;
-        service.feed(conn, b"SYNC\n", LATE),
-        Err(ServiceError::Closed)
-    );
-    assert_eq!(rt; service.closed(conn), Ok(Some(Closing::Asked)));
-    assert_eq!(rt; service.closed(unknown), Err(ServiceError::NoConnection));
-    assert_eq!(rt;
-        service.take_output(conn)?.as_slice(),
-        b"SYNC 0 0\n".as_slice()
-    );
-    assert_eq!(rt; service.take_output(conn)?.as_slice(), b"".as_slice());
-    assert_eq!(rt;
-        service.take_output(unknown).err(),
-        Some(ServiceError::NoConnection)
-    );
-    assert_eq!(rt;
-        service.next_notice(1).err(),
-        Some(ServiceError::NoNamespace)
-    );
+    let rows = [
+        Row::Open(1, Err(ServiceError::NoNamespace)),
+        Row::Feed(
+            NOWHERE,
+            LATE_NANOS,
+            b"SYNC\n",
+            Err(ServiceError::NoNamespace),
+        ),
+        Row::Feed(
+            UNKNOWN,
+            LATE_NANOS,
+            b"SYNC\n",
+            Err(ServiceError::NoConnection),
+        ),
+        Row::Feed(FIRST, LATE_NANOS, b"SYNC\n", Err(ServiceError::Moment)),
+        Row::Feed(FIRST, LAST_NANOS, b"SYNC\n", Ok(Fed::All)),
+        Row::Close(UNKNOWN, Err(ServiceError::NoConnection)),
+        Row::Close(NOWHERE, Err(ServiceError::NoNamespace)),
+        Row::Close(FIRST, Ok(())),
+        Row::Close(FIRST, Err(ServiceError::Closed)),
+        Row::Feed(FIRST, LATE_NANOS, b"SYNC\n", Err(ServiceError::Closed)),
+        Row::Closed(FIRST, Ok(Some(Closing::Asked))),
+        Row::Closed(UNKNOWN, Err(ServiceError::NoConnection)),
+        Row::Output(FIRST, Ok(b"SYNC 0 0\n")),
+        Row::Output(FIRST, Ok(b"")),
+        Row::Output(UNKNOWN, Err(ServiceError::NoConnection)),
+        Row::Notice(1, Err(ServiceError::NoNamespace)),
+    ];
+    assert_eq!(rt; first_wrong(rt.alloc(), PLAIN, &rows), Ok(None));
     Ok(())
 }
 
 #[test]
 fn an_earlier_moment_is_the_latest(rt: HostRuntime) -> Result<(), Fail> {
-    let mut service = Service::new(rt.alloc(), &[PLAIN], generator(), LAST)?;
-    let conn = service.open(0)?;
-    assert_eq!(rt; service.feed(conn, b"SYNC\n", START), Ok(Fed::All));
+    let rows = [
+        Row::Feed(FIRST, LAST_NANOS, b"SYNC\n", Ok(Fed::All)),
+        Row::Feed(FIRST, 0, b"SYNC\n", Ok(Fed::All)),
+    ];
+    assert_eq!(rt; first_wrong(rt.alloc(), PLAIN, &rows), Ok(None));
     Ok(())
 }
 

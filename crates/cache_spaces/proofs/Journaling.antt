@@ -1,6 +1,6 @@
 -- What namespaces and their transcripts are, input by input.
 use Rattle.std.proofs.Common.{◌≡◌, ◌≢◌, ℕ, zero, suc, ◌<◌, ◌-◌, List, [], ◌∷◌, ◌++◌, length, Some, None, refl, sym, ap, ◌∙◌, subst, inl, inr, arith, get_or, take, ◌+◌, length-append, ◌≤◌}
-use Rattle.std.specs.Prelude.{◌⊎◌, slice_set, Result, Ok, Err, OnOk, OnErr, IfErr, IsTrue, is_none}
+use Rattle.std.specs.Prelude.{◌⊎◌, slice_set, Result, Ok, Err, OnOk, OnErr, IfErr, IsTrue}
 use Rattle.std.proofs.Math.Seq.{take-suc}
 use Rattle.std.specs.List.{slice_get}
 use Rattle.std.proofs.lemmas.List.{length-set, set-get_or, take_all}
@@ -14,24 +14,35 @@ use Rattle.audit_model.specs.Configs.{is_valid}
 use Rattle.cache_spaces.specs.Served.{is_served}
 use Rattle.std.proofs.lemmas.Bool.{and_parts, eqb-true}
 use Rattle.audit_model.specs.BelongsIn.{BelongsIn}
-use Rattle.audit_model.specs.Follows.{Follows}
+use Rattle.audit_model.specs.Follows.{Follows, after_event, tasks_in}
+use Rattle.audit_model.specs.Places.{steps_of}
 use Rattle.audit_model.specs.Situation.{Situation, empty_situation}
 use Rattle.audit_model.specs.declared.config.Config.{Config}
 use Rattle.audit_model.specs.declared.event.Instant.{Instant}
 use Rattle.audit_model.specs.declared.input.Input.{Input}
 use Rattle.audit_model.specs.declared.input.ServiceError.{ServiceError}
+use Rattle.audit_model.specs.declared.transcript.Record.{Record}
 use Rattle.audit_model.specs.declared.transcript.Transcript.{Transcript}
 use Rattle.cache_namespace.proofs.Places.{at-replaced}
 use Rattle.cache_namespace.specs.Taken.{text_at}
 use Rattle.cache_spaces.specs.Journals.{LeadsSo}
-use Rattle.cache_spaces.specs.Moves.{At}
+use Rattle.cache_spaces.specs.Moves.{At, are_timely_in}
 use Rattle.cache_spaces.specs.Played.{ArePlayed, HasPlayed, HavePlayed, Plays, WerePlayed}
 use Rattle.cache_spaces.specs.Recorded.{AreQuiet, AreEmpty, RecordsInput, RecordsAt, RefusedInput, namespace_of}
 use Rattle.cache_spaces.specs.Serves.{SameSpace}
 use Rattle.cache_spaces.specs.Services.{AreNew, Refuses}
-use Rattle.cache_spaces.specs.Spaces.{config_of}
+use Rattle.cache_spaces.specs.Spaces.{config_of, recency_of}
+use Rattle.cache_spaces.specs.Throughout.{HasExactKeys, HaveKeysFrom, are_bounded_from, are_timely_from, is_bounded_throughout, is_timely_throughout, order_at_end}
 use Rattle.cache_spaces.specs.declared.space.Space.{Space}
 use Rattle.cache_spaces.proofs.Noting.{same-or-not}
+use Rattle.cache_spaces.proofs.Listing.{keeps-list}
+use Rattle.cache_spaces.specs.Recent.{KeepsList}
+use Rattle.cache_spaces.proofs.Chaining.{keys-one-more, order-at-end-more, so-of-one-more}
+use Rattle.cache_namespace.specs.Ordered.{OrdersSteps}
+use Rattle.cache_steps.specs.Order.{AgreesWith, Settled}
+use Rattle.cache_steps.proofs.Ordering.{agrees-kept}
+use Rattle.cache_store.specs.Recency.{IsPlainLru}
+use Rattle.cache_store.specs.Running.{is_bounded}
 
 absent : {X A : Type 0} {x : X} → None ≡ Some x → A
 absent e = absurd (none-some _ e)
@@ -84,6 +95,15 @@ played-none configs generator moment transcripts spaces new count empty = record
         last = empty_situation moment.nanos;
         stands = n.stands;
         belongs = (ap (λ (x : Transcript). x.records) e, refl);
+        made_is = n.made_is;
+        agrees = λ places plain.
+            let P : List Record → Type 0 = λ rs. AgreesWith (recency_of space) places (order_at_end config (suc places) (Settled []) rs) in
+            subst P (sym (ap (λ (x : Transcript). x.records) e)) (n.recency, omega arith);
+        exact = λ places plain.
+            let P : List Record → Type 0 = λ rs. HaveKeysFrom config (suc places) (Settled []) (empty_situation moment.nanos) rs in
+            subst P (sym (ap (λ (x : Transcript). x.records) e)) tt;
+        timely = ap (λ (x : Transcript). are_timely_from config moment.nanos x.records) e;
+        bounded = ap (λ (x : Transcript). are_bounded_from config moment.nanos x.records) e;
         quiet = record { outputs = λ number. ap (λ cs. text_at cs (number - 1)) n.connections; notices = n.notices };
       };
 }
@@ -107,6 +127,11 @@ left-alone config k moment inputs i transcript space h = record {
   last = h.last;
   stands = h.stands;
   belongs = belongs_on.left_out config k inputs i transcript.records (empty_situation moment.nanos) h.last h.belongs;
+  made_is = h.made_is;
+  agrees = h.agrees;
+  exact = h.exact;
+  timely = h.timely;
+  bounded = h.bounded;
   quiet = h.quiet;
 }
 
@@ -119,6 +144,11 @@ same-kept config k moment inputs transcript was is same h = record {
   last = h.last;
   stands = same.stands h.last h.stands;
   belongs = h.belongs;
+  made_is = same.made ∙ h.made_is;
+  agrees = λ places plain. agrees-kept (recency_of was) (recency_of is) places (order_at_end config (suc places) (Settled []) transcript.records) same.recency (h.agrees places plain);
+  exact = h.exact;
+  timely = h.timely;
+  bounded = h.bounded;
   quiet = record { outputs = λ n. same.outputs n ∙ h.quiet.outputs n; notices = same.notices ∙ h.quiet.notices };
 }
 
@@ -129,6 +159,9 @@ taken-here config k moment inputs i t u was is here h made r =
     let l = r.records.leads h.last h.stands in
     let e : event_in k h.last.opened i ≡ Some entry.event =
     ap (λ n. event_in n h.last.opened i) here ∙ ap (λ (s : Situation). event_in (namespace_of i) s.opened i) h.stands.same ∙ r.event ∙ ap Some (sym r.records.event) in
+    let leads = (belongs_step_by_step.belongs config k moment inputs t.records h.last h.belongs).0 in
+    let follows = subst (λ x. Follows x h.last entry l.next) h.configured l.follows in
+    let ordered = subst (λ x. OrdersSteps x (recency_of was) (recency_of is) (after_event entry.event h.last) (tasks_in h.last entry.event) (steps_of entry)) h.configured l.ordered in
     record {
       made = made ∙ h.made;
       configured = r.records.config ∙ h.configured;
@@ -136,7 +169,22 @@ taken-here config k moment inputs i t u was is here h made r =
       last = l.next;
       stands = l.stands;
       belongs = subst (λ rs. BelongsIn config k (empty_situation moment.nanos) (inputs ++ i ∷ []) rs l.next) (sym r.records.added)
-          (belongs_on.taken config k inputs i t.records entry (empty_situation moment.nanos) h.last l.next h.belongs e (subst (λ x. Follows x h.last entry l.next) h.configured l.follows));
+          (belongs_on.taken config k inputs i t.records entry (empty_situation moment.nanos) h.last l.next h.belongs e follows);
+      made_is = r.records.made ∙ h.made_is;
+      agrees = λ places plain.
+          subst (λ rs. AgreesWith (recency_of is) places (order_at_end config (suc places) (Settled []) rs)) (sym r.records.added)
+          (subst (AgreesWith (recency_of is) places) (sym (order-at-end-more config (suc places) (Settled []) t.records entry))
+          (ordered places (order_at_end config (suc places) (Settled []) t.records) plain (h.agrees places plain)).0);
+      exact = λ places plain.
+          subst (λ rs. HaveKeysFrom config (suc places) (Settled []) (empty_situation moment.nanos) rs) (sym r.records.added)
+          (keys-one-more config (suc places) (Settled []) (empty_situation moment.nanos) t.records entry h.last l.next (h.exact places plain) leads follows
+          (ordered places (order_at_end config (suc places) (Settled []) t.records) plain (h.agrees places plain)).1);
+      timely = subst (λ rs. IsTrue (are_timely_from config moment.nanos rs)) (sym r.records.added)
+          (so-of-one-more (λ s x y. are_timely_in config moment.nanos s x) config (empty_situation moment.nanos) t.records entry h.last l.next h.timely leads follows
+          (subst (λ x. IsTrue (are_timely_in x moment.nanos h.last entry)) h.configured (subst (λ n. IsTrue (are_timely_in (config_of was) n h.last entry)) h.made_is l.timely)));
+      bounded = subst (λ rs. IsTrue (are_bounded_from config moment.nanos rs)) (sym r.records.added)
+          (so-of-one-more (λ s x y. is_bounded config y.held) config (empty_situation moment.nanos) t.records entry h.last l.next h.bounded leads follows
+          (subst (λ x. IsTrue (is_bounded x l.next.held)) h.configured l.bounded));
       quiet = l.quiet;
     }
 
@@ -197,7 +245,7 @@ played-left configs moment inputs i ts us old new e Cause played same refused =
 -- a configuration that is served has one part
 abbrev pub one-part : (config : Config) → IsTrue (is_served config) → part_count config ≡ 1
 one-part config served =
-    let p = eqb-true config.parts 1 (and_parts (is_valid config) _ (and_parts _ (is_none config.capacity) served).0).1 in
+    let p = eqb-true config.parts 1 (and_parts (is_valid config) _ served).1 in
     ap (λ n. part_count (record config { parts = n })) p
 
 -- what was played, in one namespace
@@ -206,7 +254,19 @@ abbrev pub played-one : (config : Config) (k : ℕ) (moment : Instant) (inputs :
 played-one config k moment inputs transcript space h =
     let b = belongs_step_by_step.belongs config k transcript.made inputs transcript.records h.last (subst (λ (m : Instant). BelongsIn config k (empty_situation m.nanos) inputs transcript.records h.last) (sym h.made) h.belongs) in
     let o = one-part-obeys config transcript h.last (one-part config h.served) b.0 in
-    record { made = h.made; belongs = b.1; last = h.last; leads = b.0; obeys = o.0; admitted = o.1 }
+    let exact : (places : ℕ) → IsPlainLru config places → HasExactKeys config places transcript = λ places plain. subst (λ (m : Instant). HaveKeysFrom config (suc places) (Settled []) (empty_situation m.nanos) transcript.records) (sym h.made) (h.exact places plain) in
+    record {
+      made = h.made;
+      belongs = b.1;
+      last = h.last;
+      leads = b.0;
+      obeys = o.0;
+      admitted = o.1;
+      timely = subst (λ (m : Instant). IsTrue (are_timely_from config m.nanos transcript.records)) (sym h.made) h.timely;
+      bounded = subst (λ (m : Instant). IsTrue (are_bounded_from config m.nanos transcript.records)) (sym h.made) h.bounded;
+      exact = exact;
+      recent = λ places plain. keeps-list config places transcript (exact places plain);
+    }
 
 pub played-all : (configs : List Config) (moment : Instant) (inputs : List Input) (transcripts : List Transcript) (spaces : List Space)
     → HavePlayed configs moment inputs transcripts spaces → ArePlayed configs moment inputs transcripts
@@ -290,6 +350,22 @@ pub were-obeys : (spaces : List Space) (journals : List Transcript) (k : ℕ) (s
 were-obeys spaces journals k space journal w s t =
     let p = played-one (config_of space) k w.moment w.inputs journal space (were-at spaces journals k space journal w s t) in
     (p.obeys, p.admitted)
+
+pub were-timely : (spaces : List Space) (journals : List Transcript) (k : ℕ) (space : Space) (journal : Transcript) → WerePlayed spaces journals
+    → slice_get spaces k ≡ Some space → slice_get journals k ≡ Some journal → IsTrue (is_timely_throughout (config_of space) journal)
+were-timely spaces journals k space journal w s t = (played-one (config_of space) k w.moment w.inputs journal space (were-at spaces journals k space journal w s t)).timely
+
+pub were-bounded : (spaces : List Space) (journals : List Transcript) (k : ℕ) (space : Space) (journal : Transcript) → WerePlayed spaces journals
+    → slice_get spaces k ≡ Some space → slice_get journals k ≡ Some journal → IsTrue (is_bounded_throughout (config_of space) journal)
+were-bounded spaces journals k space journal w s t = (played-one (config_of space) k w.moment w.inputs journal space (were-at spaces journals k space journal w s t)).bounded
+
+pub were-exact : (spaces : List Space) (journals : List Transcript) (k : ℕ) (space : Space) (journal : Transcript) → WerePlayed spaces journals
+    → slice_get spaces k ≡ Some space → slice_get journals k ≡ Some journal → (places : ℕ) → IsPlainLru (config_of space) places → HasExactKeys (config_of space) places journal
+were-exact spaces journals k space journal w s t = (played-one (config_of space) k w.moment w.inputs journal space (were-at spaces journals k space journal w s t)).exact
+
+pub were-recent : (spaces : List Space) (journals : List Transcript) (k : ℕ) (space : Space) (journal : Transcript) → WerePlayed spaces journals
+    → slice_get spaces k ≡ Some space → slice_get journals k ≡ Some journal → (places : ℕ) → IsPlainLru (config_of space) places → KeepsList (config_of space) places journal
+were-recent spaces journals k space journal w s t = (played-one (config_of space) k w.moment w.inputs journal space (were-at spaces journals k space journal w s t)).recent
 
 pub were-led : (spaces : List Space) (journals : List Transcript) (k : ℕ) (space : Space) (journal : Transcript) → WerePlayed spaces journals
     → slice_get spaces k ≡ Some space → slice_get journals k ≡ Some journal → LeadsSo space journal

@@ -1,7 +1,8 @@
 -- What a namespace's calls say of each situation that it stands for.
 use Rattle.std.proofs.Common.{◌≡◌, ◌≢◌, ℕ, zero, suc, Bool, false, List, [], ◌∷◌, ◌++◌, length, Option, Some, None, refl, sym, ap, ◌∙◌, subst}
 use Rattle.std.specs.Prelude.{IsTrue}
-use Rattle.audit_model.specs.Follows.{Follows}
+use Rattle.audit_model.specs.Follows.{Follows, after_event, tasks_in}
+use Rattle.audit_model.specs.Places.{steps_of}
 use Rattle.audit_model.specs.Situation.{Situation, HeldValue}
 use Rattle.audit_model.specs.declared.config.Config.{Config}
 use Rattle.audit_model.specs.declared.event.Event.{Event}
@@ -9,8 +10,10 @@ use Rattle.cache_namespace.specs.Gathered.{Gathered}
 use Rattle.cache_namespace.specs.Shown.{situation}
 use Rattle.cache_namespace.specs.Taken.{Takes, is_quit, record_of}
 use Rattle.cache_namespace.specs.declared.connection.Connection.{Connection}
-use Rattle.cache_namespace.specs.Drawing.{Identifiers}
+use Rattle.cache_namespace.specs.Drawing.{Workings}
 use Rattle.cache_namespace.specs.Making.{Making}
+use Rattle.cache_namespace.specs.Ordered.{OrdersSteps}
+use Rattle.cache_store.specs.Running.{is_bounded}
 use Rattle.std.specs.List.{slice_get}
 use Rattle.std.specs.Option.{option_map_or}
 use Rattle.cache_namespace.specs.Taken.{text_at, closing_at}
@@ -18,14 +21,15 @@ use Rattle.cache_namespace.specs.declared.kept.Kept.{Kept}
 use Rattle.cache_spaces.specs.Moves.{Moves, are_timely_in}
 use Rattle.cache_spaces.specs.Serves.{Serves}
 use Rattle.cache_spaces.specs.declared.space.Space.{Space}
-use Rattle.cache_spaces.specs.Spaces.{StandsWith, Stands, closing_of, config_of, gathered_in, identifiers_of, made_of, output_of, notices_of}
+use Rattle.cache_spaces.specs.Spaces.{StandsWith, Stands, closing_of, config_of, gathered_in, workings_of, made_of, output_of, notices_of}
 
 -- an event that is taken, whatever values are held
-pub moves-from : (config : Config) (making : Making) (Holds Left : List HeldValue → Type 0) (dropped drops : Bool) (latest now : ℕ) (old new : List Connection) (happened : Event) (is_held quit : Bool) (drawn drawing : Identifiers) (was is : Gathered) (s : Situation)
+pub moves-from : (config : Config) (making : Making) (Holds Left : List HeldValue → Type 0) (dropped drops : Bool) (latest now : ℕ) (old new : List Connection) (happened : Event) (is_held quit : Bool) (drawn drawing : Workings) (was is : Gathered) (s : Situation)
     → StandsWith Holds dropped latest old s
     → ((values : List HeldValue) → Holds values → Takes config making (situation latest old dropped values) happened is_held quit Left (situation now new drops) drawn drawing was is)
+    → ((values : List HeldValue) → Left values → IsTrue (is_bounded config values))
     → Moves config making.made s happened is_held quit (StandsWith Left drops now new) drawn drawing was is
-moves-from config making Holds Left dropped drops latest now old new happened is_held quit drawn drawing was is s stands takes =
+moves-from config making Holds Left dropped drops latest now old new happened is_held quit drawn drawing was is s stands takes bounded =
     let t = takes stands.values stands.held in
     record {
       steps = t.steps;
@@ -33,9 +37,11 @@ moves-from config making Holds Left dropped drops latest now old new happened is
       stands = record { values = t.left; held = t.stands; same = refl };
       follows = subst (λ x. Follows config x (record_of happened t.steps) (situation now new drops t.left)) (sym stands.same) t.follows;
       timely = subst (λ x. IsTrue (are_timely_in config making.made x (record_of happened t.steps))) (sym stands.same) t.timely;
+      bounded = bounded t.left t.stands;
       ends = t.ends;
       quits = t.quits;
       draws = t.draws;
+      ordered = subst (λ x. OrdersSteps config drawn.recency drawing.recency (after_event happened x) (tasks_in x happened) (steps_of (record_of happened t.steps))) (sym stands.same) t.ordered;
       gathered = t.gathered;
     }
 
@@ -47,7 +53,7 @@ stands-on Holds Left dropped drops latest now old new s stands holds same =
 
 -- a feed of which no record is made
 pub serves-from : (was is : Space) (number : ℕ) (s : Situation) (happened : Event) (is_held : Bool) (kept : Option Kept)
-    → Moves (config_of was) (made_of was) s happened is_held (is_quit (closing_of is number)) (Stands is) (identifiers_of was) (identifiers_of is) (gathered_in was number None) (gathered_in is number kept)
+    → Moves (config_of was) (made_of was) s happened is_held (is_quit (closing_of is number)) (Stands is) (workings_of was) (workings_of is) (gathered_in was number None) (gathered_in is number kept)
     → Serves was is number s happened is_held
 serves-from was is number s happened is_held kept m = record {
   steps = m.steps;
@@ -55,16 +61,18 @@ serves-from was is number s happened is_held kept m = record {
   stands = m.stands;
   follows = m.follows;
   timely = m.timely;
+  bounded = m.bounded;
   ends = m.ends;
   quits = m.quits;
   draws = m.draws;
+  ordered = m.ordered;
   output = ap (λ (g : Gathered). g.text) m.gathered;
   notices = ap (λ (g : Gathered). g.waiting) m.gathered;
 }
 
 -- an event whose record has no replies and notes, and which no `QUIT` closes
 pub serves-still : (was is : Space) (number : ℕ) (s : Situation) (happened : Event) (is_held : Bool)
-    → Moves (config_of was) (made_of was) s happened is_held false (Stands is) (identifiers_of was) (identifiers_of is) (gathered_in was number None) (gathered_in was number None)
+    → Moves (config_of was) (made_of was) s happened is_held false (Stands is) (workings_of was) (workings_of is) (gathered_in was number None) (gathered_in was number None)
     → is_quit (closing_of is number) ≡ false → output_of is number ≡ output_of was number → notices_of is ≡ notices_of was
     → Serves was is number s happened is_held
 serves-still was is number s happened is_held m none output notices = record {
@@ -73,9 +81,11 @@ serves-still was is number s happened is_held m none output notices = record {
   stands = m.stands;
   follows = m.follows;
   timely = m.timely;
+  bounded = m.bounded;
   ends = m.ends;
   quits = m.quits ∙ sym none;
   draws = m.draws;
+  ordered = m.ordered;
   output = output ∙ ap (λ (g : Gathered). g.text) m.gathered;
   notices = notices ∙ ap (λ (g : Gathered). g.waiting) m.gathered;
 }

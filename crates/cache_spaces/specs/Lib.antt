@@ -4,6 +4,8 @@ pub mod Moves
 pub mod Serves
 pub mod Services
 pub mod Recorded
+pub mod Throughout
+pub mod Recent
 pub mod Played
 pub mod Journals
 pub mod Outputs

@@ -8,27 +8,31 @@ use Rattle.audit_model.specs.declared.config.Config.{Config}
 use Rattle.audit_model.specs.declared.event.Event.{Event}
 use Rattle.audit_model.specs.declared.transcript.Record.{Record}
 use Rattle.audit_model.specs.declared.transcript.Step.{Step}
-use Rattle.cache_namespace.specs.Drawing.{Identifiers, StepsDraw}
+use Rattle.cache_namespace.specs.Drawing.{Workings, StepsDraw, identifiers_in}
 use Rattle.cache_namespace.specs.Gathered.{Gathered, gather}
 use Rattle.cache_namespace.specs.Lines.{are_timely, ends_quit}
+use Rattle.cache_namespace.specs.Ordered.{OrdersSteps}
 use Rattle.cache_namespace.specs.Ran.{ends_held}
 use Rattle.cache_namespace.specs.Taken.{record_of}
+use Rattle.cache_store.specs.Running.{is_bounded}
 
 -- each `SYNC` of the record leaves no value that is covered or long dead
 abbrev pub are_timely_in : Config → ℕ → Situation → Record → Bool
 are_timely_in config made s entry = are_timely config made (after_event entry.event s) (tasks_in s entry.event) (steps_of entry)
 
--- The event's record follows, with these steps, of which the last one may be held or a `QUIT`; each `SYNC` left timely values; identifiers
--- were drawn as the steps say; their replies, steps and notes were gathered.
-pub record Moves (config : Config) (made : ℕ) (s : Situation) (happened : Event) (is_held quit : Bool) (Stands : Situation → Type 0) (drawn drawing : Identifiers) (old new : Gathered) : Type 0 where
+-- The event's record follows, with these steps, of which the last one may be held or a `QUIT`; each `SYNC` left timely values; each part
+-- is within its bound; identifiers were drawn as the steps say; their replies, steps and notes were gathered.
+pub record Moves (config : Config) (made : ℕ) (s : Situation) (happened : Event) (is_held quit : Bool) (Stands : Situation → Type 0) (drawn drawing : Workings) (old new : Gathered) : Type 0 where
   pub steps : List Step
   pub next : Situation
   pub stands : Stands next
   pub follows : Follows config s (record_of happened steps) next
   pub timely : IsTrue (are_timely_in config made s (record_of happened steps))
+  pub bounded : IsTrue (is_bounded config next.held)
   pub ends : ends_held steps ≡ is_held
   pub quits : ends_quit config steps ≡ quit
-  pub draws : StepsDraw config steps drawn drawing
+  pub draws : StepsDraw config steps (identifiers_in drawn) (identifiers_in drawing)
+  pub ordered : OrdersSteps config drawn.recency drawing.recency (after_event happened s) (tasks_in s happened) (steps_of (record_of happened steps))
   pub gathered : new ≡ gather old steps
 
 -- one of many was put in the place of another, and that is true of the two

@@ -1,5 +1,5 @@
 -- What is played.
-use Rattle.std.specs.Prelude.{◌≡◌, ℕ, List, length, Some, IsTrue}
+use Rattle.std.specs.Prelude.{◌≡◌, ℕ, suc, List, [], length, Some, IsTrue}
 use Rattle.std.specs.List.{slice_get}
 use Rattle.audit_laws.specs.Leading.{LeadsTo}
 use Rattle.audit_model.specs.Belongs.{Belongs, IsAdmitted}
@@ -10,13 +10,18 @@ use Rattle.audit_model.specs.declared.config.Config.{Config}
 use Rattle.audit_model.specs.declared.event.Instant.{Instant}
 use Rattle.audit_model.specs.declared.input.Input.{Input}
 use Rattle.audit_model.specs.declared.transcript.Transcript.{Transcript}
+use Rattle.cache_steps.specs.Order.{AgreesWith, Settled}
+use Rattle.cache_store.specs.Recency.{IsPlainLru}
 use Rattle.cache_spaces.specs.Served.{is_served}
+use Rattle.cache_spaces.specs.Recent.{KeepsList}
 use Rattle.cache_spaces.specs.Recorded.{IsQuiet}
-use Rattle.cache_spaces.specs.Spaces.{Stands, config_of}
+use Rattle.cache_spaces.specs.Spaces.{Stands, config_of, made_of, recency_of}
+use Rattle.cache_spaces.specs.Throughout.{HasExactKeys, HaveKeysFrom, are_bounded_from, are_timely_from, is_bounded_throughout, is_timely_throughout, order_at_end}
 use Rattle.cache_spaces.specs.declared.space.Space.{Space}
 
--- the namespace's transcript: it begins at that moment, belongs to the inputs, leads to a situation and obeys, and none of its events is one
--- that is refused
+-- The namespace's transcript: it begins at that moment, belongs to the inputs, leads to a situation and obeys, and none of its events is one
+-- that is refused. Each of its `SYNC`s leaves timely values, and after each event each part is within its bound. Where the least recently
+-- used leaves, each `SYNC` behind one command leaves exactly the keys of the recency list.
 pub record Plays (config : Config) (namespace : ℕ) (moment : Instant) (inputs : List Input) (transcript : Transcript) : Type 0 where
   pub made : transcript.made ≡ moment
   pub belongs : Belongs config namespace transcript inputs
@@ -24,6 +29,10 @@ pub record Plays (config : Config) (namespace : ℕ) (moment : Instant) (inputs 
   pub leads : LeadsTo config transcript last
   pub obeys : Obeys config transcript
   pub admitted : IsAdmitted config transcript
+  pub timely : IsTrue (is_timely_throughout config transcript)
+  pub bounded : IsTrue (is_bounded_throughout config transcript)
+  pub exact : (places : ℕ) → IsPlainLru config places → HasExactKeys config places transcript
+  pub recent : (places : ℕ) → IsPlainLru config places → KeepsList config places transcript
 
 -- one transcript a configuration, in their order
 pub record ArePlayed (configs : List Config) (moment : Instant) (inputs : List Input) (transcripts : List Transcript) : Type 0 where
@@ -39,6 +48,11 @@ pub record HasPlayed (config : Config) (namespace : ℕ) (moment : Instant) (inp
   pub last : Situation
   pub stands : Stands space last
   pub belongs : BelongsIn config namespace (empty_situation moment.nanos) inputs transcript.records last
+  pub made_is : made_of space ≡ moment.nanos
+  pub timely : IsTrue (are_timely_from config moment.nanos transcript.records)
+  pub bounded : IsTrue (are_bounded_from config moment.nanos transcript.records)
+  pub agrees : (places : ℕ) → IsPlainLru config places → AgreesWith (recency_of space) places (order_at_end config (suc places) (Settled []) transcript.records)
+  pub exact : (places : ℕ) → IsPlainLru config places → HaveKeysFrom config (suc places) (Settled []) (empty_situation moment.nanos) transcript.records
   pub quiet : IsQuiet space
 
 -- each namespace has taken the inputs

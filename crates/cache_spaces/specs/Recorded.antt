@@ -1,7 +1,8 @@
 -- What a namespace's record keeps of an input.
-use Rattle.std.specs.Prelude.{◌≡◌, ℕ, List, [], ◌∷◌, ◌++◌, length, ◌⊎◌, Some}
+use Rattle.std.specs.Prelude.{◌≡◌, ℕ, List, [], ◌∷◌, ◌++◌, length, ◌⊎◌, Some, IsTrue}
 use Rattle.audit_model.specs.Belongs.{refusal_of, event_in}
-use Rattle.audit_model.specs.Follows.{Follows}
+use Rattle.audit_model.specs.Follows.{Follows, after_event, tasks_in}
+use Rattle.audit_model.specs.Places.{steps_of}
 use Rattle.audit_model.specs.Situation.{Situation}
 use Rattle.audit_model.specs.declared.event.Event.{Event}
 use Rattle.audit_model.specs.declared.input.Input.{Input}
@@ -12,10 +13,12 @@ use Rattle.audit_model.specs.declared.transcript.Record.{Record}
 use Rattle.audit_model.specs.declared.transcript.Transcript.{Transcript}
 use Rattle.audit_model.specs.declared.event.Instant.{Instant}
 use Rattle.std.specs.List.{slice_get}
-use Rattle.cache_spaces.specs.Moves.{At}
+use Rattle.cache_spaces.specs.Moves.{At, are_timely_in}
+use Rattle.cache_namespace.specs.Ordered.{OrdersSteps}
 use Rattle.cache_namespace.specs.Taken.{known}
+use Rattle.cache_store.specs.Running.{is_bounded}
 use Rattle.cache_spaces.specs.Serves.{SameSpace}
-use Rattle.cache_spaces.specs.Spaces.{Stands, config_of, connections_of, notices_of, output_of}
+use Rattle.cache_spaces.specs.Spaces.{Stands, config_of, connections_of, made_of, notices_of, output_of, recency_of}
 use Rattle.cache_spaces.specs.declared.space.Space.{Space}
 
 -- no reply and no note waits to be taken: the records hold them
@@ -23,11 +26,15 @@ pub record IsQuiet (space : Space) : Type 0 where
   pub outputs : (number : ℕ) → output_of space number ≡ []
   pub notices : notices_of space ≡ []
 
--- the record leads on from that situation, and holds its replies and notes
+-- The record leads on from that situation, and holds its replies and notes. Each of its `SYNC`s leaves timely values, and each part weighs
+-- at most its share and 64 values of 8192 bytes where a capacity is set.
 pub record LeadsOnIn (was is : Space) (s : Situation) (entry : Record) : Type 0 where
   pub next : Situation
   pub stands : Stands is next
   pub follows : Follows (config_of was) s entry next
+  pub timely : IsTrue (are_timely_in (config_of was) (made_of was) s entry)
+  pub bounded : IsTrue (is_bounded (config_of was) next.held)
+  pub ordered : OrdersSteps (config_of was) (recency_of was) (recency_of is) (after_event entry.event s) (tasks_in s entry.event) (steps_of entry)
   pub quiet : IsQuiet is
 
 -- the event happened, and its record was added
@@ -37,6 +44,7 @@ pub record Records (happened : Event) (before after : List Record) (was is : Spa
   pub added : after ≡ before ++ entry ∷ []
   pub leads : (s : Situation) → Stands was s → LeadsOnIn was is s entry
   pub config : config_of is ≡ config_of was
+  pub made : made_of is ≡ made_of was
 
 -- the namespace that an input names
 abbrev pub namespace_of : Input → ℕ

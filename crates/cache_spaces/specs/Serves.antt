@@ -1,7 +1,8 @@
 -- What a call of a service does to its namespaces.
 use Rattle.std.specs.Prelude.{◌≡◌, ◌≢◌, ℕ, ◌-◌, ◌+◌, Bool, false, List, [], ◌++◌, length, Option, Some, None, IsNone, IsTrue}
 use Rattle.std.specs.List.{flat_map, slice_get}
-use Rattle.audit_model.specs.Follows.{Follows}
+use Rattle.audit_model.specs.Follows.{Follows, after_event, tasks_in}
+use Rattle.audit_model.specs.Places.{steps_of}
 use Rattle.audit_model.specs.Situation.{Situation}
 use Rattle.audit_model.specs.declared.command.Closing.{Closing}
 use Rattle.audit_model.specs.declared.command.Closing.TheVariants as by
@@ -11,27 +12,32 @@ use Rattle.audit_model.specs.declared.transcript.Step.{Step}
 use Rattle.cache_namespace.specs.Drawing.{StepsDraw}
 use Rattle.cache_namespace.specs.Gathered.{reply_in}
 use Rattle.cache_namespace.specs.Lines.{ends_quit}
+use Rattle.cache_namespace.specs.Ordered.{OrdersSteps}
 use Rattle.cache_namespace.specs.Ran.{ends_held}
 use Rattle.std.specs.Option.{option_to_list}
 use Rattle.audit_model.specs.declared.input.ServiceError.{ServiceError}
 use Rattle.audit_model.specs.declared.input.ServiceError.TheVariants as error
 use Rattle.audit_model.specs.declared.transcript.Note.{Note}
 use Rattle.cache_namespace.specs.Taken.{IsOpenOrEnded, is_quit, record_of, known}
+use Rattle.cache_store.specs.Recency.{KeepsRecency}
+use Rattle.cache_store.specs.Running.{is_bounded}
 use Rattle.cache_spaces.specs.Moves.{are_timely_in}
-use Rattle.cache_spaces.specs.Spaces.{Stands, config_of, connections_of, identifiers_of, made_of, notices_of, output_of, closing_of}
+use Rattle.cache_spaces.specs.Spaces.{Stands, config_of, connections_of, identifiers_of, made_of, notices_of, output_of, closing_of, recency_of}
 use Rattle.cache_spaces.specs.declared.space.Space.{Space}
 
 -- The event's record follows; its replies stand behind the output of that connection, and its notes behind the notices. Each `SYNC`
--- leaves timely values, a `QUIT` closes the connection, and identifiers were drawn as its steps say: `ERR id` only where a thousand were, each of which was registered.
+-- leaves timely values, each part weighs at most its share and 64 values of 8192 bytes where a capacity is set, a `QUIT` closes the connection, and identifiers were drawn as its steps say: `ERR id` only where a thousand were, each of which was registered.
 pub record Serves (was is : Space) (number : ℕ) (s : Situation) (happened : Event) (is_held : Bool) : Type 0 where
   pub steps : List Step
   pub next : Situation
   pub stands : Stands is next
   pub follows : Follows (config_of was) s (record_of happened steps) next
   pub timely : IsTrue (are_timely_in (config_of was) (made_of was) s (record_of happened steps))
+  pub bounded : IsTrue (is_bounded (config_of was) next.held)
   pub ends : ends_held steps ≡ is_held
   pub quits : ends_quit (config_of was) steps ≡ is_quit (closing_of is number)
   pub draws : StepsDraw (config_of was) steps (identifiers_of was) (identifiers_of is)
+  pub ordered : OrdersSteps (config_of was) (recency_of was) (recency_of is) (after_event happened s) (tasks_in s happened) (steps_of (record_of happened steps))
   pub output : output_of is number ≡ output_of was number ++ flat_map reply_in steps
   pub notices : notices_of is ≡ notices_of was ++ flat_map (λ step. step.notices) steps
 
@@ -53,13 +59,16 @@ pub record Takes (was is : Space) (number : ℕ) (happened : Event) (is_held : B
   pub serves : (s : Situation) → Stands was s → Serves was is number s happened is_held
   pub others : (place : ℕ) → place ≢ number - 1 → slice_get (connections_of is) place ≡ slice_get (connections_of was) place
   pub config : config_of is ≡ config_of was
+  pub made : made_of is ≡ made_of was
   pub left : Leaves happened (closing_of was number) (closing_of is number) (output_of is number)
   pub count : length (connections_of is) ≡ count_after happened (length (connections_of was))
 
 -- the namespace is the same to whoever looks at it
 pub record SameSpace (was is : Space) : Type 0 where
   pub stands : (s : Situation) → Stands was s → Stands is s
+  pub recency : KeepsRecency (recency_of was) (recency_of is)
   pub config : config_of is ≡ config_of was
+  pub made : made_of is ≡ made_of was
   pub outputs : (number : ℕ) → output_of is number ≡ output_of was number
   pub closings : (number : ℕ) → closing_of is number ≡ closing_of was number
   pub notices : notices_of is ≡ notices_of was
@@ -68,21 +77,25 @@ pub record SameSpace (was is : Space) : Type 0 where
 -- The replies of a connection are moved out, and nothing else changes.
 pub record TakesOutput (was is : Space) (number : ℕ) (text : List ℕ) : Type 0 where
   pub stands : (s : Situation) → Stands was s → Stands is s
+  pub recency : KeepsRecency (recency_of was) (recency_of is)
   pub taken : text ≡ output_of was number
   pub none : output_of is number ≡ []
   pub others : (place : ℕ) → place ≢ number - 1 → slice_get (connections_of is) place ≡ slice_get (connections_of was) place
   pub closings : (n : ℕ) → closing_of is n ≡ closing_of was n
   pub config : config_of is ≡ config_of was
+  pub made : made_of is ≡ made_of was
   pub notices : notices_of is ≡ notices_of was
   pub count : length (connections_of is) ≡ length (connections_of was)
 
 -- The oldest note is taken, if there is one, and nothing else changes.
 pub record TakesNotice (was is : Space) (note : Option Note) : Type 0 where
   pub stands : (s : Situation) → Stands was s → Stands is s
+  pub recency : KeepsRecency (recency_of was) (recency_of is)
   pub taken : notices_of was ≡ option_to_list note ++ notices_of is
   pub none : IsNone note → notices_of was ≡ []
   pub connections : connections_of is ≡ connections_of was
   pub config : config_of is ≡ config_of was
+  pub made : made_of is ≡ made_of was
 
 -- the connection was never opened
 pub record IsUnknown (space : Space) (number : ℕ) (e : ServiceError) : Type 0 where

@@ -13,7 +13,7 @@ use Rattle.rand_xoshiro.specs.Xoshiro256.{of_seed, plus_plus}
 use Rattle.audit_model.specs.Situation.{empty_situation}
 use Rattle.audit_model.specs.declared.config.Config.{Config}
 use Rattle.cache_spaces.specs.Served.{is_served}
-use Rattle.cache_spaces.specs.Spaces.{Stands, config_of, connections_of, generator_of, notices_of}
+use Rattle.cache_spaces.specs.Spaces.{Stands, config_of, connections_of, generator_of, made_of, notices_of, recency_of}
 use Rattle.cache_spaces.specs.declared.service.Service.{Service}
 use Rattle.cache_spaces.specs.declared.space.Space.{Space}
 
@@ -29,6 +29,8 @@ are_taken configs = nat_le 1 (length configs) && nat_le (length configs) 16 && l
 pub record IsNew (space : Space) (config : Config) (generator : List ℕ) (made : ℕ) : Type 0 where
   pub stands : Stands space (empty_situation made)
   pub configured : config_of space ≡ config
+  pub made_is : made_of space ≡ made
+  pub recency : recency_of space true []
   pub served : IsTrue (is_served config)
   pub connections : connections_of space ≡ []
   pub notices : notices_of space ≡ []

@@ -10,7 +10,7 @@ use Rattle.cache_namespace.specs.Shown.{situation}
 use Rattle.cache_namespace.specs.Taken as taken
 use Rattle.cache_namespace.specs.declared.connection.Connection.{Connection}
 use Rattle.cache_namespace.specs.declared.kept.Kept.{Kept}
-use Rattle.cache_namespace.specs.Drawing.{Identifiers, identifiers}
+use Rattle.cache_namespace.specs.Drawing.{Identifiers, Workings, identifiers, workings}
 use Rattle.plain_store.specs.Drawing.{is_among}
 use Rattle.plain_store.specs.Standing as plain
 use Rattle.rand_core.specs.Steps.{stream_of, steps_u64_high}
@@ -50,6 +50,14 @@ gathered_in space number kept = gathered (output_of space number) kept (notices_
 -- what its generator will give for identifiers, and which are registered
 abbrev pub identifiers_of : Space → Identifiers
 identifiers_of space = identifiers (stream_of (steps_u64_high plus_plus) (generator_of space)) (λ part. is_among space.inner.store.register.items)
+
+-- the keys that it holds, the last used first: after a `SYNC`, or at most one call later
+abbrev pub recency_of : Space → Bool → List (List ℕ) → Type 0
+recency_of space = plain.AreInOrder space.inner.store.config space.inner.store.table
+
+-- what its store has beside its values
+abbrev pub workings_of : Space → Workings
+workings_of space = workings (identifiers_of space).stream (identifiers_of space).registered (recency_of space)
 
 -- its store holds these values
 abbrev pub Holds : Space → List HeldValue → Type 0

@@ -1,5 +1,5 @@
 //! A service that keeps its journals.
-ghost use Rattle.std.specs.Prelude.{◌≡◌, ◌≤◌, ◌<◌, ◌^◌, ◌↔◌, ◌⊎◌, ◌∷◌, [], Some, false, IfOk, IfErr, OnOk, OnErr, IsErrOf, MatchOption, length};
+ghost use Rattle.std.specs.Prelude.{◌≡◌, ℕ, ◌≤◌, ◌<◌, ◌^◌, ◌↔◌, ◌⊎◌, ◌∷◌, [], Some, false, IfOk, IfErr, OnOk, OnErr, IsErrOf, IsTrue, MatchOption, length};
 ghost use Rattle.std.specs.List.{slice_get};
 ghost use Rattle.cache_spaces.specs.Played.{WerePlayed};
 ghost use Rattle.cache_spaces.specs.Recorded.{AreEmpty, RecordsAt, RefusedInput, namespace_of};
@@ -33,10 +33,13 @@ pub struct RecordedService {
 impl RecordedService {
     ghost use Rattle.audit_model.specs.Belongs.{IsAdmitted};
     ghost use Rattle.audit_model.specs.Obeys.{Obeys};
-    ghost use Rattle.cache_spaces.specs.Journals.{LeadsSo, journals_of, service_of};
+    ghost use Rattle.cache_store.specs.Recency.{IsPlainLru};
+    ghost use Rattle.cache_spaces.specs.Journals.{IsSoOfEach, LeadsSo, journals_of, service_of};
     ghost use Rattle.cache_spaces.specs.Outputs.{output_after};
+    ghost use Rattle.cache_spaces.specs.Recent.{KeepsList};
     ghost use Rattle.cache_spaces.specs.Services.{IsSpace};
     ghost use Rattle.cache_spaces.specs.Spaces.{config_of};
+    ghost use Rattle.cache_spaces.specs.Throughout.{HasExactKeys, is_bounded_throughout, is_timely_throughout};
     ghost use Rattle.cache_spaces.specs.declared.space.Space.{Space as Seen};
 
     /// A service of these configurations, made at that moment, with empty journals. Refused as `Service::new` is.
@@ -71,6 +74,12 @@ impl RecordedService {
         ensures refused { IfErr result (λ refusal. Refuses (spaces_of (service_of self.old)) (spaces_of (service_of self.new)) (namespace_of input) refusal.error (RefusedInput input refusal.error)) }
         ensures back { IfErr result (λ refusal. refusal.input ≡ input) }
         ensures unrecorded { OnErr result (journals_of self.new ≡ journals_of self.old) }
+        // each `SYNC` leaves timely values
+        ensures timely { IsSoOfEach (λ space journal. IsTrue (is_timely_throughout (config_of space) journal)) self.new }
+        // after each event each part is within its bound
+        ensures bounded { IsSoOfEach (λ space journal. IsTrue (is_bounded_throughout (config_of space) journal)) self.new }
+        // where the steps are commands of a recency list, each followed at once by a `SYNC`, the keys of that list are held, and no other
+        ensures recent { IsSoOfEach (λ space journal. (places : ℕ) → IsPlainLru (config_of space) places → ∥ KeepsList (config_of space) places journal ∥₁) self.new }
     {
         match self.record(&input) {
             Ok(output) => Ok(output),
@@ -105,6 +114,14 @@ impl RecordedService {
     pub fn journal(&self, namespace: u64) -> Result<&Transcript, ServiceError>
         ensures journal { IfOk result (λ journal. slice_get (journals_of self.now) namespace ≡ Some journal.now) }
         ensures obeys { IfOk result (λ journal. (space : Seen) → IsSpace (spaces_of (service_of self.now)) namespace space → Obeys (config_of space) journal.now × IsAdmitted (config_of space) journal.now) }
+        // each `SYNC` leaves timely values
+        ensures timely { IfOk result (λ journal. (space : Seen) → IsSpace (spaces_of (service_of self.now)) namespace space → IsTrue (is_timely_throughout (config_of space) journal.now)) }
+        // after each event each part is within its bound
+        ensures bounded { IfOk result (λ journal. (space : Seen) → IsSpace (spaces_of (service_of self.now)) namespace space → IsTrue (is_bounded_throughout (config_of space) journal.now)) }
+        // each `SYNC` behind one command leaves exactly the keys of the recency list
+        ensures exact { IfOk result (λ journal. (space : Seen) → IsSpace (spaces_of (service_of self.now)) namespace space → (places : ℕ) → IsPlainLru (config_of space) places → ∥ HasExactKeys (config_of space) places journal.now ∥₁) }
+        // where its steps are commands of a recency list, each followed at once by a `SYNC`, the keys of that list are held, and no other
+        ensures recent { IfOk result (λ journal. (space : Seen) → IsSpace (spaces_of (service_of self.now)) namespace space → (places : ℕ) → IsPlainLru (config_of space) places → ∥ KeepsList (config_of space) places journal.now ∥₁) }
         ensures stands { IfOk result (λ journal. (space : Seen) → IsSpace (spaces_of (service_of self.now)) namespace space → ∥ LeadsSo space journal.now ∥₁) }
         ensures refused { IfErr result (λ e. (e ≡ ServiceError.NoNamespace) × (length (spaces_of (service_of self.now)) ≤ namespace)) }
     {

@@ -36,11 +36,11 @@ fn are_served(configs: &[Config]) -> bool
     true
 }
 
-/// Whether a configuration is served: it is in range, of one part and without capacity.
+/// Whether a configuration is served: it is in range, and of one part.
 fn is_served(config: &Config) -> bool
     ensures { result ≡ is_served config.now }
 {
-    is_valid(config) && config.parts == 1 && config.capacity.is_none()
+    is_valid(config) && config.parts == 1
 }
 
 /// Whether a configuration is in range: 1 to 256 parts, times of 1 to 999,999,999,999 milliseconds, and no live time beside own

@@ -27,9 +27,10 @@ impl Space {
     ghost use Rattle.cache_namespace.specs.Kept.{IsReadyToHold, steps_of};
     ghost use Rattle.cache_namespace.specs.Taken.{IsOpenOrEnded, RefusedFor, fed, holds_at, is_quit, known};
     ghost use Rattle.cache_namespace.specs.declared.connection.Connection.{Connection};
+    ghost use Rattle.cache_store.specs.Recency.{KeepsRecency};
     ghost use Rattle.cache_spaces.specs.Moves.{Moves};
     ghost use Rattle.cache_spaces.specs.Serves.{Serves, Takes, SameSpace};
-    ghost use Rattle.cache_spaces.specs.Spaces.{Stands, config_of, connections_of, generator_of, notices_of, output_of, closing_of, gathered_in, identifiers_of, made_of};
+    ghost use Rattle.cache_spaces.specs.Spaces.{Stands, config_of, connections_of, generator_of, notices_of, output_of, closing_of, gathered_in, made_of, recency_of, workings_of};
 
     /// A namespace without connections and values, with a generator of its own.
     pub fn new(
@@ -46,6 +47,7 @@ impl Space {
         ensures connections { IfOk result (λ space. connections_of space ≡ []) }
         ensures generator { IfOk result (λ space. generator_of space ≡ generator) }
         ensures made { IfOk result (λ space. made_of space ≡ made) }
+        ensures recency { IfOk result (λ space. recency_of space true []) }
     {
         let store = PlainStore::new(alloc, config, made, generator)?;
         let inner = Namespace {
@@ -68,11 +70,13 @@ impl Space {
     ) -> Result<bool, ServiceError>
         requires fresh { IsFresh (gathered_in self.old number kept.old) }
         requires ready { IsReadyToHold kept.old }
-        ensures moves { IfOk result (λ is_held. (s : Situation) → Stands self.old s → Moves (config_of self.old) (made_of self.old) s (fed number piece.now moment) is_held (is_quit (closing_of self.new number)) (Stands self.new) (identifiers_of self.old) (identifiers_of self.new) (gathered_in self.old number kept.old) (gathered_in self.new number kept.new)) }
+        ensures moves { IfOk result (λ is_held. (s : Situation) → Stands self.old s → Moves (config_of self.old) (made_of self.old) s (fed number piece.now moment) is_held (is_quit (closing_of self.new number)) (Stands self.new) (workings_of self.old) (workings_of self.new) (gathered_in self.old number kept.old) (gathered_in self.new number kept.new)) }
         ensures others { OnOk result ((place : ℕ) → place ≢ number - 1 → slice_get (connections_of self.new) place ≡ slice_get (connections_of self.old) place) }
         ensures config { config_of self.new ≡ config_of self.old }
+        ensures made { made_of self.new ≡ made_of self.old }
         ensures fresh { IsFresh (gathered_in self.new number kept.new) }
         ensures refused { IfErr result (RefusedFor (config_of self.old) (connections_of self.old) (fed number piece.now moment) (holds_at (connections_of self.old) number)) }
+        ensures unmoved { OnErr result (KeepsRecency (recency_of self.old) (recency_of self.new)) }
         ensures stands { OnErr result ((s : Situation) → Stands self.old s → Stands self.new s) }
         ensures outputs { OnErr result ((n : ℕ) → output_of self.new n ≡ output_of self.old n) }
         ensures closings { OnErr result ((n : ℕ) → closing_of self.new n ≡ closing_of self.old n) }
@@ -91,7 +95,7 @@ impl Space {
     pub fn open(&mut self, alloc: Global) -> Result<u64, AllocError>
         ensures number { IfOk result (λ number. number ≡ length (connections_of self.old) + 1) }
         ensures takes { IfOk result (λ number. Takes self.old self.new number (event.Open number) false) }
-        ensures moves { IfOk result (λ number. (s : Situation) (was : Gathered) → Stands self.old s → Moves (config_of self.old) (made_of self.old) s (event.Open number) false false (Stands self.new) (identifiers_of self.old) (identifiers_of self.new) was was) }
+        ensures moves { IfOk result (λ number. (s : Situation) (was : Gathered) → Stands self.old s → Moves (config_of self.old) (made_of self.old) s (event.Open number) false false (Stands self.new) (workings_of self.old) (workings_of self.new) was was) }
         ensures outputs { OnOk result ((n : ℕ) → output_of self.new n ≡ output_of self.old n) }
         ensures notices { notices_of self.new ≡ notices_of self.old }
         ensures same { OnErr result (SameSpace self.old self.new) }
@@ -105,7 +109,7 @@ impl Space {
     /// Closes a connection.
     pub fn close(&mut self, number: u64) -> Result<(), ServiceError>
         ensures takes { OnOk result (Takes self.old self.new number (event.Close number) false) }
-        ensures moves { OnOk result ((s : Situation) (was : Gathered) → Stands self.old s → Moves (config_of self.old) (made_of self.old) s (event.Close number) false false (Stands self.new) (identifiers_of self.old) (identifiers_of self.new) was was) }
+        ensures moves { OnOk result ((s : Situation) (was : Gathered) → Stands self.old s → Moves (config_of self.old) (made_of self.old) s (event.Close number) false false (Stands self.new) (workings_of self.old) (workings_of self.new) was was) }
         ensures closed { OnOk result (closing_of self.new number ≡ Some Closing.Asked) }
         ensures outputs { OnOk result ((n : ℕ) → output_of self.new n ≡ output_of self.old n) }
         ensures open { OnOk result (closing_of self.old number ≡ None) }
@@ -127,7 +131,9 @@ impl Space {
         ensures closings { (n : ℕ) → closing_of self.new n ≡ closing_of self.old n }
         ensures count { length (connections_of self.new) ≡ length (connections_of self.old) }
         ensures stands { (s : Situation) → Stands self.old s → Stands self.new s }
+        ensures recency { KeepsRecency (recency_of self.old) (recency_of self.new) }
         ensures config { config_of self.new ≡ config_of self.old }
+        ensures made { made_of self.new ≡ made_of self.old }
         ensures notices { notices_of self.new ≡ notices_of self.old }
         ensures refused { IsErr result ↔ ((known (connections_of self.old)).was_opened number ≡ false) }
         ensures error { IfErr result (λ e. e ≡ ServiceError.NoConnection) }
@@ -154,8 +160,10 @@ impl Space {
         ensures first { IfSome result (λ note. notices_of self.old ≡ note ∷ notices_of self.new) }
         ensures unchanged { IfNone result (notices_of self.new ≡ []) }
         ensures stands { (s : Situation) → Stands self.old s → Stands self.new s }
+        ensures recency { KeepsRecency (recency_of self.old) (recency_of self.new) }
         ensures connections { connections_of self.new ≡ connections_of self.old }
         ensures config { config_of self.new ≡ config_of self.old }
+        ensures made { made_of self.new ≡ made_of self.old }
     {
         self.inner.store.next_notice()
     }

@@ -1,3 +1,5 @@
 pub mod Drawing
+pub mod Loading
+pub mod Order
 pub mod Right
 pub mod Sums

@@ -9,6 +9,8 @@ ghost use Rattle.cache_store.specs.Handing.{Hands};
 ghost use Rattle.cache_store.specs.Identifiers.{KeepsIdentifiers};
 ghost use Rattle.cache_store.specs.Running.{is_timely};
 ghost use Rattle.cache_store.specs.Promises.{IsUnchanged};
+ghost use Rattle.cache_store.specs.Recency.{KeepsRecency};
+ghost use Rattle.cache_steps.specs.Order.{MovesOrder};
 ghost use Rattle.cache_steps.specs.Right.{Answers, KeepsFrame};
 
 use crate::writing::{take_back, write};
@@ -32,6 +34,8 @@ pub fn get<S: Store>(
     ensures frame { OnOk result (KeepsFrame (S.frame store.old) (S.frame store.new) now) }
     ensures few { length (S.untaken store.new) ≤ length (S.untaken store.old) + S.count store.old + 1 }
     ensures identifiers { KeepsIdentifiers (S.stream store.old) (S.stream store.new) (S.registered store.old) (S.registered store.new) }
+    ensures order { OnOk result (MovesOrder (S.frame store.old).config (S.recency store.old) (S.recency store.new) (Ok (says.Get key.now))) }
+    ensures unmoved { OnErr result (KeepsRecency (S.recency store.old) (S.recency store.new)) }
     ensures unchanged { OnErr result (IsUnchanged (S.stands store.old) (S.stands store.new) (S.frame store.old) (S.frame store.new) (S.untaken store.old) (S.untaken store.new)) }
     ensures unwritten { OnErr result (output.new.items ≡ output.old.items) }
 {
@@ -76,6 +80,8 @@ pub fn set<S: Store>(
     ensures frame { OnOk result (KeepsFrame (S.frame store.old) (S.frame store.new) now) }
     ensures few { length (S.untaken store.new) ≤ length (S.untaken store.old) + S.count store.old + 1 }
     ensures identifiers { KeepsIdentifiers (S.stream store.old) (S.stream store.new) (S.registered store.old) (S.registered store.new) }
+    ensures order { OnOk result (MovesOrder (S.frame store.old).config (S.recency store.old) (S.recency store.new) (Ok (says.Set key.now milliseconds value.now))) }
+    ensures unmoved { OnErr result (KeepsRecency (S.recency store.old) (S.recency store.new)) }
     ensures unchanged { OnErr result (IsUnchanged (S.stands store.old) (S.stands store.new) (S.frame store.old) (S.frame store.new) (S.untaken store.old) (S.untaken store.new)) }
     ensures unwritten { OnErr result (output.new.items ≡ output.old.items) }
 {
@@ -111,6 +117,8 @@ pub fn del<S: Store>(
     ensures frame { OnOk result (KeepsFrame (S.frame store.old) (S.frame store.new) now) }
     ensures few { length (S.untaken store.new) ≤ length (S.untaken store.old) + S.count store.old + 1 }
     ensures identifiers { KeepsIdentifiers (S.stream store.old) (S.stream store.new) (S.registered store.old) (S.registered store.new) }
+    ensures order { OnOk result (MovesOrder (S.frame store.old).config (S.recency store.old) (S.recency store.new) (Ok (says.Del key.now))) }
+    ensures unmoved { OnErr result (KeepsRecency (S.recency store.old) (S.recency store.new)) }
     ensures unchanged { OnErr result (IsUnchanged (S.stands store.old) (S.stands store.new) (S.frame store.old) (S.frame store.new) (S.untaken store.old) (S.untaken store.new)) }
     ensures unwritten { OnErr result (output.new.items ≡ output.old.items) }
 {
@@ -128,6 +136,8 @@ pub fn sync<S: Store>(store: &mut S, now: u64, output: &mut Vec<u8>) -> Result<(
     ensures frame { OnOk result (KeepsFrame (S.frame store.old) (S.frame store.new) now) }
     ensures few { length (S.untaken store.new) ≤ length (S.untaken store.old) + S.count store.old + 1 }
     ensures identifiers { KeepsIdentifiers (S.stream store.old) (S.stream store.new) (S.registered store.old) (S.registered store.new) }
+    ensures order { OnOk result (MovesOrder (S.frame store.old).config (S.recency store.old) (S.recency store.new) (Ok says.Sync)) }
+    ensures unmoved { OnErr result (KeepsRecency (S.recency store.old) (S.recency store.new)) }
     ensures unchanged { OnErr result (IsUnchanged (S.stands store.old) (S.stands store.new) (S.frame store.old) (S.frame store.new) (S.untaken store.old) (S.untaken store.new)) }
     ensures unwritten { OnErr result (output.new.items ≡ output.old.items) }
 {
@@ -154,6 +164,7 @@ fn write_counts(output: &mut Vec<u8>, counts: Counts)
 /// Answers a line that cannot be read.
 pub fn fault<S: Store>(store: &S, error: LineError, output: &mut Vec<u8>) -> Result<(), AllocError>
     ensures ok { OnOk result ((s : Situation) → s.dropped ≡ (S.frame store.now).dropped → S.stands store.now s.held → Answers (S.frame store.now).config s (Faulting error) None (S.stands store.now) (S.frame store.now).dropped (Hands (S.frame store.now).part_of (S.untaken store.now) (S.untaken store.now)) output.old.items output.new.items) }
+    ensures order { OnOk result (MovesOrder (S.frame store.now).config (S.recency store.now) (S.recency store.now) (Err error)) }
     ensures unwritten { OnErr result (output.new.items ≡ output.old.items) }
 {
     output.try_reserve(SHORT)?;

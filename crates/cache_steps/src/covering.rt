@@ -6,7 +6,9 @@ ghost use Rattle.audit_model.specs.declared.command.Command.TheVariants as says;
 ghost use Rattle.cache_store.specs.Handing.{Hands};
 ghost use Rattle.cache_store.specs.Identifiers.{KeepsIdentifiers, DrawsAlone, AreUsedUp};
 ghost use Rattle.cache_store.specs.Promises.{IsUnchanged};
+ghost use Rattle.cache_store.specs.Recency.{KeepsRecency};
 ghost use Rattle.cache_steps.specs.Drawing.{Draws};
+ghost use Rattle.cache_steps.specs.Order.{MovesOrder};
 ghost use Rattle.cache_steps.specs.Right.{Answers, KeepsFrame};
 
 use crate::commands::SHORT;
@@ -21,6 +23,8 @@ pub fn clear<S: Store>(store: &mut S, now: u64, output: &mut Vec<u8>) -> Result<
     ensures frame { OnOk result (KeepsFrame (S.frame store.old) (S.frame store.new) now) }
     ensures few { length (S.untaken store.new) ≤ length (S.untaken store.old) + S.count store.old + 1 }
     ensures identifiers { KeepsIdentifiers (S.stream store.old) (S.stream store.new) (S.registered store.old) (S.registered store.new) }
+    ensures order { OnOk result (MovesOrder (S.frame store.old).config (S.recency store.old) (S.recency store.new) (Ok says.Clear)) }
+    ensures unmoved { OnErr result (KeepsRecency (S.recency store.old) (S.recency store.new)) }
     ensures unchanged { OnErr result (IsUnchanged (S.stands store.old) (S.stands store.new) (S.frame store.old) (S.frame store.new) (S.untaken store.old) (S.untaken store.new)) }
     ensures unwritten { OnErr result (output.new.items ≡ output.old.items) }
 {
@@ -44,6 +48,8 @@ pub fn drop_prefix<S: Store>(
     ensures few { length (S.untaken store.new) ≤ length (S.untaken store.old) + S.count store.old + 1 }
     ensures draws { OnOk result (Draws (S.stream store.old) (S.stream store.new) (S.registered store.old) (S.registered store.new)) }
     ensures spends { OnErr result (DrawsAlone (S.stream store.old) (S.stream store.new) (S.registered store.old) (S.registered store.new)) }
+    ensures order { OnOk result (MovesOrder (S.frame store.old).config (S.recency store.old) (S.recency store.new) (Ok (says.DropIf prefix.now))) }
+    ensures unmoved { OnErr result (KeepsRecency (S.recency store.old) (S.recency store.new)) }
     ensures unchanged { OnErr result (IsUnchanged (S.stands store.old) (S.stands store.new) (S.frame store.old) (S.frame store.new) (S.untaken store.old) (S.untaken store.new)) }
     ensures unwritten { OnErr result (output.new.items ≡ output.old.items) }
 {

@@ -1,30 +1,38 @@
 -- What accepting a value does.
-use Rattle.std.proofs.Common.{◌≡◌, ℕ, Bool, cond, true, false, not, ◌&&◌, ◌||◌, List, [], ◌∷◌, ◌++◌, map, Option, option_map, Some, None, if◌then◌else◌, refl, sym, ap, ◌∙◌, subst}
+use Rattle.std.proofs.Common.{◌≡◌, ℕ, ◌≤◌, Bool, cond, true, false, not, ◌&&◌, ◌||◌, List, [], ◌∷◌, ◌++◌, map, length, Option, option_map, Some, None, is_none, IsSome, IsTrue, if◌then◌else◌, refl, sym, ap, ◌∙◌, subst, arith}
 use Rattle.std.specs.List.{list_all, find}
 use Rattle.std.specs.Option.{option_or}
-use Rattle.std.proofs.lemmas.Bool.{and_from, and_parts, not-true}
-use Rattle.std.proofs.lemmas.List.Folds.{list_all-append, find-append}
+use Rattle.std.proofs.lemmas.Bool.{and_from, and_parts, not-true, eq-eqb}
+use Rattle.std.proofs.lemmas.List.{append-nil, map-append}
+use Rattle.std.proofs.lemmas.List.Folds.{find-append}
 use Rattle.std.proofs.lemmas.Option.{none-some}
 use Rattle.audit_model.specs.Bytewise.{same}
-use Rattle.audit_model.specs.Changes.{newly_held, use_after}
-use Rattle.audit_model.specs.History.{Value}
-use Rattle.audit_model.specs.Notes.{newcomer, is_succeeded, is_true_note, first_of}
+use Rattle.audit_model.specs.Changes.{newly_held, use_after, all_held_after}
+use Rattle.audit_model.specs.History.{Value, share, weight_of}
+use Rattle.audit_model.specs.Notes.{newcomer, just_accepted, overfills, is_over, is_succeeded, same_cause, first_cause, is_true_cause, is_true_note, are_true_notes, first_of}
 use Rattle.audit_model.specs.Situation.{HeldValue, candidate_at, is_dead_at, is_live_at}
-use Rattle.audit_model.specs.Values.{without_key}
+use Rattle.audit_model.specs.Values.{without_key, deadline, has_come, own_deadline_from}
 use Rattle.audit_model.specs.View.{Candidate}
 use Rattle.audit_model.specs.declared.config.Config.{Config}
+use Rattle.audit_model.specs.declared.config.Weight.{Weight}
+use Rattle.audit_model.specs.declared.config.Weight.TheVariants.{One, Bytes}
 use Rattle.audit_model.specs.declared.transcript.Note.{Note}
+use Rattle.audit_model.specs.declared.transcript.RemovalCause.{RemovalCause}
+use Rattle.audit_model.specs.declared.transcript.RemovalCause.TheVariants.{Expired, Explicit, Replaced, Size}
 use Rattle.cache_store.specs.Handing.{Hands}
 use Rattle.cache_store.specs.Promises.{Done, accepting}
+use Rattle.cache_store.specs.Running.{weight_in}
 use Rattle.plain_table.specs.Items.{value_at, without, is_absent, are_apart}
 use Rattle.plain_table.proofs.Keys.{same-refl, same-flip_false, equal_from_same, same_from_equal}
-use Rattle.plain_table.proofs.Held.{key_from_some, absent_from_none, without-absent, absent-without, none_from_absent, key_of}
+use Rattle.plain_table.proofs.Held.{key_from_some, absent_from_none, without-absent, absent-without, apart-without, none_from_absent, key_of}
 use Rattle.plain_sweep.specs.Holding.{plain, Corresponds}
-use Rattle.plain_sweep.specs.Swept.{note_of, cause_of_replaced}
-use Rattle.plain_sweep.proofs.Corresponding.{corresponds-without, corresponds-new, value_at-append}
-use Rattle.plain_sweep.proofs.Truth.{first_of-map, without-map, replaced_truly}
+use Rattle.plain_sweep.specs.Swept.{note_of, exceeds, cause_at, cause_of_replaced}
+use Rattle.plain_sweep.proofs.Corresponding.{corresponds-without, corresponds-new, corresponds-left, value_at-append, value_at-without}
+use Rattle.plain_sweep.proofs.Sweeping.{Tells, left, left-append}
+use Rattle.plain_sweep.proofs.Truth.{Says, says_from, tell_truly, first_of-map, without-map, replaced_truly}
+use Rattle.plain_sweep.proofs.Weights.{over_is, exceeds-more}
 use Rattle.plain_store.specs.Putting.{replaced_note}
-use Rattle.plain_store.specs.Standing.{Stands}
+use Rattle.plain_store.specs.Standing.{is_proper, Stands}
 use Rattle.plain_store.specs.Doing.{stands_after}
 use Rattle.plain_store.proofs.Calls.{one_part, hands_all}
 
@@ -38,25 +46,6 @@ without_key-append of key (z ∷ xs) ys x e = go (same key (of z)) (λ (e : find
         → cond b (xs ++ ys) (z ∷ without_key of key (xs ++ ys)) ≡ cond b xs (z ∷ without_key of key xs) ++ ys
     go true next e = refl
     go false next e = ap (λ zs. z ∷ zs) (next e)
-
-or_false : (b : Bool) → b ≡ false → (b || false) ≡ false
-or_false b e = ap (λ c. c || false) e
-
-none_rewritten : (config : Config) (now : ℕ) (used : Option (List ℕ)) (value : Value) (held : List HeldValue) → is_absent value.key held ≡ true
-    → list_all (λ c. not (is_succeeded (accepting used value) c)) (map (candidate_at config now) held) ≡ true
-none_rewritten config now used value [] absent = refl
-none_rewritten config now used value (h ∷ held) absent =
-    let parts = and_parts (not (same value.key h.value.key)) (is_absent value.key held) absent in
-    and_from _ _
-    (ap not (or_false (same h.value.key value.key) (same-flip_false value.key h.value.key (not-true (same value.key h.value.key) parts.0))))
-    (none_rewritten config now used value held parts.1)
-
--- with the newcomer
-none_rewritten_or_new : (config : Config) (now : ℕ) (used : Option (List ℕ)) (value : Value) (held : List HeldValue) → is_absent value.key held ≡ true
-    → list_all (λ c. not (is_succeeded (accepting used value) c)) (map (candidate_at config now) held ++ newcomer config value ∷ []) ≡ true
-none_rewritten_or_new config now used value held absent =
-    list_all-append (λ c. not (is_succeeded (accepting used value) c)) (map (candidate_at config now) held) (newcomer config value ∷ [])
-    ∙ and_from _ _ (none_rewritten config now used value held absent) refl
 
 module _ (config : Config) (now : ℕ) (used : Option (List ℕ)) (value : Value) (at_now : value.accepted_at ≡ now) (used_is : (k : List ℕ) → used ≡ Some k → k ≡ value.key) where
   either_way : (b : Bool) (u : ℕ) → u ≡ now → (if b then now else u) ≡ u
@@ -83,60 +72,221 @@ module _ (config : Config) (now : ℕ) (used : Option (List ℕ)) (value : Value
       by_used (Some k) f =
           ap (λ x. if same x h.value.key && is_live_at config now h then now else h.last_use) (f k refl) ∙ go (same value.key h.value.key) refl
 
-  pub accept_does : (items held : List HeldValue) (old new : List Note) → are_apart items ≡ true → new ≡ old ++ replaced_note config now (value_at items value.key) → Stands config items held
-      → Done config now (accepting used value) held (Stands config (plain (newly_held value) ∷ without value.key items)) (Hands one_part old new)
-  accept_does items held old new a same_notes s = go (value_at held value.key) refl
-    where
-      n : HeldValue
-      n = newly_held value
+  -- what a candidate is while the key's older value is gone
+  abbrev cand : HeldValue → Candidate
+  cand h = record (candidate_at config now h) { new = same h.value.key value.key }
 
-      go : (o : Option HeldValue) → value_at held value.key ≡ o
-          → Done config now (accepting used value) held (Stands config (plain (newly_held value) ∷ without value.key items)) (Hands one_part old new)
-      go None e =
-          let absent : is_absent value.key held ≡ true = absent_from_none value.key held e in
-          let none_there : value_at items value.key ≡ None = sym (s.same.found value.key) ∙ ap (option_map plain) e in
-          let whole : without value.key items ≡ items = without-absent value.key items (absent_from_none value.key items none_there) in
-          record {
-            told = [];
-            right = none_rewritten_or_new config now used value held absent;
-            left =
-                stands_after config now held (accepting used value) [] (plain (newly_held value) ∷ without value.key items) refl (unused held absent)
-                (subst (λ xs. Corresponds (plain (newly_held value) ∷ xs) (held ++ newly_held value ∷ [])) (sym whole)
-                (corresponds-new items held (plain (newly_held value)) (newly_held value) s.same none_there refl));
-            handed = hands_all old new [] (same_notes ∙ ap (λ o. old ++ replaced_note config now o) none_there);
-          }
-      go (Some h) e =
-          let there : value_at items value.key ≡ Some (plain h) = sym (s.same.found value.key) ∙ ap (option_map plain) e in
-          let is_key : h.value.key ≡ value.key = key_from_some value.key held h e in
-          let m : Note = note_of (cause_of_replaced (is_dead_at config now h) h.covered) h in
-          let absent : is_absent value.key (without value.key held) ≡ true = absent-without value.key held s.same.apart in
-          let rest : without h.value.key (held ++ newly_held value ∷ []) ≡ without value.key held ++ newly_held value ∷ [] =
-          ap (λ k. without k (held ++ newly_held value ∷ [])) is_key ∙ without_key-append key_of value.key held (newly_held value ∷ []) h e in
-          record {
-            told = m ∷ [];
-            right =
-                and_from _ _
-                (ap (is_true_note config (map (candidate_at config now) held) (accepting used value) m)
-                (find-append (λ (c : Candidate). same h.value.key c.value.key) (map (candidate_at config now) held) (newcomer config value ∷ [])
-                ∙ ap (λ o. option_or o (first_of h.value.key (newcomer config value ∷ [])))
-                (first_of-map (candidate_at config now) (λ g. refl) h.value.key held ∙ ap (option_map (candidate_at config now)) (ap (value_at held) is_key ∙ e)))
-                ∙ replaced_truly config (map (candidate_at config now) held) value h.value h.evictable (is_dead_at config now h) h.covered used (same_from_equal h.value.key value.key is_key))
-                (ap (list_all (λ c. not (is_succeeded (accepting used value) c)))
-                (ap (λ k. without_key (λ (c : Candidate). c.value.key) k (map (candidate_at config now) held ++ newcomer config value ∷ [])) is_key
-                ∙ without_key-append (λ (c : Candidate). c.value.key) value.key (map (candidate_at config now) held) (newcomer config value ∷ []) (candidate_at config now h)
-                (first_of-map (candidate_at config now) (λ g. refl) value.key held ∙ ap (option_map (candidate_at config now)) e)
-                ∙ ap (λ cs. cs ++ newcomer config value ∷ []) (without-map (candidate_at config now) (λ g. refl) value.key held))
-                ∙ none_rewritten_or_new config now used value (without value.key held) absent);
-            left =
-                stands_after config now held (accepting used value) (m ∷ []) (plain (newly_held value) ∷ without value.key items) refl
-                (λ q g f. unused (without value.key held) absent q g (ap (λ xs. value_at xs q) (sym rest) ∙ f))
-                (subst (Corresponds (plain (newly_held value) ∷ without value.key items)) (sym rest)
-                (corresponds-new (without value.key items) (without value.key held) (plain (newly_held value)) (newly_held value) (corresponds-without value.key items held a s.same)
-                (none_from_absent value.key (without value.key items) (absent-without value.key items a)) refl));
-            handed = hands_all old new (m ∷ []) (same_notes ∙ ap (λ o. old ++ replaced_note config now o) there);
-          }
+  -- the values held once the key's older one is gone
+  abbrev rest : List HeldValue → List HeldValue
+  rest held = without value.key held ++ newly_held value ∷ []
+
+  cand_others : (held : List HeldValue) → is_absent value.key held ≡ true → map cand held ≡ map (candidate_at config now) held
+  cand_others [] absent = refl
+  cand_others (h ∷ held) absent =
+      let parts = and_parts (not (same value.key h.value.key)) (is_absent value.key held) absent in
+      ap (λ b. record (candidate_at config now h) { new = b } ∷ map cand held) (same-flip_false value.key h.value.key (not-true (same value.key h.value.key) parts.0))
+      ∙ ap (λ cs. candidate_at config now h ∷ cs) (cand_others held parts.1)
+
+  cand_new : cand (newly_held value) ≡ newcomer config value
+  cand_new =
+      ap (λ b. record (candidate_at config now (newly_held value)) { new = b }) (same-refl value.key)
+      ∙ ap (λ t. record { value = value; dead = has_come (deadline config value value.accepted_at) t; covered = false; evictable = false; new = true }) (sym at_now)
+
+  cands_are : (held : List HeldValue) → is_absent value.key (without value.key held) ≡ true
+      → map cand (rest held) ≡ map (candidate_at config now) (without value.key held) ++ newcomer config value ∷ []
+  cands_are held absent =
+      map-append cand (without value.key held) (newly_held value ∷ [])
+      ∙ ap (λ cs. cs ++ cand (newly_held value) ∷ []) (cand_others (without value.key held) absent)
+      ∙ ap (λ c. map (candidate_at config now) (without value.key held) ++ c ∷ []) cand_new
+
+  -- no candidate is succeeded any more
+  not_succeeded : (h : HeldValue) → is_succeeded (accepting used value) (cand h) ≡ false
+  not_succeeded h = go (same h.value.key value.key)
+    where
+      go : (b : Bool) → ((not b && b) || false) ≡ false
+      go true = refl
+      go false = refl
+
+  none_succeeded : (held : List HeldValue) → list_all (λ c. not (is_succeeded (accepting used value) c)) (map cand held) ≡ true
+  none_succeeded [] = refl
+  none_succeeded (h ∷ held) = and_from _ _ (ap not (not_succeeded h)) (none_succeeded held)
+
+  values_are : (held : List HeldValue) → map (λ (c : Candidate). c.value) (map (candidate_at config now) held) ≡ map (λ (h : HeldValue). h.value) held
+  values_are [] = refl
+  values_are (h ∷ held) = ap (λ vs. h.value ∷ vs) (values_are held)
+
+  values_without : (held : List HeldValue) → without_key (λ (v : Value). v.key) value.key (map (λ (h : HeldValue). h.value) held) ≡ map (λ (h : HeldValue). h.value) (without value.key held)
+  values_without [] = refl
+  values_without (h ∷ held) = go (same value.key h.value.key) (values_without held)
+    where
+      go : (b : Bool) → without_key (λ (v : Value). v.key) value.key (map (λ (h : HeldValue). h.value) held) ≡ map (λ (h : HeldValue). h.value) (without value.key held)
+          → cond b (map (λ (h : HeldValue). h.value) held) (h.value ∷ without_key (λ (v : Value). v.key) value.key (map (λ (h : HeldValue). h.value) held))
+          ≡ map (λ (h : HeldValue). h.value) (cond b held (h ∷ without value.key held))
+      go true next = refl
+      go false next = ap (λ vs. h.value ∷ vs) next
+
+  just_accepted_are : (held : List HeldValue) → just_accepted (map (λ c. c.value) (map (candidate_at config now) held)) (Some value) ≡ map (λ h. h.value) (rest held)
+  just_accepted_are held =
+      ap (λ vs. without_key (λ (v : Value). v.key) value.key vs ++ value ∷ []) (values_are held)
+      ∙ ap (λ vs. vs ++ value ∷ []) (values_without held)
+      ∙ sym (map-append (λ (h : HeldValue). h.value) (without value.key held) (newly_held value ∷ []))
+
+  module _ (limit_is : option_map (share config) config.capacity ≡ config.capacity) (items held : List HeldValue) (apart_items : are_apart items ≡ true) (c : Corresponds items held) where
+    -- the items once the value is put
+    abbrev put : List HeldValue
+    put = plain (newly_held value) ∷ without value.key items
+
+    abbrev before : List Candidate
+    before = map (candidate_at config now) held
+
+    apart_put : are_apart put ≡ true
+    apart_put = and_from _ _ (absent-without value.key items apart_items) (apart-without value.key items apart_items)
+
+    absent_rest : is_absent value.key (without value.key held) ≡ true
+    absent_rest = absent-without value.key held c.apart
+
+    corresponds_put : Corresponds put (rest held)
+    corresponds_put =
+        corresponds-new (without value.key items) (without value.key held) (plain (newly_held value)) (newly_held value) (corresponds-without value.key items held apart_items c)
+        (none_from_absent value.key (without value.key items) (absent-without value.key items apart_items)) refl
+
+    -- the part is over its share just after the acceptance
+    overfills_from : (w part : ℕ) → w ≤ weight_in 0 put → part ≡ 0 → exceeds config.capacity w ≡ true → overfills config before (accepting used value) part ≡ true
+    overfills_from w part le is over =
+        ap (λ p. is_over config p (just_accepted (map (λ c. c.value) before) (Some value))) is
+        ∙ ap (is_over config 0) (just_accepted_are held)
+        ∙ over_is config 0 put (rest held) apart_put corresponds_put
+        ∙ ap (λ l. exceeds l (weight_in 0 put)) limit_is
+        ∙ exceeds-more config.capacity w (weight_in 0 put) le over
+
+    cause_is_true : (h : HeldValue) (cause : RemovalCause) (w : ℕ) → w ≤ weight_in 0 put → h.value.part ≡ 0
+        → Says (is_dead_at config now h) h.covered (exceeds config.capacity w) cause → is_true_cause config before (accepting used value) (cand h) cause ≡ true
+    cause_is_true h Expired w le part says = says
+    cause_is_true h Explicit w le part says = ap (λ b. b || false) says
+    cause_is_true h Replaced w le part says = absurd says
+    cause_is_true h Size w le part says = ap (λ b. h.evictable || b) (overfills_from w h.value.part le part says) ∙ or_true h.evictable
+      where
+        or_true : (b : Bool) → (b || true) ≡ true
+        or_true true = refl
+        or_true false = refl
+
+    evicted_truly : (h : HeldValue) (cause : RemovalCause) (w : ℕ) → true ≡ true → w ≤ weight_in 0 put → cause_at config now 0 (exceeds config.capacity w) h ≡ Some cause
+        → is_true_note config before (accepting used value) (note_of cause h) (Some (cand h)) ≡ true
+    evicted_truly h cause w p le e =
+        let s = says_from config now 0 (exceeds config.capacity w) h cause e in
+        and_from _ _ (same-refl h.value.bytes)
+        (ap (λ b. if b && is_none used
+        then same_cause cause (first_cause config before (accepting used value) (cand h))
+        else is_true_cause config before (accepting used value) (cand h) cause) (not_succeeded h)
+        ∙ cause_is_true h cause w le s.0 s.1)
+
+    all_always : (xs : List HeldValue) → list_all (λ (h : HeldValue). true) xs ≡ true
+    all_always [] = refl
+    all_always (h ∷ xs) = all_always xs
+
+    -- what is evicted is told truly, once the older value is gone
+    told_truly : (notes : List Note) → Tells config now 0 config.capacity (weight_in 0 put) put notes
+        → are_true_notes config before (accepting used value) (map (candidate_at config now) (without value.key held) ++ newcomer config value ∷ []) notes ≡ true
+    told_truly notes t =
+        ap (λ cs. are_true_notes config before (accepting used value) cs notes) (sym (cands_are held absent_rest))
+        ∙ ap (are_true_notes config before (accepting used value) (map cand (rest held))) (sym (append-nil notes))
+        ∙ tell_truly cand (λ h. refl) config now 0 config.capacity (weight_in 0 put) (accepting used value) before (λ h. true) evicted_truly
+        notes [] put (rest held) apart_put corresponds_put (all_always (rest held)) t (none_succeeded (left notes (rest held)))
+
+    -- a key's value, where some have left, is what it was
+    found_before : (notes : List Note) (q : List ℕ) (h : HeldValue) (xs : List HeldValue) → are_apart xs ≡ true → value_at (left notes xs) q ≡ Some h → value_at xs q ≡ Some h
+    found_before [] q h xs a e = e
+    found_before (m ∷ notes) q h xs a e =
+        go (same q m.key) (sym (value_at-without m.key q xs a) ∙ found_before notes q h (without m.key xs) (apart-without m.key xs a) e)
+      where
+        go : (b : Bool) → cond b None (value_at xs q) ≡ Some h → value_at xs q ≡ Some h
+        go true f = absurd (none-some h f)
+        go false f = f
+
+    stays : (first notes : List Note) (table : List HeldValue) → left first (held ++ newly_held value ∷ []) ≡ rest held → left notes put ≡ table
+        → Stands config table (all_held_after config now held (accepting used value) (first ++ notes))
+    stays first notes table is left_is =
+        let lefts : left (first ++ notes) (held ++ newly_held value ∷ []) ≡ left notes (rest held) = left-append first notes (held ++ newly_held value ∷ []) ∙ ap (left notes) is in
+        stands_after config now held (accepting used value) (first ++ notes) table refl
+        (λ q g f. unused (without value.key held) absent_rest q g (found_before notes q g (rest held) corresponds_put.apart (ap (λ xs. value_at xs q) (sym lefts) ∙ f)))
+        (subst (λ xs. Corresponds xs (left (first ++ notes) (held ++ newly_held value ∷ []))) left_is
+        (subst (Corresponds (left notes put)) (sym lefts) (corresponds-left notes put (rest held) apart_put corresponds_put)))
+
+    pub accept_does : (old new told : List Note) (table : List HeldValue) → new ≡ old ++ (replaced_note config now (value_at items value.key) ++ told)
+        → Tells config now 0 config.capacity (weight_in 0 put) put told → left told put ≡ table
+        → Done config now (accepting used value) held (Stands config table) (Hands one_part old new)
+    accept_does old new told table same_notes t left_is = go (value_at held value.key) refl
+      where
+        go : (o : Option HeldValue) → value_at held value.key ≡ o → Done config now (accepting used value) held (Stands config table) (Hands one_part old new)
+        go None e =
+            let absent : is_absent value.key held ≡ true = absent_from_none value.key held e in
+            let none_there : value_at items value.key ≡ None = sym (c.found value.key) ∙ ap (option_map plain) e in
+            let whole : held ++ newly_held value ∷ [] ≡ rest held = ap (λ xs. xs ++ newly_held value ∷ []) (sym (without-absent value.key held absent)) in
+            record {
+              told = told;
+              right =
+                  ap (λ xs. are_true_notes config before (accepting used value) (map (candidate_at config now) xs ++ newcomer config value ∷ []) told) (sym (without-absent value.key held absent))
+                  ∙ told_truly told t;
+              left = stays [] told table whole left_is;
+              handed = hands_all old new told (same_notes ∙ ap (λ o. old ++ (replaced_note config now o ++ told)) none_there);
+            }
+        go (Some h) e =
+            let there : value_at items value.key ≡ Some (plain h) = sym (c.found value.key) ∙ ap (option_map plain) e in
+            let is_key : h.value.key ≡ value.key = key_from_some value.key held h e in
+            let m : Note = note_of (cause_of_replaced (is_dead_at config now h) h.covered) h in
+            let gone : without h.value.key (held ++ newly_held value ∷ []) ≡ rest held =
+            ap (λ k. without k (held ++ newly_held value ∷ [])) is_key ∙ without_key-append key_of value.key held (newly_held value ∷ []) h e in
+            record {
+              told = m ∷ told;
+              right =
+                  and_from _ _
+                  (ap (is_true_note config before (accepting used value) m)
+                  (find-append (λ (c : Candidate). same h.value.key c.value.key) before (newcomer config value ∷ [])
+                  ∙ ap (λ o. option_or o (first_of h.value.key (newcomer config value ∷ [])))
+                  (first_of-map (candidate_at config now) (λ g. refl) h.value.key held ∙ ap (option_map (candidate_at config now)) (ap (value_at held) is_key ∙ e)))
+                  ∙ replaced_truly config before value h.value h.evictable (is_dead_at config now h) h.covered used (same_from_equal h.value.key value.key is_key))
+                  (ap (λ cs. are_true_notes config before (accepting used value) cs told)
+                  (ap (λ k. without_key (λ (c : Candidate). c.value.key) k (before ++ newcomer config value ∷ [])) is_key
+                  ∙ without_key-append (λ (c : Candidate). c.value.key) value.key before (newcomer config value ∷ []) (candidate_at config now h)
+                  (first_of-map (candidate_at config now) (λ g. refl) value.key held ∙ ap (option_map (candidate_at config now)) e)
+                  ∙ ap (λ cs. cs ++ newcomer config value ∷ []) (without-map (candidate_at config now) (λ g. refl) value.key held))
+                  ∙ told_truly told t);
+              left = stays (m ∷ []) told table gone left_is;
+              handed = hands_all old new (m ∷ told) (same_notes ∙ ap (λ o. old ++ (replaced_note config now o ++ told)) there);
+            }
 
 -- the key that was looked up is the one that is written
 pub used_so : (key : List ℕ) (looked_up : Bool) (k : List ℕ) → (if looked_up then Some key else None) ≡ Some k → k ≡ key
 used_so key true k e = cc
 used_so key false k e = absurd (none-some k e)
+
+-- the item of a value that is accepted
+abbrev pub new_item : ℕ → List ℕ → List ℕ → ℕ → Option ℕ → HeldValue
+new_item now key bytes weight own = record { value = record { key = key; bytes = bytes; part = 0; weight = weight; accepted_at = now; own_deadline = own }; last_use = now; covered = false; evictable = false }
+
+-- it was put first
+pub put_is : (now : ℕ) (key key' bytes bytes' : List ℕ) (weight weight' : ℕ) (own own' : Option ℕ) (items table : List HeldValue)
+    → table ≡ new_item now key bytes weight own ∷ without key items → key ≡ key' → bytes ≡ bytes' → weight ≡ weight' → own ≡ own'
+    → table ≡ new_item now key' bytes' weight' own' ∷ without key' items
+put_is now key key' bytes bytes' weight weight' own own' items table is a b c d =
+    is ∙ ap (λ x. new_item now x bytes weight own ∷ without x items) a ∙ ap (λ x. new_item now key' x weight own ∷ without key' items) b
+    ∙ ap (λ x. new_item now key' bytes' x own ∷ without key' items) c ∙ ap (λ x. new_item now key' bytes' weight' x ∷ without key' items) d
+
+-- it is proper, if it has an own deadline only where such are taken
+pub new_proper : (config : Config) (now : ℕ) (key bytes : List ℕ) (ms : Option ℕ) → (IsSome ms → IsTrue config.own_deadlines)
+    → is_proper config (new_item now key bytes (weight_of config.weight bytes) (own_deadline_from now ms)) ≡ true
+new_proper config now key bytes ms timed =
+    and_from _ _ (and_from _ _ refl (eq-eqb (weight_of config.weight bytes) (weight_of config.weight bytes) refl)) (go ms timed)
+  where
+    go : (m : Option ℕ) → (IsSome m → IsTrue config.own_deadlines) → (config.own_deadlines || is_none (own_deadline_from now m)) ≡ true
+    go None t = or_true config.own_deadlines
+      where
+        or_true : (b : Bool) → (b || true) ≡ true
+        or_true true = refl
+        or_true false = refl
+    go (Some m) t = ap (λ b. b || false) (t refl)
+
+-- a value of at most 8192 bytes weighs no more than that
+pub weight_light : (weight : Weight) (bytes : List ℕ) → length bytes ≤ 8192 → weight_of weight bytes ≤ 8192
+weight_light One bytes short = omega arith
+weight_light Bytes bytes short = short

@@ -4,3 +4,4 @@ pub mod Calls
 pub mod Accepting
 pub mod Sorting
 pub mod Keeping
+pub mod Ordering

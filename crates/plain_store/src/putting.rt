@@ -5,7 +5,7 @@ ghost use Rattle.std.specs.VecDeque.{deque_len, deque_capacity};
 ghost use Rattle.audit_model.specs.Situation.{is_dead_at};
 ghost use Rattle.plain_table.specs.Items.{held_of, value_at, without, to_front, used_at};
 ghost use Rattle.plain_sweep.specs.Swept.{cause_of_replaced, cause_of_deleted};
-ghost use Rattle.plain_store.specs.Putting.{live_in, Writes, replaced_note, deleted_note};
+ghost use Rattle.plain_store.specs.Putting.{live_in, Writes, replaced_note, deleted_note, weight_at};
 
 use audit_model::{Config, Note, RemovalCause};
 use plain_sweep::{is_dead, is_live, tell};
@@ -61,7 +61,8 @@ pub fn use_found(table: &mut Table, is_found: bool, key: &[u8], now: u64)
     }
 }
 
-/// Gives a key a value, which comes first, and tells the older one. There is room for two notes.
+/// Gives a key a value, which comes first, tells the older one, and answers what that one weighed, 0 where there was none. There is
+/// room for two notes.
 pub fn put(
     table: &mut Table,
     notes: &mut VecDeque<Note>,
@@ -69,22 +70,28 @@ pub fn put(
     key: Vec<u8>,
     kept: Kept,
     now: u64,
-) -> Result<(), AllocError>
+) -> Result<u64, AllocError>
     requires room { deque_len notes.old + length table.old + 1 ≤ deque_capacity notes.old }
     requires light { kept.weight ≤ 8192 }
     ensures put { OnOk result (table.new ≡ held_of key.items kept ∷ without key.items table.old) }
     ensures told { OnOk result (notes.new.items ≡ notes.old.items ++ replaced_note config.now now (value_at table.old key.items)) }
+    ensures weight { IfOk result (λ weight. weight ≡ weight_at key.items table.old) }
+    ensures number { OnOk result (length notes.new.items + length table.new ≡ length notes.old.items + length table.old + 1) }
     ensures unchanged { OnErr result (table.new ≡ table.old) }
     ensures nothing_told { OnErr result (notes.new.items ≡ notes.old.items) }
     ensures room { deque_len notes.new + length table.new ≤ deque_capacity notes.new }
 {
     match table.replace(&key, kept) {
         Ok(older) => {
+            let weight = older.weight;
             let cause = cause_of_replaced(config, &older, now);
             tell(notes, cause, key, older);
-            Ok(())
+            Ok(weight)
         }
-        Err(kept) => table.insert(key, kept),
+        Err(kept) => {
+            table.insert(key, kept)?;
+            Ok(0)
+        }
     }
 }
 
@@ -101,16 +108,28 @@ fn cause_of_replaced(config: &Config, kept: &Kept, now: u64) -> RemovalCause
     RemovalCause::Replaced
 }
 
-/// Lets the value of a key go, and tells it.
-pub fn take(table: &mut Table, notes: &mut VecDeque<Note>, config: &Config, key: &[u8], now: u64)
+/// Lets the value of a key go, tells it, and answers what it weighed, 0 where there was none.
+pub fn take(
+    table: &mut Table,
+    notes: &mut VecDeque<Note>,
+    config: &Config,
+    key: &[u8],
+    now: u64,
+) -> u64
     requires { deque_len notes.old + length table.old ≤ deque_capacity notes.old }
     ensures rest { table.new ≡ without key.now table.old }
     ensures told { notes.new.items ≡ notes.old.items ++ deleted_note config.now now (value_at table.old key.now) }
+    ensures weight { result ≡ weight_at key.now table.old }
     ensures room { deque_len notes.new + length table.new ≤ deque_capacity notes.new }
 {
-    if let Some((key, kept)) = table.remove(key) {
-        let cause = cause_of_deleted(config, &kept, now);
-        tell(notes, cause, key, kept);
+    match table.remove(key) {
+        Some((key, kept)) => {
+            let weight = kept.weight;
+            let cause = cause_of_deleted(config, &kept, now);
+            tell(notes, cause, key, kept);
+            weight
+        }
+        None => 0,
     }
 }
 

@@ -3,6 +3,7 @@ ghost use Rattle.std.specs.Prelude.{◌≡◌, ℕ, ◌<◌, ◌≤◌, ◌+◌,
 ghost use Rattle.std.specs.VecDeque.{deque_len, deque_capacity};
 ghost use Rattle.audit_model.specs.History.{weight_of, part_count};
 ghost use Rattle.audit_model.specs.Values.{own_deadline_from};
+ghost use Rattle.cache_store.specs.Running.{weight_in};
 ghost use Rattle.plain_store.specs.Drawing.{is_among};
 ghost use Rattle.plain_store.specs.Standing.{frame_of, Stands, AreKept, AreInOrder};
 
@@ -12,7 +13,7 @@ use crate::putting::{live_bytes, put, take, use_found, write_found};
 use crate::valuing::{own_deadline, weight_of};
 use audit_model::{Config, Note};
 use cache_store::{Counts, Store, StoreError};
-use plain_sweep::{count_live, cover, sweep, weigh_part};
+use plain_sweep::{count_live, cover, evict, sweep, weigh_part};
 use plain_table::{Kept, Table};
 use rand_core::Rng;
 use std::alloc::{AllocError, Global};
@@ -28,10 +29,13 @@ pub struct PlainStore<R: Rng + Drop> {
     latest: u64,
     dropped: bool,
     table: Table,
+    // what the values weigh
+    weight: u64,
     notes: VecDeque<Note>,
     generator: R,
     register: Vec<Uuid>,
     ghost kept: { AreKept config table },
+    ghost weighed: { weight ≡ weight_in 0 table },
     ghost room: { deque_len notes + length table ≤ deque_capacity notes },
     ghost unused: { dropped ≡ false → register.items ≡ [] },
 }
@@ -39,7 +43,7 @@ pub struct PlainStore<R: Rng + Drop> {
 impl<R: Rng + Drop> PlainStore<R> {
     ghost use Rattle.plain_store.specs.Standing.{IsServed};
 
-    /// Nothing is held, and nothing was told. The configuration has one part and no capacity.
+    /// Nothing is held, and nothing was told. The configuration has one part.
     pub fn new(
         alloc: Global,
         config: Config,
@@ -60,6 +64,7 @@ impl<R: Rng + Drop> PlainStore<R> {
             latest: made,
             dropped: false,
             table: Table::new(alloc)?,
+            weight: 0,
             notes: VecDeque::new(alloc),
             generator,
             register: Vec::new(alloc),
@@ -127,7 +132,7 @@ impl<R: Rng + Drop> Store for PlainStore<R> {
             covered: false,
         };
         self.notes.reserve(self.table.len() + 1)?;
-        put(
+        let older = put(
             &mut self.table,
             &mut self.notes,
             &self.config,
@@ -135,12 +140,21 @@ impl<R: Rng + Drop> Store for PlainStore<R> {
             kept,
             now,
         )?;
+        self.weight = evict(
+            &mut self.table,
+            &mut self.notes,
+            &self.config,
+            self.config.capacity,
+            0,
+            now,
+            self.weight - older + weight,
+        );
         self.latest = now;
         Ok(0)
     }
 
     fn remove(&mut self, key: &[u8], now: u64) -> Result<(), AllocError> {
-        take(&mut self.table, &mut self.notes, &self.config, key, now);
+        self.weight -= take(&mut self.table, &mut self.notes, &self.config, key, now);
         self.latest = now;
         Ok(())
     }
@@ -164,11 +178,12 @@ impl<R: Rng + Drop> Store for PlainStore<R> {
 
     fn run_all(&mut self, now: u64) -> Counts {
         sweep(&mut self.table, &mut self.notes, &self.config, None, 0, now);
+        self.weight = weigh_part(&self.table, 0);
         self.register.clear();
         self.latest = now;
         Counts {
             number: self.table.len() as u64,
-            weight: weigh_part(&self.table, 0),
+            weight: self.weight,
         }
     }
 
@@ -184,7 +199,7 @@ impl<R: Rng + Drop> Store for PlainStore<R> {
 
     ghost idle = { λ s held now h. stands_idle s.config now s.table held h };
 
-    ghost bounded = { λ s held h. bounded_from s.config s.kept.served held };
+    ghost bounded = { λ s held h. bounded_from s.config s.table s.kept held h };
 
     ghost ordered = { λ s held keys h o. ordered_from s.config s.table held keys s.kept.apart h o };
 }

@@ -2,4 +2,6 @@
 #![tactic(auto)]
 
 #[cfg(test)]
+mod repeating;
+#[cfg(test)]
 mod tests;

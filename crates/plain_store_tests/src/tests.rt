@@ -1,8 +1,9 @@
 //! What a plain store does, and that a call that is refused changes nothing.
 ghost use Rattle.std.specs.Prelude.{◌≡◌};
 
+use crate::repeating::Repeating;
 use audit_model::{Config, EvictionPolicy, Note, RemovalCause, Weight};
-use cache_store::Store;
+use cache_store::{Store, StoreError};
 use plain_store::PlainStore;
 use rand_core::SeedableRng;
 use rand_xoshiro::SplitMix64;
@@ -16,6 +17,12 @@ const PLAIN: Config = Config {
     live_ms: None,
     idle_ms: None,
     own_deadlines: true,
+};
+
+const TWO: Config = Config {
+    capacity: Some(2),
+    weight: Weight::One,
+    ..PLAIN
 };
 
 fn tells(note: Option<Note>, cause: RemovalCause, key: &[u8], bytes: &[u8]) -> bool {
@@ -105,7 +112,112 @@ fn an_own_deadline_ends_a_value(rt: HostRuntime) -> Result<(), Fail> {
     Ok(())
 }
 
-// run this with each allocation refused in turn, by `rt try --test --fail-alloc 1..`
+#[test]
+fn the_one_used_longest_ago_leaves(rt: HostRuntime) -> Result<(), Fail> {
+    let mut store = PlainStore::new(rt.alloc(), TWO, 0, SplitMix64::seed_from_u64(1))?;
+    let mut found = Vec::new(rt.alloc());
+    store.accept(b"a", b"1", None, false, 0)?;
+    store.accept(b"b", b"2", None, false, 0)?;
+    assert!(rt; store.look_up(b"a", 0, &mut found)?);
+    store.accept(b"c", b"3", None, false, 0)?;
+    assert_eq!(rt; store.len(), 2);
+    assert!(rt; store.find(b"b", 0).is_none());
+    assert!(rt; tells(store.next_notice(), RemovalCause::Size, b"b", b"2"));
+    assert!(rt; store.next_notice().is_none());
+    let counts = store.run_all(0);
+    assert_eq!(rt; counts.number, 2);
+    assert_eq!(rt; counts.weight, 2);
+    Ok(())
+}
+
+#[test]
+fn weights_are_bytes(rt: HostRuntime) -> Result<(), Fail> {
+    let six = Config {
+        capacity: Some(6),
+        ..PLAIN
+    };
+    let mut store = PlainStore::new(rt.alloc(), six, 0, SplitMix64::seed_from_u64(1))?;
+    store.accept(b"a", b"one", None, false, 0)?;
+    store.accept(b"b", b"two", None, false, 0)?;
+    assert!(rt; store.next_notice().is_none());
+    // b weighs less now, and makes room for c
+    store.accept(b"b", b"2", None, false, 0)?;
+    store.accept(b"c", b"33", None, false, 0)?;
+    assert!(rt; tells(store.next_notice(), RemovalCause::Replaced, b"b", b"two"));
+    assert!(rt; store.next_notice().is_none());
+    assert_eq!(rt; store.run_all(0).weight, 6);
+    store.accept(b"d", b"4444", None, false, 0)?;
+    assert!(rt; tells(store.next_notice(), RemovalCause::Size, b"a", b"one"));
+    assert!(rt; tells(store.next_notice(), RemovalCause::Size, b"b", b"2"));
+    assert!(rt; store.next_notice().is_none());
+    assert_eq!(rt; store.run_all(0).weight, 6);
+    Ok(())
+}
+
+#[test]
+fn a_value_heavier_than_all_leaves(rt: HostRuntime) -> Result<(), Fail> {
+    let three = Config {
+        capacity: Some(3),
+        ..PLAIN
+    };
+    let mut store = PlainStore::new(rt.alloc(), three, 0, SplitMix64::seed_from_u64(1))?;
+    store.accept(b"a", b"four", None, false, 0)?;
+    assert_eq!(rt; store.len(), 0);
+    assert!(rt; store.find(b"a", 0).is_none());
+    assert!(rt; tells(store.next_notice(), RemovalCause::Size, b"a", b"four"));
+    assert!(rt; store.next_notice().is_none());
+    Ok(())
+}
+
+// those that are covered or dead make room, and are told as such
+#[test]
+fn covered_and_dead_values_make_room(rt: HostRuntime) -> Result<(), Fail> {
+    let mut store = PlainStore::new(rt.alloc(), TWO, 0, SplitMix64::seed_from_u64(1))?;
+    store.accept(b"a", b"1", None, false, 0)?;
+    store.clear(0);
+    store.accept(b"b", b"2", Some(1), false, 0)?;
+    store.accept(b"c", b"3", None, false, 1_000_000)?;
+    store.accept(b"d", b"4", None, false, 1_000_000)?;
+    assert!(rt; tells(store.next_notice(), RemovalCause::Explicit, b"a", b"1"));
+    assert!(rt; tells(store.next_notice(), RemovalCause::Expired, b"b", b"2"));
+    assert!(rt; store.next_notice().is_none());
+    assert_eq!(rt; store.count_live(1_000_000), 2);
+    Ok(())
+}
+
+#[test]
+fn nothing_is_found_at_capacity_0(rt: HostRuntime) -> Result<(), Fail> {
+    let none = Config {
+        capacity: Some(0),
+        ..PLAIN
+    };
+    let mut store = PlainStore::new(rt.alloc(), none, 0, SplitMix64::seed_from_u64(1))?;
+    let mut found = Vec::new(rt.alloc());
+    assert!(rt; !store.look_up(b"a", 0, &mut found)?);
+    store.remove(b"a", 0)?;
+    assert_eq!(rt; store.run_all(0).number, 0);
+    assert!(rt; store.next_notice().is_none());
+    Ok(())
+}
+
+// a generator whose words are all 0
+#[test]
+fn a_second_drop_finds_no_identifier(rt: HostRuntime) -> Result<(), Fail> {
+    let mut store = PlainStore::new(rt.alloc(), PLAIN, 0, Repeating(0))?;
+    store.accept(b"ab", b"1", None, false, 0)?;
+    store.accept(b"b", b"2", None, false, 0)?;
+    assert!(rt; store.drop_prefix(b"a", 0).is_ok());
+    assert!(rt; store.drop_prefix(b"b", 0) == Err(StoreError::IdsInUse));
+    assert!(rt; store.find(b"ab", 0).is_none());
+    assert!(rt; store.find(b"b", 0).is_some());
+    // a run releases the identifier
+    assert_eq!(rt; store.run_all(0).number, 1);
+    assert!(rt; store.drop_prefix(b"b", 0).is_ok());
+    assert!(rt; store.find(b"b", 0).is_none());
+    Ok(())
+}
+
+// run these with each allocation refused in turn, by `rt try --test --fail-alloc 1..`
 #[test]
 fn a_refused_call_changes_nothing(rt: HostRuntime) -> Result<(), Fail> {
     let mut store = PlainStore::new(rt.alloc(), PLAIN, 5, SplitMix64::seed_from_u64(1))?;
@@ -113,11 +225,29 @@ fn a_refused_call_changes_nothing(rt: HostRuntime) -> Result<(), Fail> {
         assert_eq!(rt; store.len(), 0);
         store.accept(b"key", b"one", None, false, 5)?;
     }
+    assert!(rt; store.find(b"key", 5) == Some(b"one".as_slice()));
+    Ok(())
+}
+
+#[test]
+fn a_refused_call_keeps_the_older_value(rt: HostRuntime) -> Result<(), Fail> {
+    let mut store = PlainStore::new(rt.alloc(), PLAIN, 5, SplitMix64::seed_from_u64(1))?;
+    store.accept(b"key", b"one", None, false, 5)?;
     if store.accept(b"key", b"two", None, false, 5).is_err() {
         assert!(rt; store.find(b"key", 5) == Some(b"one".as_slice()));
-        assert!(rt; store.next_notice().is_none());
         store.accept(b"key", b"two", None, false, 5)?;
     }
     assert!(rt; tells(store.next_notice(), RemovalCause::Replaced, b"key", b"one"));
+    assert!(rt; store.next_notice().is_none());
+    Ok(())
+}
+
+#[test]
+fn a_refused_call_tells_nothing(rt: HostRuntime) -> Result<(), Fail> {
+    let mut store = PlainStore::new(rt.alloc(), PLAIN, 5, SplitMix64::seed_from_u64(1))?;
+    store.accept(b"key", b"one", None, false, 5)?;
+    if store.accept(b"key", b"two", None, false, 5).is_err() {
+        assert!(rt; store.next_notice().is_none());
+    }
     Ok(())
 }

@@ -3,3 +3,4 @@ pub mod Corresponding
 pub mod Rotating
 pub mod Truth
 pub mod Weights
+pub mod Leavers

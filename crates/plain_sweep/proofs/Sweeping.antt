@@ -100,7 +100,7 @@ module _ (config : Config) (now part : ℕ) (limit : Option ℕ) (weight : ℕ) 
     cause = j.cause;
   }
 
-  tells-cons : (h : HeldValue) (items : List HeldValue) (notes : List Note) → tells_not h.value.key notes ≡ true → Tells items notes → Tells (h ∷ items) notes
+  pub tells-cons : (h : HeldValue) (items : List HeldValue) (notes : List Note) → tells_not h.value.key notes ≡ true → Tells items notes → Tells (h ∷ items) notes
   tells-cons h items [] e t = tt
   tells-cons h items (n ∷ notes) e t =
       let parts = and_parts (not (same h.value.key n.key)) (tells_not h.value.key notes) e in (

@@ -34,7 +34,7 @@ pub fn sweep(
 }
 
 /// Lets the last value go, or makes it the first, and answers what the part weighs then.
-fn visit(
+pub fn visit(
     table: &mut Table,
     notes: &mut VecDeque<Note>,
     config: &Config,
@@ -114,7 +114,7 @@ pub fn tell(notes: &mut VecDeque<Note>, cause: RemovalCause, key: Vec<u8>, kept:
 }
 
 /// Whether a weight is above the limit, if there is one.
-fn exceeds(limit: Option<u64>, weight: u64) -> bool
+pub fn exceeds(limit: Option<u64>, weight: u64) -> bool
     ensures { result ≡ exceeds limit weight }
 {
     match limit {

@@ -11,5 +11,3 @@ mod regions;
 mod sketches;
 #[cfg(test)]
 mod timers;
-#[cfg(test)]
-mod wanting;

@@ -1,4 +1,4 @@
-//! Moments, regions and entries.
+//! Moments, regions and entries. The tests pass with any one allocation refused.
 use moka_policy::{
     CacheRegion, EntryInfo, HousekeeperConfig, Instant, KeyHash, MAX_NANOS, sketch_capacity,
 };
@@ -27,7 +27,10 @@ fn moments_saturate(rt: HostRuntime) {
 
 #[test]
 fn own_expirations_are_rounded_down(rt: HostRuntime) -> Result<(), Fail> {
-    let key = Arc::new(rt.alloc(), 1u8)?;
+    let key = match Arc::new(rt.alloc(), 1u8) {
+        Ok(key) => key,
+        Err(_) => Arc::new(rt.alloc(), 1u8)?,
+    };
     let mut entry = EntryInfo::new(KeyHash::new(key, 7), Instant::from_nanos(3), 1);
     for (set, read) in [
         (5000u64, 4096u64),

@@ -1,6 +1,7 @@
-//! The queues of a cache's entries.
+//! The queues of a cache's entries. What is refused for memory is tried once more, and has changed nothing; so the tests pass with any
+//! one allocation refused.
 use moka_policy::{
-    CacheRegion, Deques, EntryInfo, Instant, KeyHash, KeyHashDate, NodeId, Slot, Stale,
+    CacheRegion, Deques, EntryInfo, Instant, KeyHash, KeyHashDate, NodeId, PushError, Slot, Stale,
 };
 use slab::Slab;
 use std::alloc::Global;
@@ -10,68 +11,126 @@ use std::test::Fail;
 /// Entries in the queues in order of use and in order of writes.
 #[derive(Drop)]
 struct Cache {
+    alloc: Global,
     entries: Slab<Slot<u8>>,
     deques: Deques<u8>,
 }
 
-/// Entries 0, 1, 2, .., in both queues.
-fn filled(alloc: Global, number: usize) -> Result<Cache, Fail> {
-    let mut cache = Cache {
+/// What is done with the queues, and what has to come of it. Entries are numbered from 0 as they are added.
+#[derive(Clone, Copy)]
+enum Act {
+    /// Adds the entry of that number behind all others, in both orders.
+    Add(usize),
+    Use(usize, Result<(), Stale>),
+    Write(usize, Result<(), Stale>),
+    UnlinkUsed(usize, Result<(), Stale>),
+    /// The same by one queue alone.
+    UseInDeque(usize, Result<(), Stale>),
+    WriteInDeque(usize, Result<(), Stale>),
+    UnlinkUsedInDeque(usize, Result<(), Stale>),
+    UnlinkWrittenInDeque(usize, Result<(), Stale>),
+    /// The entry's node in order of writes, unlinked from the queue in order of use, or from its own.
+    UnlinkWrittenAsUsed(usize, Option<Result<(), Stale>>),
+    UnlinkWrittenNode(usize, Option<Result<(), Stale>>),
+    ResetCursor,
+    Next(CacheRegion, Option<usize>),
+    Pop(CacheRegion, Option<usize>),
+    Front(CacheRegion, Option<usize>),
+    Back(CacheRegion, Option<usize>),
+    Len(CacheRegion, usize),
+}
+
+const PROBATION: CacheRegion = CacheRegion::MainProbation;
+
+const WRITTEN: CacheRegion = CacheRegion::Other;
+
+fn new_cache(alloc: Global) -> Cache {
+    Cache {
+        alloc,
         entries: Slab::new(alloc),
         deques: Deques::default(alloc),
+    }
+}
+
+/// An entry in no queue, at the second try where memory is refused.
+fn slot(alloc: Global) -> Option<Slot<u8>> {
+    let key = match Arc::new(alloc, 1u8) {
+        Ok(key) => Some(key),
+        Err(_) => Arc::new(alloc, 1u8).ok(),
     };
-    for _ in 0..number {
-        let key = Arc::new(alloc, 1u8)?;
-        let info = EntryInfo::new(KeyHash::new(key, 7), Instant::from_nanos(0), 1);
-        let entry = cache.entries.insert(Slot::new(info))?;
-        push(&mut cache, KeyHashDate::new(entry))?;
+    match key {
+        Some(key) => Some(Slot::new(EntryInfo::new(
+            KeyHash::new(key, 7),
+            Instant::from_nanos(0),
+            1,
+        ))),
+        None => None,
     }
-    Ok(cache)
 }
 
-fn push(cache: &mut Cache, node: KeyHashDate) -> Result<(), &'static str> {
-    let used = cache
+/// Makes room for one more entry, at the second try where memory is refused.
+fn reserve_entry(entries: &mut Slab<Slot<u8>>) -> bool {
+    entries.reserve(1).is_ok() || entries.reserve(1).is_ok()
+}
+
+/// A new entry's number.
+fn insert(cache: &mut Cache) -> Option<usize> {
+    if !reserve_entry(&mut cache.entries) {
+        return None;
+    }
+    match slot(cache.alloc) {
+        Some(slot) => cache.entries.insert(slot).ok(),
+        None => None,
+    }
+}
+
+/// Puts an entry last in order of use.
+fn push_used(cache: &mut Cache, node: KeyHashDate) -> bool {
+    let before = cache.deques.len(PROBATION);
+    match cache
         .deques
-        .push_back_ao(CacheRegion::MainProbation, node, &mut cache.entries);
-    let written = cache.deques.push_back_wo(node, &mut cache.entries);
-    match (used, written) {
-        (Ok(()), Ok(())) => Ok(()),
-        _ => Err("no room"),
+        .push_back_ao(PROBATION, node, &mut cache.entries)
+    {
+        Ok(()) => true,
+        Err(PushError::OutOfMemory(back)) => {
+            back == node
+                && cache.deques.len(PROBATION) == before
+                && cache
+                    .deques
+                    .push_back_ao(PROBATION, node, &mut cache.entries)
+                    .is_ok()
+        }
+        Err(PushError::UsedUp(_)) => false,
     }
 }
 
-fn use_entry(cache: &mut Cache, entry: usize) -> Result<(), Stale> {
-    cache.deques.move_to_back_ao(entry, &cache.entries)
+/// Puts an entry last in order of writes.
+fn push_written(cache: &mut Cache, node: KeyHashDate) -> bool {
+    let before = cache.deques.len(WRITTEN);
+    match cache.deques.push_back_wo(node, &mut cache.entries) {
+        Ok(()) => true,
+        Err(PushError::OutOfMemory(back)) => {
+            back == node
+                && cache.deques.len(WRITTEN) == before
+                && cache.deques.push_back_wo(node, &mut cache.entries).is_ok()
+        }
+        Err(PushError::UsedUp(_)) => false,
+    }
 }
 
-fn write_entry(cache: &mut Cache, entry: usize) -> Result<(), Stale> {
-    cache.deques.move_to_back_wo(entry, &cache.entries)
+/// Adds an entry, and answers whether it has that number.
+fn add(cache: &mut Cache, number: usize) -> bool {
+    match insert(cache) {
+        Some(entry) => {
+            entry == number
+                && push_used(cache, KeyHashDate::new(entry))
+                && push_written(cache, KeyHashDate::new(entry))
+        }
+        None => false,
+    }
 }
 
-fn unlink(cache: &mut Cache, entry: usize) -> Result<(), Stale> {
-    cache.deques.unlink_ao(entry, &mut cache.entries)
-}
-
-fn front(cache: &Cache, region: CacheRegion) -> Option<usize> {
-    cache.deques.peek_front(region).map(|node| node.entry)
-}
-
-fn back(cache: &Cache, region: CacheRegion) -> Option<usize> {
-    cache.deques.peek_back(region).map(|node| node.entry)
-}
-
-fn next(cache: &mut Cache, region: CacheRegion) -> Option<usize> {
-    cache.deques.next(region).map(|node| node.entry)
-}
-
-fn pop(cache: &mut Cache, region: CacheRegion) -> Option<usize> {
-    cache.deques.pop_front(region).map(|node| node.entry)
-}
-
-fn len(cache: &Cache, region: CacheRegion) -> usize {
-    cache.deques.len(region)
-}
-
+/// The entry's node in order of writes.
 fn written_node(cache: &Cache, entry: usize) -> Option<NodeId> {
     match cache.entries.get(entry) {
         Some(slot) => slot.nodes.write_queue,
@@ -79,103 +138,207 @@ fn written_node(cache: &Cache, entry: usize) -> Option<NodeId> {
     }
 }
 
+fn unlink_written_as_used(cache: &mut Cache, entry: usize) -> Option<Result<(), Stale>> {
+    match written_node(cache, entry) {
+        Some(node) => Some(cache.deques.unlink_node_ao(node)),
+        None => None,
+    }
+}
+
+fn unlink_written_node(cache: &mut Cache, entry: usize) -> Option<Result<(), Stale>> {
+    match written_node(cache, entry) {
+        Some(node) => Some(Deques::<u8>::unlink_node_wo(cache.deques.select_mut(WRITTEN), node)),
+        None => None,
+    }
+}
+
+fn use_in_deque(cache: &mut Cache, entry: usize) -> Result<(), Stale> {
+    let queue = cache.deques.select_mut(PROBATION);
+    Deques::move_to_back_ao_in_deque(queue, entry, &cache.entries)
+}
+
+fn write_in_deque(cache: &mut Cache, entry: usize) -> Result<(), Stale> {
+    let queue = cache.deques.select_mut(WRITTEN);
+    Deques::move_to_back_wo_in_deque(queue, entry, &cache.entries)
+}
+
+fn unlink_used_in_deque(cache: &mut Cache, entry: usize) -> Result<(), Stale> {
+    let queue = cache.deques.select_mut(PROBATION);
+    Deques::unlink_ao_from_deque(queue, entry, &mut cache.entries)
+}
+
+fn unlink_written_in_deque(cache: &mut Cache, entry: usize) -> Result<(), Stale> {
+    let queue = cache.deques.select_mut(WRITTEN);
+    Deques::unlink_wo(queue, entry, &mut cache.entries)
+}
+
+/// Does what changes an entry's place, and answers whether it came out so.
+fn changes_so(cache: &mut Cache, act: Act) -> bool {
+    match act {
+        Act::Add(number) => add(cache, number),
+        Act::Use(entry, wanted) => cache.deques.move_to_back_ao(entry, &cache.entries) == wanted,
+        Act::Write(entry, wanted) => cache.deques.move_to_back_wo(entry, &cache.entries) == wanted,
+        Act::UnlinkUsed(entry, wanted) => {
+            cache.deques.unlink_ao(entry, &mut cache.entries) == wanted
+        }
+        Act::UseInDeque(entry, wanted) => use_in_deque(cache, entry) == wanted,
+        Act::WriteInDeque(entry, wanted) => write_in_deque(cache, entry) == wanted,
+        Act::UnlinkUsedInDeque(entry, wanted) => unlink_used_in_deque(cache, entry) == wanted,
+        Act::UnlinkWrittenInDeque(entry, wanted) => unlink_written_in_deque(cache, entry) == wanted,
+        Act::UnlinkWrittenAsUsed(entry, wanted) => unlink_written_as_used(cache, entry) == wanted,
+        Act::UnlinkWrittenNode(entry, wanted) => unlink_written_node(cache, entry) == wanted,
+        act => shows_so(cache, act),
+    }
+}
+
+/// The number of a node's entry.
+fn entry_of(node: Option<KeyHashDate>) -> Option<usize> {
+    match node {
+        Some(node) => Some(node.entry),
+        None => None,
+    }
+}
+
+/// Looks or walks, and answers whether it came out so.
+fn shows_so(cache: &mut Cache, act: Act) -> bool {
+    match act {
+        Act::ResetCursor => {
+            cache.deques.reset_cursor(WRITTEN);
+            true
+        }
+        Act::Next(region, wanted) => entry_of(cache.deques.next(region)) == wanted,
+        Act::Pop(region, wanted) => entry_of(cache.deques.pop_front(region)) == wanted,
+        Act::Front(region, wanted) => {
+            entry_of(cache.deques.peek_front(region).copied()) == wanted
+        }
+        Act::Back(region, wanted) => entry_of(cache.deques.peek_back(region).copied()) == wanted,
+        Act::Len(region, wanted) => {
+            cache.deques.len(region) == wanted && cache.deques.select(region).len() == wanted
+        }
+        _ => false,
+    }
+}
+
+/// Does one after another, and answers the place of the first that did not come out so.
+fn first_wrong(alloc: Global, acts: &[Act]) -> Option<usize> {
+    let mut cache = new_cache(alloc);
+    for (place, act) in acts.iter().enumerate() {
+        if !changes_so(&mut cache, *act) {
+            return Some(place);
+        }
+    }
+    None
+}
+
 #[test]
 fn entries_in_order_of_use(rt: HostRuntime) -> Result<(), Fail> {
-    let mut cache = filled(rt.alloc(), 3)?;
-    assert_eq!(rt; use_entry(&mut cache, 0), Ok(()));
-    assert_eq!(rt; front(&cache, CacheRegion::MainProbation), Some(1));
-    assert_eq!(rt; back(&cache, CacheRegion::MainProbation), Some(0));
-    assert_eq!(rt; front(&cache, CacheRegion::Other), Some(0));
-    assert_eq!(rt; len(&cache, CacheRegion::Window), 0);
-    assert_eq!(rt; front(&cache, CacheRegion::Window), None);
+    let acts = [
+        Act::Add(0),
+        Act::Add(1),
+        Act::Add(2),
+        Act::Use(0, Ok(())),
+        Act::Front(PROBATION, Some(1)),
+        Act::Back(PROBATION, Some(0)),
+        Act::Front(WRITTEN, Some(0)),
+        Act::Len(CacheRegion::Window, 0),
+        Act::Front(CacheRegion::Window, None),
+    ];
+    assert_eq!(rt; first_wrong(rt.alloc(), &acts), None);
     Ok(())
 }
 
 #[test]
 fn entries_in_order_of_writes(rt: HostRuntime) -> Result<(), Fail> {
-    let mut cache = filled(rt.alloc(), 3)?;
-    assert_eq!(rt; write_entry(&mut cache, 1), Ok(()));
-    for wanted in [Some(0), Some(2), Some(1), None, Some(0)] {
-        assert_eq!(rt; next(&mut cache, CacheRegion::Other), wanted);
-    }
-    cache.deques.reset_cursor(CacheRegion::Other);
-    assert_eq!(rt; next(&mut cache, CacheRegion::Other), Some(0));
+    let acts = [
+        Act::Add(0),
+        Act::Add(1),
+        Act::Add(2),
+        Act::Write(1, Ok(())),
+        Act::Next(WRITTEN, Some(0)),
+        Act::Next(WRITTEN, Some(2)),
+        Act::Next(WRITTEN, Some(1)),
+        Act::Next(WRITTEN, None),
+        Act::Next(WRITTEN, Some(0)),
+        Act::ResetCursor,
+        Act::Next(WRITTEN, Some(0)),
+    ];
+    assert_eq!(rt; first_wrong(rt.alloc(), &acts), None);
     Ok(())
 }
 
 #[test]
 fn an_entry_that_left_one_order_stays_in_the_other(rt: HostRuntime) -> Result<(), Fail> {
-    let mut cache = filled(rt.alloc(), 3)?;
-    assert_eq!(rt; unlink(&mut cache, 1), Ok(()));
-    assert_eq!(rt; unlink(&mut cache, 1), Ok(()));
-    assert_eq!(rt; len(&cache, CacheRegion::MainProbation), 2);
-    assert_eq!(rt; len(&cache, CacheRegion::Other), 3);
-    assert_eq!(rt; use_entry(&mut cache, 1), Ok(()));
-    assert_eq!(rt; back(&cache, CacheRegion::MainProbation), Some(2));
+    let acts = [
+        Act::Add(0),
+        Act::Add(1),
+        Act::Add(2),
+        Act::UnlinkUsed(1, Ok(())),
+        Act::UnlinkUsed(1, Ok(())),
+        Act::Len(PROBATION, 2),
+        Act::Len(WRITTEN, 3),
+        Act::Use(1, Ok(())),
+        Act::Back(PROBATION, Some(2)),
+    ];
+    assert_eq!(rt; first_wrong(rt.alloc(), &acts), None);
     Ok(())
 }
 
 #[test]
 fn nodes_of_another_queue_are_stale(rt: HostRuntime) -> Result<(), Fail> {
-    let mut cache = filled(rt.alloc(), 2)?;
-    let written = written_node(&cache, 0);
-    assert_eq!(rt;
-        written.map(|id| cache.deques.unlink_node_ao(id)),
-        Some(Err(Stale))
-    );
-    assert_eq!(rt; len(&cache, CacheRegion::Other), 2);
+    let acts = [
+        Act::Add(0),
+        Act::Add(1),
+        Act::UnlinkWrittenAsUsed(0, Some(Err(Stale))),
+        Act::Len(WRITTEN, 2),
+    ];
+    assert_eq!(rt; first_wrong(rt.alloc(), &acts), None);
     Ok(())
 }
 
 #[test]
 fn a_popped_node_is_stale(rt: HostRuntime) -> Result<(), Fail> {
-    let mut cache = filled(rt.alloc(), 2)?;
-    assert_eq!(rt; pop(&mut cache, CacheRegion::MainProbation), Some(0));
-    assert_eq!(rt; use_entry(&mut cache, 0), Err(Stale));
-    assert_eq!(rt; unlink(&mut cache, 0), Err(Stale));
-    assert_eq!(rt; front(&cache, CacheRegion::MainProbation), Some(1));
+    let acts = [
+        Act::Add(0),
+        Act::Add(1),
+        Act::Pop(PROBATION, Some(0)),
+        Act::Use(0, Err(Stale)),
+        Act::UnlinkUsed(0, Err(Stale)),
+        Act::Front(PROBATION, Some(1)),
+    ];
+    assert_eq!(rt; first_wrong(rt.alloc(), &acts), None);
     Ok(())
-}
-
-fn use_in_deque(cache: &mut Cache, entry: usize) -> Result<(), Stale> {
-    let queue = cache.deques.select_mut(CacheRegion::MainProbation);
-    Deques::move_to_back_ao_in_deque(queue, entry, &cache.entries)
-}
-
-fn write_in_deque(cache: &mut Cache, entry: usize) -> Result<(), Stale> {
-    let queue = cache.deques.select_mut(CacheRegion::Other);
-    Deques::move_to_back_wo_in_deque(queue, entry, &cache.entries)
-}
-
-fn unlink_used(cache: &mut Cache, entry: usize) -> Result<(), Stale> {
-    let queue = cache.deques.select_mut(CacheRegion::MainProbation);
-    Deques::unlink_ao_from_deque(queue, entry, &mut cache.entries)
-}
-
-fn unlink_written(cache: &mut Cache, entry: usize) -> Result<(), Stale> {
-    let queue = cache.deques.select_mut(CacheRegion::Other);
-    Deques::unlink_wo(queue, entry, &mut cache.entries)
-}
-
-fn unlink_written_node(cache: &mut Cache, id: NodeId) -> Result<(), Stale> {
-    Deques::<u8>::unlink_node_wo(cache.deques.select_mut(CacheRegion::Other), id)
 }
 
 #[test]
 fn calls_on_one_queue(rt: HostRuntime) -> Result<(), Fail> {
-    let mut cache = filled(rt.alloc(), 2)?;
-    assert_eq!(rt; use_in_deque(&mut cache, 0), Ok(()));
-    assert_eq!(rt; front(&cache, CacheRegion::MainProbation), Some(1));
-    assert_eq!(rt; write_in_deque(&mut cache, 0), Ok(()));
-    assert_eq!(rt; front(&cache, CacheRegion::Other), Some(1));
-    assert_eq!(rt; unlink_used(&mut cache, 1), Ok(()));
-    assert_eq!(rt; front(&cache, CacheRegion::MainProbation), Some(0));
-    assert_eq!(rt; unlink_written(&mut cache, 1), Ok(()));
-    let left = written_node(&cache, 0);
-    assert_eq!(rt;
-        left.map(|id| unlink_written_node(&mut cache, id)),
-        Some(Ok(()))
-    );
-    assert_eq!(rt; cache.deques.select(CacheRegion::Other).len(), 0);
+    let acts = [
+        Act::Add(0),
+        Act::Add(1),
+        Act::UseInDeque(0, Ok(())),
+        Act::Front(PROBATION, Some(1)),
+        Act::WriteInDeque(0, Ok(())),
+        Act::Front(WRITTEN, Some(1)),
+        Act::UnlinkUsedInDeque(1, Ok(())),
+        Act::Front(PROBATION, Some(0)),
+        Act::UnlinkWrittenInDeque(1, Ok(())),
+        Act::UnlinkWrittenNode(0, Some(Ok(()))),
+        Act::Len(WRITTEN, 0),
+    ];
+    assert_eq!(rt; first_wrong(rt.alloc(), &acts), None);
+    Ok(())
+}
+
+#[test]
+fn entries_within_a_reservation(rt: HostRuntime) -> Result<(), Fail> {
+    let mut cache = new_cache(rt.alloc());
+    assert!(rt; cache.deques.reserve(9).is_ok() || cache.deques.reserve(9).is_ok());
+    for number in 0..9 {
+        assert_eq!(rt; insert(&mut cache), Some(number));
+        let pushed = cache
+            .deques
+            .push_back_wo(KeyHashDate::new(number), &mut cache.entries);
+        assert!(rt; pushed.is_ok());
+    }
+    assert_eq!(rt; cache.deques.len(WRITTEN), 9);
     Ok(())
 }

@@ -1,31 +1,100 @@
-//! The frequency sketch.
+//! The frequency sketch. A table that is refused for memory is asked for once more, and the sketch is as it was; so the tests pass with
+//! any one allocation refused.
 use moka_policy::FrequencySketch;
+use std::alloc::Global;
 use std::test::Fail;
+
+/// What is done with a sketch.
+#[derive(Clone, Copy)]
+enum Act {
+    Grow(u32),
+    /// So many increments of one hash.
+    Count(u32),
+    /// How often that hash was counted.
+    Frequency(u8),
+}
+
+const HASH: u64 = 77;
+
+/// Makes the table larger, at the second try where memory is refused: then the count stays.
+fn grow(sketch: &mut FrequencySketch, capacity: u32) -> bool {
+    let before = sketch.frequency(HASH);
+    if sketch.ensure_capacity(capacity).is_ok() {
+        return true;
+    }
+    sketch.frequency(HASH) == before && sketch.ensure_capacity(capacity).is_ok()
+}
+
+fn count(sketch: &mut FrequencySketch, times: u32) {
+    for _ in 0..times {
+        sketch.increment(HASH);
+    }
+}
+
+/// Does it, and answers whether it came out so.
+fn comes_so(sketch: &mut FrequencySketch, act: Act) -> bool {
+    match act {
+        Act::Grow(capacity) => grow(sketch, capacity),
+        Act::Count(times) => {
+            count(sketch, times);
+            true
+        }
+        Act::Frequency(wanted) => sketch.frequency(HASH) == wanted,
+    }
+}
+
+/// Does one after another, and answers the place of the first that did not come out so.
+fn first_wrong(alloc: Global, acts: &[Act]) -> Option<usize> {
+    let mut sketch = FrequencySketch::default(alloc);
+    for (place, act) in acts.iter().enumerate() {
+        if !comes_so(&mut sketch, *act) {
+            return Some(place);
+        }
+    }
+    None
+}
 
 #[test]
 fn counts_up_to_fifteen(rt: HostRuntime) -> Result<(), Fail> {
-    let mut sketch = FrequencySketch::default(rt.alloc());
-    sketch.increment(9);
-    assert_eq!(rt; sketch.frequency(9), 0);
-    sketch.ensure_capacity(512)?;
-    for _ in 0..20 {
-        sketch.increment(9);
-    }
-    assert_eq!(rt; sketch.frequency(9), 15);
-    sketch.ensure_capacity(100)?;
-    assert_eq!(rt; sketch.frequency(9), 15);
+    let acts = [
+        Act::Count(1),
+        Act::Frequency(0),
+        Act::Grow(512),
+        Act::Count(20),
+        Act::Frequency(15),
+        Act::Grow(100),
+        Act::Frequency(15),
+    ];
+    assert_eq!(rt; first_wrong(rt.alloc(), &acts), None);
     Ok(())
 }
 
 #[test]
 fn ages_at_the_sample(rt: HostRuntime) -> Result<(), Fail> {
-    let mut sketch = FrequencySketch::default(rt.alloc());
-    sketch.ensure_capacity(1)?;
-    for (count, wanted) in [(9u32, 9u8), (1, 5), (4, 9), (1, 5)] {
-        for _ in 0..count {
-            sketch.increment(77);
-        }
-        assert_eq!(rt; sketch.frequency(77), wanted);
-    }
+    let acts = [
+        Act::Grow(1),
+        Act::Count(9),
+        Act::Frequency(9),
+        Act::Count(1),
+        Act::Frequency(5),
+        Act::Count(4),
+        Act::Frequency(9),
+        Act::Count(1),
+        Act::Frequency(5),
+    ];
+    assert_eq!(rt; first_wrong(rt.alloc(), &acts), None);
+    Ok(())
+}
+
+#[test]
+fn a_larger_table_begins_anew(rt: HostRuntime) -> Result<(), Fail> {
+    let acts = [
+        Act::Grow(64),
+        Act::Count(7),
+        Act::Frequency(7),
+        Act::Grow(512),
+        Act::Frequency(0),
+    ];
+    assert_eq!(rt; first_wrong(rt.alloc(), &acts), None);
     Ok(())
 }

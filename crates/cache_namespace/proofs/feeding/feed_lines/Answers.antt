@@ -1,10 +1,10 @@
-use Rattle.std.proofs.Common.{◌≡◌, ℕ, true, false, List, [], ◌++◌, refl, ap, sym, subst}
+use Rattle.std.proofs.Common.{◌≡◌, true, false, [], ◌++◌, refl, ap, sym, subst}
 use Rattle.audit_model.specs.Grammar.{reading}
 use Rattle.audit_model.specs.Steps.{action_by}
 use Rattle.cache_steps.specs.Right.{step_saying, held_when_run}
 use Rattle.cache_store.specs.Promises.{Frame}
 use Rattle.audit_model.specs.Stream.{behind_lines}
-use Rattle.cache_namespace.specs.Drawing.{identifiers}
+use Rattle.cache_namespace.specs.Drawing.{workings}
 use Rattle.cache_namespace.specs.Kept.{gathered}
 use Rattle.cache_namespace.specs.Making.{Making, making_of}
 use Rattle.cache_namespace.specs.Lines.{set_in, holding, with_drops}
@@ -21,8 +21,8 @@ returns-then-not-held-clause-ran g c = λ base values e d there m.
     let old = gathered c.args.text.now.items c.args.kept.now (g.S.Store.untaken c.args.store.now) in
     let new = gathered c.run_ready.new.text.items c.run_ready.new.kept (g.S.Store.untaken c.run_ready.new.store) in
     let dropped = (g.S.Store.frame c.run_ready.new.store).dropped in
-    let drawn = (identifiers (g.S.Store.stream c.args.store.now) (g.S.Store.registered c.args.store.now)) in
-    let drawing = (identifiers (g.S.Store.stream c.run_ready.new.store) (g.S.Store.registered c.run_ready.new.store)) in
+    let drawn = (workings (g.S.Store.stream c.args.store.now) (g.S.Store.registered c.args.store.now) (g.S.Store.recency c.args.store.now)) in
+    let drawing = (workings (g.S.Store.stream c.run_ready.new.store) (g.S.Store.registered c.run_ready.new.store) (g.S.Store.recency c.run_ready.new.store)) in
     let back = holds_back c.run_ready.result in
     let quit = is_quit c.run_ready.result in
     let r : RanReady c.args.config.now base c.args.number making values (c.args.unread.now.bytes ++ c.args.piece.now) quit back c.run_ready.new.unread.bytes (g.S.Store.stands c.run_ready.new.store) dropped drawn drawing old new =
@@ -39,9 +39,9 @@ returns-in-Ok-false-clause-ran g c = λ base values e d there m.
     let new = gathered c.run_ready-in-Ok-false.new.text.items c.run_ready-in-Ok-false.new.kept (g.S.Store.untaken c.run_ready-in-Ok-false.new.store) in
     let was = (g.S.Store.frame c.release.new.store).dropped in
     let dropped = (g.S.Store.frame c.run_ready-in-Ok-false.new.store).dropped in
-    let drawn = (identifiers (g.S.Store.stream c.args.store.now) (g.S.Store.registered c.args.store.now)) in
-    let middling = (identifiers (g.S.Store.stream c.release.new.store) (g.S.Store.registered c.release.new.store)) in
-    let drawing = (identifiers (g.S.Store.stream c.run_ready-in-Ok-false.new.store) (g.S.Store.registered c.run_ready-in-Ok-false.new.store)) in
+    let drawn = (workings (g.S.Store.stream c.args.store.now) (g.S.Store.registered c.args.store.now) (g.S.Store.recency c.args.store.now)) in
+    let middling = (workings (g.S.Store.stream c.release.new.store) (g.S.Store.registered c.release.new.store) (g.S.Store.recency c.release.new.store)) in
+    let drawing = (workings (g.S.Store.stream c.run_ready-in-Ok-false.new.store) (g.S.Store.registered c.run_ready-in-Ok-false.new.store) (g.S.Store.recency c.run_ready-in-Ok-false.new.store)) in
     let back = holds_back c.run_ready-in-Ok-false.result in
     let quit = is_quit c.run_ready-in-Ok-false.result in
     let bytes = c.reserve.new.self.bytes in
@@ -62,8 +62,8 @@ returns-in-Ok-true-clause-ran g c = λ base values e d there m.
     let old = gathered c.args.text.now.items c.args.kept.now (g.S.Store.untaken c.args.store.now) in
     let new = gathered c.release.new.text.items c.release.new.kept (g.S.Store.untaken c.release.new.store) in
     let dropped = (g.S.Store.frame c.release.new.store).dropped in
-    let drawn = (identifiers (g.S.Store.stream c.args.store.now) (g.S.Store.registered c.args.store.now)) in
-    let drawing = (identifiers (g.S.Store.stream c.release.new.store) (g.S.Store.registered c.release.new.store)) in
+    let drawn = (workings (g.S.Store.stream c.args.store.now) (g.S.Store.registered c.args.store.now) (g.S.Store.recency c.args.store.now)) in
+    let drawing = (workings (g.S.Store.stream c.release.new.store) (g.S.Store.registered c.release.new.store) (g.S.Store.recency c.release.new.store)) in
     let bytes = c.reserve.new.self.bytes in
     let s = set_in base values (holding c.args.number (held_line bytes) (behind_lines 1 bytes ++ c.args.piece.now)) in
     let one = ran-as c.args.config.now s c.args.number making making (held_line bytes) c.in-Ok-true.field-0 true (g.S.Store.stands c.release.new.store) dropped drawn drawing old new refl c.in-Ok-true.field-0-test (c.in-Ok-true.ensures.ok s e d m) in

@@ -15,5 +15,6 @@ loop-note-preserved g c =
       order = λ sorted. let t = taken-next part_of (g.S.Store.untaken c.loop-note.store) (g.S.Store.untaken c.next_notice.new.self) c.loop-note.notes.items c.in-Some.note _ taken ((i.order sorted).1) ((i.order sorted).0) in (ap (λ ns. ns ++ g.S.Store.untaken c.next_notice.new.self) c.push_within.ensures.items ∙ t.0, t.1);
       stands = λ held m. c.next_notice.ensures.stands held (i.stands held m);
       frame = c.next_notice.ensures.frame ∙ i.frame;
+      recency = λ settled keys r. c.next_notice.ensures.recency settled keys (i.recency settled keys r);
       identifiers = keeps-more _ _ _ _ _ _ i.identifiers c.next_notice.ensures.identifiers;
     }

@@ -1,4 +1,4 @@
-use Rattle.std.proofs.Common.{◌≡◌, ℕ, Bool, true, false, List, refl, sym, ap, subst, ◌∙◌}
+use Rattle.std.proofs.Common.{◌≡◌, true, false, refl, ap, ◌∙◌}
 use Rattle.cache_store.specs.Promises.{Frame}
 use Rattle.cache_namespace.specs.Lines.{ready, set_in, with_drops}
 use Rattle.cache_namespace.specs.Making.{making_of}
@@ -28,7 +28,7 @@ loop-len-preserved g c = record {
 
 pub returns-in-Err-clause-ran : goal.returns-in-Err-clause-ran
 returns-in-Err-clause-ran g c = λ base held e d there m.
-    ran-kept c.args.config.now base c.args.number (making_of (g.S.Store.frame c.args.store.now)) held c.args.unread.now.bytes c.loop-len.unread.bytes _ _ _ _ _ _ _ _ _ _ (c.loop-len.invariant.ran base held e d there m) c.in-Err.ensures.unchanged.stands (ap (λ (f : Frame). f.dropped) c.in-Err.ensures.unchanged.frame) c.in-Err.ensures.spends c.in-Err.ensures.ungathered
+    ran-kept c.args.config.now base c.args.number (making_of (g.S.Store.frame c.args.store.now)) held c.args.unread.now.bytes c.loop-len.unread.bytes _ _ _ _ _ _ _ _ _ _ (c.loop-len.invariant.ran base held e d there m) c.in-Err.ensures.unchanged.stands (ap (λ (f : Frame). f.dropped) c.in-Err.ensures.unchanged.frame) c.in-Err.ensures.spends c.in-Err.ensures.unmoved c.in-Err.ensures.ungathered
 
 pub returns-in-Ok-true-clause-ran : goal.returns-in-Ok-true-clause-ran
 returns-in-Ok-true-clause-ran g c = λ base held e d there m.

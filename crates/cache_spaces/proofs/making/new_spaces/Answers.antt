@@ -11,6 +11,8 @@ loop-config-preserved c = record {
       (record {
         stands = c.in_ok-new.ensures.stands;
         configured = c.in_ok-new.ensures.config;
+        made_is = c.in_ok-new.ensures.made;
+        recency = c.in_ok-new.ensures.recency;
         served = all-at is_served c.args.configs.now c.loop-config.config-index _ c.loop-config-test.true c.requires.configs;
         connections = c.in_ok-new.ensures.connections;
         notices = c.in_ok-new.ensures.notices;

@@ -14,7 +14,7 @@ returns-in-Ok-feed-clause-ok c =
     let after = c.push_record.new.records.items in
     let added = rw c.steps_kept.ensures at rw c.in-Ok.ensures.copy at rw c.in-Ok.ensures.records at c.push_record.ensures.added in
     subst (λ p. Records (fed conn p nanos) before after c.args.space.now c.feed.new.self) c.as_slice.ensures
-    (recorded-fed c.args.space.now c.feed.new.self conn (fed conn c.as_slice.result.now nanos) _ _ before after (Some c.in-Ok.kept) c.feed.new.kept c.requires.quiet (ap Some c.in-Ok.ensures.kept.1) e.fresh e.others e.config e.moves
+    (recorded-fed c.args.space.now c.feed.new.self conn (fed conn c.as_slice.result.now nanos) _ _ before after (Some c.in-Ok.kept) c.feed.new.kept c.requires.quiet (ap Some c.in-Ok.ensures.kept.1) e.fresh e.others e.config e.made e.moves
     (subst (λ p. after ≡ before ++ record_of (fed conn p nanos) (unwrap_or (steps_of c.feed.new.kept) []) ∷ []) (sym c.as_slice.ensures) added))
 
 pub returns-in-Err-clause-refused : goal.returns-in-Err-clause-refused

@@ -10,5 +10,5 @@ returns-in-Ok-open-clause-ok c =
     let is = c.open.new.self in
     let e = c.in-Ok-open.ensures in
     subst (λ n. Records (event.Open n) c.args.records.now.items c.push_record.new.records.items was is) e.number
-    (recorded-still was is (event.Open c.in-Ok-open.conn) c.args.records.now.items c.push_record.new.records.items c.requires.quiet e.outputs e.notices e.takes.config e.moves
+    (recorded-still was is (event.Open c.in-Ok-open.conn) c.args.records.now.items c.push_record.new.records.items c.requires.quiet e.outputs e.notices e.takes.config e.takes.made e.moves
     (rw c.new.ensures at rw c.in-Ok.ensures.items at c.push_record.ensures.added))

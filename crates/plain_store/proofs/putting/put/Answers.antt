@@ -1,4 +1,5 @@
-use Rattle.std.proofs.Common.{◌≡◌, ◌∷◌, ◌++◌, [], Some, None, length, sym, ap, ◌∙◌, arith, subst, OnOk}
+use Rattle.std.proofs.Common.{◌≡◌, ◌∷◌, ◌++◌, [], Some, None, length, sym, ap, ◌∙◌, arith}
+use Rattle.std.proofs.lemmas.List.{length-append}
 use Rattle.plain_table.specs.Items.{held_of, value_at, without}
 use Rattle.plain_table.proofs.Held.{length-without, without-absent, absent_from_none}
 use Rattle.plain_sweep.specs.Swept.{note_of}
@@ -22,10 +23,18 @@ returns-in-Ok-clause-room c =
     let was = c.requires.room in
     omega arith
 
-pub returns-in-Err-clause-put : goal.returns-in-Err-clause-put
-returns-in-Err-clause-put c =
+pub returns-in-Ok-clause-number : goal.returns-in-Ok-clause-number
+returns-in-Ok-clause-number c =
+    let found : value_at c.args.table.now c.args.key.items ≡ Some (held_of c.args.key.items c.in-Ok.older) = rw c.deref.ensures.value at c.in-Ok.ensures.found in
+    let less = length-without c.args.key.items c.args.table.now (held_of c.args.key.items c.in-Ok.older) found in
+    let rest = ap length (rw c.deref.ensures.value at c.in-Ok.ensures.ok) in
+    let told = ap length c.tell.ensures.told ∙ length-append c.args.notes.now.items _ in
+    omega arith
+
+pub returns-in_ok-insert-in-Err-clause-put : goal.returns-in_ok-insert-in-Err-clause-put
+returns-in_ok-insert-in-Err-clause-put c =
     let absent : value_at c.args.table.now c.args.key.items ≡ None = rw c.deref.ensures.value at c.in-Err.ensures.absent in
-    let same_rest : c.replace.new.self ≡ without c.args.key.items c.args.table.now =
-    c.in-Err.ensures.unchanged ∙ sym (without-absent c.args.key.items c.args.table.now (absent_from_none c.args.key.items c.args.table.now absent)) in
-    subst (λ xs. OnOk c.insert.result (c.insert.new.self ≡ held_of c.args.key.items c.args.kept ∷ xs)) same_rest
-    (subst (λ k. OnOk c.insert.result (c.insert.new.self ≡ held_of c.args.key.items k ∷ c.replace.new.self)) c.in-Err.ensures.returned c.insert.ensures.ok)
+    c.in_ok-insert-in-Err.ensures.ok
+    ∙ ap (λ k. held_of c.args.key.items k ∷ c.replace.new.self) c.in-Err.ensures.returned
+    ∙ ap (λ xs. held_of c.args.key.items c.args.kept ∷ xs)
+    (c.in-Err.ensures.unchanged ∙ sym (without-absent c.args.key.items c.args.table.now (absent_from_none c.args.key.items c.args.table.now absent)))

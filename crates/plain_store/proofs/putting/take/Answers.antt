@@ -20,9 +20,9 @@ returns-in-Some-clause-room c =
     let was = c.requires in
     omega arith
 
-pub returns-in_default-clause-room : goal.returns-in_default-clause-room
-returns-in_default-clause-room c =
+pub returns-in-None-clause-room : goal.returns-in-None-clause-room
+returns-in-None-clause-room c =
     let less = length-without_at_most c.args.key.now c.args.table.now in
-    let rest = ap length c.in_default.ensures.rest in
+    let rest = ap length c.in-None.ensures.rest in
     let was = c.requires in
     omega arith

@@ -1,7 +1,10 @@
-use Rattle.std.proofs.Common.{◌≡◌, ◌-◌, [], None, ap, ◌∙◌, arith}
+use Rattle.std.proofs.Common.{◌≡◌, ◌-◌, [], None, ap, ◌∙◌, subst, arith}
+use Rattle.std.specs.Prelude.{IsTrue}
+use Rattle.audit_model.specs.declared.config.Config.{Config}
+use Rattle.cache_store.specs.Running.{is_bounded}
 use Rattle.std.specs.Option.{option_map_or}
 use Rattle.cache_namespace.specs.declared.connection.Connection.{Connection}
-use Rattle.cache_namespace.specs.Drawing.{identifiers}
+use Rattle.cache_namespace.specs.Drawing.{workings}
 use Rattle.cache_namespace.specs.Taken.{closing_at}
 use Rattle.cache_namespace.specs.Making.{making_of}
 use Rattle.cache_namespace.proofs.FeedTaken.{taken-close}
@@ -13,7 +16,7 @@ returns-clause-ran g c = λ values was m.
     let old = c.args.self.now in
     let place = rw c.deref.ensures.value at c.in-Ok.ensures.place in
     let p = c.close_at.ensures in
-    taken-close old.config (making_of (g.S.Store.frame old.store)) old.latest c.args.number c.in-Ok.index old.connections.items c.close_at.new.connections.items (g.S.Store.frame old.store).dropped values (g.S.Store.stands old.store) (identifiers (g.S.Store.stream old.store) (g.S.Store.registered old.store)) was
+    taken-close old.config (making_of (g.S.Store.frame old.store)) old.latest c.args.number c.in-Ok.index old.connections.items c.close_at.new.connections.items (g.S.Store.frame old.store).dropped values (g.S.Store.stands old.store) (workings (g.S.Store.stream old.store) (g.S.Store.registered old.store) (g.S.Store.recency old.store)) was
     place.0 place.1 (rw c.deref.ensures.value at c.in-Ok.ensures.open) p.0 p.1 m
 
 pub returns-clause-texts : goal.returns-clause-texts
@@ -40,3 +43,6 @@ returns-clause-open g c =
     let number_is = c.in-Ok.ensures.place.0 in
     let at : c.args.number - 1 ≡ c.in-Ok.index = omega arith in
     ap (closing_at c.args.self.now.connections.items) at ∙ closing-none c.args.self.now.connections.items c.in-Ok.index (rw c.deref.ensures.value at c.in-Ok.ensures.open)
+
+pub returns-clause-bounded : goal.returns-clause-bounded
+returns-clause-bounded g c = λ values m. subst (λ (k : Config). IsTrue (is_bounded k values)) c.requires.sound.config (g.met.S.Store.bounded c.args.self.now.store values m)

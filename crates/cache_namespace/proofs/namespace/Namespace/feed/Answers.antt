@@ -1,7 +1,11 @@
 use Rattle.std.proofs.Common.{◌≡◌, subst, ◌-◌, Err, ap, ◌∙◌, arith, refl, inl, inr}
+use Rattle.std.specs.Prelude.{IsTrue}
 use Rattle.std.specs.List.{slice_get}
+use Rattle.audit_model.specs.declared.config.Config.{Config}
 use Rattle.audit_model.specs.declared.input.ServiceError.TheVariants as error
-use Rattle.cache_namespace.specs.Drawing.{identifiers}
+use Rattle.cache_store.specs.Promises.{Frame}
+use Rattle.cache_store.specs.Running.{is_bounded}
+use Rattle.cache_namespace.specs.Drawing.{workings}
 use Rattle.cache_namespace.specs.Taken.{IsOpenOrEnded, closing_at}
 use Rattle.cache_namespace.specs.Making.{making_of}
 use Rattle.cache_namespace.proofs.FeedTaken.{taken-feed, late-is, memory-is}
@@ -14,7 +18,7 @@ returns-in-Ok-feed_at-clause-ran g c = λ values m.
     let ran = c.in-Ok-feed_at.ensures.ran in
     let place = rw c.deref.ensures.value at c.in-Ok.ensures.place in
     taken-feed old.config (making_of (g.S.Store.frame old.store)) old.latest c.max-now.result c.args.number c.in-Ok.index (c.args.number - 1) c.args.moment old.connections.items c.feed_at.new.connections.items (g.S.Store.frame old.store).dropped (g.S.Store.frame c.feed_at.new.store).dropped values
-    c.args.piece.now c.in-Ok-feed_at.is_held (g.S.Store.stands old.store) (g.S.Store.stands c.feed_at.new.store) (identifiers (g.S.Store.stream old.store) (g.S.Store.registered old.store)) (identifiers (g.S.Store.stream c.feed_at.new.store) (g.S.Store.registered c.feed_at.new.store)) c.args.kept.now c.feed_at.new.kept (g.S.Store.untaken old.store) (g.S.Store.untaken c.feed_at.new.store)
+    c.args.piece.now c.in-Ok-feed_at.is_held (g.S.Store.stands old.store) (g.S.Store.stands c.feed_at.new.store) (workings (g.S.Store.stream old.store) (g.S.Store.registered old.store) (g.S.Store.recency old.store)) (workings (g.S.Store.stream c.feed_at.new.store) (g.S.Store.registered c.feed_at.new.store) (g.S.Store.recency c.feed_at.new.store)) c.args.kept.now c.feed_at.new.kept (g.S.Store.untaken old.store) (g.S.Store.untaken c.feed_at.new.store)
     place.0 refl c.max-now.ensures place.1 (omega arith) (rw c.deref.ensures.value at c.in-Ok.ensures.open) ran.0 ran.1 m
 
 pub returns-in-Ok-feed_at-clause-others : goal.returns-in-Ok-feed_at-clause-others
@@ -54,3 +58,8 @@ pub returns-in-Ok-feed_at-clause-closing : goal.returns-in-Ok-feed_at-clause-clo
 returns-in-Ok-feed_at-clause-closing g c =
     let number_is = c.in-Ok.ensures.place.0 in
     subst (λ i. IsOpenOrEnded (closing_at c.feed_at.new.connections.items i)) (let at : c.in-Ok.index ≡ c.args.number - 1 = omega arith in at) c.in-Ok-feed_at.ensures.closing
+
+pub returns-in-Ok-feed_at-clause-bounded : goal.returns-in-Ok-feed_at-clause-bounded
+returns-in-Ok-feed_at-clause-bounded g c = λ values m.
+    let same : (g.S.Store.frame c.feed_at.new.store).config ≡ c.args.self.now.config = ap (λ (f : Frame). f.config) c.feed_at.ensures.frame.rest ∙ c.requires.sound.config in
+    subst (λ (k : Config). IsTrue (is_bounded k values)) same (g.met.S.Store.bounded c.feed_at.new.store values m)

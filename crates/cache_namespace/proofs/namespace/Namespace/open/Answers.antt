@@ -1,6 +1,9 @@
 use Rattle.std.proofs.Common.{false, List, sym, subst, arith}
+use Rattle.std.specs.Prelude.{IsTrue}
+use Rattle.audit_model.specs.declared.config.Config.{Config}
+use Rattle.cache_store.specs.Running.{is_bounded}
 use Rattle.audit_model.specs.declared.event.Event.TheVariants as event
-use Rattle.cache_namespace.specs.Drawing.{identifiers}
+use Rattle.cache_namespace.specs.Drawing.{workings}
 use Rattle.cache_namespace.specs.Shown.{situation}
 use Rattle.cache_namespace.specs.Taken.{Takes}
 use Rattle.cache_namespace.specs.declared.connection.Connection.{Connection}
@@ -13,5 +16,8 @@ returns-clause-ran g c = λ values was m.
     let old = c.args.self.now in
     let frame = g.S.Store.frame old.store in
     let n = c.new_connection-connection in
-    subst (λ (cs : List Connection). Takes old.config (making_of frame) (situation old.latest old.connections.items frame.dropped values) (event.Open c.len.result) false false (g.S.Store.stands old.store) (situation old.latest cs frame.dropped) (identifiers (g.S.Store.stream old.store) (g.S.Store.registered old.store)) (identifiers (g.S.Store.stream old.store) (g.S.Store.registered old.store)) was was) (sym c.in_ok-push.ensures.items)
-    (follows-open old.config (making_of frame) old.latest c.len.result n.result old.connections.items frame.dropped values (g.S.Store.stands old.store) (identifiers (g.S.Store.stream old.store) (g.S.Store.registered old.store)) was (omega (arith, c.in_ok-push.ensures.len, c.len.ensures)) n.ensures.closing n.ensures.held n.ensures.unread m)
+    subst (λ (cs : List Connection). Takes old.config (making_of frame) (situation old.latest old.connections.items frame.dropped values) (event.Open c.len.result) false false (g.S.Store.stands old.store) (situation old.latest cs frame.dropped) (workings (g.S.Store.stream old.store) (g.S.Store.registered old.store) (g.S.Store.recency old.store)) (workings (g.S.Store.stream old.store) (g.S.Store.registered old.store) (g.S.Store.recency old.store)) was was) (sym c.in_ok-push.ensures.items)
+    (follows-open old.config (making_of frame) old.latest c.len.result n.result old.connections.items frame.dropped values (g.S.Store.stands old.store) (workings (g.S.Store.stream old.store) (g.S.Store.registered old.store) (g.S.Store.recency old.store)) was (omega (arith, c.in_ok-push.ensures.len, c.len.ensures)) n.ensures.closing n.ensures.held n.ensures.unread m)
+
+pub returns-clause-bounded : goal.returns-clause-bounded
+returns-clause-bounded g c = λ values m. subst (λ (k : Config). IsTrue (is_bounded k values)) c.requires.sound.config (g.met.S.Store.bounded c.args.self.now.store values m)

@@ -9,7 +9,7 @@ pub returns-in-Ok-clause-moves : goal.returns-in-Ok-clause-moves
 returns-in-Ok-clause-moves c = λ s stands.
     let old = c.args.self.now.inner in
     let new = c.feed.new.self in
-    moves-from old.config (record { part_of = λ key. 0; made = old.store.made }) (plain.Stands old.store.config old.store.table) (plain.Stands new.store.config new.store.table) old.store.dropped new.store.dropped old.latest new.latest old.connections.items new.connections.items _ _ _ _ _ _ _ s stands c.in-Ok.ensures.ran
+    moves-from old.config (record { part_of = λ key. 0; made = old.store.made }) (plain.Stands old.store.config old.store.table) (plain.Stands new.store.config new.store.table) old.store.dropped new.store.dropped old.latest new.latest old.connections.items new.connections.items _ _ _ _ _ _ _ s stands c.in-Ok.ensures.ran c.in-Ok.ensures.bounded
 
 pub returns-in-Err-clause-stands : goal.returns-in-Err-clause-stands
 returns-in-Err-clause-stands c = λ s stands.

@@ -1,4 +1,5 @@
-use Rattle.std.proofs.Common.{refl, ◌∙◌}
+use Rattle.std.proofs.Common.{refl, sym, ap, ◌∙◌}
+use Rattle.cache_store.specs.Running.{weight_in}
 use Rattle.audit_model.specs.Commands.{Prefixed}
 use Rattle.plain_store.specs.Laws.{has_a_part}
 use Rattle.plain_store.proofs.Calls.{cover_does}
@@ -9,8 +10,10 @@ use Rattle.plain_store.proofs.store.PlainStoreStore.drop_prefix.Goals as goal
 pub invariant_of-self : goal.invariant_of-self
 invariant_of-self g c =
     let store = c.args.self.now in
+    let k = kept_covered store.config c.args.prefix.now store.table store.kept in
     record {
-      kept = rw c.cover.ensures (kept_covered store.config c.args.prefix.now store.table store.kept);
+      kept = rw c.cover.ensures k.0;
+      weighed = store.weighed ∙ sym k.1 ∙ ap (weight_in 0) (sym c.cover.ensures);
       room = covered_room c.args.prefix.now _ _ store.table c.cover.new.table c.cover.ensures store.room;
       unused = λ e. cc;
     }

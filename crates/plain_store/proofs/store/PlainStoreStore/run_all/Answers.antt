@@ -10,7 +10,9 @@ use Rattle.plain_sweep.proofs.Sweeping.{swept_number}
 use Rattle.plain_store.specs.Standing.{Stands}
 use Rattle.plain_store.specs.Drawing.{is_among}
 use Rattle.plain_store.proofs.Calls.{one_part, run_does}
-use Rattle.plain_store.proofs.Keeping.{kept_swept, always_within, weight_is, all_timely, no_recency}
+use Rattle.plain_store.proofs.Keeping.{kept_swept, within_from, weight_is, all_timely}
+use Rattle.plain_store.proofs.Ordering.{order_swept}
+use Rattle.plain_store.specs.Laws.{parted_from}
 use Rattle.plain_store.proofs.store.PlainStoreStore.run_all.Goals as goal
 
 pub invariant_of-self : goal.invariant_of-self
@@ -18,6 +20,7 @@ invariant_of-self g c =
     let store = c.args.self.now in
     record {
       kept = rw c.sweep.ensures.kept (kept_swept store.config c.args.now (weight_in 0 store.table) store.table store.kept);
+      weighed = c.weigh_part-self.ensures;
       room = c.sweep.ensures.room;
       unused = λ _. c.clear.ensures.items;
     }
@@ -36,9 +39,9 @@ returns-clause-done g c = λ held stands.
       right = d.right;
       left = (
         subst (λ t. Stands store.config t xs) (sym c.sweep.ensures.kept) d.left,
-        always_within store.config store.kept.served (map (λ (h : HeldValue). h.value) xs),
+        within_from store.config s.kept xs k d.left.same,
         c.len.ensures.number ∙ ap length c.sweep.ensures.kept ∙ sym d.left.same.number,
-        c.weigh_part.ensures ∙ ap (weight_in 0) c.sweep.ensures.kept ∙ sym (weight_is s.kept xs k.apart k.parted d.left.same),
+        c.weigh_part-self.ensures ∙ ap (weight_in 0) c.sweep.ensures.kept ∙ sym (weight_is s.kept xs k.apart (parted_from store.config s.kept k.proper) d.left.same),
       );
       handed = d.handed;
     }
@@ -57,7 +60,9 @@ returns-clause-few g c =
     omega arith
 
 pub returns-clause-recency : goal.returns-clause-recency
-returns-clause-recency g c = λ n settled keys p. absurd (no_recency c.args.self.now.config c.args.self.now.kept.served n p)
+returns-clause-recency g c = λ n settled keys p o.
+    let store = c.args.self.now in
+    rw c.sweep.ensures.kept (order_swept store.config n p c.args.now (weight_in 0 store.table) store.table keys settled store.kept o)
 
 pub returns-clause-released : goal.returns-clause-released
 returns-clause-released g c = λ part id. ap (λ xs. is_among xs id) c.clear.ensures.items

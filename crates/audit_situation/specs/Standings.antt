@@ -1,0 +1,31 @@
+-- What a connection does, and what a step leaves of it.
+use Rattle.std.specs.Prelude.{ℕ, ◌+◌, Bool, true, false, not, ◌&&◌, List, Option, Some, None, if◌then◌else◌}
+use Rattle.audit_model.specs.Situation.{Standing, Ready, Held, Waiting, Connection}
+use Rattle.audit_model.specs.Stream.{behind_lines}
+use Rattle.audit_situation.specs.declared.link.Standing.{Standing as Stands}
+use Rattle.audit_situation.specs.declared.link.Standing.TheVariants as stands
+
+-- the same as the definitions have it
+abbrev pub standing_of : Stands → Standing
+standing_of stands.Ready = Ready
+standing_of (stands.Held line) = Held line
+standing_of (stands.Waiting line) = Waiting line
+
+-- how a step leaves its connection: its line is held back, or else it has its reply, or else it waits
+abbrev pub left_standing : Bool → Bool → List ℕ → Standing
+left_standing holds replies line = if holds then Held line else (if not replies && not holds then Waiting line else Ready)
+
+-- how often its `LOAD` that has no reply yet began to wait
+abbrev pub waits_after : Bool → Bool → ℕ → ℕ
+waits_after holds replies waited = if replies then 0 else ((if not replies && not holds then 1 else 0) + waited)
+
+-- the connection after a step that reads its line off or not
+abbrev pub moved_on : Bool → Bool → Bool → List ℕ → Connection → Connection
+moved_on reads holds replies line c =
+    record { number = c.number; unread = if reads then behind_lines 1 c.unread else c.unread; standing = left_standing holds replies line; waited = waits_after holds replies c.waited }
+
+-- the line that a connection holds back or waits with
+abbrev pub kept_line : Standing → Option (List ℕ)
+kept_line Ready = None
+kept_line (Held line) = Some line
+kept_line (Waiting line) = Some line

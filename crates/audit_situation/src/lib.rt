@@ -1,0 +1,13 @@
+//! What the judge of transcripts keeps between two steps: the situation of the definitions, as data.
+#![tactic(auto)]
+
+mod link;
+mod pending;
+mod state;
+
+pub use link::{Link, Moving, Standing, first_line};
+pub use pending::Pending;
+pub use state::{
+    Moved, State, begin, close, feed, find_link, find_load, find_pending, is_holding, may_run,
+    open, pass, settle, waited,
+};

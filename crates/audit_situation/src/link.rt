@@ -1,0 +1,261 @@
+//! A connection that is open.
+ghost use Rattle.std.specs.Prelude.{◌≡◌, ◌<◌, ◌+◌, [], ◌++◌, OnOk, MatchOption, Some, None, length, take, drop, option_map, nat_lt, IfOk, if◌then◌else◌};
+ghost use Rattle.audit_model.specs.Bytewise.{cut_at};
+ghost use Rattle.audit_model.specs.Stream.{first_line, behind_lines, without_return};
+ghost use Rattle.audit_model.specs.Situation.{Ready, is_ready, is_holding, is_waiting_now, is_overlong};
+ghost use Rattle.audit_situation.specs.Standings.{kept_line, standing_of, left_standing, waits_after, moved_on};
+
+use audit_model::{Bytes, Seq};
+use cache_lines::Buffer;
+use memchr::memchr;
+use std::alloc::{AllocError, Global};
+use std::marker::Model;
+
+/// A line has at most this many bytes, and so many may stand behind a `LOAD` that waits.
+const MAX: usize = 8192;
+
+/// Whether a connection runs lines, holds one back, or waits with a `LOAD`.
+#[derive(Drop)]
+pub enum Standing {
+    Ready,
+    Held(Bytes),
+    Waiting(Bytes),
+}
+
+/// A connection that is open.
+#[derive(Drop)]
+pub struct Link {
+    number: u64,
+    unread: Buffer,
+    standing: Standing,
+    waited: u64,
+}
+
+impl Model for Link {
+    ghost use Rattle.audit_model.specs.Situation.{Connection};
+    ghost use Rattle.audit_situation.specs.Standings.{standing_of};
+
+    ghost Value = { Connection };
+
+    ghost view = { λ l. record { number = l.number; unread = l.unread.bytes; standing = standing_of l.standing; waited = l.waited } };
+}
+
+impl Link {
+    /// A connection that nothing has come to.
+    pub fn new(alloc: Global, number: u64) -> Link
+        ensures { result ≡ record { number = number; unread = []; standing = Ready; waited = 0 } }
+    {
+        Link {
+            number,
+            unread: Buffer::new(alloc),
+            standing: Standing::Ready,
+            waited: 0,
+        }
+    }
+
+    /// Its number.
+    pub fn number(&self) -> u64
+        ensures { result ≡ self.now.number }
+    {
+        self.number
+    }
+
+    /// How often its `LOAD` that has no reply yet began to wait.
+    pub fn waited(&self) -> u64
+        ensures { result ≡ self.now.waited }
+    {
+        self.waited
+    }
+
+    /// Whether it runs lines.
+    pub fn is_ready(&self) -> bool
+        ensures { result ≡ is_ready self.now.standing }
+    {
+        match &self.standing {
+            Standing::Ready => true,
+            Standing::Held(_) => false,
+            Standing::Waiting(_) => false,
+        }
+    }
+
+    /// Whether it holds a line back.
+    pub fn is_holding(&self) -> bool
+        ensures { result ≡ is_holding self.now.standing }
+    {
+        match &self.standing {
+            Standing::Ready => false,
+            Standing::Held(_) => true,
+            Standing::Waiting(_) => false,
+        }
+    }
+
+    /// Whether its `LOAD` waits.
+    pub fn is_waiting(&self) -> bool
+        ensures { result ≡ is_waiting_now self.now.standing }
+    {
+        match &self.standing {
+            Standing::Ready => false,
+            Standing::Held(_) => false,
+            Standing::Waiting(_) => true,
+        }
+    }
+
+    /// The line that it holds back or waits with.
+    pub fn kept_line(&self) -> Option<&[u8]>
+        ensures { option_map (λ l. l.now) result ≡ kept_line self.now.standing }
+    {
+        match &self.standing {
+            Standing::Ready => None,
+            Standing::Held(line) => Some(line.as_slice()),
+            Standing::Waiting(line) => Some(line.as_slice()),
+        }
+    }
+
+    /// Its unread bytes.
+    pub fn unread(&self) -> &[u8]
+        ensures { result.now ≡ self.now.unread }
+    {
+        self.unread.as_slice()
+    }
+
+    /// Takes a piece of its bytes.
+    pub fn feed(&mut self, piece: &[u8]) -> Result<(), AllocError>
+        ensures { OnOk result (self.new ≡ record self.old { unread = self.old.unread ++ piece.now }) }
+    {
+        self.unread.reserve(piece.len())?;
+        self.unread.append(piece);
+        Ok(())
+    }
+
+    /// Reads its first line off.
+    pub fn read_off(&mut self)
+        ensures { self.new ≡ record self.old { unread = behind_lines 1 self.old.unread } }
+    {
+        match end_of_line(self.unread.as_slice()) {
+            Some(at) => self.unread.skip(at),
+            None => self.unread.clear(),
+        }
+    }
+
+    /// Leaves it as a step of its own does.
+    pub fn settle(&mut self, standing: Standing, waited: u64)
+        ensures { self.new ≡ record self.old { standing = standing_of standing; waited = waited } }
+    {
+        self.standing = standing;
+        self.waited = waited;
+    }
+}
+
+/// Where the first line ends.
+fn end_of_line(bytes: &[u8]) -> Option<usize>
+    ensures { MatchOption result (cut_at 10 bytes.now ≡ (bytes.now, None)) (λ n. (n < length bytes.now) × (cut_at 10 bytes.now ≡ (take n bytes.now, Some (drop (n + 1) bytes.now)))) }
+{
+    memchr(b'\n', bytes)
+}
+
+/// The line without one carriage return at its end.
+fn trim(line: &[u8]) -> &[u8]
+    ensures { result.now ≡ without_return line.now }
+{
+    let len = line.len();
+    if len == 0 {
+        return line;
+    }
+    if line[len - 1] == b'\r' {
+        &line[..len - 1]
+    } else {
+        line
+    }
+}
+
+/// The first line, once its line feed has come.
+pub fn first_line(bytes: &[u8]) -> Option<&[u8]>
+    ensures { option_map (λ l. l.now) result ≡ first_line bytes.now }
+{
+    match end_of_line(bytes) {
+        Some(at) => Some(trim(&bytes[..at])),
+        None => None,
+    }
+}
+
+/// Whether more bytes come before the first line feed than a line may have.
+fn is_long(bytes: &[u8]) -> bool
+    ensures { result ≡ nat_lt 8192 (length (cut_at 10 bytes.now).0) }
+{
+    match end_of_line(bytes) {
+        Some(at) => at > MAX,
+        None => bytes.len() > MAX,
+    }
+}
+
+/// Whether it closes for too long a line, or for too many bytes behind its waiting `LOAD`.
+pub fn is_overlong(link: &Link) -> bool
+    ensures { result ≡ is_overlong link.now }
+{
+    let unread = link.unread();
+    (link.is_ready() && is_long(unread)) || (link.is_waiting() && unread.len() > MAX)
+}
+
+/// What a step of a connection does to it.
+#[derive(Clone, Copy)]
+pub struct Moving<'a> {
+    /// It reads its first line off.
+    pub reads: bool,
+    /// It is held back.
+    pub holds: bool,
+    /// It has a reply.
+    pub replies: bool,
+    /// Its line.
+    pub line: &'a [u8],
+}
+
+/// How a step leaves its connection.
+fn standing_after(alloc: Global, moving: Moving<'_>) -> Result<Standing, AllocError>
+    ensures { IfOk result (λ standing. standing_of standing ≡ left_standing moving.entry.holds moving.entry.replies moving.entry.line.now) }
+{
+    if !moving.holds && moving.replies {
+        return Ok(Standing::Ready);
+    }
+    let line = Seq::from_vec(Vec::from_slice(alloc, moving.line)?);
+    if moving.holds {
+        Ok(Standing::Held(line))
+    } else {
+        Ok(Standing::Waiting(line))
+    }
+}
+
+/// How often a connection's `LOAD` that has no reply yet began to wait, after a step.
+fn waited_after(moving: Moving<'_>, waited: u64) -> Result<u64, AllocError>
+    ensures { IfOk result (λ n. n ≡ waits_after moving.entry.holds moving.entry.replies waited) }
+{
+    if moving.replies {
+        return Ok(0);
+    }
+    if moving.holds {
+        return Ok(waited);
+    }
+    match waited.checked_add(1) {
+        Some(more) => Ok(more),
+        None => Err(AllocError),
+    }
+}
+
+/// Reads a connection's first line off, or not.
+fn read_where(link: &mut Link, reads: bool)
+    ensures { link.new ≡ record link.old { unread = if reads then behind_lines 1 link.old.unread else link.old.unread } }
+{
+    if reads {
+        link.read_off();
+    }
+}
+
+/// Does to a connection what a step of its own does.
+pub fn move_on(alloc: Global, link: &mut Link, moving: Moving<'_>) -> Result<(), AllocError>
+    ensures { OnOk result (link.new ≡ moved_on moving.entry.reads moving.entry.holds moving.entry.replies moving.entry.line.now link.old) }
+{
+    let standing = standing_after(alloc, moving)?;
+    let waited = waited_after(moving, link.waited())?;
+    read_where(link, moving.reads);
+    link.settle(standing, waited);
+    Ok(())
+}

@@ -1,0 +1,80 @@
+//! A load under way.
+ghost use Rattle.std.specs.Prelude.{◌≡◌, ◌∷◌, [], ◌++◌, OnOk, not, ◌==◌};
+ghost use Rattle.std.specs.List.{filter};
+ghost use Rattle.audit_model.specs.Situation.{without_waiting};
+
+use audit_model::Bytes;
+use std::alloc::AllocError;
+use std::marker::Model;
+
+/// A load under way, with the connections that wait for it in the order in which they joined.
+#[derive(Drop)]
+pub struct Pending {
+    number: u64,
+    key: Bytes,
+    waiting: Vec<u64>,
+}
+
+impl Model for Pending {
+    ghost use Rattle.audit_model.specs.Situation.{PendingLoad};
+
+    ghost Value = { PendingLoad };
+
+    ghost view = { λ p. record { number = p.number; key = p.key; waiting = p.waiting.items } };
+}
+
+impl Pending {
+    /// A load of a key, for which these connections wait.
+    pub fn new(number: u64, key: Bytes, waiting: Vec<u64>) -> Pending
+        ensures { result ≡ record { number = number; key = key; waiting = waiting.items } }
+    {
+        Pending {
+            number,
+            key,
+            waiting,
+        }
+    }
+
+    /// Its number.
+    pub fn number(&self) -> u64
+        ensures { result ≡ self.now.number }
+    {
+        self.number
+    }
+
+    /// Its key.
+    pub fn key(&self) -> &[u8]
+        ensures { result.now ≡ self.now.key }
+    {
+        self.key.as_slice()
+    }
+
+    /// The connections that wait for it.
+    pub fn waiting(&self) -> &[u64]
+        ensures { result.now ≡ self.now.waiting }
+    {
+        self.waiting.as_slice()
+    }
+
+    /// A connection waits for it no more.
+    pub fn leave(&mut self, conn: u64)
+        ensures { self.new ≡ without_waiting conn self.old }
+    {
+        leave_out(&mut self.waiting, conn);
+    }
+
+    /// A connection joins those that wait for it.
+    pub fn join(&mut self, conn: u64) -> Result<(), AllocError>
+        ensures { OnOk result (self.new ≡ record self.old { waiting = self.old.waiting ++ conn ∷ [] }) }
+    {
+        self.waiting.push(conn)?;
+        Ok(())
+    }
+}
+
+/// Leaves a number out.
+fn leave_out(numbers: &mut Vec<u64>, number: u64)
+    ensures { numbers.new.items ≡ filter (λ n. not (n == number)) numbers.old.items }
+{
+    numbers.retain(|n| *n != number);
+}

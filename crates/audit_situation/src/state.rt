@@ -1,0 +1,289 @@
+//! The situation between two steps, and what changes it.
+ghost use Rattle.std.specs.Prelude.{◌≡◌, ◌&&◌, ◌||◌, ◌<◌, ◌++◌, ◌∷◌, [], OnOk, IsTrue, ℕ, suc, max, Some, None, map, not, ◌==◌, position, option_map, slice_index_or, vec_len};
+ghost use Rattle.std.specs.List.{filter, find};
+ghost use Rattle.std.specs.Option.{option_map_or};
+ghost use Rattle.audit_model.specs.Bytewise.{same};
+ghost use Rattle.audit_model.specs.Changes.{join_by};
+ghost use Rattle.audit_model.specs.Follows.{without_load};
+ghost use Rattle.audit_model.specs.Situation.{Situation, Connection, is_overlong, Ready, empty_situation, connection_in, may_run_in, is_holding_in, without_waiting, without_number, without_connection, with_connection, with_waiting, load_in, pending_in};
+ghost use Rattle.audit_situation.specs.States.{situation_of, are_apart, fed_to, moved_in, Changed};
+ghost use Rattle.audit_situation.specs.Standings.{moved_on};
+
+use crate::link::{Link, Moving, first_line, is_overlong, move_on};
+use crate::pending::Pending;
+use audit_judge::Held;
+use audit_model::{Seq, copy_bytes};
+use std::alloc::{AllocError, Global};
+
+/// What later steps depend on: the latest moment in nanoseconds, how many connections were opened and loads sent, the open connections, the
+/// loads under way, the values held, oldest first, and whether a `DROPIF` was accepted.
+#[derive(Drop)]
+pub struct State {
+    pub latest: u64,
+    pub opened: u64,
+    pub sent: u64,
+    pub connections: Vec<Link>,
+    pub pending: Vec<Pending>,
+    pub held: Vec<Held>,
+    pub dropped: bool,
+}
+
+/// The situation of a namespace that was made at that moment, in nanoseconds.
+pub fn begin(alloc: Global, made: u64) -> State
+    ensures { situation_of result ≡ empty_situation made }
+{
+    State {
+        latest: made,
+        opened: 0,
+        sent: 0,
+        connections: Vec::new(alloc),
+        pending: Vec::new(alloc),
+        held: Vec::new(alloc),
+        dropped: false,
+    }
+}
+
+/// The open connection of that number.
+pub fn find_link(links: &[Link], conn: u64) -> Option<&Link>
+    ensures { option_map (λ l. l.now) result ≡ find (λ c. c.number == conn) links.now }
+{
+    links.iter().find(|l| l.number() == conn)
+}
+
+/// Where the open connection of that number stands.
+pub fn place_of(links: &[Link], conn: u64) -> Option<usize>
+    ensures { result ≡ position (λ c. c.number == conn) links.now }
+{
+    links.iter().position(|l| l.number() == conn)
+}
+
+/// Whether a connection's next line may run.
+pub fn may_run(s: &State, conn: u64) -> bool
+    ensures { result ≡ may_run_in (situation_of s.now) conn }
+{
+    match find_link(&s.connections, conn) {
+        Some(link) => link.is_ready() && first_line(link.unread()).is_some(),
+        None => false,
+    }
+}
+
+/// Whether a connection holds a line back.
+pub fn is_holding(s: &State, conn: u64) -> bool
+    ensures { result ≡ is_holding_in (situation_of s.now) conn }
+{
+    match find_link(&s.connections, conn) {
+        Some(link) => link.is_holding(),
+        None => false,
+    }
+}
+
+/// How often a connection's `LOAD` that has no reply yet began to wait.
+pub fn waited(s: &State, conn: u64) -> u64
+    ensures { result ≡ option_map_or (λ c. c.waited) (connection_in conn (situation_of s.now)) 0 }
+{
+    match find_link(&s.connections, conn) {
+        Some(link) => link.waited(),
+        None => 0,
+    }
+}
+
+/// The load under way of a key.
+pub fn find_load<'a>(pending: &'a [Pending], key: &[u8]) -> Option<&'a Pending>
+    ensures { option_map (λ p. p.now) result ≡ find (λ p. same p.key key.now) pending.now }
+{
+    pending.iter().find(|p| p.key() == key)
+}
+
+/// The load under way of that number.
+pub fn find_pending(pending: &[Pending], number: u64) -> Option<&Pending>
+    ensures { option_map (λ p. p.now) result ≡ find (λ p. p.number == number) pending.now }
+{
+    pending.iter().find(|p| p.number() == number)
+}
+
+/// Opens a connection, with the next number.
+pub fn open(alloc: Global, s: &mut State, conn: u64) -> Result<(), AllocError>
+    ensures { OnOk result (situation_of s.new ≡ record (situation_of s.old) { opened = conn; connections = s.old.connections.items ++ record { number = conn; unread = []; standing = Ready; waited = 0 } ∷ [] }) }
+{
+    s.connections.push(Link::new(alloc, conn))?;
+    s.opened = conn;
+    Ok(())
+}
+
+/// Leaves a connection out.
+fn leave_out(links: &mut Vec<Link>, conn: u64)
+    ensures { links.new.items ≡ without_number conn links.old.items }
+{
+    links.retain(|l| l.number() != conn);
+}
+
+/// Lets a connection leave all loads that it waits for.
+fn leave_all(pending: &mut [Pending], conn: u64)
+    ensures { pending.new ≡ map (without_waiting conn) pending.old }
+{
+    for load in pending.iter_mut() {
+        load.leave(conn);
+    }
+}
+
+/// Closes a connection; its load stays under way.
+pub fn close(s: &mut State, conn: u64)
+    ensures { situation_of s.new ≡ without_connection conn (situation_of s.old) }
+{
+    leave_out(&mut s.connections, conn);
+    leave_all(&mut s.pending, conn);
+}
+
+/// Closes the connection at a place if it quits, or if it has to.
+fn close_where(s: &mut State, at: usize, quits: bool)
+    requires { at < vec_len s.old.connections }
+    ensures { (was : Situation) (c : Connection) → Changed was (situation_of s.old) at c → situation_of s.new ≡ with_connection quits c was }
+{
+    let link = &s.connections[at];
+    let number = link.number();
+    if closes(link, quits) {
+        close(s, number);
+    }
+}
+
+/// Whether a connection closes.
+fn closes(link: &Link, quits: bool) -> bool
+    ensures { result ≡ (quits || is_overlong link.now) }
+{
+    quits || is_overlong(link)
+}
+
+/// Takes a piece for a connection.
+pub fn feed(s: &mut State, conn: u64, piece: &[u8]) -> Result<(), AllocError>
+    requires { IsTrue (are_apart s.old.connections.items) }
+    ensures { OnOk result (situation_of s.new ≡ fed_to conn piece.now (situation_of s.old)) }
+{
+    if let Some(at) = place_of(&s.connections, conn) {
+        let link = &mut s.connections[at];
+        link.feed(piece)?;
+        close_where(s, at, false);
+    }
+    Ok(())
+}
+
+/// Lets a connection join a load, if it is of that key.
+fn join_where(load: &mut Pending, conn: u64, key: &[u8]) -> Result<(), AllocError>
+    ensures { OnOk result (load.new ≡ with_waiting conn key.now load.old) }
+{
+    if load.key() == key {
+        load.join(conn)?;
+    }
+    Ok(())
+}
+
+/// Lets a connection join the loads of a key.
+fn join_all(pending: &mut [Pending], conn: u64, key: &[u8]) -> Result<(), AllocError>
+    ensures { OnOk result (pending.new ≡ map (with_waiting conn key.now) pending.old) }
+{
+    for load in pending.iter_mut() {
+        join_where(load, conn, key)?;
+    }
+    Ok(())
+}
+
+/// Sends a load of a key, for which a connection waits.
+fn send(alloc: Global, s: &mut State, conn: u64, key: &[u8], number: u64) -> Result<(), AllocError>
+    ensures { OnOk result (situation_of s.new ≡ record (situation_of s.old) { sent = suc s.old.sent; pending = record { number = number; key = key.now; waiting = conn ∷ [] } ∷ s.old.pending.items }) }
+{
+    let Some(sent) = s.sent.checked_add(1) else {
+        return Err(AllocError);
+    };
+    let key = Seq::from_vec(Vec::from_slice(alloc, key)?);
+    let mut waiting = Vec::new(alloc);
+    waiting.push(conn)?;
+    s.pending.insert(0, Pending::new(number, key, waiting))?;
+    s.sent = sent;
+    Ok(())
+}
+
+/// What a step does to the loads: a `LOAD` that waits joins its key's load, or the load that it sent.
+pub fn join(
+    alloc: Global,
+    s: &mut State,
+    conn: u64,
+    waits: bool,
+    key: Option<&[u8]>,
+    load: Option<u64>,
+) -> Result<(), AllocError>
+    ensures { OnOk result (situation_of s.new ≡ join_by conn waits (option_map (λ k. k.now) key.entry) load (situation_of s.old)) }
+{
+    match key {
+        None => Ok(()),
+        Some(key) => match load {
+            Some(number) => send(alloc, s, conn, key, number),
+            None if waits => join_all(&mut s.pending, conn, key),
+            None => Ok(()),
+        },
+    }
+}
+
+/// What a step of a connection does.
+#[derive(Clone, Copy)]
+pub struct Moved<'a> {
+    pub conn: u64,
+    pub moving: Moving<'a>,
+    /// It is a `QUIT`.
+    pub quits: bool,
+    /// The key of its `LOAD`.
+    pub key: Option<&'a [u8]>,
+    /// The load that it sent.
+    pub load: Option<u64>,
+}
+
+/// Whether a step waits.
+fn waits(moving: Moving<'_>) -> bool
+    ensures { result ≡ (not moving.entry.replies && not moving.entry.holds) }
+{
+    !moving.replies && !moving.holds
+}
+
+/// Does to the connection of a step, and to the loads, what the step does.
+pub fn pass(alloc: Global, s: &mut State, moved: Moved<'_>) -> Result<(), AllocError>
+    requires { IsTrue (are_apart s.old.connections.items) }
+    ensures { OnOk result (situation_of s.new ≡ moved_in moved.entry.conn moved.entry.moving.reads moved.entry.moving.holds moved.entry.moving.replies moved.entry.moving.line.now moved.entry.quits (option_map (λ k. k.now) moved.entry.key) moved.entry.load (situation_of s.old)) }
+{
+    if let Some(at) = place_of(&s.connections, moved.conn) {
+        let waits = waits(moved.moving);
+        join(alloc, s, moved.conn, waits, moved.key, moved.load)?;
+        move_at(alloc, s, at, moved.moving, moved.quits)?;
+    }
+    Ok(())
+}
+
+/// Does to the connection at a place what a step does.
+fn move_at(
+    alloc: Global,
+    s: &mut State,
+    at: usize,
+    moving: Moving<'_>,
+    quits: bool,
+) -> Result<(), AllocError>
+    requires inside { at < vec_len s.old.connections }
+    requires apart { IsTrue (are_apart s.old.connections.items) }
+    ensures { OnOk result ((conn : ℕ) (c : Connection) → position (λ d. d.number == conn) s.old.connections.items ≡ Some at → slice_index_or s.old.connections.items at c ≡ c → situation_of s.new ≡ with_connection quits (moved_on moving.entry.reads moving.entry.holds moving.entry.replies moving.entry.line.now c) (situation_of s.old)) }
+{
+    let link = &mut s.connections[at];
+    move_on(alloc, link, moving)?;
+    close_where(s, at, quits);
+    Ok(())
+}
+
+/// Leaves a load out.
+fn leave_load(pending: &mut Vec<Pending>, number: u64)
+    ensures { pending.new.items ≡ filter (λ p. not (p.number == number)) pending.old.items }
+{
+    pending.retain(|p| p.number() != number);
+}
+
+/// A load is settled at a moment.
+pub fn settle(s: &mut State, number: u64, moment: u64)
+    ensures { situation_of s.new ≡ without_load number moment (situation_of s.old) }
+{
+    s.latest = moment.max(s.latest);
+    leave_load(&mut s.pending, number);
+}

@@ -1,0 +1,16 @@
+use Rattle.std.proofs.Common.{ap, ◌∙◌, sym}
+use Rattle.audit_model.specs.Replies.{reply_of}
+use Rattle.audit_model.specs.Situation.{view_in}
+use Rattle.audit_situation.specs.States.{situation_of}
+use Rattle.audit_steps.specs.Doings.{action_of}
+use Rattle.audit_steps.proofs.owing.owed.Goals as goal
+
+pub returns-in_ok-load_reply-in-Load : goal.returns-in_ok-load_reply-in-Load
+returns-in_ok-load_reply-in-Load c values e =
+    c.in_ok-load_reply-in-Load.ensures values
+    ∙ ap (λ d. reply_of c.args.config.now (view_in c.args.config.now (situation_of c.args.s.now)) values (action_of d)) (sym c.in-Load.is)
+
+pub returns-in_ok-add_reply-in-Add : goal.returns-in_ok-add_reply-in-Add
+returns-in_ok-add_reply-in-Add c values e =
+    c.in_ok-add_reply-in-Add.ensures c.in-Add.ms values
+    ∙ ap (λ d. reply_of c.args.config.now (view_in c.args.config.now (situation_of c.args.s.now)) values (action_of d)) (sym c.in-Add.is)

@@ -1,0 +1,234 @@
+//! Which value a step accepts, and into which part.
+ghost use Rattle.std.specs.Prelude.{◌≡◌, ◌++◌, ◌∷◌, [], IfOk, IfSome, ℕ, None, true, option_map, Some};
+ghost use Rattle.audit_model.specs.Changes.{newly_held};
+ghost use Rattle.audit_model.specs.History.{Running, weight_of};
+ghost use Rattle.audit_model.specs.Replies.{offered, offer_of, value_with};
+ghost use Rattle.audit_model.specs.Situation.{view_in};
+ghost use Rattle.audit_model.specs.Values.{own_deadline_from, after_ms};
+ghost use Rattle.audit_model.specs.declared.command.Command.TheVariants as says;
+ghost use Rattle.audit_judge.specs.After.{IsNew};
+ghost use Rattle.audit_situation.specs.States.{situation_of};
+ghost use Rattle.audit_model.specs.declared.config.Config.{Config};
+ghost use Rattle.audit_steps.specs.Doings.{action_of};
+ghost use Rattle.audit_steps.specs.Judging.{offer_from, part_of, parts_of, agrees, agrees_with, Takes, Accepts};
+
+use crate::doing::Doing;
+use crate::owing::found;
+use crate::replies::{accepts, digits_of, sum_with};
+use audit_judge::{Held, part_count};
+use audit_model::{Accepted, Bytes, Config, Outcome, Seq, Weight};
+use audit_situation::State;
+use std::alloc::{AllocError, Global};
+
+/// A key with what it is to hold, and its milliseconds to live.
+#[derive(Drop)]
+pub struct Proposal {
+    pub key: Bytes,
+    pub bytes: Bytes,
+    pub ms: Option<u64>,
+}
+
+/// A key with the part that took its values.
+#[derive(Drop)]
+pub struct PartOf {
+    pub key: Bytes,
+    pub part: u64,
+}
+
+/// What a step would have accepted, if values are.
+fn offered(
+    alloc: Global,
+    config: &Config,
+    s: &State,
+    doing: Doing<'_>,
+) -> Result<Option<Proposal>, AllocError>
+    ensures { IfOk result (λ o. option_map offer_from o ≡ offered (view_in config.now (situation_of s.now)) (action_of doing.entry)) }
+{
+    match doing {
+        Doing::Set { key, ms, value } => Ok(Some(offer(alloc, key, value, ms)?)),
+        Doing::Add { key, ms, number } => offered_sum(alloc, config, s, key, ms, number),
+        Doing::Store(Some(key), Outcome::Value(bytes, ms)) => {
+            Ok(Some(offer(alloc, key, bytes.as_slice(), *ms)?))
+        }
+        Doing::Store(Some(_), Outcome::None) => Ok(None),
+        Doing::Store(Some(_), Outcome::Fault(_)) => Ok(None),
+        Doing::Store(None, _) => Ok(None),
+        Doing::Get { .. } | Doing::Has { .. } | Doing::Load { .. } | Doing::Del { .. } => Ok(None),
+        Doing::Clear | Doing::DropIf { .. } | Doing::Keys | Doing::Sync => Ok(None),
+        Doing::Quit | Doing::Fault(_) | Doing::Hold | Doing::Deliver(_) => Ok(None),
+        Doing::Abandon => Ok(None),
+    }
+}
+
+/// An offer of those bytes.
+fn offer(alloc: Global, key: &[u8], bytes: &[u8], ms: Option<u64>) -> Result<Proposal, AllocError>
+    ensures { IfOk result (λ o. o ≡ record { key = key.now; bytes = bytes.now; ms = ms }) }
+{
+    let key = Seq::from_vec(Vec::from_slice(alloc, key)?);
+    let bytes = Seq::from_vec(Vec::from_slice(alloc, bytes)?);
+    Ok(Proposal { key, bytes, ms })
+}
+
+/// What an `ADD` would have accepted.
+fn offered_sum(
+    alloc: Global,
+    config: &Config,
+    s: &State,
+    key: &[u8],
+    ms: Option<u64>,
+    number: u64,
+) -> Result<Option<Proposal>, AllocError>
+    ensures { IfOk result (λ o. option_map offer_from o ≡ offered (view_in config.now (situation_of s.now)) (Running (says.Add key.now ms number))) }
+{
+    match sum_with(found(config, s, key), number) {
+        Some(sum) => {
+            let digits = digits_of(alloc, sum)?;
+            Ok(Some(offer(alloc, key, digits.as_slice(), ms)?))
+        }
+        None => Ok(None),
+    }
+}
+
+/// What a step offers.
+fn offer_of(
+    alloc: Global,
+    config: &Config,
+    s: &State,
+    doing: Doing<'_>,
+) -> Result<Option<Proposal>, AllocError>
+    ensures { IfOk result (λ o. option_map offer_from o ≡ offer_of config.now (view_in config.now (situation_of s.now)) (action_of doing.entry)) }
+{
+    if accepts(config) {
+        offered(alloc, config, s, doing)
+    } else {
+        Ok(None)
+    }
+}
+
+/// What a value of those bytes weighs.
+fn weight_of(weight: Weight, bytes: &[u8]) -> u64
+    ensures { result ≡ weight_of weight bytes.now }
+{
+    match weight {
+        Weight::One => 1,
+        Weight::Bytes => bytes.len() as u64,
+    }
+}
+
+/// The own deadline of a value that is accepted at a moment with so many milliseconds to live, in nanoseconds.
+fn own_deadline(now: u64, ms: Option<u64>) -> Result<Option<u64>, AllocError>
+    ensures { IfOk result (λ o. o ≡ own_deadline_from now ms) }
+{
+    match ms {
+        Some(ms) => match deadline_after(now, ms) {
+            Some(end) => Ok(Some(end - end % 4096)),
+            None => Err(AllocError),
+        },
+        None => Ok(None),
+    }
+}
+
+/// The moment so many milliseconds later, in nanoseconds, where it is a number of 64 bits.
+fn deadline_after(now: u64, ms: u64) -> Option<u64>
+    ensures { IfSome result (λ end. end ≡ after_ms now ms) }
+{
+    let nanos = ms.checked_mul(1_000_000)?;
+    now.checked_add(nanos)
+}
+
+/// The value that an offer becomes in a part.
+fn held_from(config: &Config, now: u64, part: u64, offer: Proposal) -> Result<Held, AllocError>
+    ensures { IfOk result (λ h. h ≡ newly_held (value_with config.now now part (offer_from offer))) }
+{
+    let own = own_deadline(now, offer.ms)?;
+    let weight = weight_of(config.weight, offer.bytes.as_slice());
+    Ok(Held::accepted(offer.key, offer.bytes, part, weight, now, own))
+}
+
+/// The value that a step accepts, if any; none of these where it accepts wrongly.
+pub fn accept(
+    alloc: Global,
+    config: &Config,
+    s: &State,
+    doing: Doing<'_>,
+    accepted: Option<Accepted>,
+) -> Result<Option<Option<Held>>, AllocError>
+    ensures { IfOk result (Accepts config.now (situation_of s.now) (action_of doing.entry) (option_map (λ a. a.part) accepted)) }
+{
+    let offer = offer_of(alloc, config, s, doing)?;
+    match accepted {
+        None => Ok(none_for(offer)),
+        Some(accepted) => take(config, s.latest, accepted.part, offer),
+    }
+}
+
+/// What a step accepts that shows no part.
+fn none_for(offer: Option<Proposal>) -> Option<Option<Held>>
+    ensures { (config : Config) (now : ℕ) → Takes config now None (option_map offer_from offer) result }
+{
+    match offer {
+        Some(_) => None,
+        None => Some(None),
+    }
+}
+
+/// What a step accepts that shows that part.
+fn take(
+    config: &Config,
+    now: u64,
+    part: u64,
+    offer: Option<Proposal>,
+) -> Result<Option<Option<Held>>, AllocError>
+    ensures { IfOk result (Takes config.now now (Some part) (option_map offer_from offer)) }
+{
+    match offer {
+        Some(offer) => {
+            if part < part_count(config) {
+                Ok(Some(Some(held_from(config, now, part, offer)?)))
+            } else {
+                Ok(None)
+            }
+        }
+        None => Ok(None),
+    }
+}
+
+/// Whether a key has that part in all of these.
+fn agrees(parts: &[PartOf], key: &[u8], part: u64) -> bool
+    ensures { result ≡ agrees parts.now key.now part }
+{
+    parts
+        .iter()
+        .all(|p| p.key.as_slice() != key || p.part == part)
+}
+
+/// Keeps the part of a value that is accepted, and answers whether its key has no other.
+pub fn admit(
+    alloc: Global,
+    parts: &mut Vec<PartOf>,
+    newcomer: Option<&Held>,
+) -> Result<bool, AllocError>
+    ensures agrees { IfOk result (λ b. b ≡ agrees_with parts.old.items (option_map (λ h. h.now.value) newcomer.entry)) }
+    ensures kept { IfOk result (λ b. b ≡ true → parts.new.items ≡ parts.old.items ++ parts_of (option_map (λ h. h.now.value) newcomer.entry)) }
+{
+    match newcomer {
+        Some(held) => admit_value(alloc, parts, held),
+        None => Ok(true),
+    }
+}
+
+/// The same of one value.
+fn admit_value(alloc: Global, parts: &mut Vec<PartOf>, held: &Held) -> Result<bool, AllocError>
+    ensures agrees { IfOk result (λ b. b ≡ agrees parts.old.items held.now.value.key held.now.value.part) }
+    ensures kept { IfOk result (λ b. b ≡ true → parts.new.items ≡ parts.old.items ++ part_of held.now.value ∷ []) }
+{
+    if !agrees(parts, held.key(), held.part()) {
+        return Ok(false);
+    }
+    let key = Seq::from_vec(Vec::from_slice(alloc, held.key())?);
+    parts.push(PartOf {
+        key,
+        part: held.part(),
+    })?;
+    Ok(true)
+}

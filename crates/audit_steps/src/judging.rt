@@ -1,0 +1,262 @@
+//! One step, judged and done.
+ghost use Rattle.std.specs.Prelude.{◌≡◌, ◌&&◌, ◌||◌, not, IfOk, OnOk, IfSome, IsTrue, Option, Some, None, true, option_map};
+ghost use Rattle.std.specs.List.{list_all};
+ghost use Rattle.std.specs.Option.{option_eq};
+ghost use Rattle.audit_model.specs.Bytewise.{same, is_empty};
+ghost use Rattle.audit_model.specs.Changes.{all_held_after, with_connection_after, after_step};
+ghost use Rattle.audit_model.specs.Commands.{deed_of, drops, is_sync};
+ghost use Rattle.audit_model.specs.Follows.{line_in, placed_step_in};
+ghost use Rattle.audit_model.specs.Notes.{is_silent, is_within, is_over};
+ghost use Rattle.audit_model.specs.Situation.{connection_in, view_in};
+ghost use Rattle.audit_model.specs.Steps.{Task, RunHeld, has_right_notes};
+ghost use Rattle.audit_model.specs.View.{View};
+ghost use Rattle.audit_judge.specs.After.{IsNew};
+ghost use Rattle.audit_judge.specs.Weights.{values_of};
+ghost use Rattle.audit_situation.specs.States.{situation_of, are_apart};
+ghost use Rattle.audit_steps.specs.Doings.{action_of, acting};
+ghost use Rattle.audit_steps.specs.Judging.{placed_by, placed_with, is_fit, is_synced, reply_fits, IsJudged};
+ghost use Rattle.audit_steps.specs.Showing.{step_of, task_of};
+
+use crate::accepting::{PartOf, accept, admit};
+use crate::doing::{Doing, deed_of, is_drop, is_hold, is_silent, is_sync, key_loaded, quits};
+use crate::owing::{loads_rightly, replies_rightly};
+use crate::replies::{counts_of, is_said};
+use crate::shown::{Duty, Shown, do_due, is_duty_of, is_held_rightly, is_run_lines, is_store};
+use audit_judge::{Held, do_deed, is_over};
+use audit_model::{Config, Note};
+use audit_situation::{Link, Moved, Moving, State, find_link, first_line, pass, waited};
+use std::alloc::{AllocError, Global};
+
+/// The line that is due of a connection.
+fn due_line(link: &Link) -> Option<&[u8]>
+    ensures { option_map (λ l. l.now) result ≡ line_in (Some (RunHeld 0)) (Some link.now) }
+{
+    if link.is_ready() {
+        first_line(link.unread())
+    } else {
+        link.kept_line()
+    }
+}
+
+/// Whether a line is the one that is due of a connection.
+fn is_due_of(s: &State, conn: u64, line: &[u8]) -> bool
+    ensures { result ≡ option_eq same (line_in (Some (RunHeld 0)) (connection_in conn (situation_of s.now))) (Some line.now) }
+{
+    match find_link(&s.connections, conn) {
+        Some(link) => is_said(due_line(link), Some(line)),
+        None => false,
+    }
+}
+
+/// Whether a step has the line that is due.
+fn has_right_line(s: &State, duty: Option<Duty<'_>>, conn: u64, line: &[u8]) -> bool
+    ensures { result ≡ option_eq same (line_in (option_map task_of duty.entry) (connection_in conn (situation_of s.now))) (Some line.now) }
+{
+    match duty {
+        Some(Duty::Store(_, _)) => line == b"".as_slice(),
+        Some(Duty::Deliver(_, _)) => is_due_of(s, conn, line),
+        Some(Duty::RunAgain(_)) => is_due_of(s, conn, line),
+        Some(Duty::RunHeld(_)) => is_due_of(s, conn, line),
+        Some(Duty::RunLines(_)) => is_due_of(s, conn, line),
+        None => is_due_of(s, conn, line),
+    }
+}
+
+/// Whether a step has no notes where it tells nothing.
+fn is_quiet(doing: Doing<'_>, notices: &[Note]) -> bool
+    ensures { result ≡ (not (is_silent (action_of doing.entry)) || is_empty notices.now) }
+{
+    !is_silent(doing) || notices.is_empty()
+}
+
+/// Whether a step is right in all that is judged before values change.
+fn is_fit(
+    alloc: Global,
+    config: &Config,
+    s: &State,
+    duty: Option<Duty<'_>>,
+    shown: Shown<'_>,
+    doing: Doing<'_>,
+) -> Result<bool, AllocError>
+    ensures { IfOk result (λ b. b ≡ is_fit config.now (placed_by config.now (situation_of s.now) (option_map task_of duty.entry) (action_of doing.entry) (step_of shown.entry))) }
+{
+    let turn = is_duty_of(shown.conn, duty);
+    let held = is_held_rightly(duty, shown.held, doing);
+    let line = has_right_line(s, duty, shown.conn, shown.line);
+    let reply = replies_rightly(alloc, config, s, doing, shown.reply)?;
+    let load = loads_rightly(config, s, doing, shown.load);
+    let quiet = is_quiet(doing, shown.notices);
+    Ok(are_all(turn, held, line, reply, load, quiet))
+}
+
+/// Whether all are true.
+fn are_all(turn: bool, held: bool, line: bool, reply: bool, load: bool, quiet: bool) -> bool
+    ensures { result ≡ (turn && held && line && reply && load && quiet) }
+{
+    turn && held && line && reply && load && quiet
+}
+
+/// Whether each part is within its share.
+fn are_within(config: &Config, held: &[Held]) -> bool
+    ensures { result ≡ is_within config.now (values_of held.now) }
+{
+    are_within_of(config, held, held)
+}
+
+/// Whether the part of each of these is within its share of all.
+fn are_within_of(config: &Config, held: &[Held], all: &[Held]) -> bool
+    ensures { result ≡ list_all (λ h. not (is_over config.now h.value.part (values_of all.now))) held.now }
+{
+    held.iter().all(|h| !is_over(config, all, h.part()))
+}
+
+/// Whether a `SYNC` that leaves these values held has the reply that it owes, and each part is within its share.
+fn is_synced(
+    alloc: Global,
+    config: &Config,
+    held: &[Held],
+    doing: Doing<'_>,
+    reply: Option<&[u8]>,
+) -> Result<bool, AllocError>
+    ensures { IfOk result (λ b. (seen : View) → b ≡ (not (is_sync (action_of doing.entry)) || (reply_fits config.now seen (action_of doing.entry) (option_map (λ r. r.now) reply.entry) (values_of held.now) && is_within config.now (values_of held.now)))) }
+{
+    match doing {
+        Doing::Sync => {
+            let counts = counts_of(alloc, held)?;
+            Ok(is_said(reply, Some(counts.as_slice())) && are_within(config, held))
+        }
+        Doing::Set { .. } | Doing::Get { .. } | Doing::Has { .. } | Doing::Load { .. } => Ok(true),
+        Doing::Del { .. } | Doing::Add { .. } | Doing::Clear | Doing::DropIf { .. } => Ok(true),
+        Doing::Keys | Doing::Quit | Doing::Fault(_) | Doing::Hold => Ok(true),
+        Doing::Deliver(_) | Doing::Abandon | Doing::Store(_, _) => Ok(true),
+    }
+}
+
+/// Judges a step's notes, and does to values what it does.
+fn do_values(
+    alloc: Global,
+    config: &Config,
+    s: &mut State,
+    shown: Shown<'_>,
+    doing: Doing<'_>,
+    newcomer: Option<Held>,
+) -> Result<bool, AllocError>
+    requires { IfSome newcomer (IsNew s.old.latest) }
+    ensures right { IfOk result (λ b. (task : Option Task) → let placed = placed_with config.now (situation_of s.old) task (action_of doing.entry) (step_of shown.entry) (option_map (λ h. h.value) newcomer) in b ≡ (has_right_notes config.now placed && is_synced config.now placed)) }
+    ensures left { IfOk result (λ b. b ≡ true → let effect = (placed_with config.now (situation_of s.old) None (action_of doing.entry) (step_of shown.entry) (option_map (λ h. h.value) newcomer)).effect in situation_of s.new ≡ record (situation_of s.old) { held = all_held_after config.now s.old.latest s.old.held.items (deed_of effect) effect.notes; dropped = s.old.dropped || drops effect }) }
+{
+    let deed = deed_of(doing, shown.reply);
+    if !do_deed(
+        alloc,
+        config,
+        s.latest,
+        &mut s.held,
+        &deed,
+        newcomer,
+        shown.notices,
+    )? {
+        return Ok(false);
+    }
+    if !is_synced(alloc, config, &s.held, doing, shown.reply)? {
+        return Ok(false);
+    }
+    let drops = is_drop(doing, shown.reply);
+    s.dropped |= drops;
+    Ok(true)
+}
+
+/// Does to its connection and to the loads what a step does.
+fn pass_step(
+    alloc: Global,
+    s: &mut State,
+    duty: Option<Duty<'_>>,
+    shown: Shown<'_>,
+    doing: Doing<'_>,
+) -> Result<(), AllocError>
+    requires { IsTrue (are_apart s.old.connections.items) }
+    ensures { OnOk result (situation_of s.new ≡ with_connection_after (option_map task_of duty.entry) (step_of shown.entry) (acting (action_of doing.entry) (option_map (λ r. r.now) shown.entry.reply) shown.entry.load) (situation_of s.old)) }
+{
+    if is_store(duty) {
+        return Ok(());
+    }
+    let moving = Moving {
+        reads: is_run_lines(duty),
+        holds: is_hold(doing),
+        replies: shown.reply.is_some(),
+        line: shown.line,
+    };
+    let moved = Moved {
+        conn: shown.conn,
+        moving,
+        quits: quits(doing),
+        key: key_loaded(doing),
+        load: shown.load,
+    };
+    pass(alloc, s, moved)?;
+    Ok(())
+}
+
+/// Judges a step's notes, and does what it does.
+fn finish(
+    alloc: Global,
+    config: &Config,
+    s: &mut State,
+    duty: Option<Duty<'_>>,
+    shown: Shown<'_>,
+    doing: Doing<'_>,
+    newcomer: Option<Held>,
+) -> Result<bool, AllocError>
+    requires apart { IsTrue (are_apart s.old.connections.items) }
+    requires new { IfSome newcomer (IsNew s.old.latest) }
+    ensures right { IfOk result (λ b. let placed = placed_with config.now (situation_of s.old) (option_map task_of duty.entry) (action_of doing.entry) (step_of shown.entry) (option_map (λ h. h.value) newcomer) in b ≡ (has_right_notes config.now placed && is_synced config.now placed)) }
+    ensures left { IfOk result (λ b. b ≡ true → situation_of s.new ≡ after_step config.now (situation_of s.old) (option_map task_of duty.entry) (step_of shown.entry) (placed_with config.now (situation_of s.old) (option_map task_of duty.entry) (action_of doing.entry) (step_of shown.entry) (option_map (λ h. h.value) newcomer)).effect) }
+{
+    if !do_values(alloc, config, s, shown, doing, newcomer)? {
+        return Ok(false);
+    }
+    pass_step(alloc, s, duty, shown, doing)?;
+    Ok(true)
+}
+
+/// Judges a step that does that, and does it.
+fn judge_doing(
+    alloc: Global,
+    config: &Config,
+    s: &mut State,
+    parts: &mut Vec<PartOf>,
+    duty: Option<Duty<'_>>,
+    shown: Shown<'_>,
+    doing: Doing<'_>,
+) -> Result<bool, AllocError>
+    requires { IsTrue (are_apart s.old.connections.items) }
+    ensures { IfOk result (λ b. IsJudged config.now (situation_of s.old) parts.old.items (option_map task_of duty.entry) (step_of shown.entry) (placed_by config.now (situation_of s.old) (option_map task_of duty.entry) (action_of doing.entry) (step_of shown.entry)) b (situation_of s.new) parts.new.items) }
+{
+    if !is_fit(alloc, config, s, duty, shown, doing)? {
+        return Ok(false);
+    }
+    let Some(newcomer) = accept(alloc, config, s, doing, shown.accepted)? else {
+        return Ok(false);
+    };
+    if !admit(alloc, parts, newcomer.as_ref())? {
+        return Ok(false);
+    }
+    Ok(finish(alloc, config, s, duty, shown, doing, newcomer)?)
+}
+
+/// Judges a step for which this is due, and does what it does: to the situation, and to the parts of keys. Where it is wrong, or its value's
+/// key has another part, the answer is `false`, and situation and parts mean nothing.
+pub fn judge(
+    alloc: Global,
+    config: &Config,
+    s: &mut State,
+    parts: &mut Vec<PartOf>,
+    duty: Option<Duty<'_>>,
+    shown: Shown<'_>,
+) -> Result<bool, AllocError>
+    requires { IsTrue (are_apart s.old.connections.items) }
+    ensures { IfOk result (λ b. IsJudged config.now (situation_of s.old) parts.old.items (option_map task_of duty.entry) (step_of shown.entry) (placed_step_in config.now (situation_of s.old) (option_map task_of duty.entry) (step_of shown.entry)) b (situation_of s.new) parts.new.items) }
+{
+    let waited = waited(s, shown.conn);
+    let doing = do_due(config, waited, duty, shown);
+    Ok(judge_doing(alloc, config, s, parts, duty, shown, doing)?)
+}

@@ -1,0 +1,15 @@
+//! The judgement of one step of a transcript, by the situation before it.
+#![tactic(auto)]
+
+mod accepting;
+mod doing;
+mod judging;
+mod keys;
+mod owing;
+mod replies;
+mod shown;
+
+pub use accepting::PartOf;
+pub use doing::Doing;
+pub use judging::judge;
+pub use shown::{Duty, Shown, show};

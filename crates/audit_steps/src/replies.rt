@@ -1,0 +1,166 @@
+//! The replies that steps owe.
+ghost use Rattle.std.specs.Prelude.{◌≡◌, ◌≤◌, ◌*◌, ◌++◌, IfOk, option_map, decimal};
+ghost use Rattle.std.specs.List.{sum_by};
+ghost use Rattle.std.specs.Option.{option_eq};
+ghost use Rattle.audit_model.specs.Bytewise.{same, text_line};
+ghost use Rattle.audit_model.specs.History.{accepts_values};
+ghost use Rattle.audit_model.specs.Replies.{value_reply, value_or_none, yes_or_no, ok_or_off, sum_with, sum_or_error, fault_text, outcome_text, counts_of};
+ghost use Rattle.audit_judge.specs.Weights.{values_of};
+
+use audit_judge::Held;
+use audit_model::{Config, LineError, Outcome};
+use cache_numbers::number;
+use itoa::Buffer;
+use std::alloc::{AllocError, Global};
+
+/// A text and bytes, with a line feed.
+fn line_of(alloc: Global, text: &[u8], bytes: &[u8]) -> Result<Vec<u8>, AllocError>
+    ensures { IfOk result (λ line. line.items ≡ text_line (text.now ++ bytes.now)) }
+{
+    let mut line = Vec::from_slice(alloc, text)?;
+    line.extend_from_slice(bytes)?;
+    line.push(b'\n')?;
+    Ok(line)
+}
+
+/// `VAL` and the bytes.
+pub fn value_reply(alloc: Global, bytes: &[u8]) -> Result<Vec<u8>, AllocError>
+    ensures { IfOk result (λ line. line.items ≡ value_reply bytes.now) }
+{
+    line_of(alloc, b"VAL ", bytes)
+}
+
+/// The value, or `NONE`.
+pub fn value_or_none(alloc: Global, found: Option<&Held>) -> Result<Vec<u8>, AllocError>
+    ensures { IfOk result (λ line. line.items ≡ value_or_none (option_map (λ h. h.now.value) found.entry)) }
+{
+    match found {
+        Some(held) => value_reply(alloc, held.bytes()),
+        None => Vec::from_slice(alloc, b"NONE\n"),
+    }
+}
+
+/// `YES` where there is a live value.
+pub fn yes_or_no(found: Option<&Held>) -> &'static [u8]
+    ensures { result.now ≡ yes_or_no (option_map (λ h. h.now.value) found.entry) }
+{
+    match found {
+        Some(_) => b"YES\n",
+        None => b"NO\n",
+    }
+}
+
+/// Whether values are accepted.
+pub fn accepts(config: &Config) -> bool
+    ensures { result ≡ accepts_values config.now.capacity }
+{
+    match config.capacity {
+        Some(limit) => limit > 0,
+        None => true,
+    }
+}
+
+/// `OFF` where no value is accepted.
+pub fn ok_or_off(config: &Config) -> &'static [u8]
+    ensures { result.now ≡ ok_or_off config.now }
+{
+    if accepts(config) { b"OK\n" } else { b"OFF\n" }
+}
+
+/// The sum that an `ADD` stores; none where the value is no number or the sum is too large.
+pub fn sum_with(found: Option<&Held>, added: u64) -> Option<u64>
+    ensures { result ≡ sum_with (option_map (λ h. h.now.value) found.entry) added }
+{
+    match found {
+        Some(held) => match number(held.bytes()) {
+            Some(old) => old.checked_add(added),
+            None => None,
+        },
+        None => Some(added),
+    }
+}
+
+/// The digits of a number.
+pub fn digits_of(alloc: Global, number: u64) -> Result<Vec<u8>, AllocError>
+    ensures { IfOk result (λ digits. digits.items ≡ decimal number) }
+{
+    let mut buffer = Buffer::new();
+    Vec::from_slice(alloc, buffer.format(number).as_bytes())
+}
+
+/// The sum as a value, or `ERR number`.
+pub fn sum_or_error(alloc: Global, sum: Option<u64>) -> Result<Vec<u8>, AllocError>
+    ensures { IfOk result (λ line. line.items ≡ sum_or_error sum) }
+{
+    match sum {
+        Some(sum) => {
+            let digits = digits_of(alloc, sum)?;
+            value_reply(alloc, &digits)
+        }
+        None => Vec::from_slice(alloc, b"ERR number\n"),
+    }
+}
+
+/// The reply to a line that cannot be read.
+pub fn fault_text(error: LineError) -> &'static [u8]
+    ensures { result.now ≡ fault_text error }
+{
+    match error {
+        LineError::Command => b"ERR command\n",
+        LineError::Syntax => b"ERR syntax\n",
+        LineError::Deadline => b"ERR deadline\n",
+        LineError::Number => b"ERR number\n",
+    }
+}
+
+/// The reply to a waiting `LOAD` that is handed this outcome.
+pub fn outcome_text(alloc: Global, outcome: &Outcome) -> Result<Vec<u8>, AllocError>
+    ensures { IfOk result (λ line. line.items ≡ outcome_text outcome.now) }
+{
+    match outcome {
+        Outcome::Value(bytes, _) => value_reply(alloc, bytes.as_slice()),
+        Outcome::None => Vec::from_slice(alloc, b"NONE\n"),
+        Outcome::Fault(text) => line_of(alloc, b"ERR load ", text.as_slice()),
+    }
+}
+
+/// How many values there are, and what they weigh together.
+pub fn counts_of(alloc: Global, held: &[Held]) -> Result<Vec<u8>, AllocError>
+    ensures { IfOk result (λ line. line.items ≡ counts_of (values_of held.now)) }
+{
+    let mut number = Buffer::new();
+    let mut weight = Buffer::new();
+    let all = weight_of_all(held);
+    let mut line = Vec::from_slice(alloc, b"SYNC ")?;
+    line.extend_from_slice(number.format(held.len()).as_bytes())?;
+    line.extend_from_slice(b" ")?;
+    line.extend_from_slice(weight.format(all).as_bytes())?;
+    line.push(b'\n')?;
+    Ok(line)
+}
+
+/// What all values weigh together.
+fn weight_of_all(held: &[Held]) -> u128
+    ensures sum { result ≡ sum_by (λ v. v.weight) (values_of held.now) }
+    ensures bounded { result ≤ 18446744073709551615 * 18446744073709551615 }
+{
+    let _number = held.len();
+    let mut sum: u128 = 0;
+    for h in held {
+        sum += u128::from(h.weight());
+    }
+    sum
+}
+
+/// Whether the two are the same bytes, or neither is there.
+pub fn is_said(reply: Option<&[u8]>, owed: Option<&[u8]>) -> bool
+    ensures { result ≡ option_eq same (option_map (λ r. r.now) reply.entry) (option_map (λ r. r.now) owed.entry) }
+{
+    match reply {
+        Some(reply) => match owed {
+            Some(owed) => reply == owed,
+            None => false,
+        },
+        None => owed.is_none(),
+    }
+}

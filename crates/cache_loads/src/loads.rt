@@ -1,0 +1,243 @@
+//! The loads of one namespace.
+ghost use Rattle.std.specs.Prelude.{◌≡◌, ℕ, suc, ◌+◌, ◌++◌, ◌∷◌, ◌==◌, ◌<◌, [], not, map, vec_len, vec_capacity, None, Some, IfOk, IfErr, OnOk, OnErr, All, List, length};
+ghost use Rattle.std.specs.List.{filter};
+ghost use Rattle.std.specs.Option.{option_map};
+ghost use Rattle.audit_model.specs.Situation.{with_waiting, without_waiting};
+ghost use Rattle.cache_loads.specs.Pending.{pending, pending_of, sent_of, outgoing_of, namespace_of, load_with_key, load_numbered, number_to_send, when_joined, when_sent, sending, HasRoom, IsPlaceOf, SameLoads};
+
+use crate::load::{Load, alone, is_of_key, join, leave, reserve_joining};
+use audit_model::{Bytes, LoadId, Seq};
+use std::alloc::{AllocError, Global};
+use std::mem;
+
+/// The loads of one namespace that are under way, the newest first, how many were sent, and those that went out and were not taken.
+#[derive(Drop)]
+pub struct Loads {
+    namespace: u64,
+    sent: u64,
+    under_way: Vec<Load>,
+    outgoing: Vec<(LoadId, Bytes)>,
+}
+
+impl Loads {
+    /// No loads yet, which takes no memory.
+    pub fn new(alloc: Global, namespace: u64) -> Loads
+        ensures none { pending_of result ≡ [] }
+        ensures sent { sent_of result ≡ 0 }
+        ensures outgoing { outgoing_of result ≡ [] }
+        ensures namespace { namespace_of result ≡ namespace }
+    {
+        Loads {
+            namespace,
+            sent: 0,
+            under_way: Vec::new(alloc),
+            outgoing: Vec::new(alloc),
+        }
+    }
+
+    /// How many loads are under way.
+    pub fn count(&self) -> usize
+        ensures { result ≡ length (pending_of self.now) }
+    {
+        self.under_way.len()
+    }
+
+    /// The number of the key's load under way.
+    pub fn find(&self, key: &[u8]) -> Option<u64>
+        ensures { result ≡ load_with_key key.now (pending_of self.now) }
+    {
+        for load in &self.under_way {
+            if is_of_key(load, key) {
+                return Some(load.number);
+            }
+        }
+        None
+    }
+
+    /// The load under way of that number.
+    pub fn get(&self, number: u64) -> Option<&Load>
+        ensures { option_map (λ load. pending load.now) result ≡ load_numbered number (pending_of self.now) }
+    {
+        for load in &self.under_way {
+            if load.number == number {
+                return Some(load);
+            }
+        }
+        None
+    }
+
+    /// Has a connection wait for the key's load; where none is under way a new one goes out, and its number is answered. An `Err`
+    /// changes nothing.
+    pub fn wait(&mut self, alloc: Global, key: &[u8], conn: u64) -> Result<Option<u64>, AllocError>
+        ensures number { IfOk result (λ number. number ≡ number_to_send key.now (sent_of self.old) (pending_of self.old)) }
+        ensures pending { IfOk result (λ number. pending_of self.new ≡ when_joined conn key.now number (pending_of self.old)) }
+        ensures sent { IfOk result (λ number. sent_of self.new ≡ when_sent number (sent_of self.old)) }
+        ensures outgoing { IfOk result (λ number. outgoing_of self.new ≡ outgoing_of self.old ++ sending (namespace_of self.old) key.now number) }
+        ensures namespace { namespace_of self.new ≡ namespace_of self.old }
+        ensures same { OnErr result (SameLoads self.old self.new) }
+    {
+        match self.find(key) {
+            Some(_) => {
+                match join_all(&mut self.under_way, key, conn) {
+                    Ok(()) => Ok(None),
+                    Err(error) => Err(error),
+                }
+            }
+            None => match self.send(alloc, key, conn) {
+                Ok(number) => Ok(Some(number)),
+                Err(error) => Err(error),
+            },
+        }
+    }
+
+    /// Sends a load of the key, for which the connection waits, and answers its number. A number above 2^64 - 1 is refused as memory
+    /// is. An `Err` changes nothing.
+    fn send(&mut self, alloc: Global, key: &[u8], conn: u64) -> Result<u64, AllocError>
+        ensures number { IfOk result (λ number. number ≡ suc (sent_of self.old)) }
+        ensures pending { IfOk result (λ number. pending_of self.new ≡ when_joined conn key.now (Some number) (pending_of self.old)) }
+        ensures sent { OnOk result (sent_of self.new ≡ suc (sent_of self.old)) }
+        ensures outgoing { IfOk result (λ number. outgoing_of self.new ≡ outgoing_of self.old ++ sending (namespace_of self.old) key.now (Some number)) }
+        ensures namespace { namespace_of self.new ≡ namespace_of self.old }
+        ensures same { OnErr result (SameLoads self.old self.new) }
+    {
+        if self.sent == u64::MAX {
+            return Err(AllocError);
+        }
+        let number = self.sent + 1;
+        self.under_way.try_reserve(1)?;
+        self.outgoing.try_reserve(1)?;
+        let load = Load {
+            number,
+            key: Seq::from_vec(Vec::from_slice(alloc, key)?),
+            waiting: alone(alloc, conn)?,
+        };
+        let copy = Seq::from_vec(Vec::from_slice(alloc, key)?);
+        let id = LoadId {
+            namespace: self.namespace,
+            number,
+        };
+        put_first(&mut self.under_way, load);
+        put_last(&mut self.outgoing, id, copy);
+        self.sent = number;
+        Ok(number)
+    }
+
+    /// Takes a connection that closed out of those that wait; its load stays under way.
+    pub fn leave(&mut self, conn: u64)
+        ensures pending { pending_of self.new ≡ map (without_waiting conn) (pending_of self.old) }
+        ensures sent { sent_of self.new ≡ sent_of self.old }
+        ensures outgoing { outgoing_of self.new ≡ outgoing_of self.old }
+        ensures namespace { namespace_of self.new ≡ namespace_of self.old }
+    {
+        leave_all(&mut self.under_way, conn);
+    }
+
+    /// Takes out the load under way of that number, which is answered or given up.
+    pub fn settle(&mut self, number: u64) -> Option<Load>
+        ensures settled { option_map pending result ≡ load_numbered number (pending_of self.old) }
+        ensures pending { pending_of self.new ≡ filter (λ load. not (load.number == number)) (pending_of self.old) }
+        ensures sent { sent_of self.new ≡ sent_of self.old }
+        ensures outgoing { outgoing_of self.new ≡ outgoing_of self.old }
+        ensures namespace { namespace_of self.new ≡ namespace_of self.old }
+    {
+        take_out(&mut self.under_way, number)
+    }
+
+    /// The loads that went out and were not taken, with their keys, in the order in which they were sent; moved out.
+    pub fn take(&mut self, alloc: Global) -> Vec<(LoadId, Bytes)>
+        ensures taken { result.items ≡ outgoing_of self.old }
+        ensures none { outgoing_of self.new ≡ [] }
+        ensures pending { pending_of self.new ≡ pending_of self.old }
+        ensures sent { sent_of self.new ≡ sent_of self.old }
+        ensures namespace { namespace_of self.new ≡ namespace_of self.old }
+    {
+        mem::replace(&mut self.outgoing, Vec::new(alloc))
+    }
+}
+
+/// Adds a load in front of the others; there is room for it.
+fn put_first(loads: &mut Vec<Load>, load: Load)
+    requires { vec_len loads.old < vec_capacity loads.old }
+    ensures { loads.new.items ≡ load ∷ loads.old.items }
+{
+    let Ok(()) = loads.insert(0, load) else {
+        unreachable!();
+    };
+}
+
+/// Adds what goes out behind the others; there is room for it.
+fn put_last(outgoing: &mut Vec<(LoadId, Bytes)>, id: LoadId, key: Bytes)
+    requires { vec_len outgoing.old < vec_capacity outgoing.old }
+    ensures { outgoing.new.items ≡ outgoing.old.items ++ (id, key) ∷ [] }
+{
+    let Ok(()) = outgoing.push((id, key)) else {
+        unreachable!();
+    };
+}
+
+/// Has a connection wait for the loads of a key. An `Err` changes nothing.
+fn join_all(loads: &mut Vec<Load>, key: &[u8], conn: u64) -> Result<(), AllocError>
+    ensures joined { OnOk result (map pending loads.new.items ≡ map (with_waiting conn key.now) (map pending loads.old.items)) }
+    ensures same { OnErr result (map pending loads.new.items ≡ map pending loads.old.items) }
+{
+    match reserve_all(loads.as_mut_slice(), key) {
+        Ok(()) => {
+            add_to_all(loads.as_mut_slice(), key, conn);
+            Ok(())
+        }
+        Err(error) => Err(error),
+    }
+}
+
+/// Makes room for one more connection in each load of a key.
+fn reserve_all(loads: &mut [Load], key: &[u8]) -> Result<(), AllocError>
+    ensures same { map pending loads.new ≡ map pending loads.old }
+    ensures room { OnOk result (All (HasRoom key.now) loads.new) }
+{
+    for load in loads.iter_mut() {
+        reserve_joining(load, key)?;
+    }
+    Ok(())
+}
+
+/// Adds a connection to each load of a key; there is room for it.
+fn add_to_all(loads: &mut [Load], key: &[u8], conn: u64)
+    requires room { All (HasRoom key.now) loads.old }
+    ensures joined { map pending loads.new ≡ map (with_waiting conn key.now) (map pending loads.old) }
+{
+    for load in loads.iter_mut() {
+        join(load, key, conn);
+    }
+}
+
+/// Takes a connection out of all loads.
+fn leave_all(loads: &mut [Load], conn: u64)
+    ensures left { map pending loads.new ≡ map (without_waiting conn) (map pending loads.old) }
+{
+    for load in loads.iter_mut() {
+        leave(load, conn);
+    }
+}
+
+/// Takes out the load of that number.
+fn take_out(loads: &mut Vec<Load>, number: u64) -> Option<Load>
+    ensures found { option_map pending result ≡ load_numbered number (map pending loads.old.items) }
+    ensures left { map pending loads.new.items ≡ filter (λ load. not (load.number == number)) (map pending loads.old.items) }
+{
+    let index = place_of(loads, number)?;
+    let load = loads.remove(index);
+    loads.retain(|other| other.number != number);
+    Some(load)
+}
+
+/// The place of the first load of that number.
+fn place_of(loads: &[Load], number: u64) -> Option<usize>
+    ensures { IsPlaceOf number loads.now result }
+{
+    for (index, load) in loads.iter().enumerate() {
+        if load.number == number {
+            return Some(index);
+        }
+    }
+    None
+}

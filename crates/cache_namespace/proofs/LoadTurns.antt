@@ -1,0 +1,140 @@
+-- Steps of `LOAD`s, in their places.
+use Rattle.std.proofs.Common.{◌≡◌, ℕ, suc, Bool, true, false, ◌&&◌, ◌||◌, ◌==◌, List, [], map, Option, Some, None, if◌then◌else◌, refl, ap, ◌∙◌}
+use Rattle.std.specs.Prelude.{is_some}
+use Rattle.std.specs.List.{find}
+use Rattle.std.specs.Option.{option_map_or}
+use Rattle.std.proofs.lemmas.Bool.{and_from}
+use Rattle.std.proofs.Math.Bool.{or-false}
+use Rattle.audit_model.specs.Changes.{connection_after, join_by, join_load}
+use Rattle.audit_model.specs.Commands.{drops, quits}
+use Rattle.audit_model.specs.Follows.{line_in, placed_step_in}
+use Rattle.audit_model.specs.History.{Action, Effect, Running}
+use Rattle.audit_model.specs.Replies.{load_sent_by}
+use Rattle.audit_model.specs.Situation.{Situation, Connection, HeldValue, PendingLoad, connection_in, is_overlong, is_ready, live_at, load_in, may_run_in, view_in, with_connection, without_number, without_waiting}
+use Rattle.audit_model.specs.Steps.{Task, action_in, effect_in, is_right, is_in_turn, is_held_rightly}
+use Rattle.audit_model.specs.Stream.{first_line}
+use Rattle.audit_model.specs.declared.command.Command.TheVariants as says
+use Rattle.audit_model.specs.declared.config.Config.{Config}
+use Rattle.audit_model.specs.declared.transcript.Step.{Step}
+use Rattle.cache_loads.specs.Pending.{number_to_send, when_joined, when_sent}
+use Rattle.cache_steps.proofs.Answering.{same-refl}
+use Rattle.cache_steps.specs.Loading.{step_silent}
+use Rattle.cache_steps.specs.Right.{DoesRight, placed_by}
+use Rattle.cache_namespace.specs.Lines.{IsThere, set_in, with_drops}
+use Rattle.cache_namespace.specs.Waiting.{waiting, with_loads}
+use Rattle.cache_namespace.proofs.FeedSteps.{find-dropped}
+use Rattle.cache_namespace.proofs.Placing.{dropped-swapped, found-there, numbered, swap, swapped-again}
+
+-- ---- what a step does to the loads
+
+-- a `LOAD` that waits joins the key's load, or the one that it sends
+pub joins : (conn : ℕ) (key : List ℕ) (number : Option ℕ) (s : Situation) → join_by conn true (Some key) number s ≡ with_loads (when_sent number s.sent) (when_joined conn key number s.pending) s
+joins conn key None s = refl
+joins conn key (Some number) s = refl
+
+-- a connection put in its place again, with other loads under way
+set-loads : (base : Situation) (held left : List HeldValue) (n : ℕ) (c d : Connection) (dropped : Bool) (sent : ℕ) (pending : List PendingLoad) → is_overlong (numbered n c) ≡ false
+    → with_connection false (numbered n d) (with_loads sent pending (record (set_in base held (numbered n c)) { held = left; dropped = dropped }))
+    ≡ set_in (with_loads sent pending (with_drops dropped base)) left (numbered n d)
+set-loads base held left n c d dropped sent pending fits =
+    ap (λ b. record base {
+      held = left;
+      dropped = dropped;
+      sent = sent;
+      connections = if is_overlong (numbered n d) then without_number n (if b then without_number n base.connections else map (swap n c) base.connections) else map (swap n d) (if b then without_number n base.connections else map (swap n c) base.connections);
+      pending = if is_overlong (numbered n d) then map (without_waiting n) pending else pending;
+    }) fits
+    ∙ ap (λ ks. record base {
+      held = left;
+      dropped = dropped;
+      sent = sent;
+      connections = if is_overlong (numbered n d) then ks else map (swap n d) (map (swap n c) base.connections);
+      pending = if is_overlong (numbered n d) then map (without_waiting n) pending else pending;
+    }) (dropped-swapped n c base.connections)
+    ∙ ap (λ ks. record base {
+      held = left;
+      dropped = dropped;
+      sent = sent;
+      connections = if is_overlong (numbered n d) then without_number n base.connections else ks;
+      pending = if is_overlong (numbered n d) then map (without_waiting n) pending else pending;
+    }) (swapped-again n c d base.connections)
+
+-- the loads under way stay, where a connection that is not closed was put in its place
+pub pending-put : (base : Situation) (held : List HeldValue) (n : ℕ) (c : Connection) → is_overlong (numbered n c) ≡ false → (set_in base held (numbered n c)).pending ≡ base.pending
+pending-put base held n c fits = ap (λ b. if b then map (without_waiting n) base.pending else base.pending) fits
+
+-- a step that joins a load, or none, and puts its connection in its place again
+pub placed-joined : (base : Situation) (held left : List HeldValue) (n : ℕ) (c d : Connection) (effect : Effect) (after : Connection → Connection) (sent : ℕ) (pending : List PendingLoad)
+    → IsThere n base → is_overlong (numbered n c) ≡ false → quits effect ≡ false → after (numbered n c) ≡ numbered n d
+    → ((s : Situation) → s.sent ≡ base.sent → s.pending ≡ base.pending → join_load n effect s ≡ with_loads sent pending s)
+    → (let s = record (set_in base held (numbered n c)) { held = left; dropped = base.dropped || drops effect } in
+    option_map_or (λ k. with_connection (quits effect) (after k) (join_load n effect s)) (connection_in n s) s)
+    ≡ set_in (with_loads sent pending (with_drops (base.dropped || drops effect) base)) left (numbered n d)
+placed-joined base held left n c d effect after sent pending there fits stays e joined =
+    let s = record (set_in base held (numbered n c)) { held = left; dropped = base.dropped || drops effect } in
+    ap (λ o. option_map_or (λ k. with_connection (quits effect) (after k) (join_load n effect s)) o s) (found-there base held n c there fits)
+    ∙ ap (λ b. with_connection b (after (numbered n c)) (join_load n effect s)) stays
+    ∙ ap (λ t. with_connection false (after (numbered n c)) t) (joined s refl (pending-put base held n c fits))
+    ∙ ap (λ k. with_connection false k (with_loads sent pending s)) e
+    ∙ set-loads base held left n c d (base.dropped || drops effect) sent pending fits
+
+-- ---- steps that are right, in their turn
+
+-- a step that is not held back, of that connection and line
+abbrev pub turned : Step → ℕ → List ℕ → Step
+turned step conn line = record step { conn = conn; line = line; held = false }
+
+-- a step that is right in all but turn and line, whose line is due, is right
+pub right-turn : (config : Config) (s : Situation) (task : Task) (conn : ℕ) (line : List ℕ) (action : Action) (step : Step) → DoesRight config s action (turned step 0 [])
+    → is_in_turn (placed_by config s (Some task) (Some line) action (turned step conn line)) ≡ true
+    → is_right config (placed_by config s (Some task) (Some line) action (turned step conn line)) ≡ true
+right-turn config s task conn line action step r turn =
+    let placed = placed_by config s (Some task) (Some line) action (turned step conn line) in
+    and_from _ _ (and_from _ _ (and_from _ _ (and_from _ _ (and_from _ _ (and_from _ _ (and_from _ _ (and_from (is_in_turn placed) (is_held_rightly placed) turn refl) (same-refl line)) r.replies) r.loads) r.accepts) r.tells) r.silent) r.within
+
+-- the step in its place, by its line and what it does
+pub placed-is : (config : Config) (s : Situation) (task : Task) (step : Step) (c : Connection) (line : List ℕ) (action : Action)
+    → connection_in step.conn s ≡ Some c → line_in (Some task) (Some c) ≡ Some line → action_in config c.waited (Some task) step ≡ action
+    → placed_step_in config s (Some task) step ≡ placed_by config s (Some task) (Some line) action step
+placed-is config s task step c line action found due does =
+    ap (λ o. placed_by config s (Some task) (line_in (Some task) o) (action_in config (option_map_or (λ (k : Connection). k.waited) o 0) (Some task) step) step) found
+    ∙ ap (λ l. placed_by config s (Some task) l (action_in config c.waited (Some task) step) step) due
+    ∙ ap (λ a. placed_by config s (Some task) (Some line) a step) does
+
+-- ---- a `LOAD` that begins to wait
+
+-- the load that it sends, by the loads under way
+pub sends : (config : Config) (s : Situation) (key : List ℕ) → live_at config s.latest s.held key ≡ None → load_sent_by (view_in config s) (Running (says.Load key)) ≡ number_to_send key s.sent s.pending
+sends config s key none = ap (λ o. if is_some o || is_some (load_in s key) then None else Some (suc s.sent)) none
+
+abbrev step_waits : ℕ → List ℕ → Option ℕ → Step
+step_waits conn line load = step_silent conn line load None []
+
+-- what it leaves, where it is a line, a held one, or one given up
+pub after-waits : (config : Config) (base : Situation) (held left : List HeldValue) (n : ℕ) (c d : Connection) (task : Task) (key line : List ℕ) (number : Option ℕ) (effect : Effect)
+    → IsThere n base → is_overlong (numbered n c) ≡ false → number ≡ number_to_send key base.sent base.pending
+    → effect ≡ effect_in config (view_in config (set_in base held (numbered n c))) (Running (says.Load key)) (step_waits n line number)
+    → connection_after (Some task) (step_waits n line number) (effect_in config (view_in config (set_in base held (numbered n c))) (Running (says.Load key)) (step_waits n line number)) (numbered n c) ≡ numbered n d
+    → (let s = record (set_in base held (numbered n c)) { held = left; dropped = base.dropped || false } in
+    option_map_or (λ k. with_connection (quits effect) (connection_after (Some task) (step_waits n line number) effect k) (join_load n effect s)) (connection_in n s) s)
+    ≡ set_in (with_loads (when_sent number base.sent) (when_joined n key number base.pending) base) left (numbered n d)
+after-waits config base held left n c d task key line number effect there fits sent is after =
+    ap (λ (f : Effect). let s = record (set_in base held (numbered n c)) { held = left; dropped = base.dropped || false } in
+    option_map_or (λ k. with_connection (quits f) (connection_after (Some task) (step_waits n line number) f k) (join_load n f s)) (connection_in n s) s) is
+    ∙ placed-joined base held left n c d effect_is (connection_after (Some task) (step_waits n line number) effect_is) (when_sent number base.sent) (when_joined n key number base.pending) there fits refl after
+    (λ s a b. joins n key number s ∙ ap (λ k. with_loads (when_sent number k) (when_joined n key number s.pending) s) a ∙ ap (λ ps. with_loads (when_sent number base.sent) (when_joined n key number ps) s) b)
+    ∙ ap (λ b. set_in (with_loads (when_sent number base.sent) (when_joined n key number base.pending) (with_drops b base)) left (numbered n d)) (or-false base.dropped)
+  where
+    effect_is : Effect
+    effect_is = effect_in config (view_in config (set_in base held (numbered n c))) (Running (says.Load key)) (step_waits n line number)
+
+-- a connection whose `LOAD` waits runs no line, also where it was closed
+pub stops-waiting : (base : Situation) (left : List HeldValue) (n : ℕ) (line bytes : List ℕ) (times : ℕ) → IsThere n base → may_run_in (set_in base left (waiting n line bytes times)) n ≡ false
+stops-waiting base left n line bytes times there = go (is_overlong (waiting n line bytes times)) refl
+  where
+    go : (b : Bool) → is_overlong (waiting n line bytes times) ≡ b → may_run_in (set_in base left (waiting n line bytes times)) n ≡ false
+    go false fits = ap (λ c. option_map_or (λ k. is_ready k.standing && is_some (first_line k.unread)) c false) (found-there base left n (waiting n line bytes times) there fits)
+    go true long =
+        ap (λ c. option_map_or (λ k. is_ready k.standing && is_some (first_line k.unread)) c false)
+        (ap (λ b. find (λ c. c.number == n) (if b then without_number n base.connections else map (λ c. if c.number == n then waiting n line bytes times else c) base.connections)) long
+        ∙ find-dropped n base.connections)

@@ -1,0 +1,10 @@
+pub mod HeldRecords
+pub mod TellingSteps
+pub mod StayingVisible
+pub mod CountsKept
+pub mod Seeing
+pub mod Unapplied
+pub mod Accounts
+pub mod SoundSteps
+pub mod SoundCalls
+pub mod Evicting

@@ -1,0 +1,71 @@
+-- What look-ups see of sending, clears and predicates.
+use Rattle.std.proofs.Common.{◌≡◌, refl, ap, sym, ◌∙◌, ℕ, Bool, true, false, true≢false, cond, not, ◌&&◌, ◌||◌, List, [], ◌∷◌, ◌++◌, Option, Some, None, inl, inr, ◌⊎◌}
+use Rattle.std.specs.Prelude.{nat_lt, max}
+use Rattle.std.specs.List.{list_any}
+use Rattle.std.specs.Option.{option_map}
+use Rattle.engine_reference.specs.declared.data.Write.{Write}
+use Rattle.engine_reference.specs.Calls.{with_sent, unsent_at, cleared_by, with_predicate}
+use Rattle.engine_reference.specs.Laws.{SendingKeepsVisible, CoverShowsNothing}
+use Rattle.engine_reference.specs.Records.{held_at}
+use Rattle.engine_reference.specs.Visible.{visible, passing, is_visible, is_covered}
+use Rattle.std.proofs.Common.{◌<◌, arith}
+use Rattle.std.proofs.lemmas.Bool.{or_cases, ltb-true, lt-ltb}
+use Rattle.std.proofs.Math.Bool.{or-true}
+use Rattle.engine_reference.specs.Times.{has_come}
+use Rattle.engine_reference.specs.Visible.{is_covered_by}
+
+module _ (K V P S R : Type 0) where
+  pub sending_keeps_visible : SendingKeepsVisible K V P S R
+  sending_keeps_visible eq answers ticket s moment key = go (unsent_at s.unsent ticket)
+    where
+      go : (o : Option Write) → visible answers eq (with_sent ticket o s) moment key ≡ visible answers eq s moment key
+      go None = refl
+      go (Some w) = refl
+
+module _ {X : Type 0} where
+  -- a value that passes a stronger test, or does not
+  stronger : (f g : X → Bool) → ((x : X) → f x ≡ true → g x ≡ true) → (o : Option X) → (passing f o ≡ passing g o) ⊎ (passing f o ≡ None)
+  stronger f g h None = inl refl
+  stronger f g h (Some x) = go (f x) refl
+    where
+      go : (b : Bool) → f x ≡ b → (cond (f x) (Some x) None ≡ cond (g x) (Some x) None) ⊎ (cond (f x) (Some x) None ≡ None)
+      go true e = inl (ap (λ b. cond b (Some x) None) (e ∙ sym (h x e)))
+      go false e = inr (ap (λ b. cond b (Some x) None) e)
+
+through : {X Y : Type 0} (f : X → Y) (a b : Option X) → (a ≡ b) ⊎ (a ≡ None) → (option_map f a ≡ option_map f b) ⊎ (option_map f a ≡ None)
+through f a b (inl e) = inl (ap (λ o. option_map f o) e)
+through f a b (inr e) = inr (ap (λ o. option_map f o) e)
+
+-- not dead and not covered now, so neither before
+weaker : (dead c d : Bool) → (d ≡ true → c ≡ true) → (not dead && not c) ≡ true → (not dead && not d) ≡ true
+weaker true c d h e = e
+weaker false true d h e = absurd (true≢false (sym e))
+weaker false false true h e = absurd (true≢false (sym (h refl)))
+weaker false false false h e = e
+
+later_clear : (at cleared step : ℕ) (rest : Bool) → (nat_lt at cleared || rest) ≡ true → (nat_lt at (max cleared step) || rest) ≡ true
+later_clear at cleared step rest h = elim (or_cases (nat_lt at cleared) rest h) [
+  | inl t ↦ (let below : at < cleared = ltb-true at cleared t in let still : at < max cleared step = omega arith in ap (λ b. b || rest) (lt-ltb at (max cleared step) still))
+  | inr t ↦ ap (λ b. nat_lt at (max cleared step) || b) t ∙ or-true (nat_lt at (max cleared step))
+]
+
+one_more : {X : Type 0} (f : X → Bool) (x : X) (xs : List X) (b : Bool) → (b || list_any f xs) ≡ true → (b || list_any f (xs ++ x ∷ [])) ≡ true
+one_more f x xs true h = refl
+one_more f x [] false h = absurd (true≢false (sym h))
+one_more f x (y ∷ xs) false h = elim (or_cases (f y) (list_any f xs) h) [
+  | inl t ↦ ap (λ b. b || list_any f (xs ++ x ∷ [])) t
+  | inr t ↦ ap (λ b. f y || b) (one_more f x xs false t) ∙ or-true (f y)
+]
+
+module _ (K V P S R : Type 0) where
+  pub cover_shows_nothing : CoverShowsNothing K V P S R
+  cover_shows_nothing = record {
+    cleared = λ eq answers step s moment key.
+        through (λ r. r.entry) _ _ (stronger (λ r. is_visible answers (cleared_by step s) moment r.entry) (λ r. is_visible answers s moment r.entry)
+        (λ r. weaker (has_come s.settings moment r.entry) (is_covered answers (cleared_by step s) r.entry) (is_covered answers s r.entry)
+        (later_clear r.entry.step s.cleared step (list_any (λ p. is_covered_by answers s.rules p r.entry) s.predicates))) (held_at eq s.records key));
+    covered = λ eq answers p s moment key.
+        through (λ r. r.entry) _ _ (stronger (λ r. is_visible answers (with_predicate p s) moment r.entry) (λ r. is_visible answers s moment r.entry)
+        (λ r. weaker (has_come s.settings moment r.entry) (is_covered answers (with_predicate p s) r.entry) (is_covered answers s r.entry)
+        (one_more (λ q. is_covered_by answers s.rules q r.entry) p s.predicates (nat_lt r.entry.step s.cleared))) (held_at eq s.records key));
+  }

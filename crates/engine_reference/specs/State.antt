@@ -1,0 +1,64 @@
+-- The reference cache: all that a contract sees of a cache of one part.
+use Rattle.std.specs.Prelude.{ℕ, Bool, Option, List}
+use Rattle.policy_sketch.specs.Counts.{Sketch}
+use Rattle.engine_rules.specs.declared.settings.EvictionPolicy.{EvictionPolicy}
+use Rattle.engine_reference.specs.declared.data.Record.{Record}
+use Rattle.engine_reference.specs.declared.data.Registered.{Registered}
+use Rattle.engine_reference.specs.declared.data.Unsent.{Unsent}
+use Rattle.engine_reference.specs.declared.data.Read.{Read}
+use Rattle.engine_reference.specs.declared.data.Write.{Write}
+use Rattle.engine_reference.specs.declared.data.Notice.{Notice}
+
+-- what a cache was made with; times and moments in nanoseconds
+pub record Settings : Type 0 where
+  -- the weight that it is to hold at most
+  pub capacity : Option ℕ
+  -- how long a value lives after its write, and after its last use
+  pub live : Option ℕ
+  pub idle : Option ℕ
+  pub policy : EvictionPolicy
+  -- whether removals are told
+  pub tells : Bool
+  -- whether predicates are taken
+  pub takes_predicates : Bool
+  -- the moment at which it was made
+  pub made : ℕ
+
+-- what the rules answer: each answer is a function of its arguments
+pub record Answers (K V P R : Type 0) : Type 0 where
+  pub weight_of : R → K → V → ℕ
+  -- the own expiration of a new value, by the moment: so long after it, or none
+  pub created : R → K → V → ℕ → Option ℕ
+  -- what a look-up or an update makes of it, by the moment and the time that is left: nothing, or what it becomes
+  pub found : R → K → V → ℕ → Option ℕ → ℕ → Option (Option ℕ)
+  pub updated : R → K → V → ℕ → Option ℕ → Option (Option ℕ)
+  pub covers : R → P → K → V → Bool
+
+pub record State (K V P S R : Type 0) : Type 0 where
+  -- the records: those of keys that are held, and those of removed keys whose removal is still to be applied
+  pub records : List (Record K V)
+  -- the access list: the numbers of admitted records, the one used longest ago first
+  pub access : List ℕ
+  -- the step of the last clear, or 0
+  pub cleared : ℕ
+  pub predicates : List (Registered P)
+  -- writes that were made and not sent yet
+  pub unsent : List Unsent
+  -- what maintenance has still to apply, the oldest first
+  pub reads : List Read
+  pub writes : List Write
+  -- what was told and not taken, the oldest first
+  pub notices : List (Notice K V)
+  -- how often hashes were asked for
+  pub sketch : Sketch
+  -- the number and the weight of admitted records at the end of the last run, and its moment
+  pub number : ℕ
+  pub weight : ℕ
+  pub ran : ℕ
+  pub next_number : ℕ
+  pub next_ticket : ℕ
+  -- for how many writes there is room
+  pub reserved : ℕ
+  pub settings : Settings
+  pub hasher : S
+  pub rules : R

@@ -1,0 +1,62 @@
+//! Laws of the reference cache. Each function does nothing: its contract is the law.
+ghost use Rattle.engine_reference.specs.Laws.{StepsTell, RunsTell, NothingTakenForSize, RunsKeepVisible, CountsAreKept, SendingKeepsVisible, CoverShowsNothing, UnappliedStay, CallsStaySound, RunsStaySound, CountsAreExact, EvictsShortestFront};
+
+/// A step of a run tells what it takes away once, and takes for weight only where a running weight is above the capacity.
+pub fn steps_tell<K, V, P, S, R>()
+    ensures { StepsTell K V P S R }
+{}
+
+/// A run tells all that it takes away once, where removals are told, and nothing else; the other entries stay.
+pub fn runs_tell<K, V, P, S, R>()
+    ensures { RunsTell K V P S R }
+{}
+
+/// Without a capacity a run takes nothing for weight.
+pub fn nothing_taken_for_size<K, V, P, S, R>()
+    ensures { NothingTakenForSize K V P S R }
+{}
+
+/// What was visible and was not taken away by a run stays visible, and nothing else becomes visible.
+pub fn runs_keep_visible<K, V, P, S, R>()
+    ensures { RunsKeepVisible K V P S R }
+{}
+
+/// No write, removal, clear, predicate or eviction changes how often hashes count as asked for: a run changes it only where it counts a read or makes the table.
+pub fn counts_are_kept<K, V, P, S, R>()
+    ensures { CountsAreKept K V P S R }
+{}
+
+/// Sending a ticket changes no look-up, whichever ticket it is.
+pub fn sending_keeps_visible<K, V, P, S, R>()
+    ensures { SendingKeepsVisible K V P S R }
+{}
+
+/// A clear and a predicate show nothing that was not visible.
+pub fn cover_shows_nothing<K, V, P, S, R>()
+    ensures { CoverShowsNothing K V P S R }
+{}
+
+/// A record with an unapplied write is evicted neither for another's write nor for the excess.
+pub fn unapplied_stay<K, V, P, S, R>()
+    ensures { UnappliedStay K V P S R }
+{}
+
+/// An empty cache is sound, and each call keeps a sound cache sound.
+pub fn calls_stay_sound<K, V, P, S, R>()
+    ensures { CallsStaySound K V P S R }
+{}
+
+/// A run keeps a sound cache sound.
+pub fn runs_stay_sound<K, V, P, S, R>()
+    ensures { RunsStaySound K V P S R }
+{}
+
+/// After an uncut run that began with all tickets sent, the counts of a sound cache are the number and weight of what is held, within a capacity above 0, and no predicate covers any of it.
+pub fn counts_are_exact<K, V, P, S, R>()
+    ensures { CountsAreExact K V P S R }
+{}
+
+/// What is evicted until the weight is within the capacity is the shortest front of the settled records of the access list that reaches the excess.
+pub fn evicts_shortest_front<K, V, P, S, R>()
+    ensures { EvictsShortestFront K V P S R }
+{}
