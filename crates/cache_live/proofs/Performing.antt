@@ -54,7 +54,7 @@ happens i output was is t = record {
         entry = record_of t.happened sv.steps;
         event = t.event;
         answers = t.comes ∙ comes-of (namespace_of i) t.happened sv.steps t.is_held sv.ends;
-        leads = record { next = sv.next; stands = sv.stands; follows = sv.follows };
+        leads = record { next = sv.next; stands = sv.stands; follows = sv.follows; timely = sv.timely; bounded = sv.bounded; ordered = sv.ordered };
       };
   config = t.takes.config;
 }

@@ -47,7 +47,7 @@ performs i output before after old new h =
               entry = entry;
               event = j.fact.1.event ∙ ap Some (sym j.fact.1.records.event);
               answers = h.came j.is here ∙ ap (output_after (namespace_of i)) j.fact.1.records.added ∙ output-snoc (namespace_of i) j.was.records entry;
-              leads = record { next = l.next; stands = l.stands; follows = l.follows };
+              leads = record { next = l.next; stands = l.stands; follows = l.follows; timely = l.timely; bounded = l.bounded; ordered = l.ordered };
             };
         config = j.fact.1.records.config;
       };

@@ -1,9 +1,10 @@
 -- What inputs do to a service, and where it has come to.
-use Rattle.std.specs.Prelude.{◌≡◌, ℕ, ◌^◌, ◌-◌, ◌≤◌, List, length, Some, sum_by, ◌⊎◌}
+use Rattle.std.specs.Prelude.{◌≡◌, ℕ, ◌^◌, ◌-◌, ◌≤◌, List, length, Some, sum_by, ◌⊎◌, IsTrue}
 use Rattle.std.specs.List.{slice_get}
 use Rattle.audit_model.specs.Belongs.{IsAdmitted, event_in}
-use Rattle.audit_model.specs.Follows.{Follows}
+use Rattle.audit_model.specs.Follows.{Follows, after_event, tasks_in}
 use Rattle.audit_model.specs.Obeys.{Obeys}
+use Rattle.audit_model.specs.Places.{steps_of}
 use Rattle.audit_model.specs.Situation.{Situation}
 use Rattle.audit_model.specs.declared.input.Input.{Input}
 use Rattle.audit_model.specs.declared.input.Input.TheVariants as input
@@ -14,12 +15,14 @@ use Rattle.audit_model.specs.declared.transcript.Transcript.{Transcript}
 use Rattle.audit_receipts.specs.Answers.{output_of}
 use Rattle.audit_receipts.specs.declared.output.Output.{Output}
 use Rattle.cache_spaces.specs.Journals.{LeadsSo}
-use Rattle.cache_spaces.specs.Moves.{At}
+use Rattle.cache_namespace.specs.Ordered.{OrdersSteps}
+use Rattle.cache_spaces.specs.Moves.{At, are_timely_in}
 use Rattle.cache_spaces.specs.Outputs.{output_after}
 use Rattle.cache_spaces.specs.Recorded.{RecordsAt, RefusedInput, namespace_of}
 use Rattle.cache_spaces.specs.Services.{Refuses}
-use Rattle.cache_spaces.specs.Spaces.{Stands, config_of, connections_of}
+use Rattle.cache_spaces.specs.Spaces.{Stands, config_of, connections_of, made_of, recency_of}
 use Rattle.cache_spaces.specs.declared.space.Space.{Space}
+use Rattle.cache_store.specs.Running.{is_bounded}
 
 -- how many records the journals have together
 abbrev pub record_count : List Transcript → ℕ
@@ -43,11 +46,15 @@ pub record Reached (spaces : List Space) (events : ℕ) : Type 0 where
   pub are : AreJournals spaces journals
   pub count : record_count journals ≡ events
 
--- the record leads on from that situation
+-- The record leads on from that situation. Each of its `SYNC`s leaves timely values, each part weighs at most its share and 64 values of
+-- 8192 bytes where a capacity is set, and the order of last use goes on as its steps say.
 pub record Leads (was is : Space) (s : Situation) (entry : Record) : Type 0 where
   pub next : Situation
   pub stands : Stands is next
   pub follows : Follows (config_of was) s entry next
+  pub timely : IsTrue (are_timely_in (config_of was) (made_of was) s entry)
+  pub bounded : IsTrue (is_bounded (config_of was) next.held)
+  pub ordered : OrdersSteps (config_of was) (recency_of was) (recency_of is) (after_event entry.event s) (tasks_in s entry.event) (steps_of entry)
 
 -- from that situation the input's event happened, and came to that output
 pub record HappensFrom (i : Input) (output : Output) (was is : Space) (s : Situation) : Type 0 where
