@@ -3,7 +3,9 @@ ghost use Rattle.std.specs.Prelude.{◌≡◌, ◌≢◌, ◌⊎◌, None, IsErr
 ghost use Rattle.toml.specs.Parse.{parse_document};
 ghost use Rattle.cached_config.specs.Good.{are_good};
 
-use crate::fields::{number_at, only, policy_at, switch_at, table_at, tables_at, text_at, weight_at};
+use crate::fields::{
+    number_at, only, policy_at, switch_at, table_at, tables_at, text_at, weight_at,
+};
 use crate::good::are_good;
 use crate::listed::{ConfigError, Hosted, Listed};
 use audit_model::{Config, Seq};
@@ -12,7 +14,16 @@ use toml::{Table, Value};
 
 /// The keys of a namespace's table.
 const KEYS: [&str; 10] = [
-    "name", "port", "capacity", "policy", "parts", "weight", "live_ms", "idle_ms", "deadlines", "loads",
+    "name",
+    "port",
+    "capacity",
+    "policy",
+    "parts",
+    "weight",
+    "live_ms",
+    "idle_ms",
+    "deadlines",
+    "loads",
 ];
 
 /// The namespaces of a configuration file, in its order.
