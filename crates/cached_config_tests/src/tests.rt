@@ -3,7 +3,8 @@ use cached_config::{ConfigError, read_config};
 use std::alloc::Global;
 use std::test::*;
 
-const SAMPLE: &str = "[[namespace]]\nname = \"main\"\nport = 7411\ncapacity = 1000\n[namespace.loads]\nk = \"v\"\n";
+const SAMPLE: &str =
+    "[[namespace]]\nname = \"main\"\nport = 7411\ncapacity = 1000\n[namespace.loads]\nk = \"v\"\n";
 
 /// Whether the text is a bad configuration.
 fn is_bad(alloc: Global, text: &str) -> bool {
@@ -51,7 +52,8 @@ fn a_file_is_read(rt: HostRuntime) -> Result<(), Fail> {
 
 #[test]
 fn each_field_is_read(rt: HostRuntime) -> Result<(), Fail> {
-    let text = "[[namespace]]\nname = \"a-b_9\"\nport = 65535\npolicy = \"lru\"\nparts = 256\nweight = \"bytes\"\nlive_ms = 1\nidle_ms = 999999999999\n[[namespace]]\nname = \"b\"\nport = 1\ndeadlines = true\nidle_ms = 5\n";
+    let text =
+        "[[namespace]]\nname = \"a-b_9\"\nport = 65535\npolicy = \"lru\"\nparts = 256\nweight = \"bytes\"\nlive_ms = 1\nidle_ms = 999999999999\n[[namespace]]\nname = \"b\"\nport = 1\ndeadlines = true\nidle_ms = 5\n";
     let spaces = read_config(rt.alloc(), text)?;
     assert_eq!(rt; spaces.len(), 2);
     let (first, second) = (&spaces[0], &spaces[1]);
@@ -74,13 +76,37 @@ fn bad_files(rt: HostRuntime) -> Result<(), Fail> {
     assert!(rt; is_bad(alloc, "namespace = [1]\n"), "no table");
     assert!(rt; is_bad(alloc, "[[namespace]]\nport = 1\n"), "no name");
     assert!(rt; is_bad(alloc, "[[namespace]]\nname = \"a\"\n"), "no port");
-    assert!(rt; is_bad(alloc, "[[namespace]]\nname = \"\"\nport = 1\n"), "an empty name");
-    assert!(rt; is_bad(alloc, "[[namespace]]\nname = \"A\"\nport = 1\n"), "a capital");
-    assert!(rt; is_bad(alloc, "[[namespace]]\nname = \"abcdefghijabcdefghijabcdefghij123\"\nport = 1\n"), "33 bytes");
-    assert!(rt; is_bad(alloc, "[[namespace]]\nname = \"a\"\nport = 0\n"), "port 0");
-    assert!(rt; is_bad(alloc, "[[namespace]]\nname = \"a\"\nport = 65536\n"), "too great a port");
-    assert!(rt; is_bad(alloc, "[[namespace]]\nname = \"a\"\nport = \"1\"\n"), "a port in quotes");
-    assert!(rt; is_bad(alloc, "other = 1\n[[namespace]]\nname = \"a\"\nport = 1\n"), "another key");
+    assert!(rt;
+        is_bad(alloc, "[[namespace]]\nname = \"\"\nport = 1\n"),
+        "an empty name"
+    );
+    assert!(rt;
+        is_bad(alloc, "[[namespace]]\nname = \"A\"\nport = 1\n"),
+        "a capital"
+    );
+    assert!(rt;
+        is_bad(
+            alloc,
+            "[[namespace]]\nname = \"abcdefghijabcdefghijabcdefghij123\"\nport = 1\n"
+        ),
+        "33 bytes"
+    );
+    assert!(rt;
+        is_bad(alloc, "[[namespace]]\nname = \"a\"\nport = 0\n"),
+        "port 0"
+    );
+    assert!(rt;
+        is_bad(alloc, "[[namespace]]\nname = \"a\"\nport = 65536\n"),
+        "too great a port"
+    );
+    assert!(rt;
+        is_bad(alloc, "[[namespace]]\nname = \"a\"\nport = \"1\"\n"),
+        "a port in quotes"
+    );
+    assert!(rt;
+        is_bad(alloc, "other = 1\n[[namespace]]\nname = \"a\"\nport = 1\n"),
+        "another key"
+    );
     assert!(rt; is_bad(alloc, "[[namespace\n"), "no TOML");
     Ok(())
 }
@@ -98,14 +124,29 @@ fn bad_fields(rt: HostRuntime) -> Result<(), Fail> {
     assert!(rt; is_bad_with(alloc, "parts = 257"), "too many parts");
     assert!(rt; is_bad_with(alloc, "weight = \"two\""), "another weight");
     assert!(rt; is_bad_with(alloc, "live_ms = 0"), "no time");
-    assert!(rt; is_bad_with(alloc, "idle_ms = 1000000000000"), "too long a time");
+    assert!(rt;
+        is_bad_with(alloc, "idle_ms = 1000000000000"),
+        "too long a time"
+    );
     assert!(rt; is_bad_with(alloc, "deadlines = 1"), "no switch");
-    assert!(rt; is_bad_with(alloc, "deadlines = true\nlive_ms = 5"), "deadlines beside a live time");
+    assert!(rt;
+        is_bad_with(alloc, "deadlines = true\nlive_ms = 5"),
+        "deadlines beside a live time"
+    );
     assert!(rt; is_good_with(alloc, "deadlines = false\nlive_ms = 5"));
     assert!(rt; is_bad_with(alloc, "loads = 1"), "loads that are no table");
-    assert!(rt; is_bad_with(alloc, "loads = { k = 1 }"), "a load that is no text");
-    assert!(rt; is_bad_with(alloc, "loads = { k = \"a\\nb\" }"), "a line end");
-    assert!(rt; is_bad_with(alloc, "loads = { k = \"a\\rb\" }"), "a carriage return");
+    assert!(rt;
+        is_bad_with(alloc, "loads = { k = 1 }"),
+        "a load that is no text"
+    );
+    assert!(rt;
+        is_bad_with(alloc, "loads = { k = \"a\\nb\" }"),
+        "a line end"
+    );
+    assert!(rt;
+        is_bad_with(alloc, "loads = { k = \"a\\rb\" }"),
+        "a carriage return"
+    );
     assert!(rt; is_good_with(alloc, "loads = { k = \"\" }"));
     Ok(())
 }
@@ -132,8 +173,20 @@ fn at_most_sixteen(rt: HostRuntime) -> Result<(), Fail> {
 #[test]
 fn names_and_ports_differ(rt: HostRuntime) -> Result<(), Fail> {
     let alloc = rt.alloc();
-    assert!(rt; is_bad(alloc, "[[namespace]]\nname = \"a\"\nport = 1\n[[namespace]]\nname = \"b\"\nport = 1\n"), "one port");
-    assert!(rt; is_bad(alloc, "[[namespace]]\nname = \"a\"\nport = 1\n[[namespace]]\nname = \"a\"\nport = 2\n"), "one name");
+    assert!(rt;
+        is_bad(
+            alloc,
+            "[[namespace]]\nname = \"a\"\nport = 1\n[[namespace]]\nname = \"b\"\nport = 1\n"
+        ),
+        "one port"
+    );
+    assert!(rt;
+        is_bad(
+            alloc,
+            "[[namespace]]\nname = \"a\"\nport = 1\n[[namespace]]\nname = \"a\"\nport = 2\n"
+        ),
+        "one name"
+    );
     Ok(())
 }
 
