@@ -1,0 +1,3 @@
+pub mod Auditing
+pub mod Due
+pub mod Tidy

@@ -1,0 +1,8 @@
+//! The judge of transcripts: the first record of one that breaks a rule.
+#![tactic(auto)]
+
+mod admitting;
+mod duties;
+mod records;
+
+pub use records::find_break;
