@@ -14,11 +14,7 @@ use audit_steps::Duty;
 use std::alloc::{AllocError, Global};
 
 /// What a feed makes due: to run the command that its connection holds back, and then its lines.
-pub fn duties_to_feed<'a>(
-    alloc: Global,
-    conn: u64,
-    held: bool,
-) -> Result<Vec<Duty<'a>>, AllocError>
+pub fn duties_to_feed<'a>(alloc: Global, conn: u64, held: bool) -> Result<Vec<Duty<'a>>, AllocError>
     ensures { IfOk result (λ ds. map task_of ds.items ≡ tasks_to_feed conn held) }
 {
     let mut duties = Vec::new(alloc);
@@ -136,11 +132,7 @@ pub fn left_from(duties: &[Duty<'_>], at: usize) -> usize
     if at >= duties.len() {
         return at;
     }
-    if stays(duties[at]) {
-        at
-    } else {
-        at + 1
-    }
+    if stays(duties[at]) { at } else { at + 1 }
 }
 
 /// Whether it stays due.

@@ -2,7 +2,8 @@
 #![tactic(auto)]
 
 mod admitting;
+mod auditing;
 mod duties;
 mod records;
 
-pub use records::find_break;
+pub use auditing::{Verdict, audit};

@@ -181,7 +181,14 @@ fn judge_answer(
     if !store(alloc, config, s, parts, key.as_ref(), outcome, entry)? {
         return Ok(false);
     }
-    Ok(judge_steps(alloc, config, s, parts, duties.as_slice(), entry.steps.as_slice())?)
+    Ok(judge_steps(
+        alloc,
+        config,
+        s,
+        parts,
+        duties.as_slice(),
+        entry.steps.as_slice(),
+    )?)
 }
 
 /// Judges an answer's own step.
@@ -204,7 +211,14 @@ fn store(
             let duty = Duty::Store(Some(key.as_slice()), outcome);
             Ok(judge(alloc, config, s, parts, Some(duty), shown)?)
         }
-        None => Ok(judge(alloc, config, s, parts, Some(Duty::Store(None, outcome)), shown)?),
+        None => Ok(judge(
+            alloc,
+            config,
+            s,
+            parts,
+            Some(Duty::Store(None, outcome)),
+            shown,
+        )?),
     }
 }
 
@@ -287,5 +301,10 @@ pub fn find_break(
     ensures { IfOk result (λ n. n ≡ first_break config.now transcript.now) }
 {
     breaks_agree();
-    Ok(audited(alloc, config, transcript.made.nanos, transcript.records.as_slice())?)
+    Ok(audited(
+        alloc,
+        config,
+        transcript.made.nanos,
+        transcript.records.as_slice(),
+    )?)
 }
