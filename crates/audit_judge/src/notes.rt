@@ -148,7 +148,7 @@ pub fn are_true_notes<'a>(scene: &Scene<'a>, mut cs: Vec<Candidate<'a>>, notes: 
     for note in notes {
         match take_first(&mut cs, note.key.as_slice()) {
             Some(c) => {
-                let _ = cs.push(c); if !is_true_note(scene, note, c) {
+                if !is_true_note(scene, note, c) {
                     return false;
                 }
             }
