@@ -59,7 +59,8 @@ fn put_steps(text: &mut Vec<u8>, steps: &[Step]) -> Result<(), AllocError>
     Ok(())
 }
 
-fn put_whole_step(text: &mut Vec<u8>, step: &Step) -> Result<(), AllocError>
+/// Writes a step with its notes.
+pub fn put_whole_step(text: &mut Vec<u8>, step: &Step) -> Result<(), AllocError>
     ensures { OnOk result (text.new.items ≡ text.old.items ++ step_text step.now) }
 {
     put_step(text, step)?;

@@ -195,7 +195,7 @@ module _ {K V : Type 0} where
           ap (λ b. cond b (Some x) (record_at rs r.number)) (eq-eqb x.number r.number (ap (λ y. y.number) same)) ∙ ap Some same
       go false e later = past (eqb x.number r.number) refl (later e)
 
-  each-push : (Q : Record K V → Type 0) (rs : List (Record K V)) (x : Record K V) → Each Q rs → Q x → Each Q (rs ++ x ∷ [])
+  pub each-push : (Q : Record K V → Type 0) (rs : List (Record K V)) (x : Record K V) → Each Q rs → Q x → Each Q (rs ++ x ∷ [])
   each-push Q [] x h k = (k, tt)
   each-push Q (r ∷ rs) x h k = (h.0, each-push Q rs x h.1 k)
 
@@ -207,7 +207,7 @@ module _ {K V : Type 0} where
       go true e later = absurd (cc)
       go false e later = later e
 
-  numbered-push : (next : ℕ) (rs : List (Record K V)) (x : Record K V) → x.number ≡ next → Each (λ r. r.number < next) rs → AreNumbered rs → AreNumbered (rs ++ x ∷ [])
+  pub numbered-push : (next : ℕ) (rs : List (Record K V)) (x : Record K V) → x.number ≡ next → Each (λ r. r.number < next) rs → AreNumbered rs → AreNumbered (rs ++ x ∷ [])
   numbered-push next [] x e below h = (refl, tt)
   numbered-push next (r ∷ rs) x e below h =
       let less = below.0 in

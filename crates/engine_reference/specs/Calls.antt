@@ -1,5 +1,6 @@
 -- What the calls of a cache do.
 use Rattle.std.specs.Prelude.{◌≡◌, ℕ, ◌+◌, ◌-◌, ◌==◌, nat_le, max, Bool, true, false, MatchBool, if◌then◌else◌, List, [], ◌∷◌, ◌++◌, drop, Option, Some, None, length}
+use Rattle.engine_reference.specs.declared.data.Settings.{Settings}
 use Rattle.engine_reference.specs.declared.data.Entry.{Entry}
 use Rattle.engine_reference.specs.declared.data.Record.{Record}
 use Rattle.engine_reference.specs.declared.data.Registered.{Registered}
@@ -160,3 +161,26 @@ module _ {K V P S R : Type 0} (answers : Answers K V P R) where
 
   abbrev pub removal_told : ℕ → ℕ → State K V P S R → State K V P S R
   removal_told number now s = with_removal_told (record_at s.records number) now s
+
+-- ---- making
+
+-- a cache that was just made
+pub record IsNew {K V P S R : Type 0} (settings : Settings) (hasher : S) (rules : R) (s : State K V P S R) : Type 0 where
+  pub records : s.records ≡ []
+  pub access : s.access ≡ []
+  pub cleared : s.cleared ≡ 0
+  pub predicates : s.predicates ≡ []
+  pub unsent : s.unsent ≡ []
+  pub reads : s.reads ≡ []
+  pub writes : s.writes ≡ []
+  pub notices : s.notices ≡ []
+  pub table : s.sketch.words ≡ 0
+  pub number : s.number ≡ 0
+  pub weight : s.weight ≡ 0
+  pub ran : s.ran ≡ settings.made
+  pub next_number : s.next_number ≡ 0
+  pub next_ticket : s.next_ticket ≡ 0
+  pub reserved : s.reserved ≡ 0
+  pub settings_are : s.settings ≡ settings
+  pub hasher_is : s.hasher ≡ hasher
+  pub rules_are : s.rules ≡ rules
