@@ -192,6 +192,12 @@ fn events_come_to_what_is_open_and_under_way(rt: HostRuntime) -> Result<(), Fail
         },
     )?;
     assert_eq!(rt; answer, Verdict::Breaks(1));
+    Ok(())
+}
+
+#[test]
+fn connections_are_opened_in_order(rt: HostRuntime) -> Result<(), Fail> {
+    let alloc = rt.alloc();
     assert_eq!(rt;
         verdict_of_event(alloc, Event::Open { conn: 2 })?,
         Verdict::Breaks(1)
@@ -230,6 +236,13 @@ fn values_are_told_and_counted(rt: HostRuntime) -> Result<(), Fail> {
     let clear = says(b"CLEAR", b"OK\n");
     let counted = says(b"SYNC", b"SYNC 1 1\n");
     assert_eq!(rt; verdict_of(alloc, &[first, clear, counted])?, Verdict::Yes);
+    Ok(())
+}
+
+#[test]
+fn keys_are_sorted_and_sums_told(rt: HostRuntime) -> Result<(), Fail> {
+    let alloc = rt.alloc();
+    let first = takes(b"SET a - 1", b"OK\n");
     let keys = says(b"KEYS", b"KEYS 2\na\nb\n");
     let other = takes(b"SET b - 7", b"OK\n");
     assert_eq!(rt; verdict_of(alloc, &[other, first, keys])?, Verdict::Yes);
