@@ -68,7 +68,9 @@ pub struct Plain {
 
 impl Devices for Plain {
     type Clock = StillClock;
+
     type Loader = NoLoader;
+
     type Teller = Counter;
 
     fn make(&self, alloc: Global) -> Option<(StillClock, NoLoader, Counter)> {

@@ -3,6 +3,5 @@
 
 mod devices;
 mod sockets;
-
 #[cfg(test)]
 mod tests;

@@ -9,15 +9,14 @@ use cache_shared::{Seating, SharedService};
 use rand_core::SeedableRng;
 use rand_xoshiro::Xoshiro256PlusPlus;
 use std::alloc::Global;
-use std::io;
 use std::io::{Read, Write};
 use std::marker::Brand;
 use std::net::{Ipv4Addr, Net, SocketAddr, TcpListener, TcpStream};
 use std::sync::atomic::{AtomicU64, Ordering};
 use std::sync::ledger::Blank;
 use std::sync::{Arc, Wait};
-use std::thread;
 use std::thread::Threads;
+use std::{io, thread};
 
 /// What came of it.
 #[derive(Drop)]
@@ -91,8 +90,7 @@ where
     requires name { blank.name ≡ L.name }
     requires parts { (blank.parts ≡ L.parts) × (L.all ≡ L.parts) × (parts ≡ L.parts) }
 {
-    let shared: SharedService<L, LiveService> =
-        SharedService::new(alloc, core, blank, parts).ok()?;
+    let shared: SharedService<L, LiveService> = SharedService::new(alloc, core, blank, parts).ok()?;
     let listener = TcpListener::bind(&rt, SocketAddr::from((Ipv4Addr::LOCALHOST, 0))).ok()?;
     let addr = listener.local_addr().ok()?;
     let told = Arc::new(alloc, AtomicU64::new(0)).ok()?;
