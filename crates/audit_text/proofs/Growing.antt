@@ -1,0 +1,18 @@
+-- A text that grows by the piece of one value more.
+use Rattle.std.proofs.Common.{◌≡◌, ℕ, false, List, [], ◌∷◌, ◌++◌, Option, Some, None, sym, ap, ◌∙◌}
+use Rattle.std.specs.List.{flat_map}
+use Rattle.std.specs.Option.{is_some, option_map_or}
+use Rattle.std.proofs.lemmas.Grind.{flat_map-append}
+use Rattle.std.proofs.lemmas.List.{append_assoc, append-nil}
+use Rattle.audit_model.specs.declared.transcript.Step.{Step}
+use Rattle.audit_text.specs.Text.{step_text}
+
+pub flat_map_push : {X : Type 0} (f : X → List ℕ) (xs : List X) (x : X) → flat_map f (xs ++ x ∷ []) ≡ flat_map f xs ++ f x
+flat_map_push f xs x = flat_map-append f xs (x ∷ []) ∙ ap (λ l. flat_map f xs ++ l) (append-nil (f x))
+
+-- where a record grows, and no step stands behind it, what was gathered grows
+pub recorded : (front l old new : List ℕ) (step : Option Step) → is_some step ≡ false → new ≡ old ++ l
+    → (front ++ new) ++ option_map_or step_text step [] ≡ ((front ++ old) ++ option_map_or step_text step []) ++ l
+recorded front l old new None none more =
+    append-nil (front ++ new) ∙ ap (λ t. front ++ t) more ∙ sym (append_assoc front old l) ∙ ap (λ t. t ++ l) (sym (append-nil (front ++ old)))
+recorded front l old new (Some step) none more = cc

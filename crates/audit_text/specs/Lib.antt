@@ -1,0 +1,4 @@
+pub mod Gathered
+pub mod Lines
+pub mod Text
+pub mod Words

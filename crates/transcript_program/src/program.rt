@@ -1,0 +1,125 @@
+//! The program over its words and streams.
+ghost use Rattle.std.specs.Prelude.{◌≡◌, ◌≢◌, ◌≤◌};
+
+use crate::replaying::{ReplayError, replay};
+use itoa::Buffer;
+use std::alloc::Global;
+use std::convert::AsStr;
+use std::io::{ErrorKind, Read, Write};
+
+const USAGE: &[u8] = b"usage: transcript replay\n";
+
+const OUT_OF_MEMORY: &[u8] = b"transcript: out of memory\n";
+
+const READ_FAILED: &[u8] = b"transcript: read failed\n";
+
+const WRITE_FAILED: &[u8] = b"transcript: write failed\n";
+
+const BAD_CONFIGURATION: &[u8] = b"transcript: bad configuration\n";
+
+const BAD_INPUT: &[u8] = b"transcript: bad input, line ";
+
+/// The program, over its words and streams. Answers its status: 0 where the transcripts were printed, 1 after an error, 2 where the
+/// words are not served. What cannot be written to `errors` is lost.
+pub fn transcript<S: AsStr, R: Read, W: Write, E: Write>(
+    alloc: Global,
+    words: &[S],
+    reader: &mut R,
+    writer: &mut W,
+    errors: &mut E,
+) -> u8
+    ensures status { result ≤ 2 }
+    ensures unread { result ≡ 2 → reader.new ≡ reader.old }
+    ensures unwritten { result ≡ 2 → writer.new ≡ writer.old }
+{
+    if is_replay(words) {
+        run_replay(alloc, reader, writer, errors)
+    } else {
+        let _ = errors.write_all(USAGE);
+        2
+    }
+}
+
+/// The program where its words cannot be had: the text of the error, and the status after it. Without memory that is 1; words that
+/// are no text are not served.
+pub fn without_words<E: Write>(cause: ErrorKind, errors: &mut E) -> u8
+    ensures memory { cause ≡ ErrorKind.OutOfMemory → result ≡ 1 }
+    ensures other { cause ≢ ErrorKind.OutOfMemory → result ≡ 2 }
+{
+    if cause == ErrorKind::OutOfMemory {
+        return fail(errors, OUT_OF_MEMORY);
+    }
+    let _ = errors.write_all(USAGE);
+    2
+}
+
+/// Whether the one word behind the program's name is `replay`.
+fn is_replay<S: AsStr>(words: &[S]) -> bool {
+    match words {
+        [_, word] => word.as_str() == "replay",
+        _ => false,
+    }
+}
+
+/// Writes the text of an error, and answers the status after it.
+fn fail<E: Write>(errors: &mut E, text: &[u8]) -> u8
+    ensures { result ≡ 1 }
+{
+    let _ = errors.write_all(text);
+    1
+}
+
+/// Reads inputs, plays them, and prints the transcripts.
+fn run_replay<R: Read, W: Write, E: Write>(
+    alloc: Global,
+    reader: &mut R,
+    writer: &mut W,
+    errors: &mut E,
+) -> u8
+    ensures status { result ≤ 1 }
+{
+    let mut text = Vec::new(alloc);
+    match reader.read_to_end(&mut text) {
+        Ok(_) => {}
+        Err(error) => return fail(errors, read_error_text(error.kind())),
+    }
+    let printed = match replay(alloc, text.as_slice()) {
+        Ok(printed) => printed,
+        Err(error) => return fail_replay(errors, error),
+    };
+    match writer.write_all(printed.as_slice()) {
+        Ok(()) => 0,
+        Err(_) => fail(errors, WRITE_FAILED),
+    }
+}
+
+/// The text of an error of reading.
+fn read_error_text(cause: ErrorKind) -> &'static [u8] {
+    if cause == ErrorKind::OutOfMemory {
+        OUT_OF_MEMORY
+    } else {
+        READ_FAILED
+    }
+}
+
+/// Writes the text of an error of a replay.
+fn fail_replay<E: Write>(errors: &mut E, error: ReplayError) -> u8
+    ensures { result ≡ 1 }
+{
+    match error {
+        ReplayError::Config => fail(errors, BAD_CONFIGURATION),
+        ReplayError::OutOfMemory => fail(errors, OUT_OF_MEMORY),
+        ReplayError::Line(number) => fail_line(errors, number),
+    }
+}
+
+/// Writes the text of an error with the number of its line.
+fn fail_line<E: Write>(errors: &mut E, number: u64) -> u8
+    ensures { result ≡ 1 }
+{
+    let mut digits = Buffer::new();
+    let _ = errors.write_all(BAD_INPUT);
+    let _ = errors.write_all(digits.format(number).as_bytes());
+    let _ = errors.write_all(b"\n");
+    1
+}

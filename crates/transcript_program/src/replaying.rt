@@ -1,0 +1,82 @@
+//! Inputs, played and printed.
+use audit_model::{Config, ServiceError, Transcript};
+use audit_text::{TextError, read_inputs, write_transcript};
+use cache_spaces::play;
+use itoa::Buffer;
+use rand_core::SeedableRng;
+use rand_xoshiro::Xoshiro256PlusPlus;
+use std::alloc::{AllocError, Global};
+
+/// A replay's generator is seeded by this number, so that it prints the same each time.
+const SEED: u64 = 0;
+
+/// Why nothing is printed.
+#[derive(Clone, Copy, Debug, PartialEq, Eq, Drop)]
+pub enum ReplayError {
+    /// The line of this number is not of the form.
+    Line(u64),
+    /// A configuration or the moment of the making is refused.
+    Config,
+    /// There was no memory.
+    OutOfMemory,
+}
+
+impl From<AllocError> for ReplayError {
+    fn from(_e: AllocError) -> ReplayError {
+        ReplayError::OutOfMemory
+    }
+}
+
+impl From<TextError> for ReplayError {
+    fn from(e: TextError) -> ReplayError {
+        match e {
+            TextError::Line(number) => ReplayError::Line(number),
+            TextError::OutOfMemory => ReplayError::OutOfMemory,
+        }
+    }
+}
+
+impl From<ServiceError> for ReplayError {
+    fn from(e: ServiceError) -> ReplayError {
+        if e == ServiceError::OutOfMemory {
+            ReplayError::OutOfMemory
+        } else {
+            ReplayError::Config
+        }
+    }
+}
+
+/// The inputs of a text, played, and what they came to: the transcript of each namespace.
+pub fn replay(alloc: Global, text: &[u8]) -> Result<Vec<u8>, ReplayError> {
+    let replay = read_inputs(alloc, text)?;
+    let generator = Xoshiro256PlusPlus::seed_from_u64(SEED);
+    let transcripts = play(
+        alloc,
+        replay.configs.as_slice(),
+        generator,
+        replay.made,
+        replay.inputs.as_slice(),
+    )?;
+    let printed = print_transcripts(alloc, replay.configs.as_slice(), transcripts.as_slice())?;
+    Ok(printed)
+}
+
+/// The namespaces, each with its number and transcript.
+fn print_transcripts(
+    alloc: Global,
+    configs: &[Config],
+    transcripts: &[Transcript],
+) -> Result<Vec<u8>, AllocError> {
+    let mut printed = Vec::new(alloc);
+    let mut number: u64 = 0;
+    for (config, transcript) in configs.iter().zip(transcripts) {
+        let mut digits = Buffer::new();
+        printed.extend_from_slice(b"namespace ")?;
+        printed.extend_from_slice(digits.format(number).as_bytes())?;
+        printed.push(b'\n')?;
+        let text = write_transcript(alloc, config, transcript)?;
+        printed.extend_from_slice(text.as_slice())?;
+        number = number.wrapping_add(1);
+    }
+    Ok(printed)
+}
