@@ -1,4 +1,4 @@
-//! One seat, where memory may be refused. Run its test with each allocation refused in turn, by `rt try --test --fail-alloc 1..`.
+//! One seat, where memory may be refused. `tools/refuse_allocations.py` runs its test with each allocation refused in turn.
 ghost use Rattle.std.specs.Prelude.{◌≡◌, ℕ};
 ghost use Rattle.cache_shared.specs.Events.{record_count};
 ghost use Rattle.cache_spaces.specs.Journals.{journals_of};

@@ -217,7 +217,7 @@ fn a_second_drop_finds_no_identifier(rt: HostRuntime) -> Result<(), Fail> {
     Ok(())
 }
 
-// run these with each allocation refused in turn, by `rt try --test --fail-alloc 1..`
+// `tools/refuse_allocations.py` runs these with each allocation refused in turn
 #[test]
 fn a_refused_call_changes_nothing(rt: HostRuntime) -> Result<(), Fail> {
     let mut store = PlainStore::new(rt.alloc(), PLAIN, 5, SplitMix64::seed_from_u64(1))?;
