@@ -1,5 +1,7 @@
-//! Tests of the judgement of what a step does to the values held.
+//! Tests of the judge of transcripts: what a step does to values, and the verdict on whole transcripts.
 #![tactic(auto)]
 
 #[cfg(test)]
 mod deeds;
+#[cfg(test)]
+mod transcripts;

@@ -25,6 +25,7 @@ use Rattle.cache_namespace.specs.Ordered.{HaveKeys}
 use Rattle.cache_namespace.specs.Ran.{standing_with, with_piece}
 use Rattle.cache_namespace.specs.Shown.{shown, is_listed, is_open_with, open_from, situation, put_in}
 use Rattle.cache_namespace.specs.Taken.{is_quit, FeedsConnection, Takes, fed, known, holds_at}
+use Rattle.cache_namespace.specs.Waiting.{UnderWay, no_loads, when_left}
 use Rattle.cache_namespace.specs.Whole.{is_long_line}
 use Rattle.cache_namespace.specs.declared.connection.Connection.{Connection}
 use Rattle.cache_namespace.proofs.Drawn.{spends-same}
@@ -45,20 +46,22 @@ fits m c e = go (is_none c.closing) (is_overlong (shown m c)) e
     go false b h = let x : false ≡ true = h in cc
 
 -- the situation with one connection as it now is
-pub put-situation : (latest m i : ℕ) (old new : Connection) (cs : List Connection) (dropped : Bool) (x left : List HeldValue) → m ≡ suc i → i < length cs → get_or cs i old ≡ old → is_listed m old ≡ true
-    → put_in (situation latest cs dropped x) left m new ≡ situation latest (slice_set cs i new) dropped left
-put-situation latest m i old new cs dropped x left e lt at listed = go (is_listed m new) refl
+pub put-situation : (latest m i : ℕ) (l : UnderWay) (old new : Connection) (cs : List Connection) (dropped : Bool) (x left : List HeldValue) → m ≡ suc i → i < length cs → get_or cs i old ≡ old → is_listed m old ≡ true
+    → put_in (situation latest l cs dropped x) left m new ≡ situation latest (when_left (is_listed m new) m l) (slice_set cs i new) dropped left
+put-situation latest m i l old new cs dropped x left e lt at listed = go (is_listed m new) refl
   where
-    go : (b : Bool) → is_listed m new ≡ b → put_in (situation latest cs dropped x) left m new ≡ situation latest (slice_set cs i new) dropped left
+    go : (b : Bool) → is_listed m new ≡ b → put_in (situation latest l cs dropped x) left m new ≡ situation latest (when_left (is_listed m new) m l) (slice_set cs i new) dropped left
     go true is =
-        ap (λ b. if b then set_in (situation latest cs dropped x) left (shown m new) else without_connection m (record (situation latest cs dropped x) { held = left })) is
-        ∙ ap (λ b. record { latest = latest; opened = length cs; sent = 0; connections = if b then without_number m (open_from 1 cs) else map (λ (k : model.Connection). if k.number == m then shown m new else k) (open_from 1 cs); pending = if b then [] else []; held = left; dropped = dropped }) (fits m new is)
-        ∙ ap (λ ks. record { latest = latest; opened = length cs; sent = 0; connections = ks; pending = []; held = left; dropped = dropped }) (swapped-at m 1 i old new cs (omega arith) lt at listed is)
-        ∙ ap (λ n. record { latest = latest; opened = n; sent = 0; connections = open_from 1 (slice_set cs i new); pending = []; held = left; dropped = dropped }) (sym (length-set cs i new))
+        ap (λ b. if b then set_in (situation latest l cs dropped x) left (shown m new) else without_connection m (record (situation latest l cs dropped x) { held = left })) is
+        ∙ ap (λ b. record { latest = latest; opened = length cs; sent = l.sent; connections = if b then without_number m (open_from 1 cs) else map (λ (k : model.Connection). if k.number == m then shown m new else k) (open_from 1 cs); pending = if b then map (without_waiting m) l.pending else l.pending; held = left; dropped = dropped }) (fits m new is)
+        ∙ ap (λ ks. record { latest = latest; opened = length cs; sent = l.sent; connections = ks; pending = l.pending; held = left; dropped = dropped }) (swapped-at m 1 i old new cs (omega arith) lt at listed is)
+        ∙ ap (λ n. record { latest = latest; opened = n; sent = l.sent; connections = open_from 1 (slice_set cs i new); pending = l.pending; held = left; dropped = dropped }) (sym (length-set cs i new))
+        ∙ sym (ap (λ b. situation latest (when_left b m l) (slice_set cs i new) dropped left) is)
     go false is =
-        ap (λ b. if b then set_in (situation latest cs dropped x) left (shown m new) else without_connection m (record (situation latest cs dropped x) { held = left })) is
-        ∙ ap (λ ks. record { latest = latest; opened = length cs; sent = 0; connections = ks; pending = []; held = left; dropped = dropped }) (dropped-at m 1 i new cs (omega arith) lt is)
-        ∙ ap (λ n. record { latest = latest; opened = n; sent = 0; connections = open_from 1 (slice_set cs i new); pending = []; held = left; dropped = dropped }) (sym (length-set cs i new))
+        ap (λ b. if b then set_in (situation latest l cs dropped x) left (shown m new) else without_connection m (record (situation latest l cs dropped x) { held = left })) is
+        ∙ ap (λ ks. record { latest = latest; opened = length cs; sent = l.sent; connections = ks; pending = map (without_waiting m) l.pending; held = left; dropped = dropped }) (dropped-at m 1 i new cs (omega arith) lt is)
+        ∙ ap (λ n. record { latest = latest; opened = n; sent = l.sent; connections = open_from 1 (slice_set cs i new); pending = map (without_waiting m) l.pending; held = left; dropped = dropped }) (sym (length-set cs i new))
+        ∙ sym (ap (λ b. situation latest (when_left b m l) (slice_set cs i new) dropped left) is)
 
 leb-above : (a b : ℕ) → b < a → nat_le a b ≡ false
 leb-above a b lt = go (nat_le a b) refl
@@ -75,55 +78,10 @@ holding-shown m c = go c.held
     go false = refl
 
 -- an open connection is known
-known-open : (latest m i : ℕ) (c : Connection) (cs : List Connection) (dropped : Bool) (x : List HeldValue) → m ≡ suc i → i < length cs → get_or cs i c ≡ c → is_listed m c ≡ true
-    → ((known_in (situation latest cs dropped x)).was_opened m ≡ true) × ((known_in (situation latest cs dropped x)).is_open m ≡ true)
-known-open latest m i c cs dropped x e lt at listed =
+known-open : (latest m i : ℕ) (l : UnderWay) (c : Connection) (cs : List Connection) (dropped : Bool) (x : List HeldValue) → m ≡ suc i → i < length cs → get_or cs i c ≡ c → is_listed m c ≡ true
+    → ((known_in (situation latest l cs dropped x)).was_opened m ≡ true) × ((known_in (situation latest l cs dropped x)).is_open m ≡ true)
+known-open latest m i l c cs dropped x e lt at listed =
     (and_from (nat_lt 0 m) (nat_le m (length cs)) (lt-ltb 0 m (omega arith)) (le-leb m (length cs) (omega arith)), ap is_some (found-open m i c cs e lt at listed))
-
--- a feed's record follows
-pub follows-feed : (config : Config) (making : Making) (latest m i moment : ℕ) (old new : Connection) (cs : List Connection) (dropped dropping : Bool) (x : List HeldValue) (piece : List ℕ) (is_held : Bool) (Stands : List HeldValue → Type 0) (drawn drawing : Workings) (was is : Gathered)
-    → m ≡ suc i → i < length cs → get_or cs i old ≡ old → is_listed m old ≡ true → moment < 2 ^ 63
-    → FeedsConnection config (situation (max moment latest) cs dropped x) m making x old piece new is_held Stands dropping drawn drawing was is
-    → Takes config making (situation latest cs dropped x) (fed m piece moment) is_held (is_quit new.closing) Stands (situation (max moment latest) (slice_set cs i new) dropping) drawn drawing was is
-follows-feed config making latest m i moment old new cs dropped dropping x piece is_held Stands drawn drawing was is e lt at listed low f =
-    let s = situation latest cs dropped x in
-    let known = known-open latest m i old cs dropped x e lt at listed in
-    let found = found-open m i old cs e lt at listed in
-    let rest = after_steps config (after_event (fed m piece moment) s) (tasks_in s (fed m piece moment)) f.steps in
-    record {
-      steps = f.steps;
-      left = f.left;
-      stands = f.stands;
-      follows =
-          ap (λ a. if is_none (option_or (option_or (refusal_where (not a) error.NoConnection) (refusal_where (not ((known_in s).is_open m)) error.Closed)) (refusal_where (nat_le (2 ^ 63) moment) error.Moment)) && true && true then rest else None) known.0
-          ∙ ap (λ a. if is_none (option_or (refusal_where (not a) error.Closed) (refusal_where (nat_le (2 ^ 63) moment) error.Moment)) && true && true then rest else None) known.1
-          ∙ ap (λ a. if is_none (refusal_where a error.Moment) && true && true then rest else None) (leb-above (2 ^ 63) moment low)
-          ∙ ap (λ o. after_steps config (option_map_or (λ c. with_connection false (record c { unread = c.unread ++ piece }) (situation (max moment latest) cs dropped x)) o (situation (max moment latest) cs dropped x))
-          (tasks_to_feed m (option_map_or (λ (c : model.Connection). is_holding c.standing) o false)) f.steps) found
-          ∙ ap (λ b. after_steps config (set_in (situation (max moment latest) cs dropped x) x (with_piece piece (shown m old))) (tasks_to_feed m b) f.steps) (holding-shown m old)
-          ∙ f.after ∙ ap Some (put-situation (max moment latest) m i old new cs dropping x f.left e lt at listed);
-      parted =
-          ap (λ o. list_all (is_parted making.part_of) (accepted_values (placed_steps_in config (option_map_or (λ c. with_connection false (record c { unread = c.unread ++ piece }) (situation (max moment latest) cs dropped x)) o (situation (max moment latest) cs dropped x))
-          (tasks_to_feed m (option_map_or (λ (c : model.Connection). is_holding c.standing) o false)) f.steps))) found
-          ∙ ap (λ b. list_all (is_parted making.part_of) (accepted_values (placed_steps_in config (set_in (situation (max moment latest) cs dropped x) x (with_piece piece (shown m old))) (tasks_to_feed m b) f.steps))) (holding-shown m old)
-          ∙ f.parted;
-      timely =
-          ap (λ o. are_timely config making.made (option_map_or (λ c. with_connection false (record c { unread = c.unread ++ piece }) (situation (max moment latest) cs dropped x)) o (situation (max moment latest) cs dropped x))
-          (tasks_to_feed m (option_map_or (λ (c : model.Connection). is_holding c.standing) o false)) f.steps) found
-          ∙ ap (λ b. are_timely config making.made (set_in (situation (max moment latest) cs dropped x) x (with_piece piece (shown m old))) (tasks_to_feed m b) f.steps) (holding-shown m old)
-          ∙ f.timely;
-      ends = f.ends;
-      quits = f.quits;
-      draws = f.draws;
-      ordered = λ places order plain agrees.
-          let a = f.ordered places order plain agrees in (
-            a.0,
-            subst (λ o. HaveKeys config (suc places) order (option_map_or (λ c. with_connection false (record c { unread = c.unread ++ piece }) (situation (max moment latest) cs dropped x)) o (situation (max moment latest) cs dropped x))
-                (tasks_to_feed m (option_map_or (λ (c : model.Connection). is_holding c.standing) o false)) f.steps) (sym found)
-                (subst (λ b. HaveKeys config (suc places) order (set_in (situation (max moment latest) cs dropped x) x (with_piece piece (shown m old))) (tasks_to_feed m b) f.steps) (sym (holding-shown m old)) a.1),
-          );
-      gathered = f.gathered;
-    }
 
 -- a connection is listed exactly where it is not closed
 pub listed-open : (m : ℕ) (c : Connection) → is_listed m c ≡ is_none c.closing
@@ -138,22 +96,67 @@ listed-open m c = go c.closing c.held c.unread.bytes c.short
     go None true bytes h = refl
     go None false bytes h = not-long (is_long_line bytes) h
 
+-- a feed's record follows
+pub follows-feed : (config : Config) (making : Making) (latest m i moment : ℕ) (l : UnderWay) (old new : Connection) (cs : List Connection) (dropped dropping : Bool) (x : List HeldValue) (piece : List ℕ) (is_held : Bool) (Stands : List HeldValue → Type 0) (drawn drawing : Workings) (was is : Gathered)
+    → m ≡ suc i → i < length cs → get_or cs i old ≡ old → is_listed m old ≡ true → moment < 2 ^ 63
+    → FeedsConnection config (situation (max moment latest) l cs dropped x) m making x old piece new is_held Stands dropping drawn drawing was is
+    → Takes config making (situation latest l cs dropped x) (fed m piece moment) is_held (is_quit new.closing) Stands (situation (max moment latest) (when_left (is_none new.closing) m l) (slice_set cs i new) dropping) drawn drawing was is
+follows-feed config making latest m i moment l old new cs dropped dropping x piece is_held Stands drawn drawing was is e lt at listed low f =
+    let s = situation latest l cs dropped x in
+    let known = known-open latest m i l old cs dropped x e lt at listed in
+    let found = found-open m i old cs e lt at listed in
+    let rest = after_steps config (after_event (fed m piece moment) s) (tasks_in s (fed m piece moment)) f.steps in
+    record {
+      steps = f.steps;
+      left = f.left;
+      stands = f.stands;
+      follows =
+          ap (λ a. if is_none (option_or (option_or (refusal_where (not a) error.NoConnection) (refusal_where (not ((known_in s).is_open m)) error.Closed)) (refusal_where (nat_le (2 ^ 63) moment) error.Moment)) && true && true then rest else None) known.0
+          ∙ ap (λ a. if is_none (option_or (refusal_where (not a) error.Closed) (refusal_where (nat_le (2 ^ 63) moment) error.Moment)) && true && true then rest else None) known.1
+          ∙ ap (λ a. if is_none (refusal_where a error.Moment) && true && true then rest else None) (leb-above (2 ^ 63) moment low)
+          ∙ ap (λ o. after_steps config (option_map_or (λ c. with_connection false (record c { unread = c.unread ++ piece }) (situation (max moment latest) l cs dropped x)) o (situation (max moment latest) l cs dropped x))
+          (tasks_to_feed m (option_map_or (λ (c : model.Connection). is_holding c.standing) o false)) f.steps) found
+          ∙ ap (λ b. after_steps config (set_in (situation (max moment latest) l cs dropped x) x (with_piece piece (shown m old))) (tasks_to_feed m b) f.steps) (holding-shown m old)
+          ∙ f.after ∙ ap Some (put-situation (max moment latest) m i l old new cs dropping x f.left e lt at listed ∙ ap (λ b. situation (max moment latest) (when_left b m l) (slice_set cs i new) dropping f.left) (listed-open m new));
+      parted =
+          ap (λ o. list_all (is_parted making.part_of) (accepted_values (placed_steps_in config (option_map_or (λ c. with_connection false (record c { unread = c.unread ++ piece }) (situation (max moment latest) l cs dropped x)) o (situation (max moment latest) l cs dropped x))
+          (tasks_to_feed m (option_map_or (λ (c : model.Connection). is_holding c.standing) o false)) f.steps))) found
+          ∙ ap (λ b. list_all (is_parted making.part_of) (accepted_values (placed_steps_in config (set_in (situation (max moment latest) l cs dropped x) x (with_piece piece (shown m old))) (tasks_to_feed m b) f.steps))) (holding-shown m old)
+          ∙ f.parted;
+      timely =
+          ap (λ o. are_timely config making.made (option_map_or (λ c. with_connection false (record c { unread = c.unread ++ piece }) (situation (max moment latest) l cs dropped x)) o (situation (max moment latest) l cs dropped x))
+          (tasks_to_feed m (option_map_or (λ (c : model.Connection). is_holding c.standing) o false)) f.steps) found
+          ∙ ap (λ b. are_timely config making.made (set_in (situation (max moment latest) l cs dropped x) x (with_piece piece (shown m old))) (tasks_to_feed m b) f.steps) (holding-shown m old)
+          ∙ f.timely;
+      ends = f.ends;
+      quits = f.quits;
+      draws = f.draws;
+      ordered = λ places order plain agrees.
+          let a = f.ordered places order plain agrees in (
+            a.0,
+            subst (λ o. HaveKeys config (suc places) order (option_map_or (λ c. with_connection false (record c { unread = c.unread ++ piece }) (situation (max moment latest) l cs dropped x)) o (situation (max moment latest) l cs dropped x))
+                (tasks_to_feed m (option_map_or (λ (c : model.Connection). is_holding c.standing) o false)) f.steps) (sym found)
+                (subst (λ b. HaveKeys config (suc places) order (set_in (situation (max moment latest) l cs dropped x) x (with_piece piece (shown m old))) (tasks_to_feed m b) f.steps) (sym (holding-shown m old)) a.1),
+          );
+      gathered = f.gathered;
+    }
+
 -- a new connection's record follows
-pub follows-open : (config : Config) (making : Making) (latest m : ℕ) (new : Connection) (cs : List Connection) (dropped : Bool) (x : List HeldValue) (Stands : List HeldValue → Type 0) (drawn : Workings) (was : Gathered)
+pub follows-open : (config : Config) (making : Making) (latest m : ℕ) (l : UnderWay) (new : Connection) (cs : List Connection) (dropped : Bool) (x : List HeldValue) (Stands : List HeldValue → Type 0) (drawn : Workings) (was : Gathered)
     → m ≡ suc (length cs) → new.closing ≡ None → new.held ≡ false → new.unread.bytes ≡ [] → Stands x
-    → Takes config making (situation latest cs dropped x) (event.Open m) false false Stands (situation latest (cs ++ new ∷ []) dropped) drawn drawn was was
-follows-open config making latest m new cs dropped x Stands drawn was e is_open free empty stands =
+    → Takes config making (situation latest l cs dropped x) (event.Open m) false false Stands (situation latest l (cs ++ new ∷ []) dropped) drawn drawn was was
+follows-open config making latest m l new cs dropped x Stands drawn was e is_open free empty stands =
     let n_is : 1 + length cs ≡ m = omega arith in
     record {
       steps = [];
       left = x;
       stands = stands;
       follows =
-          ap (λ b. if b && true then Some (record (situation latest cs dropped x) { opened = suc (length cs); connections = open_from 1 cs ++ ready m [] ∷ [] }) else None) (eq-eqb m (suc (length cs)) e)
-          ∙ ap (λ ks. Some (record (situation latest cs dropped x) { opened = suc (length cs); connections = ks }))
+          ap (λ b. if b && true then Some (record (situation latest l cs dropped x) { opened = suc (length cs); connections = open_from 1 cs ++ ready m [] ∷ [] }) else None) (eq-eqb m (suc (length cs)) e)
+          ∙ ap (λ ks. Some (record (situation latest l cs dropped x) { opened = suc (length cs); connections = ks }))
           (sym (opened-last 1 cs new (listed-open (1 + length cs) new ∙ ap is_none is_open) ∙ ap (λ k. open_from 1 cs ++ shown k new ∷ []) n_is
           ∙ ap (λ b. open_from 1 cs ++ standing_with m b new.unread.bytes ∷ []) free ∙ ap (λ bs. open_from 1 cs ++ ready m bs ∷ []) empty))
-          ∙ ap (λ n. Some (record (situation latest cs dropped x) { opened = n; connections = open_from 1 (cs ++ new ∷ []) })) (let l = length-append cs (new ∷ []) in omega arith);
+          ∙ ap (λ n. Some (record (situation latest l cs dropped x) { opened = n; connections = open_from 1 (cs ++ new ∷ []) })) (let l = length-append cs (new ∷ []) in omega arith);
       parted = refl;
       timely = refl;
       ends = refl;
@@ -164,12 +167,12 @@ follows-open config making latest m new cs dropped x Stands drawn was e is_open 
     }
 
 -- a closing's record follows
-pub follows-close : (config : Config) (making : Making) (latest m i : ℕ) (old new : Connection) (cs : List Connection) (dropped : Bool) (x : List HeldValue) (by : Closing) (Stands : List HeldValue → Type 0) (drawn : Workings) (was : Gathered)
+pub follows-close : (config : Config) (making : Making) (latest m i : ℕ) (l : UnderWay) (old new : Connection) (cs : List Connection) (dropped : Bool) (x : List HeldValue) (by : Closing) (Stands : List HeldValue → Type 0) (drawn : Workings) (was : Gathered)
     → m ≡ suc i → i < length cs → get_or cs i old ≡ old → old.closing ≡ None → new.closing ≡ Some by → Stands x
-    → Takes config making (situation latest cs dropped x) (event.Close m) false false Stands (situation latest (slice_set cs i new) dropped) drawn drawn was was
-follows-close config making latest m i old new cs dropped x by Stands drawn was e lt at is_open closed stands =
-    let s = situation latest cs dropped x in
-    let known = known-open latest m i old cs dropped x e lt at (listed-open m old ∙ ap is_none is_open) in
+    → Takes config making (situation latest l cs dropped x) (event.Close m) false false Stands (situation latest (when_left false m l) (slice_set cs i new) dropped) drawn drawn was was
+follows-close config making latest m i l old new cs dropped x by Stands drawn was e lt at is_open closed stands =
+    let s = situation latest l cs dropped x in
+    let known = known-open latest m i l old cs dropped x e lt at (listed-open m old ∙ ap is_none is_open) in
     let rest : Option Situation = Some (without_connection m s) in
     record {
       steps = [];
@@ -178,8 +181,8 @@ follows-close config making latest m i old new cs dropped x by Stands drawn was 
       follows =
           ap (λ a. if is_none (option_or (refusal_where (not a) error.NoConnection) (refusal_where (not ((known_in s).is_open m)) error.Closed)) && true && true then rest else None) known.0
           ∙ ap (λ a. if is_none (refusal_where (not a) error.Closed) && true && true then rest else None) known.1
-          ∙ ap (λ ks. Some (record s { connections = ks })) (dropped-at m 1 i new cs (omega arith) lt (listed-open m new ∙ ap is_none closed))
-          ∙ ap (λ n. Some (record s { opened = n; connections = open_from 1 (slice_set cs i new) })) (sym (length-set cs i new));
+          ∙ ap (λ ks. Some (record s { connections = ks; pending = map (without_waiting m) l.pending })) (dropped-at m 1 i new cs (omega arith) lt (listed-open m new ∙ ap is_none closed))
+          ∙ ap (λ n. Some (record s { opened = n; connections = open_from 1 (slice_set cs i new); pending = map (without_waiting m) l.pending })) (sym (length-set cs i new));
       parted = refl;
       timely = refl;
       ends = refl;
@@ -204,7 +207,7 @@ refused-closed m i c cs e lt at closed =
 pub known-none : (m i : ℕ) (c : Connection) (cs : List Connection) → m ≡ suc i → i < length cs → get_or cs i c ≡ c → c.closing ≡ None
     → refusal_of_conn (known cs) m ≡ None
 known-none m i c cs e lt at is_open =
-    let k = known-open 0 m i c cs false [] e lt at (listed-open m c ∙ ap is_none is_open) in
+    let k = known-open 0 m i no_loads c cs false [] e lt at (listed-open m c ∙ ap is_none is_open) in
     ap (λ a. option_or (refusal_where (not a) error.NoConnection) (refusal_where (not ((known cs).is_open m)) error.Closed)) k.0
     ∙ ap (λ a. refusal_where (not a) error.Closed) k.1
 

@@ -4,6 +4,7 @@ pub mod FeedSteps
 pub mod FeedTaken
 pub mod Following
 pub mod Framing
+pub mod Leaving
 pub mod LoadTurns
 pub mod Places
 pub mod Placing

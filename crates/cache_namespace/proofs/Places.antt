@@ -9,6 +9,7 @@ use Rattle.cache_namespace.specs.Ran.{standing_with}
 use Rattle.cache_namespace.specs.Shown.{shown, is_listed, is_open_with, open_from, situation}
 use Rattle.audit_model.specs.Situation.{Situation, HeldValue}
 use Rattle.cache_namespace.specs.Taken.{text_at, closing_at, ReplacedAt, SameConnections, LooksSame}
+use Rattle.cache_namespace.specs.Waiting.{UnderWay, no_loads}
 use Rattle.cache_namespace.specs.declared.connection.Connection.{Connection}
 
 pub at-place : {X : Type 0} (xs : List X) (i : ℕ) (x : X) → i < length xs → x ≡ get_or xs i x → slice_get xs i ≡ Some x
@@ -49,11 +50,11 @@ open-same n (suc i) old new (c ∷ cs) at bytes_same held_same closing_same = ap
 
 -- a connection that stands for the same leaves the situation
 pub same-situation : (old new : List Connection) (i : ℕ) → (p : ReplacedAt old new i) → p.is.unread.bytes ≡ p.was.unread.bytes → p.is.held ≡ p.was.held → p.is.closing ≡ p.was.closing
-    → (latest : ℕ) (dropped : Bool) (values : List HeldValue) → situation latest new dropped values ≡ situation latest old dropped values
-same-situation old new i p bytes held closing latest dropped values =
-    ap (λ cs. situation latest cs dropped values) p.set
-    ∙ ap (λ n. record { latest = latest; opened = n; sent = 0; connections = open_from 1 (slice_set old i p.is); pending = []; held = values; dropped = dropped }) (length-set old i p.is)
-    ∙ ap (λ ks. record { latest = latest; opened = length old; sent = 0; connections = ks; pending = []; held = values; dropped = dropped }) (open-same 1 i p.was p.is old p.at bytes held closing)
+    → (latest : ℕ) (loads : UnderWay) (dropped : Bool) (values : List HeldValue) → situation latest loads new dropped values ≡ situation latest loads old dropped values
+same-situation old new i p bytes held closing latest loads dropped values =
+    ap (λ cs. situation latest loads cs dropped values) p.set
+    ∙ ap (λ n. record { latest = latest; opened = n; sent = loads.sent; connections = open_from 1 (slice_set old i p.is); pending = loads.pending; held = values; dropped = dropped }) (length-set old i p.is)
+    ∙ ap (λ ks. record { latest = latest; opened = length old; sent = loads.sent; connections = ks; pending = loads.pending; held = values; dropped = dropped }) (open-same 1 i p.was p.is old p.at bytes held closing)
 
 -- a connection that looks the same makes no difference
 pub same-connections : (old new : List Connection) (i : ℕ) → (p : ReplacedAt old new i) → LooksSame p.was p.is → SameConnections old new
@@ -86,7 +87,7 @@ replaced-count old new i p = ap length p.set ∙ length-set old i p.is
 
 -- connections that stand for the same are as many
 pub same-count : (old new : List Connection) → SameConnections old new → length new ≡ length old
-same-count old new same = ap (λ (s : Situation). s.opened) (same.situation 0 false [])
+same-count old new same = ap (λ (s : Situation). s.opened) (same.situation 0 no_loads false [])
 
 -- a place at which no closed connection stands
 pub closing-none : (cs : List Connection) (i : ℕ) → ((c : Connection) → slice_get cs i ≡ Some c → c.closing ≡ None) → closing_at cs i ≡ None

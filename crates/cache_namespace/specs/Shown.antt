@@ -5,6 +5,7 @@ use Rattle.audit_model.specs.Situation.{Situation, HeldValue, is_overlong, witho
 use Rattle.audit_model.specs.declared.command.Closing.{Closing}
 use Rattle.cache_namespace.specs.Lines.{set_in}
 use Rattle.cache_namespace.specs.Ran.{standing_with}
+use Rattle.cache_namespace.specs.Waiting.{UnderWay}
 use Rattle.cache_namespace.specs.declared.connection.Connection.{Connection}
 
 -- the connection as the definitions have it
@@ -24,10 +25,10 @@ abbrev pub open_from : ℕ → List Connection → List model.Connection
 open_from n [] = []
 open_from n (c ∷ cs) = if is_listed n c then shown n c ∷ open_from (suc n) cs else open_from (suc n) cs
 
--- the situation, with those values held
-abbrev pub situation : ℕ → List Connection → Bool → List HeldValue → Situation
-situation latest connections dropped held =
-    record { latest = latest; opened = length connections; sent = 0; connections = open_from 1 connections; pending = []; held = held; dropped = dropped }
+-- the situation, with those loads under way and those values held
+abbrev pub situation : ℕ → UnderWay → List Connection → Bool → List HeldValue → Situation
+situation latest loads connections dropped held =
+    record { latest = latest; opened = length connections; sent = loads.sent; connections = open_from 1 connections; pending = loads.pending; held = held; dropped = dropped }
 
 -- the situation, but with those values held and a connection as its parts say
 abbrev pub put_parts : Situation → List HeldValue → ℕ → Option Closing → Bool → List ℕ → Situation

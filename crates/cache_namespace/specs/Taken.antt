@@ -25,6 +25,7 @@ use Rattle.cache_namespace.specs.Ordered.{OrdersSteps}
 use Rattle.cache_namespace.specs.Lines.{ArePartedIn, are_timely, ends_quit, set_in, with_drops}
 use Rattle.cache_namespace.specs.Ran.{ends_held, with_piece}
 use Rattle.cache_namespace.specs.Shown.{shown, put_in, situation}
+use Rattle.cache_namespace.specs.Waiting.{UnderWay, no_loads}
 use Rattle.cache_namespace.specs.declared.connection.Connection.{Connection}
 
 -- the record of an event that is no answer
@@ -80,7 +81,7 @@ pub record IsSound (wanted : Config) (frame : Frame) (latest : ℕ) : Type 0 whe
 
 -- what is known of a namespace's connections
 abbrev pub known : List Connection → Known
-known connections = known_in (situation 0 connections false [])
+known connections = known_in (situation 0 no_loads connections false [])
 
 -- an event that is refused for what is known, and else for memory alone; `again` where a command is held back
 abbrev pub RefusedFor : Config → List Connection → Event → (held : Bool) → ServiceError → Type 0
@@ -89,7 +90,7 @@ RefusedFor config connections happened held e =
 
 -- a command of the connection of that number is held back
 abbrev pub holds_at : List Connection → ℕ → Bool
-holds_at connections number = is_holding_in (situation 0 connections false []) number
+holds_at connections number = is_holding_in (situation 0 no_loads connections false []) number
 
 -- why the connection at a place is closed, if it is
 abbrev pub closing_at : List Connection → ℕ → Option Closing
@@ -108,7 +109,7 @@ pub record ReplacedAt (old new : List Connection) (index : ℕ) : Type 0 where
 
 -- the connections stand for the same
 pub record SameConnections (old new : List Connection) : Type 0 where
-  pub situation : (latest : ℕ) (dropped : Bool) (values : List HeldValue) → situation latest new dropped values ≡ situation latest old dropped values
+  pub situation : (latest : ℕ) (loads : UnderWay) (dropped : Bool) (values : List HeldValue) → situation latest loads new dropped values ≡ situation latest loads old dropped values
   pub texts : (index : ℕ) → text_at new index ≡ text_at old index
   pub closings : (index : ℕ) → closing_at new index ≡ closing_at old index
 

@@ -14,6 +14,7 @@ ghost use Rattle.cache_namespace.specs.Kept.{IsReadyToHold, gathered, steps_of};
 ghost use Rattle.cache_namespace.specs.Making.{making_of};
 ghost use Rattle.cache_namespace.specs.Lines.{IsThere};
 ghost use Rattle.cache_namespace.specs.Shown.{situation};
+ghost use Rattle.cache_namespace.specs.Waiting.{UnderWay, under_way, when_left};
 ghost use Rattle.audit_model.specs.Belongs.{refusal_of, refusal_of_conn};
 ghost use Rattle.audit_model.specs.declared.event.Event.TheVariants as event;
 ghost use Rattle.cache_namespace.specs.Taken.{is_quit, FeedsConnection, IsOpenOrEnded, Takes, fed, known, holds_at, RefusedFor, text_at, closing_at, ReplacedAt, SameConnections, LooksSame, IsSound};
@@ -23,6 +24,7 @@ use crate::feeding::{FeedError, feed_lines};
 use crate::kept::Kept;
 use crate::lines::Stop;
 use audit_model::{Closing, Config, ServiceError};
+use cache_loads::Loads;
 use cache_store::Store;
 use std::alloc::{AllocError, Global};
 use std::mem;
@@ -165,6 +167,8 @@ pub struct Namespace<S: Drop> {
     pub config: Config,
     pub latest: u64,
     pub connections: Vec<Connection>,
+    /// The loads under way.
+    pub loads: Loads,
 }
 
 impl<S: Store> Namespace<S> {
@@ -172,7 +176,7 @@ impl<S: Store> Namespace<S> {
     pub fn open(&mut self, alloc: Global) -> Result<u64, AllocError>
         requires sound { IsSound self.old.config (S.frame self.old.store) self.old.latest }
         ensures number { IfOk result (λ number. number ≡ length self.old.connections.items + 1) }
-        ensures ran { IfOk result (λ number. (values : List HeldValue) (was : Gathered) → S.stands self.old.store values → Takes self.old.config (making_of (S.frame self.old.store)) (situation self.old.latest self.old.connections.items (S.frame self.old.store).dropped values) (event.Open number) false false (S.stands self.new.store) (situation self.new.latest self.new.connections.items (S.frame self.new.store).dropped) (workings (S.stream self.old.store) (S.registered self.old.store) (S.recency self.old.store)) (workings (S.stream self.new.store) (S.registered self.new.store) (S.recency self.new.store)) was was) }
+        ensures ran { IfOk result (λ number. (values : List HeldValue) (was : Gathered) → S.stands self.old.store values → Takes self.old.config (making_of (S.frame self.old.store)) (situation self.old.latest (under_way self.old.loads) self.old.connections.items (S.frame self.old.store).dropped values) (event.Open number) false false (S.stands self.new.store) (situation self.new.latest (under_way self.new.loads) self.new.connections.items (S.frame self.new.store).dropped) (workings (S.stream self.old.store) (S.registered self.old.store) (S.recency self.old.store)) (workings (S.stream self.new.store) (S.registered self.new.store) (S.recency self.new.store)) was was) }
         ensures rest { self.new ≡ record self.old { connections = self.new.connections } }
         ensures bounded { OnOk result ((values : List HeldValue) → S.stands self.new.store values → IsTrue (is_bounded self.old.config values)) }
         ensures connections { OnOk result ((c : Open) × (c.output.items ≡ []) × (c.closing ≡ None) × (self.new.connections.items ≡ self.old.connections.items ++ c ∷ [])) }
@@ -196,7 +200,7 @@ impl<S: Store> Namespace<S> {
         requires sound { IsSound self.old.config (S.frame self.old.store) self.old.latest }
         requires fresh { IsFresh (gathered (text_at self.old.connections.items (number - 1)) kept.old (S.untaken self.old.store)) }
         requires ready { IsReadyToHold kept.old }
-        ensures ran { IfOk result (λ is_held. (values : List HeldValue) → S.stands self.old.store values → Takes self.old.config (making_of (S.frame self.old.store)) (situation self.old.latest self.old.connections.items (S.frame self.old.store).dropped values) (fed number piece.now moment) is_held (is_quit (closing_at self.new.connections.items (number - 1))) (S.stands self.new.store) (situation self.new.latest self.new.connections.items (S.frame self.new.store).dropped) (workings (S.stream self.old.store) (S.registered self.old.store) (S.recency self.old.store)) (workings (S.stream self.new.store) (S.registered self.new.store) (S.recency self.new.store)) (gathered (text_at self.old.connections.items (number - 1)) kept.old (S.untaken self.old.store)) (gathered (text_at self.new.connections.items (number - 1)) kept.new (S.untaken self.new.store))) }
+        ensures ran { IfOk result (λ is_held. (values : List HeldValue) → S.stands self.old.store values → Takes self.old.config (making_of (S.frame self.old.store)) (situation self.old.latest (under_way self.old.loads) self.old.connections.items (S.frame self.old.store).dropped values) (fed number piece.now moment) is_held (is_quit (closing_at self.new.connections.items (number - 1))) (S.stands self.new.store) (situation self.new.latest (under_way self.new.loads) self.new.connections.items (S.frame self.new.store).dropped) (workings (S.stream self.old.store) (S.registered self.old.store) (S.recency self.old.store)) (workings (S.stream self.new.store) (S.registered self.new.store) (S.recency self.new.store)) (gathered (text_at self.old.connections.items (number - 1)) kept.old (S.untaken self.old.store)) (gathered (text_at self.new.connections.items (number - 1)) kept.new (S.untaken self.new.store))) }
         ensures others { OnOk result ((place : ℕ) → place ≢ number - 1 → slice_get self.new.connections.items place ≡ slice_get self.old.connections.items place) }
         ensures bounded { OnOk result ((values : List HeldValue) → S.stands self.new.store values → IsTrue (is_bounded self.old.config values)) }
         ensures made { (S.frame self.new.store).made ≡ (S.frame self.old.store).made }
@@ -210,6 +214,7 @@ impl<S: Store> Namespace<S> {
         ensures spends { OnErr result (DrawsAlone (S.stream self.old.store) (S.stream self.new.store) (S.registered self.old.store) (S.registered self.new.store)) }
         ensures same { OnErr result (SameConnections self.old.connections.items self.new.connections.items) }
         ensures latest { OnErr result (self.new.latest ≡ self.old.latest) }
+        ensures loads { OnErr result (self.new.loads ≡ self.old.loads) }
         ensures kept { OnErr result (steps_of kept.new ≡ steps_of kept.old) }
         ensures closing { OnOk result (IsOpenOrEnded (closing_at self.new.connections.items (number - 1))) }
         ensures count { length self.new.connections.items ≡ length self.old.connections.items }
@@ -235,6 +240,7 @@ impl<S: Store> Namespace<S> {
         ) {
             Ok(is_held) => {
                 self.latest = now;
+                leave_closed(&mut self.loads, number, &self.connections, index);
                 Ok(is_held)
             }
             Err(FeedError::OutOfMemory) => Err(ServiceError::OutOfMemory),
@@ -245,14 +251,14 @@ impl<S: Store> Namespace<S> {
     /// Closes a connection, and drops what came and was not used.
     pub fn close(&mut self, number: u64) -> Result<(), ServiceError>
         requires sound { IsSound self.old.config (S.frame self.old.store) self.old.latest }
-        ensures ran { OnOk result ((values : List HeldValue) (was : Gathered) → S.stands self.old.store values → Takes self.old.config (making_of (S.frame self.old.store)) (situation self.old.latest self.old.connections.items (S.frame self.old.store).dropped values) (event.Close number) false false (S.stands self.new.store) (situation self.new.latest self.new.connections.items (S.frame self.new.store).dropped) (workings (S.stream self.old.store) (S.registered self.old.store) (S.recency self.old.store)) (workings (S.stream self.new.store) (S.registered self.new.store) (S.recency self.new.store)) was was) }
+        ensures ran { OnOk result ((values : List HeldValue) (was : Gathered) → S.stands self.old.store values → Takes self.old.config (making_of (S.frame self.old.store)) (situation self.old.latest (under_way self.old.loads) self.old.connections.items (S.frame self.old.store).dropped values) (event.Close number) false false (S.stands self.new.store) (situation self.new.latest (under_way self.new.loads) self.new.connections.items (S.frame self.new.store).dropped) (workings (S.stream self.old.store) (S.registered self.old.store) (S.recency self.old.store)) (workings (S.stream self.new.store) (S.registered self.new.store) (S.recency self.new.store)) was was) }
         ensures texts { (place : ℕ) → text_at self.new.connections.items place ≡ text_at self.old.connections.items place }
         ensures others { (place : ℕ) → place ≢ number - 1 → slice_get self.new.connections.items place ≡ slice_get self.old.connections.items place }
         ensures bounded { OnOk result ((values : List HeldValue) → S.stands self.new.store values → IsTrue (is_bounded self.old.config values)) }
         ensures closed { OnOk result (closing_at self.new.connections.items (number - 1) ≡ Some Closing.Asked) }
         ensures open { OnOk result (closing_at self.old.connections.items (number - 1) ≡ None) }
         ensures count { length self.new.connections.items ≡ length self.old.connections.items }
-        ensures rest { self.new ≡ record self.old { connections = self.new.connections } }
+        ensures rest { self.new ≡ record self.old { connections = self.new.connections; loads = self.new.loads } }
         ensures refused { IfErr result (λ e. refusal_of self.old.config (known self.old.connections.items) (event.Close number) ≡ Some e) }
         ensures err { OnErr result (self.new ≡ self.old) }
     {
@@ -261,6 +267,7 @@ impl<S: Store> Namespace<S> {
             Err(error) => return Err(error),
         };
         close_at(&mut self.connections, index);
+        self.loads.leave(number);
         Ok(())
     }
 
@@ -271,7 +278,7 @@ impl<S: Store> Namespace<S> {
         ensures others { (place : ℕ) → place ≢ number - 1 → slice_get self.new.connections.items place ≡ slice_get self.old.connections.items place }
         ensures closings { (place : ℕ) → closing_at self.new.connections.items place ≡ closing_at self.old.connections.items place }
         ensures count { length self.new.connections.items ≡ length self.old.connections.items }
-        ensures situation { (latest : ℕ) (dropped : Bool) (values : List HeldValue) → situation latest self.new.connections.items dropped values ≡ situation latest self.old.connections.items dropped values }
+        ensures situation { (latest : ℕ) (loads : UnderWay) (dropped : Bool) (values : List HeldValue) → situation latest loads self.new.connections.items dropped values ≡ situation latest loads self.old.connections.items dropped values }
         ensures rest { self.new ≡ record self.old { connections = self.new.connections } }
         ensures refused { IsErr result ↔ (((known self.old.connections.items).was_opened number) ≡ false) }
         ensures error { IfErr result (λ e. e ≡ ServiceError.NoConnection) }
@@ -308,6 +315,16 @@ fn find_opened(connections: &[Connection], number: u64) -> Result<usize, Service
         return Err(ServiceError::NoConnection);
     }
     Ok((number - 1) as usize)
+}
+
+/// Takes the connection at a place out of those that wait, where it is closed.
+fn leave_closed(loads: &mut Loads, number: u64, connections: &[Connection], index: usize)
+    requires { index < length connections.now }
+    ensures { under_way loads.new ≡ when_left (is_none (closing_at connections.now index)) number (under_way loads.old) }
+{
+    if closing_of(connections, index).is_some() {
+        loads.leave(number);
+    }
 }
 
 /// Why the connection at a place is closed, if it is.

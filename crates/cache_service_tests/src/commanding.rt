@@ -94,6 +94,41 @@ fn own_deadlines_end_values(rt: HostRuntime) -> Result<(), Fail> {
     Ok(())
 }
 
+// the earliest of the two ends a value
+#[test]
+fn own_deadlines_stand_beside_idle_times(rt: HostRuntime) -> Result<(), Fail> {
+    let both = Config {
+        idle_ms: Some(5),
+        own_deadlines: true,
+        ..PLAIN
+    };
+    let ends_of_its_own = [
+        Row::Says(0, b"SET a 100 x\nSET a 5 y\n", b"OK\nOK\n"),
+        Row::Tells(RemovalCause::Replaced, b"a", b"x"),
+        Row::Says(4_000_000, b"GET a\n", b"VAL y\n"),
+        Row::Says(4_997_119, b"GET a\n", b"VAL y\n"),
+        Row::Says(4_997_120, b"GET a\n", b"NONE\n"),
+    ];
+    assert_eq!(rt; first_wrong(rt.alloc(), both, &ends_of_its_own), Ok(None));
+    let has_none_of_its_own = [
+        Row::Says(0, b"SET b - z\n", b"OK\n"),
+        Row::Says(4_999_999, b"GET b\n", b"VAL z\n"),
+        Row::Says(9_999_998, b"GET b\n", b"VAL z\n"),
+        Row::Says(14_999_997, b"HAS b\n", b"YES\n"),
+        Row::Says(14_999_998, b"GET b\n", b"NONE\n"),
+    ];
+    assert_eq!(rt;
+        first_wrong(rt.alloc(), both, &has_none_of_its_own),
+        Ok(None)
+    );
+    let ends_by_idling = [
+        Row::Says(0, b"SET c 100 w\n", b"OK\n"),
+        Row::Says(5_000_000, b"GET c\n", b"NONE\n"),
+    ];
+    assert_eq!(rt; first_wrong(rt.alloc(), both, &ends_by_idling), Ok(None));
+    Ok(())
+}
+
 #[test]
 fn an_earlier_moment_is_the_latest_one(rt: HostRuntime) -> Result<(), Fail> {
     let own = Config {

@@ -1,8 +1,9 @@
 //! How `cache_service` is used.
 #![tactic(auto)]
 
-ghost use Rattle.std.specs.Prelude.{IfOk, ◌∷◌, []};
-ghost use Rattle.cache_service.specs.Words.{ArePlayed};
+ghost use Rattle.std.specs.Prelude.{IfOk, IfSome, ◌∷◌, []};
+ghost use Rattle.std.specs.List.{slice_get};
+ghost use Rattle.cache_service.specs.Words.{ArePlayed, KeepsList};
 
 use cache_service::{Service, play};
 use moka_audit::{Config, Conn, EvictionPolicy, Input, Instant, ServiceError, Transcript, Weight};
@@ -14,6 +15,17 @@ use std::alloc::Global;
 pub const PLAIN: Config = Config {
     capacity: None,
     policy: EvictionPolicy::TinyLfu,
+    parts: 1,
+    weight: Weight::One,
+    live_ms: None,
+    idle_ms: None,
+    own_deadlines: false,
+};
+
+/// A namespace of two places, from which the least recently used leaves.
+pub const PAIR: Config = Config {
+    capacity: Some(2),
+    policy: EvictionPolicy::Lru,
     parts: 1,
     weight: Weight::One,
     live_ms: None,
@@ -61,6 +73,22 @@ pub fn play_plainly(
 {
     let generator = Xoshiro256PlusPlus::seed_from_u64(0);
     match play(alloc, &[PLAIN], generator, made, inputs) {
+        Ok(transcripts) => Ok(transcripts),
+        Err(error) => Err(error),
+    }
+}
+
+/// What a namespace of two places does with these inputs. Where each command is followed at once by a `SYNC`, it holds the keys of
+/// the recency list, cut at two, and no other.
+pub fn play_pair(
+    alloc: Global,
+    made: Instant,
+    inputs: &[Input],
+) -> Result<Vec<Transcript>, ServiceError>
+    ensures { IfOk result (λ transcripts. IfSome (slice_get transcripts.items 0) (λ played. KeepsList PAIR 1 played)) }
+{
+    let generator = Xoshiro256PlusPlus::seed_from_u64(0);
+    match play(alloc, &[PAIR], generator, made, inputs) {
         Ok(transcripts) => Ok(transcripts),
         Err(error) => Err(error),
     }

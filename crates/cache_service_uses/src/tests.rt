@@ -1,6 +1,6 @@
-use crate::{PLAIN, ask_once, play_plainly};
+use crate::{PLAIN, ask_once, play_pair, play_plainly};
 use cache_service::Service;
-use moka_audit::{Input, Instant};
+use moka_audit::{Conn, Input, Instant, Seq};
 use rand_core::SeedableRng;
 use rand_xoshiro::Xoshiro256PlusPlus;
 use std::test::Fail;
@@ -30,5 +30,36 @@ fn a_transcript(rt: HostRuntime) -> Result<(), Fail> {
         return Err(Fail::new("no transcript"));
     };
     assert_eq!(rt; transcript.records.len(), 1);
+    Ok(())
+}
+
+#[test]
+fn the_least_recently_used_leaves(rt: HostRuntime) -> Result<(), Fail> {
+    let lines = b"SET a - 1\nSYNC\nSET b - 2\nSYNC\nGET a\nSYNC\nSET c - 3\nSYNC\nKEYS\n";
+    let inputs = [
+        Input::Open { namespace: 0 },
+        Input::Feed {
+            conn: Conn {
+                namespace: 0,
+                number: 1,
+            },
+            piece: Seq::from_vec(lines.to_vec(rt.alloc())?),
+            moment: START,
+        },
+    ];
+    let transcripts = play_pair(rt.alloc(), START, &inputs)?;
+    let Some(transcript) = transcripts.first() else {
+        return Err(Fail::new("no transcript"));
+    };
+    let Some(fed) = transcript.records.as_slice().last() else {
+        return Err(Fail::new("no record"));
+    };
+    let Some(step) = fed.steps.as_slice().last() else {
+        return Err(Fail::new("no step"));
+    };
+    let Some(reply) = &step.reply else {
+        return Err(Fail::new("no reply"));
+    };
+    assert_eq!(rt; reply.as_slice(), b"KEYS 2\na\nc\n".as_slice());
     Ok(())
 }

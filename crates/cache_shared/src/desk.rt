@@ -1,16 +1,16 @@
 //! What lies under the lock.
-ghost use Rattle.std.specs.Prelude.{◌≡◌, ℕ, ◌+◌, ◌≤◌, ◌<◌, ◌++◌, ◌∷◌, [], true, Some, length, map, sum_by, vec_len, vec_capacity, IfOk, IfErr, OnOk, OnErr};
+ghost use Rattle.std.specs.Prelude.{◌≡◌, ℕ, ◌+◌, ◌≤◌, ◌<◌, ◌++◌, ◌∷◌, [], true, false, Some, length, map, sum_by, vec_len, vec_capacity, IfOk, IfErr, OnOk, OnErr};
 ghost use Rattle.std.specs.List.{slice_get};
 ghost use Rattle.audit_model.specs.declared.transcript.Transcript.{Transcript};
-ghost use Rattle.cache_shared.specs.Events.{Performs, Reached, RefusesStep};
+ghost use Rattle.cache_shared.specs.Events.{IsLate, Performs, Reached, RefusesStep};
 ghost use Rattle.cache_shared.specs.Seats.{AgreeAll, Gains, SameReceipts, receipt_for};
 ghost use Rattle.cache_spaces.specs.Recorded.{namespace_of};
 ghost use Rattle.cache_spaces.specs.Services.{spaces_of};
 
 use crate::judging::agree;
 use crate::seat::{Seat, Seating, make_lists, namespace_of};
-use crate::under::Core;
-use audit_model::{Input, ServiceError};
+use crate::under::{Core, Takings};
+use audit_model::{Closing, Conn, Input, Note, ServiceError};
 use audit_receipts::{Receipt, copy_input};
 use cache_spaces::{Output, Refusal};
 use std::alloc::Global;
@@ -85,7 +85,8 @@ impl<L: Seating, C: Core> Desk<L, C> {
         }
     }
 
-    /// Takes an input for a seat. Where it is taken, the seat counts one more, and has one receipt more: of this input and its output.
+    /// Takes an input for a seat. Where it is taken, the seat counts one more, and has one receipt more, of this input and its output,
+    /// if the service keeps journals.
     ///
     /// An input that is refused is handed back, and leaves no receipt and no count; then nothing has changed. Besides the service's
     /// refusals, `OutOfMemory` where there is none for the receipt, and `UsedUp` where the seat's count is used up.
@@ -96,9 +97,54 @@ impl<L: Seating, C: Core> Desk<L, C> {
         input: Input,
     ) -> Result<Output, Refusal>
         ensures taken { IfOk result (λ output. Performs input output (spaces_of (C.service self.old.core)) (spaces_of (C.service self.new.core))) }
+        ensures recorded { IfOk result (λ output. C.Recorded input output self.old.core self.new.core) }
+        ensures count { OnOk result ((C.events self.new.core ≡ C.events self.old.core + 1) × (seat.new.count ≡ seat.old.count + 1)) }
+        ensures receipt { C.KEEPS ≡ true → IfOk result (λ output. (number : ℕ) × ((journal : Transcript) → slice_get (C.journals self.new.core) (namespace_of input) ≡ Some journal → number ≡ length journal.records) × Gains seat.old.receipts.items seat.new.receipts.items (namespace_of input) (receipt_for input output number)) }
+        ensures bare { C.KEEPS ≡ false → SameReceipts seat.old.receipts.items seat.new.receipts.items }
+        ensures refused { IfErr result (λ refusal. RefusesStep input refusal.error seat.old.count (C.events self.old.core) (spaces_of (C.service self.old.core)) (spaces_of (C.service self.new.core))) }
+        ensures uncounted { OnErr result ((C.events self.new.core ≡ C.events self.old.core) × (seat.new.count ≡ seat.old.count)) }
+        ensures same { OnErr result (SameReceipts seat.old.receipts.items seat.new.receipts.items) }
+        ensures back { IfErr result (λ refusal. refusal.input ≡ input) }
+        ensures late { IfErr result (λ refusal. refusal.error ≡ ServiceError.Moment → IsLate input) }
+    {
+        if C::KEEPS {
+            self.step_kept(alloc, seat, input)
+        } else {
+            self.step_bare(seat, input)
+        }
+    }
+
+    /// Takes an input for a seat, without a receipt.
+    fn step_bare(&mut self, seat: &mut Seat<L>, input: Input) -> Result<Output, Refusal>
+        ensures taken { IfOk result (λ output. Performs input output (spaces_of (C.service self.old.core)) (spaces_of (C.service self.new.core))) }
+        ensures recorded { IfOk result (λ output. C.Recorded input output self.old.core self.new.core) }
+        ensures count { OnOk result ((C.events self.new.core ≡ C.events self.old.core + 1) × (seat.new.count ≡ seat.old.count + 1)) }
+        ensures bare { seat.new.receipts ≡ seat.old.receipts }
+        ensures refused { IfErr result (λ refusal. RefusesStep input refusal.error seat.old.count (C.events self.old.core) (spaces_of (C.service self.old.core)) (spaces_of (C.service self.new.core))) }
+        ensures uncounted { OnErr result ((C.events self.new.core ≡ C.events self.old.core) × (seat.new.count ≡ seat.old.count)) }
+        ensures back { IfErr result (λ refusal. refusal.input ≡ input) }
+    {
+        let Seat {
+            share,
+            count,
+            receipts: _,
+        } = seat;
+        self.count_one(share, count, input)
+    }
+
+    /// Takes an input for a seat, with a receipt.
+    fn step_kept(
+        &mut self,
+        alloc: Global,
+        seat: &mut Seat<L>,
+        input: Input,
+    ) -> Result<Output, Refusal>
+        requires keeps { C.KEEPS ≡ true }
+        ensures taken { IfOk result (λ output. Performs input output (spaces_of (C.service self.old.core)) (spaces_of (C.service self.new.core))) }
+        ensures recorded { IfOk result (λ output. C.Recorded input output self.old.core self.new.core) }
         ensures count { OnOk result ((C.events self.new.core ≡ C.events self.old.core + 1) × (seat.new.count ≡ seat.old.count + 1)) }
         ensures receipt { IfOk result (λ output. (number : ℕ) × ((journal : Transcript) → slice_get (C.journals self.new.core) (namespace_of input) ≡ Some journal → number ≡ length journal.records) × Gains seat.old.receipts.items seat.new.receipts.items (namespace_of input) (receipt_for input output number)) }
-        ensures refused { IfErr result (λ refusal. RefusesStep input refusal.error seat.old.count (spaces_of (C.service self.old.core)) (spaces_of (C.service self.new.core))) }
+        ensures refused { IfErr result (λ refusal. RefusesStep input refusal.error seat.old.count (C.events self.old.core) (spaces_of (C.service self.old.core)) (spaces_of (C.service self.new.core))) }
         ensures uncounted { OnErr result ((C.events self.new.core ≡ C.events self.old.core) × (seat.new.count ≡ seat.old.count)) }
         ensures same { OnErr result (SameReceipts seat.old.receipts.items seat.new.receipts.items) }
         ensures back { IfErr result (λ refusal. refusal.input ≡ input) }
@@ -140,9 +186,10 @@ impl<L: Seating, C: Core> Desk<L, C> {
         requires { (share.old.parts ≡ 1) × (share.old.amount ≡ count.old) }
         ensures share { (share.new.parts ≡ 1) × (share.new.amount ≡ count.new) }
         ensures taken { IfOk result (λ output. Performs input output (spaces_of (C.service self.old.core)) (spaces_of (C.service self.new.core))) }
+        ensures recorded { IfOk result (λ output. C.Recorded input output self.old.core self.new.core) }
         ensures count { OnOk result ((C.events self.new.core ≡ C.events self.old.core + 1) × (count.new ≡ count.old + 1)) }
         ensures receipt { IfOk result (λ output. (number : ℕ) × ((journal : Transcript) → slice_get (C.journals self.new.core) (namespace_of input) ≡ Some journal → number ≡ length journal.records) × (own.new.items ≡ own.old.items ++ receipt_for input output number ∷ [])) }
-        ensures refused { IfErr result (λ refusal. RefusesStep input refusal.error count.old (spaces_of (C.service self.old.core)) (spaces_of (C.service self.new.core))) }
+        ensures refused { IfErr result (λ refusal. RefusesStep input refusal.error count.old (C.events self.old.core) (spaces_of (C.service self.old.core)) (spaces_of (C.service self.new.core))) }
         ensures uncounted { OnErr result ((C.events self.new.core ≡ C.events self.old.core) × (count.new ≡ count.old)) }
         ensures same { OnErr result (own.new.items ≡ own.old.items) }
         ensures back { IfErr result (λ refusal. refusal.input ≡ input) }
@@ -193,8 +240,9 @@ impl<L: Seating, C: Core> Desk<L, C> {
         requires { (share.old.parts ≡ 1) × (share.old.amount ≡ count.old) }
         ensures share { (share.new.parts ≡ 1) × (share.new.amount ≡ count.new) }
         ensures taken { IfOk result (λ output. Performs input output (spaces_of (C.service self.old.core)) (spaces_of (C.service self.new.core))) }
+        ensures recorded { IfOk result (λ output. C.Recorded input output self.old.core self.new.core) }
         ensures count { OnOk result ((C.events self.new.core ≡ C.events self.old.core + 1) × (count.new ≡ count.old + 1)) }
-        ensures refused { IfErr result (λ refusal. RefusesStep input refusal.error count.old (spaces_of (C.service self.old.core)) (spaces_of (C.service self.new.core))) }
+        ensures refused { IfErr result (λ refusal. RefusesStep input refusal.error count.old (C.events self.old.core) (spaces_of (C.service self.old.core)) (spaces_of (C.service self.new.core))) }
         ensures uncounted { OnErr result ((C.events self.new.core ≡ C.events self.old.core) × (count.new ≡ count.old)) }
         ensures back { IfErr result (λ refusal. refusal.input ≡ input) }
     {
@@ -270,5 +318,28 @@ impl<L: Seating, C: Core> Desk<L, C> {
             service: core,
             receipts,
         }
+    }
+}
+
+impl<L: Seating, C: Takings> Desk<L, C> {
+    /// The reply bytes of a connection since the last taking, moved out.
+    pub fn take_output(&mut self, conn: Conn) -> Result<Vec<u8>, ServiceError>
+        ensures { C.events self.new.core ≡ C.events self.old.core }
+    {
+        let Desk { core, .. } = self;
+        core.take_output(conn)
+    }
+
+    /// The oldest note of a namespace that was told and not taken.
+    pub fn next_notice(&mut self, namespace: u64) -> Result<Option<Note>, ServiceError>
+        ensures { C.events self.new.core ≡ C.events self.old.core }
+    {
+        let Desk { core, .. } = self;
+        core.next_notice(namespace)
+    }
+
+    /// Why a connection is closed, if it is.
+    pub fn closed(&self, conn: Conn) -> Result<Option<Closing>, ServiceError> {
+        self.core.closed(conn)
     }
 }

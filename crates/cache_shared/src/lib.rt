@@ -11,4 +11,4 @@ mod under;
 pub use desk::{Desk, Finished};
 pub use seat::{Seat, Seating};
 pub use shared::SharedService;
-pub use under::Core;
+pub use under::{Core, Takings};

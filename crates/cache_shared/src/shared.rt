@@ -1,14 +1,14 @@
 //! The shared form.
-ghost use Rattle.std.specs.Prelude.{◌≡◌, ℕ, ◌+◌, ◌≤◌, [], map, sum_by, vec_len, vec_capacity, IfOk, IfErr, OnOk, OnErr};
-ghost use Rattle.cache_shared.specs.Events.{Reached};
+ghost use Rattle.std.specs.Prelude.{◌≡◌, ℕ, ◌+◌, ◌≤◌, [], true, false, map, sum_by, vec_len, vec_capacity, IfOk, IfErr, OnOk, OnErr};
+ghost use Rattle.cache_shared.specs.Events.{IsLate, Reached};
 ghost use Rattle.cache_shared.specs.Seats.{AgreeAll, Gains, SameReceipts, receipt_for};
 ghost use Rattle.cache_spaces.specs.Recorded.{namespace_of};
 ghost use Rattle.cache_spaces.specs.Services.{spaces_of};
 
 use crate::desk::{Desk, Finished};
 use crate::seat::{Seat, Seating};
-use crate::under::Core;
-use audit_model::{Input, ServiceError};
+use crate::under::{Core, Takings};
+use audit_model::{Closing, Conn, Input, Note, ServiceError};
 use audit_receipts::Receipt;
 use cache_spaces::{Output, RecordedService, Refusal};
 use std::alloc::{AllocError, Global};
@@ -83,16 +83,18 @@ impl<L: Seating, C: Core> SharedService<L, C> {
         }
     }
 
-    /// Takes one input for a seat, in one hold of the lock. Where it is taken, the seat counts one more, and has one receipt more: of
-    /// this input and its output.
+    /// Takes one input for a seat, in one hold of the lock. Where it is taken, the seat counts one more, and has one receipt more, of
+    /// this input and its output, if the service keeps journals.
     ///
     /// An input that is refused is handed back, and leaves no receipt and no count; then nothing has changed.
     pub fn step(&self, rt: &impl Wait, seat: &mut Seat<L>, input: Input) -> Result<Output, Refusal>
         ensures count { OnOk result (seat.new.count ≡ seat.old.count + 1) }
-        ensures receipt { IfOk result (λ output. (number : ℕ) × Gains seat.old.receipts.items seat.new.receipts.items (namespace_of input) (receipt_for input output number)) }
+        ensures receipt { C.KEEPS ≡ true → IfOk result (λ output. (number : ℕ) × Gains seat.old.receipts.items seat.new.receipts.items (namespace_of input) (receipt_for input output number)) }
+        ensures bare { C.KEEPS ≡ false → SameReceipts seat.old.receipts.items seat.new.receipts.items }
         ensures uncounted { OnErr result (seat.new.count ≡ seat.old.count) }
         ensures same { OnErr result (SameReceipts seat.old.receipts.items seat.new.receipts.items) }
         ensures back { IfErr result (λ refusal. refusal.input ≡ input) }
+        ensures late { IfErr result (λ refusal. refusal.error ≡ ServiceError.Moment → IsLate input) }
     {
         let mut guard = self.inner.desk.lock(rt);
         let taken = match &mut *guard {
@@ -136,6 +138,39 @@ impl<L: Seating, C: Core> SharedService<L, C> {
         match closed {
             Ok(finished) => Ok(finished),
             Err(seats) => Err((shared, seats)),
+        }
+    }
+}
+
+impl<L: Seating, C: Takings> SharedService<L, C> {
+    /// The reply bytes of a connection since the last taking, moved out, in one hold of the lock. It is no event, and leaves no receipt.
+    pub fn take_output(&self, rt: &impl Wait, conn: Conn) -> Result<Vec<u8>, ServiceError> {
+        let mut guard = self.inner.desk.lock(rt);
+        match &mut *guard {
+            Some(desk) => desk.take_output(conn),
+            None => Err(ServiceError::NoNamespace),
+        }
+    }
+
+    /// The oldest note of a namespace that was told and not taken, in one hold of the lock. It is no event, and leaves no receipt.
+    pub fn next_notice(
+        &self,
+        rt: &impl Wait,
+        namespace: u64,
+    ) -> Result<Option<Note>, ServiceError> {
+        let mut guard = self.inner.desk.lock(rt);
+        match &mut *guard {
+            Some(desk) => desk.next_notice(namespace),
+            None => Err(ServiceError::NoNamespace),
+        }
+    }
+
+    /// Why a connection is closed, if it is, in one hold of the lock.
+    pub fn closed(&self, rt: &impl Wait, conn: Conn) -> Result<Option<Closing>, ServiceError> {
+        let guard = self.inner.desk.lock(rt);
+        match &*guard {
+            Some(desk) => desk.closed(conn),
+            None => Err(ServiceError::NoNamespace),
         }
     }
 }

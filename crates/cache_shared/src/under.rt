@@ -1,13 +1,14 @@
 //! What a shared service needs of the service under its lock.
-ghost use Rattle.std.specs.Prelude.{◌≡◌, ℕ, ◌+◌, ◌≤◌, List, Some, length, IfOk, IfErr, OnOk, OnErr};
+ghost use Rattle.std.specs.Prelude.{◌≡◌, ℕ, ◌+◌, ◌≤◌, Bool, true, List, Some, length, IfOk, IfErr, OnOk, OnErr};
 ghost use Rattle.std.specs.List.{slice_get};
+ghost use Rattle.audit_model.specs.declared.input.Input.{Input};
 ghost use Rattle.audit_model.specs.declared.transcript.Transcript.{Transcript};
-ghost use Rattle.cache_shared.specs.Events.{Performs, Reached};
-ghost use Rattle.cache_spaces.specs.Recorded.{RefusedInput, namespace_of};
-ghost use Rattle.cache_spaces.specs.Services.{Refuses, spaces_of};
+ghost use Rattle.audit_receipts.specs.declared.output.Output.{Output};
+ghost use Rattle.cache_shared.specs.Events.{Performs, Reached, RefusesEvent};
+ghost use Rattle.cache_spaces.specs.Services.{spaces_of};
 ghost use Rattle.cache_spaces.specs.declared.service.Service.{Service};
 
-use audit_model::{Input, ServiceError, Transcript};
+use audit_model::{Closing, Conn, Input, Note, ServiceError, Transcript};
 use cache_spaces::{Output, Refusal};
 
 /// A service that takes inputs one by one.
@@ -18,16 +19,26 @@ pub trait Core: Drop {
     /// How many inputs it took.
     ghost events: { Self → ℕ };
 
-    /// The journals of its namespaces.
+    /// The journals of its namespaces; none where it keeps none.
     ghost journals: { Self → List Transcript };
+
+    /// Whether it keeps journals, and seats keep receipts.
+    ghost KEEPS: { Bool };
+
+    const KEEPS: bool;
+
+    /// What its journals say of an input that was taken, with its output, before and after.
+    ghost Recorded: { Input → Output → Self → Self → Type 0 };
 
     /// Takes an input: its event happens, and the output is what the event came to.
     ///
-    /// An input that is refused is handed back; then nothing has changed.
+    /// An input that is refused is handed back; then nothing has changed. Besides the service's refusals, `UsedUp` where the count of
+    /// inputs is used up.
     fn step(&mut self, input: Input) -> Result<Output, Refusal>
         ensures taken { IfOk result (λ output. Performs input output (spaces_of (service self.old)) (spaces_of (service self.new))) }
+        ensures recorded { IfOk result (λ output. Recorded input output self.old self.new) }
         ensures count { OnOk result (events self.new ≡ events self.old + 1) }
-        ensures refused { IfErr result (λ refusal. Refuses (spaces_of (service self.old)) (spaces_of (service self.new)) (namespace_of input) refusal.error (RefusedInput input refusal.error)) }
+        ensures refused { IfErr result (λ refusal. RefusesEvent input refusal.error (events self.old) (spaces_of (service self.old)) (spaces_of (service self.new))) }
         ensures uncounted { OnErr result (events self.new ≡ events self.old) }
         ensures back { IfErr result (λ refusal. refusal.input ≡ input) };
 
@@ -35,9 +46,24 @@ pub trait Core: Drop {
     fn stands(&self)
         ensures { ∥ Reached (spaces_of (service self.now)) (events self.now) ∥₁ };
 
-    /// The journal of a namespace. Refused with `NoNamespace`.
+    /// The journal of a namespace. Refused with `NoNamespace` where it has none.
     fn journal(&self, namespace: u64) -> Result<&Transcript, ServiceError>
         ensures journal { IfOk result (λ journal. slice_get (journals self.now) namespace ≡ Some journal.now) }
-        ensures refused { IfErr result (λ e. (e ≡ ServiceError.NoNamespace) × (length (spaces_of (service self.now)) ≤ namespace)) }
+        ensures error { IfErr result (λ e. e ≡ ServiceError.NoNamespace) }
+        ensures refused { KEEPS ≡ true → OnErr result (length (spaces_of (service self.now)) ≤ namespace) }
         ensures none { IfErr result (λ e. length (journals self.now) ≤ namespace) };
+}
+
+/// A core whose replies and notes are taken. A taking is no event.
+pub trait Takings: Core {
+    /// The reply bytes of a connection since the last taking, moved out.
+    fn take_output(&mut self, conn: Conn) -> Result<Vec<u8>, ServiceError>
+        ensures events { Self.events self.new ≡ Self.events self.old };
+
+    /// The oldest note of a namespace that was told and not taken.
+    fn next_notice(&mut self, namespace: u64) -> Result<Option<Note>, ServiceError>
+        ensures events { Self.events self.new ≡ Self.events self.old };
+
+    /// Why a connection is closed, if it is.
+    fn closed(&self, conn: Conn) -> Result<Option<Closing>, ServiceError>;
 }

@@ -9,6 +9,7 @@ use Rattle.audit_model.specs.declared.event.Event.{Event}
 use Rattle.cache_namespace.specs.Gathered.{Gathered}
 use Rattle.cache_namespace.specs.Shown.{situation}
 use Rattle.cache_namespace.specs.Taken.{Takes, is_quit, record_of}
+use Rattle.cache_namespace.specs.Waiting.{UnderWay}
 use Rattle.cache_namespace.specs.declared.connection.Connection.{Connection}
 use Rattle.cache_namespace.specs.Drawing.{Workings}
 use Rattle.cache_namespace.specs.Making.{Making}
@@ -24,18 +25,18 @@ use Rattle.cache_spaces.specs.declared.space.Space.{Space}
 use Rattle.cache_spaces.specs.Spaces.{StandsWith, Stands, closing_of, config_of, gathered_in, workings_of, made_of, output_of, notices_of}
 
 -- an event that is taken, whatever values are held
-pub moves-from : (config : Config) (making : Making) (Holds Left : List HeldValue → Type 0) (dropped drops : Bool) (latest now : ℕ) (old new : List Connection) (happened : Event) (is_held quit : Bool) (drawn drawing : Workings) (was is : Gathered) (s : Situation)
-    → StandsWith Holds dropped latest old s
-    → ((values : List HeldValue) → Holds values → Takes config making (situation latest old dropped values) happened is_held quit Left (situation now new drops) drawn drawing was is)
+pub moves-from : (config : Config) (making : Making) (Holds Left : List HeldValue → Type 0) (dropped drops : Bool) (latest now : ℕ) (l left : UnderWay) (old new : List Connection) (happened : Event) (is_held quit : Bool) (drawn drawing : Workings) (was is : Gathered) (s : Situation)
+    → StandsWith Holds dropped latest l old s
+    → ((values : List HeldValue) → Holds values → Takes config making (situation latest l old dropped values) happened is_held quit Left (situation now left new drops) drawn drawing was is)
     → ((values : List HeldValue) → Left values → IsTrue (is_bounded config values))
-    → Moves config making.made s happened is_held quit (StandsWith Left drops now new) drawn drawing was is
-moves-from config making Holds Left dropped drops latest now old new happened is_held quit drawn drawing was is s stands takes bounded =
+    → Moves config making.made s happened is_held quit (StandsWith Left drops now left new) drawn drawing was is
+moves-from config making Holds Left dropped drops latest now l left old new happened is_held quit drawn drawing was is s stands takes bounded =
     let t = takes stands.values stands.held in
     record {
       steps = t.steps;
-      next = situation now new drops t.left;
+      next = situation now left new drops t.left;
       stands = record { values = t.left; held = t.stands; same = refl };
-      follows = subst (λ x. Follows config x (record_of happened t.steps) (situation now new drops t.left)) (sym stands.same) t.follows;
+      follows = subst (λ x. Follows config x (record_of happened t.steps) (situation now left new drops t.left)) (sym stands.same) t.follows;
       timely = subst (λ x. IsTrue (are_timely_in config making.made x (record_of happened t.steps))) (sym stands.same) t.timely;
       bounded = bounded t.left t.stands;
       ends = t.ends;
@@ -46,9 +47,9 @@ moves-from config making Holds Left dropped drops latest now old new happened is
     }
 
 -- what changes nothing
-pub stands-on : (Holds Left : List HeldValue → Type 0) (dropped drops : Bool) (latest now : ℕ) (old new : List Connection) (s : Situation) → StandsWith Holds dropped latest old s
-    → ((values : List HeldValue) → Holds values → Left values) → ((values : List HeldValue) → situation now new drops values ≡ situation latest old dropped values) → StandsWith Left drops now new s
-stands-on Holds Left dropped drops latest now old new s stands holds same =
+pub stands-on : (Holds Left : List HeldValue → Type 0) (dropped drops : Bool) (latest now : ℕ) (l left : UnderWay) (old new : List Connection) (s : Situation) → StandsWith Holds dropped latest l old s
+    → ((values : List HeldValue) → Holds values → Left values) → ((values : List HeldValue) → situation now left new drops values ≡ situation latest l old dropped values) → StandsWith Left drops now left new s
+stands-on Holds Left dropped drops latest now l left old new s stands holds same =
     record { values = stands.values; held = holds stands.values stands.held; same = stands.same ∙ sym (same stands.values) }
 
 -- a feed of which no record is made

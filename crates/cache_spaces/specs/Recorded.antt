@@ -34,6 +34,7 @@ pub record LeadsOnIn (was is : Space) (s : Situation) (entry : Record) : Type 0 
   pub follows : Follows (config_of was) s entry next
   pub timely : IsTrue (are_timely_in (config_of was) (made_of was) s entry)
   pub bounded : IsTrue (is_bounded (config_of was) next.held)
+  -- under LRU over one part of weight one without times: the order of use is what these steps make of it, and so are the keys held
   pub ordered : OrdersSteps (config_of was) (recency_of was) (recency_of is) (after_event entry.event s) (tasks_in s entry.event) (steps_of entry)
   pub quiet : IsQuiet is
 

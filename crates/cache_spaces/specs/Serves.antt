@@ -37,6 +37,7 @@ pub record Serves (was is : Space) (number : ℕ) (s : Situation) (happened : Ev
   pub ends : ends_held steps ≡ is_held
   pub quits : ends_quit (config_of was) steps ≡ is_quit (closing_of is number)
   pub draws : StepsDraw (config_of was) steps (identifiers_of was) (identifiers_of is)
+  -- under LRU over one part of weight one without times: the order of use is what these steps make of it, and so are the keys held
   pub ordered : OrdersSteps (config_of was) (recency_of was) (recency_of is) (after_event happened s) (tasks_in s happened) (steps_of (record_of happened steps))
   pub output : output_of is number ≡ output_of was number ++ flat_map reply_in steps
   pub notices : notices_of is ≡ notices_of was ++ flat_map (λ step. step.notices) steps

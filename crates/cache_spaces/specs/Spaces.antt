@@ -8,6 +8,7 @@ use Rattle.cache_namespace.specs.Gathered.{Gathered}
 use Rattle.cache_namespace.specs.Kept.{gathered}
 use Rattle.cache_namespace.specs.Shown.{situation}
 use Rattle.cache_namespace.specs.Taken as taken
+use Rattle.cache_namespace.specs.Waiting.{UnderWay, under_way}
 use Rattle.cache_namespace.specs.declared.connection.Connection.{Connection}
 use Rattle.cache_namespace.specs.declared.kept.Kept.{Kept}
 use Rattle.cache_namespace.specs.Drawing.{Identifiers, Workings, identifiers, workings}
@@ -31,6 +32,10 @@ made_of space = space.inner.store.made
 -- the connections, in the order in which they were opened
 abbrev pub connections_of : Space → List Connection
 connections_of space = space.inner.connections.items
+
+-- the loads under way
+abbrev pub loads_of : Space → UnderWay
+loads_of space = under_way space.inner.loads
 
 -- the notes that were told and not taken
 abbrev pub notices_of : Space → List Note
@@ -63,12 +68,12 @@ workings_of space = workings (identifiers_of space).stream (identifiers_of space
 abbrev pub Holds : Space → List HeldValue → Type 0
 Holds space = plain.Stands space.inner.store.config space.inner.store.table
 
--- values that may be held, and connections, that stand for that situation
-pub record StandsWith (Held : List HeldValue → Type 0) (dropped : Bool) (latest : ℕ) (connections : List Connection) (s : Situation) : Type 0 where
+-- values that may be held, loads under way and connections, that stand for that situation
+pub record StandsWith (Held : List HeldValue → Type 0) (dropped : Bool) (latest : ℕ) (loads : UnderWay) (connections : List Connection) (s : Situation) : Type 0 where
   pub values : List HeldValue
   pub held : Held values
-  pub same : s ≡ situation latest connections dropped values
+  pub same : s ≡ situation latest loads connections dropped values
 
 -- the namespace stands for that situation
 abbrev pub Stands : Space → Situation → Type 0
-Stands space s = StandsWith (Holds space) space.inner.store.dropped space.inner.latest (connections_of space) s
+Stands space s = StandsWith (Holds space) space.inner.store.dropped space.inner.latest (loads_of space) (connections_of space) s

@@ -79,7 +79,8 @@ pub fn new_spaces(
     let mut generator = generator;
     let mut spaces = Vec::with_capacity(alloc, configs.len())?;
     for config in configs {
-        spaces.push(Space::new(alloc, *config, generator.fork(), made)?)?;
+        let namespace = spaces.len() as u64;
+        spaces.push(Space::new(alloc, namespace, *config, generator.fork(), made)?)?;
     }
     Ok(spaces)
 }

@@ -5,6 +5,7 @@ ghost use Rattle.cache_spaces.specs.Served.{is_served};
 ghost use Rattle.cache_namespace.specs.Taken.{IsSound};
 
 use audit_model::{Closing, Config, Note, ServiceError};
+use cache_loads::Loads;
 use cache_namespace::{Kept, Namespace};
 use cache_store::Store;
 use plain_store::PlainStore;
@@ -32,9 +33,10 @@ impl Space {
     ghost use Rattle.cache_spaces.specs.Serves.{Serves, Takes, SameSpace};
     ghost use Rattle.cache_spaces.specs.Spaces.{Stands, config_of, connections_of, generator_of, notices_of, output_of, closing_of, gathered_in, made_of, recency_of, workings_of};
 
-    /// A namespace without connections and values, with a generator of its own.
+    /// A namespace without connections, loads and values, with a generator of its own; its place in the service.
     pub fn new(
         alloc: Global,
+        namespace: u64,
         config: Config,
         generator: Xoshiro256PlusPlus,
         made: u64,
@@ -55,6 +57,7 @@ impl Space {
             config,
             latest: made,
             connections: Vec::new(alloc),
+            loads: Loads::new(alloc, namespace),
         };
         Ok(Space { inner })
     }

@@ -1,13 +1,13 @@
 -- Evictions one after another take the shortest front that reaches the excess.
-use Rattle.std.proofs.Common.{◌≡◌, refl, ap, sym, ◌∙◌, subst, ℕ, zero, suc, ◌+◌, ◌-◌, ◌<◌, ◌≤◌, arith, Bool, true, false, true≢false, cond, not, List, [], ◌∷◌, Option, Some, None, inl, inr, ◌⊎◌, eqb, ◌==◌}
-use Rattle.std.specs.Prelude.{fold, nat_lt}
-use Rattle.std.proofs.lemmas.Bool.{eqb-true, eqb-false, eq-eqb, ne_eqb, ltb-true, cases_eq}
+use Rattle.std.proofs.Common.{◌≡◌, refl, ap, sym, ◌∙◌, subst, ℕ, ◌+◌, ◌-◌, ◌<◌, ◌≤◌, arith, Bool, true, false, cond, not, List, [], ◌∷◌, Option, Some, None, inl, inr, ◌⊎◌, eqb, ◌==◌}
+use Rattle.std.specs.Prelude.{fold}
+use Rattle.std.proofs.lemmas.Bool.{eqb-true, eq-eqb, ne_eqb, ltb-true}
 use Rattle.engine_rules.specs.declared.causes.RemovalCause.TheVariants as cause
 use Rattle.engine_reference.specs.declared.data.Record.{Record}
 use Rattle.engine_reference.specs.Admission.{is_above, shortest_front, with_first}
 use Rattle.engine_reference.specs.Laws.{Evictions, EvictsShortestFront}
 use Rattle.engine_reference.specs.Records.{record_at, without_record, without, settled_in, with_settled, is_settled, weight_at, admitted_weight}
-use Rattle.engine_reference.specs.Runs.{left, with_left, next_to_evict, first_of}
+use Rattle.engine_reference.specs.Runs.{left, with_left, first_of}
 use Rattle.engine_reference.specs.Soundness.{IsIn, AreOnce, IsSound}
 use Rattle.engine_reference.specs.State.{State}
 use Rattle.engine_reference.proofs.HeldRecords.{record_at-number}
@@ -37,6 +37,7 @@ module _ {K V : Type 0} where
       by_settled : (b : Bool) (x : Record K V) → record_at rs m ≡ Some x → first_of (cond b (x ∷ settled_in rs ns) (settled_in rs ns)) ≡ Some r → (first_of (settled_in rs ns) ≡ Some r → IsIn r.number ns) → (m ≡ r.number) ⊎ IsIn r.number ns
       by_settled true x there e later = inl (let same : x ≡ r = cc in sym (record_at-number rs m x there) ∙ ap (λ y. y.number) same)
       by_settled false x there e later = inr (later e)
+
       go : (o : Option (Record K V)) → record_at rs m ≡ o → first_of (with_settled o (settled_in rs ns)) ≡ Some r → (first_of (settled_in rs ns) ≡ Some r → IsIn r.number ns) → (m ≡ r.number) ⊎ IsIn r.number ns
       go None there e later = inr (later e)
       go (Some x) there e later = by_settled (is_settled x) x there e later
@@ -49,15 +50,17 @@ module _ {K V : Type 0} where
     where
       rest : List (Record K V)
       rest = settled_in (without_record r.number rs) (without r.number ns)
+
       -- another number before it is passed over
       past : (first_of (settled_in rs ns) ≡ Some r) → with_settled (record_at rs m) (settled_in rs ns) ≡ settled_in rs ns → (with_settled (record_at rs m) rest ≡ rest)
           → settled_in rs ns ≡ r ∷ rest → settled_in rs (m ∷ ns) ≡ r ∷ settled_in (without_record r.number rs) (without r.number (m ∷ ns))
       past e skips skips_too later =
           let apart : (m ≡ r.number → ⊥) = λ same. once.0 (subst (λ k. IsIn k ns) (sym same) (first-listed rs ns r e)) in
           skips ∙ later ∙ ap (λ l. r ∷ l) (sym (
-              ap (λ b. settled_in (without_record r.number rs) (cond (not b) (m ∷ without r.number ns) (without r.number ns))) (ne_eqb m r.number apart)
-              ∙ ap (λ o. with_settled o rest) (record_at-without r.number rs m (λ same. apart (sym same)))
-              ∙ skips_too))
+          ap (λ b. settled_in (without_record r.number rs) (cond (not b) (m ∷ without r.number ns) (without r.number ns))) (ne_eqb m r.number apart)
+          ∙ ap (λ o. with_settled o rest) (record_at-without r.number rs m (λ same. apart (sym same)))
+          ∙ skips_too))
+
       by_settled : (b : Bool) (x : Record K V) → is_settled x ≡ b → record_at rs m ≡ Some x → first_of (cond b (x ∷ settled_in rs ns) (settled_in rs ns)) ≡ Some r
           → (first_of (settled_in rs ns) ≡ Some r → settled_in rs ns ≡ r ∷ rest) → settled_in rs (m ∷ ns) ≡ r ∷ settled_in (without_record r.number rs) (without r.number (m ∷ ns))
       by_settled true x t there e later =
@@ -66,12 +69,13 @@ module _ {K V : Type 0} where
           let absent : (IsIn r.number ns → ⊥) = λ k. once.0 (subst (λ i. IsIn i ns) number k) in
           ap (λ o. with_settled o (settled_in rs ns)) there ∙ ap (λ b. cond b (x ∷ settled_in rs ns) (settled_in rs ns)) t ∙ ap (λ y. y ∷ settled_in rs ns) same
           ∙ ap (λ l. r ∷ l) (sym (
-              ap (λ b. settled_in (without_record r.number rs) (cond (not b) (m ∷ without r.number ns) (without r.number ns))) (eq-eqb m r.number (sym number))
-              ∙ ap (λ l. settled_in (without_record r.number rs) l) (without-none r.number ns absent)
-              ∙ settled_in-without_none r.number rs ns absent))
+          ap (λ b. settled_in (without_record r.number rs) (cond (not b) (m ∷ without r.number ns) (without r.number ns))) (eq-eqb m r.number (sym number))
+          ∙ ap (λ l. settled_in (without_record r.number rs) l) (without-none r.number ns absent)
+          ∙ settled_in-without_none r.number rs ns absent))
       by_settled false x t there e later =
           past e (ap (λ o. with_settled o (settled_in rs ns)) there ∙ ap (λ b. cond b (x ∷ settled_in rs ns) (settled_in rs ns)) t)
           (ap (λ o. with_settled o rest) there ∙ ap (λ b. cond b (x ∷ rest) rest) t) (later e)
+
       go : (o : Option (Record K V)) → record_at rs m ≡ o → first_of (with_settled o (settled_in rs ns)) ≡ Some r
           → (first_of (settled_in rs ns) ≡ Some r → settled_in rs ns ≡ r ∷ rest) → settled_in rs (m ∷ ns) ≡ r ∷ settled_in (without_record r.number rs) (without r.number (m ∷ ns))
       go None there e later = past e (ap (λ o. with_settled o (settled_in rs ns)) there) (ap (λ o. with_settled o rest) there) (later e)
@@ -105,6 +109,7 @@ module _ {K V : Type 0} where
       by_settled : (b : Bool) (x : Record K V) → record_at rs m ≡ Some x → first_of (cond b (x ∷ settled_in rs ns) (settled_in rs ns)) ≡ Some r → (first_of (settled_in rs ns) ≡ Some r → record_at rs r.number ≡ Some r) → record_at rs r.number ≡ Some r
       by_settled true x there e later = let same : x ≡ r = cc in ap (λ y. record_at rs y.number) (sym same) ∙ ap (λ k. record_at rs k) (record_at-number rs m x there) ∙ there ∙ ap Some same
       by_settled false x there e later = later e
+
       go : (o : Option (Record K V)) → record_at rs m ≡ o → first_of (with_settled o (settled_in rs ns)) ≡ Some r → (first_of (settled_in rs ns) ≡ Some r → record_at rs r.number ≡ Some r) → record_at rs r.number ≡ Some r
       go None there e later = later e
       go (Some x) there e later = by_settled (is_settled x) x there e later
@@ -124,7 +129,7 @@ module _ (K V P S R : Type 0) where
       let next : State K V P S R = with_left cause.Size s (Some r) in
       let same : left cause.Size r.number s ≡ next = ap (λ o. with_left cause.Size s o) there in
       let later : shortest_front (admitted_weight next.records - capacity) (settled_in next.records next.access) ≡ Some rs =
-          evicts_shortest_front next t rs capacity (subst (λ x. IsSound x) same (left-is_sound cause.Size r.number s sound)) is_set (subst (λ x. Evictions K V P S R x rs t) same e.2) within in
+      evicts_shortest_front next t rs capacity (subst (λ x. IsSound x) same (left-is_sound cause.Size r.number s sound)) is_set (subst (λ x. Evictions K V P S R x rs t) same e.2) within in
       let weight = weight-without s.records r.number r there in
       let less : (admitted_weight s.records - capacity) - weight_at r ≡ admitted_weight next.records - capacity = omega arith in
       let excess : (admitted_weight s.records - capacity ≡ 0 → ⊥) = λ z. omega arith in

@@ -195,7 +195,7 @@ module _ {K V : Type 0} where
           ap (λ b. cond b (Some x) (record_at rs r.number)) (eq-eqb x.number r.number (ap (λ y. y.number) same)) ∙ ap Some same
       go false e later = past (eqb x.number r.number) refl (later e)
 
-  each-push : (Q : Record K V → Type 0) (rs : List (Record K V)) (x : Record K V) → Each Q rs → Q x → Each Q (rs ++ x ∷ [])
+  pub each-push : (Q : Record K V → Type 0) (rs : List (Record K V)) (x : Record K V) → Each Q rs → Q x → Each Q (rs ++ x ∷ [])
   each-push Q [] x h k = (k, tt)
   each-push Q (r ∷ rs) x h k = (h.0, each-push Q rs x h.1 k)
 
@@ -207,7 +207,7 @@ module _ {K V : Type 0} where
       go true e later = absurd (cc)
       go false e later = later e
 
-  numbered-push : (next : ℕ) (rs : List (Record K V)) (x : Record K V) → x.number ≡ next → Each (λ r. r.number < next) rs → AreNumbered rs → AreNumbered (rs ++ x ∷ [])
+  pub numbered-push : (next : ℕ) (rs : List (Record K V)) (x : Record K V) → x.number ≡ next → Each (λ r. r.number < next) rs → AreNumbered rs → AreNumbered (rs ++ x ∷ [])
   numbered-push next [] x e below h = (refl, tt)
   numbered-push next (r ∷ rs) x e below h =
       let less = below.0 in
@@ -298,7 +298,7 @@ module _ {K V P S R : Type 0} where
         named = λ v p. elim (before s.unsent s.writes u v p) [ inl k ↦ (let less = h.named v k in omega arith) | inr same ↦ subst (λ z. number_of z < s.next_number + 1) same (omega arith) ];
       }
   written-sound eq answers s key hash value now step (Some r) e h =
-      let entry = next_entry answers s r.entry value now step in
+      let entry = next_entry answers s r.entry key value now step in
       let f = λ (x : Record K V). record x { entry = entry; writes = x.writes + 1 } in
       let rs = changed_at r.number f s.records in
       let u : Unsent = record { ticket = s.next_ticket; write = Put (record { number = r.number; write = r.writes + 1; weight = entry.weight; hash = hash; kept = held_weight rs }) } in

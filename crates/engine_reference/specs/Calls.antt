@@ -1,5 +1,6 @@
 -- What the calls of a cache do.
 use Rattle.std.specs.Prelude.{◌≡◌, ℕ, ◌+◌, ◌-◌, ◌==◌, nat_le, max, Bool, true, false, MatchBool, if◌then◌else◌, List, [], ◌∷◌, ◌++◌, drop, Option, Some, None, length}
+use Rattle.engine_reference.specs.declared.data.Settings.{Settings}
 use Rattle.engine_reference.specs.declared.data.Entry.{Entry}
 use Rattle.engine_reference.specs.declared.data.Record.{Record}
 use Rattle.engine_reference.specs.declared.data.Registered.{Registered}
@@ -81,21 +82,23 @@ module _ {K V P S R : Type 0} (answers : Answers K V P R) where
     weight = answers.weight_of s.rules key value;
   }
 
-  -- the entry after a write over it, with its expiration as it was: the write counts as its write and its use
-  abbrev pub written_over : State K V P S R → Entry K V → V → ℕ → ℕ → Entry K V
-  written_over s e value now step = record e {
+  -- the entry after a write over it, with its expiration as it was: the write counts as its write and its use.
+  -- It has the new key, which compares alike; the old one is told
+  abbrev pub written_over : State K V P S R → Entry K V → K → V → ℕ → ℕ → Entry K V
+  written_over s e key value now step = record e {
+    key = key;
     value = value;
     step = step;
     written = now;
     used = now;
-    weight = answers.weight_of s.rules e.key value;
+    weight = answers.weight_of s.rules key value;
   }
 
   -- and what the rules make of its expiration
-  abbrev pub next_entry : State K V P S R → Entry K V → V → ℕ → ℕ → Entry K V
-  next_entry s e value now step =
-      let w = written_over s e value now step in
-      record w { expires = changed_expiration now (answers.updated s.rules e.key value now (time_left s.settings now w)) e.expires }
+  abbrev pub next_entry : State K V P S R → Entry K V → K → V → ℕ → ℕ → Entry K V
+  next_entry s e key value now step =
+      let w = written_over s e key value now step in
+      record w { expires = changed_expiration now (answers.updated s.rules key value now (time_left s.settings now w)) e.expires }
 
   -- a write of this record, with the weight of all that is held, waits to be sent
   abbrev pub with_put : (number write weight hash : ℕ) → State K V P S R → State K V P S R
@@ -113,7 +116,7 @@ module _ {K V P S R : Type 0} (answers : Answers K V P R) where
         next_number = s.next_number + 1;
       })
   with_written (Some r) s key hash value now step =
-      let e = next_entry s r.entry value now step in
+      let e = next_entry s r.entry key value now step in
       with_put r.number (r.writes + 1) e.weight hash (record s {
         records = changed_at r.number (λ x. record x { entry = e; writes = x.writes + 1 }) s.records;
         notices = told s.settings.tells (cause_of_write answers s now r.entry) r.entry s.notices;
@@ -158,3 +161,26 @@ module _ {K V P S R : Type 0} (answers : Answers K V P R) where
 
   abbrev pub removal_told : ℕ → ℕ → State K V P S R → State K V P S R
   removal_told number now s = with_removal_told (record_at s.records number) now s
+
+-- ---- making
+
+-- a cache that was just made
+pub record IsNew {K V P S R : Type 0} (settings : Settings) (hasher : S) (rules : R) (s : State K V P S R) : Type 0 where
+  pub records : s.records ≡ []
+  pub access : s.access ≡ []
+  pub cleared : s.cleared ≡ 0
+  pub predicates : s.predicates ≡ []
+  pub unsent : s.unsent ≡ []
+  pub reads : s.reads ≡ []
+  pub writes : s.writes ≡ []
+  pub notices : s.notices ≡ []
+  pub table : s.sketch.words ≡ 0
+  pub number : s.number ≡ 0
+  pub weight : s.weight ≡ 0
+  pub ran : s.ran ≡ settings.made
+  pub next_number : s.next_number ≡ 0
+  pub next_ticket : s.next_ticket ≡ 0
+  pub reserved : s.reserved ≡ 0
+  pub settings_are : s.settings ≡ settings
+  pub hasher_is : s.hasher ≡ hasher
+  pub rules_are : s.rules ≡ rules

@@ -1,28 +1,13 @@
 -- The reference cache: all that a contract sees of a cache of one part.
 use Rattle.std.specs.Prelude.{ℕ, Bool, Option, List}
 use Rattle.policy_sketch.specs.Counts.{Sketch}
-use Rattle.engine_rules.specs.declared.settings.EvictionPolicy.{EvictionPolicy}
+use Rattle.engine_reference.specs.declared.data.Settings.{Settings}
 use Rattle.engine_reference.specs.declared.data.Record.{Record}
 use Rattle.engine_reference.specs.declared.data.Registered.{Registered}
 use Rattle.engine_reference.specs.declared.data.Unsent.{Unsent}
 use Rattle.engine_reference.specs.declared.data.Read.{Read}
 use Rattle.engine_reference.specs.declared.data.Write.{Write}
 use Rattle.engine_reference.specs.declared.data.Notice.{Notice}
-
--- what a cache was made with; times and moments in nanoseconds
-pub record Settings : Type 0 where
-  -- the weight that it is to hold at most
-  pub capacity : Option ℕ
-  -- how long a value lives after its write, and after its last use
-  pub live : Option ℕ
-  pub idle : Option ℕ
-  pub policy : EvictionPolicy
-  -- whether removals are told
-  pub tells : Bool
-  -- whether predicates are taken
-  pub takes_predicates : Bool
-  -- the moment at which it was made
-  pub made : ℕ
 
 -- what the rules answer: each answer is a function of its arguments
 pub record Answers (K V P R : Type 0) : Type 0 where

@@ -2,7 +2,7 @@
 use Rattle.std.specs.Prelude.{ℕ, ◌+◌, ◌-◌, ◌*◌, ◌/◌, nat_le, min, Bool, false, Option, Some, None, option_map}
 use Rattle.policy_base.specs.Info.{kept_time}
 use Rattle.engine_reference.specs.declared.data.Entry.{Entry}
-use Rattle.engine_reference.specs.State.{Settings}
+use Rattle.engine_reference.specs.declared.data.Settings.{Settings}
 
 -- the moment that comes so long after another, or the last moment where there is no later one
 abbrev pub later : ℕ → ℕ → ℕ

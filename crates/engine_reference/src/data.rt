@@ -1,6 +1,24 @@
 //! What the reference cache is made of. Moments and times are in nanoseconds.
 
-use engine_rules::RemovalCause;
+use engine_rules::{EvictionPolicy, RemovalCause};
+
+/// What a cache was made with.
+#[derive(Clone, Copy)]
+pub struct Settings {
+    /// The weight that it is to hold at most.
+    pub capacity: Option<u64>,
+    /// How long a value lives after its write.
+    pub live: Option<u64>,
+    /// How long a value lives after its last use.
+    pub idle: Option<u64>,
+    pub policy: EvictionPolicy,
+    /// Whether removals are told.
+    pub tells: bool,
+    /// Whether predicates are taken.
+    pub takes_predicates: bool,
+    /// The moment at which it was made.
+    pub made: u64,
+}
 
 /// A key with its value, and all that decides whether it is visible.
 #[derive(Drop)]

@@ -4,4 +4,4 @@
 mod data;
 pub mod laws;
 
-pub use data::{Entry, Notice, Read, Record, Registered, Unsent, Upsert, Write};
+pub use data::{Entry, Notice, Read, Record, Registered, Settings, Unsent, Upsert, Write};

@@ -105,7 +105,24 @@ shrinking = put 2 1 0 3 (put 2 5 0 2 (run 0 (put 1 10 0 1 (new_small TinyLfu (So
 abbrev shrinking_other : Small
 shrinking_other = put 1 1 0 3 (put 2 5 0 2 (run 0 (put 1 10 0 1 (new_small TinyLfu (Some 12) None None 1))))
 
+-- capacity 31 by weight: 0 of 10 and 1 of 15 written and used, a run; 2 of 5 written and used, a run; 0, 1 used, a run
+abbrev heavy : Small
+heavy = run 0 (look 1 0 (look 0 0 (run 0 (look 2 0 (put 2 5 0 3 (run 0 (look 1 0 (look 0 0 (put 1 15 0 2 (put 0 10 0 1 (new_small TinyLfu (Some 31) None None 1)))))))))))
+
+-- key 3 of 15 is written, a run comes, and 3 is looked up
+abbrev heavy_asked_for : ℕ → Small → Small
+heavy_asked_for step s = look 3 0 (run 0 (put 3 15 0 step s))
+
+-- three times, and then it is written and a run comes
+abbrev heavy_in : Small
+heavy_in = run 0 (put 3 15 0 7 (heavy_asked_for 6 (heavy_asked_for 5 (heavy_asked_for 4 heavy))))
+
 pub record RowsOfFrequencies : Type 0 where
+  -- its weight takes two victims, 2 and then 0, and it has to be asked for more often than both together
+  pub two_victims : told_by heavy_in ≡ 4343434240
+  -- 1 grows to 20, and the one used longest ago goes for the excess
+  pub grown : told_by (run 0 (put 1 20 0 8 heavy_in)) ≡ 43434342403143
+  pub grown_weight : (run 0 (put 1 20 0 8 heavy_in)).weight ≡ 20
   -- refused twice, while it was not asked for more often than the one used longest ago
   pub once : told_by (asked_for 4 warm) ≡ 43
   pub twice : told_by (asked_for 5 (asked_for 4 warm)) ≡ 4343

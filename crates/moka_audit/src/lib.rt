@@ -1,6 +1,6 @@
 //! What is right of a cache that is served by lines: the types of configurations, events and transcripts.
 //!
-//! Contracts cite the definitions of `audit_model`; the laws that hold of them are the functions of `laws`.
+//! Contracts cite the definitions of `audit_model`; the laws that hold of them are the functions of `laws`. `audit` judges any transcript.
 #![tactic(auto)]
 
 pub mod laws;
@@ -11,3 +11,4 @@ pub use audit_model::{
     Weight,
 };
 pub use audit_receipts::{Output, Receipt, receipts_stand};
+pub use audit_records::{Verdict, audit};

@@ -7,6 +7,8 @@ use Rattle.cache_namespace.specs.declared.connection.Connection.{Connection}
 use Rattle.cache_namespace.specs.Drawing.{workings}
 use Rattle.cache_namespace.specs.Taken.{closing_at}
 use Rattle.cache_namespace.specs.Making.{making_of}
+use Rattle.cache_namespace.specs.Waiting.{under_way}
+use Rattle.cache_namespace.proofs.Leaving.{left-is}
 use Rattle.cache_namespace.proofs.FeedTaken.{taken-close}
 use Rattle.cache_namespace.proofs.Places.{closing-none, replaced-count, replaced-is, replaced-others, replaced-seen}
 use Rattle.cache_namespace.proofs.namespace.Namespace.close.Goals as goal
@@ -16,8 +18,8 @@ returns-clause-ran g c = λ values was m.
     let old = c.args.self.now in
     let place = rw c.deref.ensures.value at c.in-Ok.ensures.place in
     let p = c.close_at.ensures in
-    taken-close old.config (making_of (g.S.Store.frame old.store)) old.latest c.args.number c.in-Ok.index old.connections.items c.close_at.new.connections.items (g.S.Store.frame old.store).dropped values (g.S.Store.stands old.store) (workings (g.S.Store.stream old.store) (g.S.Store.registered old.store) (g.S.Store.recency old.store)) was
-    place.0 place.1 (rw c.deref.ensures.value at c.in-Ok.ensures.open) p.0 p.1 m
+    taken-close old.config (making_of (g.S.Store.frame old.store)) old.latest c.args.number c.in-Ok.index (under_way old.loads) (under_way c.leave.new.self) old.connections.items c.close_at.new.connections.items (g.S.Store.frame old.store).dropped values (g.S.Store.stands old.store) (workings (g.S.Store.stream old.store) (g.S.Store.registered old.store) (g.S.Store.recency old.store)) was
+    (left-is old.loads c.leave.new.self c.args.number c.leave.ensures.sent c.leave.ensures.pending) place.0 place.1 (rw c.deref.ensures.value at c.in-Ok.ensures.open) p.0 p.1 m
 
 pub returns-clause-texts : goal.returns-clause-texts
 returns-clause-texts g c = let p = c.close_at.ensures in replaced-seen (λ (k : Connection). k.output.items) [] c.args.self.now.connections.items c.close_at.new.connections.items c.in-Ok.index p.0 p.2

@@ -8,6 +8,7 @@ use Rattle.cache_namespace.specs.Shown.{situation}
 use Rattle.cache_namespace.specs.Taken.{Takes}
 use Rattle.cache_namespace.specs.declared.connection.Connection.{Connection}
 use Rattle.cache_namespace.specs.Making.{making_of}
+use Rattle.cache_namespace.specs.Waiting.{under_way}
 use Rattle.cache_namespace.proofs.Following.{follows-open}
 use Rattle.cache_namespace.proofs.namespace.Namespace.open.Goals as goal
 
@@ -16,8 +17,8 @@ returns-clause-ran g c = λ values was m.
     let old = c.args.self.now in
     let frame = g.S.Store.frame old.store in
     let n = c.new_connection-connection in
-    subst (λ (cs : List Connection). Takes old.config (making_of frame) (situation old.latest old.connections.items frame.dropped values) (event.Open c.len.result) false false (g.S.Store.stands old.store) (situation old.latest cs frame.dropped) (workings (g.S.Store.stream old.store) (g.S.Store.registered old.store) (g.S.Store.recency old.store)) (workings (g.S.Store.stream old.store) (g.S.Store.registered old.store) (g.S.Store.recency old.store)) was was) (sym c.in_ok-push.ensures.items)
-    (follows-open old.config (making_of frame) old.latest c.len.result n.result old.connections.items frame.dropped values (g.S.Store.stands old.store) (workings (g.S.Store.stream old.store) (g.S.Store.registered old.store) (g.S.Store.recency old.store)) was (omega (arith, c.in_ok-push.ensures.len, c.len.ensures)) n.ensures.closing n.ensures.held n.ensures.unread m)
+    subst (λ (cs : List Connection). Takes old.config (making_of frame) (situation old.latest (under_way old.loads) old.connections.items frame.dropped values) (event.Open c.len.result) false false (g.S.Store.stands old.store) (situation old.latest (under_way old.loads) cs frame.dropped) (workings (g.S.Store.stream old.store) (g.S.Store.registered old.store) (g.S.Store.recency old.store)) (workings (g.S.Store.stream old.store) (g.S.Store.registered old.store) (g.S.Store.recency old.store)) was was) (sym c.in_ok-push.ensures.items)
+    (follows-open old.config (making_of frame) old.latest c.len.result (under_way old.loads) n.result old.connections.items frame.dropped values (g.S.Store.stands old.store) (workings (g.S.Store.stream old.store) (g.S.Store.registered old.store) (g.S.Store.recency old.store)) was (omega (arith, c.in_ok-push.ensures.len, c.len.ensures)) n.ensures.closing n.ensures.held n.ensures.unread m)
 
 pub returns-clause-bounded : goal.returns-clause-bounded
 returns-clause-bounded g c = λ values m. subst (λ (k : Config). IsTrue (is_bounded k values)) c.requires.sound.config (g.met.S.Store.bounded c.args.self.now.store values m)

@@ -2,6 +2,7 @@ use Rattle.std.proofs.Common.{◌≡◌, ◌-◌, refl, ap, sym, ◌∙◌, None
 use Rattle.std.specs.List.{slice_get}
 use Rattle.cache_namespace.specs.Taken.{is_quit, text_at}
 use Rattle.cache_spaces.specs.Spaces.{gathered_in}
+use Rattle.cache_namespace.specs.Waiting.{under_way}
 use Rattle.plain_store.specs.Standing as plain
 use Rattle.cache_spaces.proofs.Moving.{moves-from, serves-still, others-opened, opened-output, opened-closing, opened-text}
 use Rattle.cache_spaces.proofs.space.Space.open.Goals as goal
@@ -10,7 +11,7 @@ pub returns-in-Ok-clause-moves : goal.returns-in-Ok-clause-moves
 returns-in-Ok-clause-moves c = λ s was stands.
     let old = c.args.self.now.inner in
     let new = c.open.new.self in
-    moves-from old.config (record { part_of = λ key. 0; made = old.store.made }) (plain.Stands old.store.config old.store.table) (plain.Stands new.store.config new.store.table) old.store.dropped new.store.dropped old.latest new.latest old.connections.items new.connections.items _ _ _ _ _ was was s stands (λ values held. c.in-Ok.ensures.ran values was held) c.in-Ok.ensures.bounded
+    moves-from old.config (record { part_of = λ key. 0; made = old.store.made }) (plain.Stands old.store.config old.store.table) (plain.Stands new.store.config new.store.table) old.store.dropped new.store.dropped old.latest new.latest (under_way old.loads) (under_way new.loads) old.connections.items new.connections.items _ _ _ _ _ was was s stands (λ values held. c.in-Ok.ensures.ran values was held) c.in-Ok.ensures.bounded
 
 pub returns-in-Ok-clause-takes : goal.returns-in-Ok-clause-takes
 returns-in-Ok-clause-takes c =
@@ -22,7 +23,7 @@ returns-in-Ok-clause-takes c =
     record {
       serves = λ s stands.
           serves-still c.args.self.now _ c.in-Ok.number s _ _
-          (moves-from old.config (record { part_of = λ key. 0; made = old.store.made }) (plain.Stands old.store.config old.store.table) (plain.Stands new.store.config new.store.table) old.store.dropped new.store.dropped old.latest new.latest old.connections.items new.connections.items _ _ _ _ _ was was s stands (λ values held. c.in-Ok.ensures.ran values was held) c.in-Ok.ensures.bounded)
+          (moves-from old.config (record { part_of = λ key. 0; made = old.store.made }) (plain.Stands old.store.config old.store.table) (plain.Stands new.store.config new.store.table) old.store.dropped new.store.dropped old.latest new.latest (under_way old.loads) (under_way new.loads) old.connections.items new.connections.items _ _ _ _ _ was was s stands (λ values held. c.in-Ok.ensures.ran values was held) c.in-Ok.ensures.bounded)
           (ap is_quit (opened-closing old.connections.items new.connections.items added.0 (c.in-Ok.number - 1) place added.3 ∙ added.2))
           (ap (λ cs. text_at cs (c.in-Ok.number - 1)) added.3 ∙ opened-output old.connections.items added.0 (c.in-Ok.number - 1) place added.1) (rw c.in-Ok.ensures.rest refl);
       others = λ k ne. ap (λ cs. slice_get cs k) added.3 ∙ others-opened old.connections.items added.0 k (λ e. ne (e ∙ sym place));

@@ -1,0 +1,4 @@
+mod Parts
+mod Tidying
+mod Walking
+mod Whole

@@ -1,0 +1,12 @@
+use Rattle.std.proofs.Common.{◌≡◌, [], drop, true}
+use Rattle.audit_model.specs.Situation.{empty_situation}
+use Rattle.audit_situation.specs.States.{situation_of}
+use Rattle.audit_records.specs.Auditing.{audited_from}
+use Rattle.audit_records.specs.Tidy.{is_tidy}
+use Rattle.audit_records.proofs.records.audited.Given as goal
+
+abbrev pub invariant-loop-i : goal.invariant-loop-i
+invariant-loop-i l = record {
+  same : audited_from l.config [] (empty_situation l.made) 0 l.records ≡ audited_from l.config l.parts.items (situation_of l.s) l.i (drop l.i l.records);
+  tidy : is_tidy (situation_of l.s) ≡ true;
+}

@@ -1,0 +1,12 @@
+use Rattle.std.proofs.Common.{[], ap, ◌∙◌, sym, refl}
+use Rattle.audit_model.specs.Situation.{empty_situation}
+use Rattle.audit_records.specs.Auditing.{audited_from}
+use Rattle.audit_records.proofs.Parts.{breaks-are}
+use Rattle.audit_records.proofs.records.find_break.Goals as goal
+
+pub returns : goal.returns
+returns c =
+    let config = c.args.config.now in
+    let transcript = c.args.transcript.now in
+    c.in_ok-audited.ensures ∙ ap (audited_from config [] (empty_situation transcript.made.nanos) 0) c.as_slice.ensures
+    ∙ breaks-are config [] (empty_situation transcript.made.nanos) 0 transcript.records refl ∙ sym (c.breaks_agree.ensures config transcript)

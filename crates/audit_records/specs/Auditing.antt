@@ -1,0 +1,63 @@
+-- Records judged one after another, with the parts of keys.
+use Rattle.std.specs.Prelude.{◌≡◌, ℕ, suc, Bool, true, false, ◌&&◌, List, [], ◌∷◌, ◌++◌, map, Option, Some, None, is_none, if◌then◌else◌, MatchOption}
+use Rattle.std.specs.Option.{option_map_or}
+use Rattle.audit_model.specs.Belongs.{refusal_of}
+use Rattle.audit_model.specs.Bytewise.{is_empty}
+use Rattle.audit_model.specs.Changes.{after_step}
+use Rattle.audit_model.specs.Follows.{known_in, after_event, tasks_in, placed_step_in}
+use Rattle.audit_model.specs.History.{Value}
+use Rattle.audit_model.specs.Obeys.{is_numbered, has_right_own_value, agree_on_parts}
+use Rattle.audit_model.specs.Places.{due, first_due, left_after, steps_of}
+use Rattle.audit_model.specs.Situation.{Situation, may_run_in}
+use Rattle.audit_model.specs.Steps.{Task, is_right}
+use Rattle.audit_model.specs.declared.config.Config.{Config}
+use Rattle.audit_model.specs.declared.transcript.Record.{Record}
+use Rattle.audit_model.specs.declared.transcript.Step.{Step}
+use Rattle.audit_steps.specs.declared.accepting.PartOf.{PartOf}
+use Rattle.audit_steps.specs.Judging.{part_of, parts_of, agrees_with}
+
+-- a situation, and the parts of all values that were accepted
+pub record Reached : Type 0 where
+  pub situation : Situation
+  pub parts : List PartOf
+
+-- what these steps lead to, if they are right and each key keeps to one part
+abbrev pub audited_steps : Config → List PartOf → Situation → List Task → List Step → Option Reached
+audited_steps config parts s tasks [] = if is_empty (due (may_run_in s) tasks) then Some (record { situation = s; parts = parts }) else None
+audited_steps config parts s tasks (step ∷ steps) =
+    let now_due = due (may_run_in s) tasks in
+    let placed = placed_step_in config s (first_due now_due) step in
+    let rest = audited_steps config (parts ++ parts_of placed.effect.value) (after_step config s placed.task step placed.effect) (left_after now_due) steps in
+    if is_right config placed && agrees_with parts placed.effect.value then rest else None
+
+-- the same of a record's steps
+abbrev pub audited_event : Config → List PartOf → Situation → Record → Option Reached
+audited_event config parts s entry = audited_steps config parts (after_event entry.event s) (tasks_in s entry.event) (steps_of entry)
+
+-- the record's event is taken: it is not refused, has the next number, and only an answer has a value of its own
+abbrev pub is_taken : Config → Situation → Record → Bool
+is_taken config s entry = is_none (refusal_of config (known_in s) entry.event) && is_numbered s.opened entry.event && has_right_own_value entry
+
+-- what a record leads to
+abbrev pub audited_record : Config → List PartOf → Situation → Record → Option Reached
+audited_record config parts s entry = let rest = audited_event config parts s entry in if is_taken config s entry then rest else None
+
+-- the number of the first record that leads to nothing; n records came before
+abbrev pub audited_from : Config → List PartOf → Situation → ℕ → List Record → Option ℕ
+audited_from config parts s n [] = None
+audited_from config parts s n (entry ∷ entries) =
+    option_map_or (λ r. audited_from config r.parts r.situation (suc n) entries) (audited_record config parts s entry) (Some (suc n))
+
+-- what was reached, where the answer is true; where it is false, nothing was
+abbrev pub Reaches : Bool → Situation → List PartOf → Option Reached → Type 0
+Reaches true t parts reached = reached ≡ Some (record { situation = t; parts = parts })
+Reaches false t parts reached = reached ≡ None
+
+-- what is reached where steps lead there and accept those values
+abbrev pub reached_by : List Value → List Value → Option Situation → Option Reached
+reached_by values more None = None
+reached_by values more (Some t) = if agree_on_parts (values ++ more) then Some (record { situation = t; parts = map part_of (values ++ more) }) else None
+
+-- an answer's own step
+abbrev pub own_step : Record → Step
+own_step entry = record { conn = 0; line = []; held = false; reply = None; load = None; accepted = entry.own; notices = entry.notices }

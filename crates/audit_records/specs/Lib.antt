@@ -1,0 +1,4 @@
+pub mod Auditing
+pub mod Due
+pub mod Tidy
+pub mod Verdicts

@@ -1,0 +1,9 @@
+//! The judge of transcripts: the first record of one that breaks a rule.
+#![tactic(auto)]
+
+mod admitting;
+mod auditing;
+mod duties;
+mod records;
+
+pub use auditing::{Verdict, audit};

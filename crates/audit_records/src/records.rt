@@ -1,0 +1,310 @@
+//! Records judged one after another.
+ghost use Rattle.std.specs.Prelude.{◌≡◌, IfOk, IsTrue, true, map, option_map, Some, [], ◌∷◌};
+ghost use Rattle.audit_model.specs.Follows.{after_event, tasks_in, placed_step_in};
+ghost use Rattle.audit_model.specs.Steps.{Store};
+ghost use Rattle.audit_steps.specs.Judging.{IsJudged};
+ghost use Rattle.audit_model.specs.Obeys.{is_numbered};
+ghost use Rattle.audit_model.specs.Situation.{key_in, waiting_in, empty_situation};
+ghost use Rattle.audit_model.specs.declared.event.Event.TheVariants as event;
+ghost use Rattle.audit_model.specs.Belongs.{first_break};
+ghost use Rattle.audit_situation.specs.States.{situation_of};
+ghost use Rattle.audit_steps.specs.Showing.{task_of, step_of};
+ghost use Rattle.audit_records.specs.Auditing.{Reaches, audited_steps, audited_event, audited_record, audited_from, own_step};
+ghost use Rattle.audit_records.specs.Tidy.{is_tidy};
+
+use crate::admitting::is_taken;
+use crate::duties::{
+    due_from, duties_to_deliver, duties_to_feed, duties_to_give_up, duty_at, left_from,
+};
+use audit_laws::breaks_agree;
+use audit_model::{Bytes, Config, Event, Instant, Outcome, Record, Step, Transcript};
+use audit_situation::{State, begin, close, feed, find_pending, is_holding, open, settle};
+use audit_steps::{Duty, PartOf, Shown, judge, show};
+use std::alloc::{AllocError, Global};
+
+/// Judges steps for which those are due, and does what they do. Where one is wrong, or more is due behind the last, the answer is `false`, and
+/// situation and parts mean nothing.
+fn judge_steps(
+    alloc: Global,
+    config: &Config,
+    s: &mut State,
+    parts: &mut Vec<PartOf>,
+    duties: &[Duty<'_>],
+    steps: &[Step],
+) -> Result<bool, AllocError>
+    requires { IsTrue (is_tidy (situation_of s.old)) }
+    ensures reaches { IfOk result (λ b. Reaches b (situation_of s.new) parts.new.items (audited_steps config.now parts.old.items (situation_of s.old) (map task_of duties.entry.now) steps.now)) }
+    ensures tidy { IfOk result (λ b. b ≡ true → is_tidy (situation_of s.new) ≡ true) }
+{
+    let mut at = 0;
+    for step in steps {
+        at = due_from(s, duties, at);
+        let duty = duty_at(duties, at);
+        if !judge(alloc, config, s, parts, duty, show(step))? {
+            return Ok(false);
+        }
+        at = left_from(duties, at);
+    }
+    Ok(due_from(s, duties, at) >= duties.len())
+}
+
+/// Opens a connection, and judges the steps that follow: there may be none.
+fn judge_open(
+    alloc: Global,
+    config: &Config,
+    s: &mut State,
+    parts: &mut Vec<PartOf>,
+    conn: u64,
+    steps: &[Step],
+) -> Result<bool, AllocError>
+    requires tidy { IsTrue (is_tidy (situation_of s.old)) }
+    requires numbered { is_numbered s.old.opened (event.Open conn) ≡ true }
+    ensures reaches { IfOk result (λ b. Reaches b (situation_of s.new) parts.new.items (audited_steps config.now parts.old.items (after_event (event.Open conn) (situation_of s.old)) [] steps.now)) }
+    ensures tidy { IfOk result (λ b. b ≡ true → is_tidy (situation_of s.new) ≡ true) }
+{
+    open(alloc, s, conn)?;
+    Ok(judge_steps(alloc, config, s, parts, &[], steps)?)
+}
+
+/// Closes a connection, and judges the steps that follow: there may be none.
+fn judge_close(
+    alloc: Global,
+    config: &Config,
+    s: &mut State,
+    parts: &mut Vec<PartOf>,
+    conn: u64,
+    steps: &[Step],
+) -> Result<bool, AllocError>
+    requires tidy { IsTrue (is_tidy (situation_of s.old)) }
+    ensures reaches { IfOk result (λ b. Reaches b (situation_of s.new) parts.new.items (audited_steps config.now parts.old.items (after_event (event.Close conn) (situation_of s.old)) [] steps.now)) }
+    ensures tidy { IfOk result (λ b. b ≡ true → is_tidy (situation_of s.new) ≡ true) }
+{
+    close(s, conn);
+    Ok(judge_steps(alloc, config, s, parts, &[], steps)?)
+}
+
+/// Feeds a connection, and judges the steps that follow.
+fn judge_feed(
+    alloc: Global,
+    config: &Config,
+    s: &mut State,
+    parts: &mut Vec<PartOf>,
+    conn: u64,
+    piece: &Bytes,
+    moment: Instant,
+    steps: &[Step],
+) -> Result<bool, AllocError>
+    requires tidy { IsTrue (is_tidy (situation_of s.old)) }
+    ensures reaches { IfOk result (λ b. Reaches b (situation_of s.new) parts.new.items (audited_steps config.now parts.old.items (after_event (event.Feed conn piece.now moment) (situation_of s.old)) (tasks_in (situation_of s.old) (event.Feed conn piece.now moment)) steps.now)) }
+    ensures tidy { IfOk result (λ b. b ≡ true → is_tidy (situation_of s.new) ≡ true) }
+{
+    let duties = duties_to_feed(alloc, conn, is_holding(s, conn))?;
+    s.latest = moment.nanos.max(s.latest);
+    feed(s, conn, piece.as_slice())?;
+    Ok(judge_steps(alloc, config, s, parts, duties.as_slice(), steps)?)
+}
+
+/// The connections that wait for a load.
+fn waiting_of(alloc: Global, s: &State, load: u64) -> Result<Vec<u64>, AllocError>
+    ensures { IfOk result (λ conns. conns.items ≡ waiting_in load (situation_of s.now)) }
+{
+    match find_pending(&s.pending, load) {
+        Some(pending) => Vec::from_slice(alloc, pending.waiting()),
+        None => Ok(Vec::new(alloc)),
+    }
+}
+
+/// The key of a load.
+fn key_of(alloc: Global, s: &State, load: u64) -> Result<Option<Vec<u8>>, AllocError>
+    ensures { IfOk result (λ key. option_map (λ k. k.items) key ≡ key_in load (situation_of s.now)) }
+{
+    match find_pending(&s.pending, load) {
+        Some(pending) => Ok(Some(Vec::from_slice(alloc, pending.key())?)),
+        None => Ok(None),
+    }
+}
+
+/// Gives a load up, and judges the steps that follow.
+fn judge_give_up(
+    alloc: Global,
+    config: &Config,
+    s: &mut State,
+    parts: &mut Vec<PartOf>,
+    load: u64,
+    moment: Instant,
+    steps: &[Step],
+) -> Result<bool, AllocError>
+    requires tidy { IsTrue (is_tidy (situation_of s.old)) }
+    ensures reaches { IfOk result (λ b. Reaches b (situation_of s.new) parts.new.items (audited_steps config.now parts.old.items (after_event (event.GiveUp load moment) (situation_of s.old)) (tasks_in (situation_of s.old) (event.GiveUp load moment)) steps.now)) }
+    ensures tidy { IfOk result (λ b. b ≡ true → is_tidy (situation_of s.new) ≡ true) }
+{
+    let conns = waiting_of(alloc, s, load)?;
+    let duties = duties_to_give_up(alloc, conns.as_slice())?;
+    settle(s, load, moment.nanos);
+    Ok(judge_steps(alloc, config, s, parts, duties.as_slice(), steps)?)
+}
+
+/// What a record shows of an answer's own step.
+fn show_own(entry: &Record) -> Shown<'_>
+    ensures { step_of result ≡ own_step entry.now }
+{
+    Shown {
+        conn: 0,
+        line: b"",
+        held: false,
+        reply: None,
+        load: None,
+        accepted: entry.own,
+        notices: entry.notices.as_slice(),
+    }
+}
+
+/// Answers a load, judges the own step, and the steps that follow.
+fn judge_answer(
+    alloc: Global,
+    config: &Config,
+    s: &mut State,
+    parts: &mut Vec<PartOf>,
+    load: u64,
+    outcome: &Outcome,
+    moment: Instant,
+    entry: &Record,
+) -> Result<bool, AllocError>
+    requires tidy { IsTrue (is_tidy (situation_of s.old)) }
+    ensures reaches { IfOk result (λ b. Reaches b (situation_of s.new) parts.new.items (audited_steps config.now parts.old.items (after_event (event.Answer load outcome.now moment) (situation_of s.old)) (tasks_in (situation_of s.old) (event.Answer load outcome.now moment)) (own_step entry.now ∷ entry.now.steps))) }
+    ensures tidy { IfOk result (λ b. b ≡ true → is_tidy (situation_of s.new) ≡ true) }
+{
+    let conns = waiting_of(alloc, s, load)?;
+    let key = key_of(alloc, s, load)?;
+    let duties = duties_to_deliver(alloc, conns.as_slice(), outcome)?;
+    settle(s, load, moment.nanos);
+    if !store(alloc, config, s, parts, key.as_ref(), outcome, entry)? {
+        return Ok(false);
+    }
+    Ok(judge_steps(
+        alloc,
+        config,
+        s,
+        parts,
+        duties.as_slice(),
+        entry.steps.as_slice(),
+    )?)
+}
+
+/// Judges an answer's own step.
+fn store(
+    alloc: Global,
+    config: &Config,
+    s: &mut State,
+    parts: &mut Vec<PartOf>,
+    key: Option<&Vec<u8>>,
+    outcome: &Outcome,
+    entry: &Record,
+) -> Result<bool, AllocError>
+    requires { IsTrue (is_tidy (situation_of s.old)) }
+    ensures judged { IfOk result (λ b. let task = Some (Store (option_map (λ k. k.now.items) key.entry) outcome.now) in IsJudged config.now (situation_of s.old) parts.old.items task (own_step entry.now) (placed_step_in config.now (situation_of s.old) task (own_step entry.now)) b (situation_of s.new) parts.new.items) }
+    ensures tidy { IfOk result (λ b. b ≡ true → is_tidy (situation_of s.new) ≡ true) }
+{
+    let shown = show_own(entry);
+    match key {
+        Some(key) => {
+            let duty = Duty::Store(Some(key.as_slice()), outcome);
+            Ok(judge(alloc, config, s, parts, Some(duty), shown)?)
+        }
+        None => Ok(judge(
+            alloc,
+            config,
+            s,
+            parts,
+            Some(Duty::Store(None, outcome)),
+            shown,
+        )?),
+    }
+}
+
+/// Judges the steps of a record, and does what event and steps do.
+fn judge_event(
+    alloc: Global,
+    config: &Config,
+    s: &mut State,
+    parts: &mut Vec<PartOf>,
+    entry: &Record,
+) -> Result<bool, AllocError>
+    requires tidy { IsTrue (is_tidy (situation_of s.old)) }
+    requires numbered { is_numbered s.old.opened entry.now.event ≡ true }
+    ensures reaches { IfOk result (λ b. Reaches b (situation_of s.new) parts.new.items (audited_event config.now parts.old.items (situation_of s.old) entry.now)) }
+    ensures tidy { IfOk result (λ b. b ≡ true → is_tidy (situation_of s.new) ≡ true) }
+{
+    let steps = entry.steps.as_slice();
+    match &entry.event {
+        Event::Open { conn } => Ok(judge_open(alloc, config, s, parts, *conn, steps)?),
+        Event::Close { conn } => Ok(judge_close(alloc, config, s, parts, *conn, steps)?),
+        Event::Feed {
+            conn,
+            piece,
+            moment,
+        } => Ok(judge_feed(alloc, config, s, parts, *conn, piece, *moment, steps)?),
+        Event::Answer {
+            load,
+            outcome,
+            moment,
+        } => Ok(judge_answer(alloc, config, s, parts, *load, outcome, *moment, entry)?),
+        Event::GiveUp { load, moment } => {
+            Ok(judge_give_up(alloc, config, s, parts, *load, *moment, steps)?)
+        }
+    }
+}
+
+/// Judges a record, and does what it does. Where it breaks a rule, the answer is `false`, and situation and parts mean nothing.
+fn judge_record(
+    alloc: Global,
+    config: &Config,
+    s: &mut State,
+    parts: &mut Vec<PartOf>,
+    entry: &Record,
+) -> Result<bool, AllocError>
+    requires { IsTrue (is_tidy (situation_of s.old)) }
+    ensures reaches { IfOk result (λ b. Reaches b (situation_of s.new) parts.new.items (audited_record config.now parts.old.items (situation_of s.old) entry.now)) }
+    ensures tidy { IfOk result (λ b. b ≡ true → is_tidy (situation_of s.new) ≡ true) }
+{
+    if !is_taken(config, s, entry) {
+        return Ok(false);
+    }
+    Ok(judge_event(alloc, config, s, parts, entry)?)
+}
+
+/// The number of the first record that breaks a rule, by situations.
+fn audited(
+    alloc: Global,
+    config: &Config,
+    made: u64,
+    records: &[Record],
+) -> Result<Option<u64>, AllocError>
+    ensures { IfOk result (λ n. n ≡ audited_from config.now [] (empty_situation made) 0 records.now) }
+{
+    let mut s = begin(alloc, made);
+    let mut parts = Vec::new(alloc);
+    for (i, entry) in records.iter().enumerate() {
+        if !judge_record(alloc, config, &mut s, &mut parts, entry)? {
+            return Ok(Some(i as u64 + 1));
+        }
+    }
+    Ok(None)
+}
+
+/// The number of the first record that breaks a rule, from 1; none where none does.
+pub fn find_break(
+    alloc: Global,
+    config: &Config,
+    transcript: &Transcript,
+) -> Result<Option<u64>, AllocError>
+    ensures { IfOk result (λ n. n ≡ first_break config.now transcript.now) }
+{
+    breaks_agree();
+    Ok(audited(
+        alloc,
+        config,
+        transcript.made.nanos,
+        transcript.records.as_slice(),
+    )?)
+}

@@ -1,0 +1,173 @@
+-- Journals that nobody keeps go on.
+use Rattle.std.proofs.Common.{◌≡◌, ◌≢◌, ◌∙◌, ℕ, zero, suc, ◌+◌, List, [], ◌∷◌, ◌++◌, length, length-append, Option, Some, Vec, Global, refl, sym, ap, subst, inl, inr, arith}
+use Rattle.std.specs.Prelude.{◌⊎◌, slice_set, map, Result, Ok, Err, OnOk, IfOk, IfErr, IsTrue}
+use Rattle.std.specs.List.{slice_get}
+use Rattle.std.proofs.lemmas.List.{length-set}
+use Rattle.std.proofs.lemmas.Option.{slice_get_within, none-some, same_Some}
+use Rattle.audit_laws.proofs.Journals.{leads-more}
+use Rattle.audit_laws.proofs.OnePart.{one-part-obeys}
+use Rattle.audit_laws.specs.Leading.{LeadsTo}
+use Rattle.audit_model.specs.Situation.{Situation, empty_situation}
+use Rattle.audit_model.specs.declared.config.Config.{Config}
+use Rattle.audit_model.specs.declared.event.Instant.{Instant}
+use Rattle.audit_model.specs.declared.input.Input.{Input}
+use Rattle.audit_model.specs.declared.input.ServiceError.{ServiceError}
+use Rattle.audit_model.specs.declared.transcript.Note.{Note}
+use Rattle.audit_model.specs.declared.transcript.Transcript.{Transcript}
+use Rattle.audit_receipts.specs.declared.output.Output.{Output}
+use Rattle.cache_live.specs.Lived.{HasLived, Lived}
+use Rattle.cache_live.specs.Taken.{TakesInput, conn_of}
+use Rattle.cache_namespace.proofs.Places.{at-replaced}
+use Rattle.cache_namespace.specs.Taken.{record_of}
+use Rattle.cache_shared.proofs.Counting.{count-empty, count-more}
+use Rattle.cache_shared.specs.Events.{Reached, record_count}
+use Rattle.cache_spaces.proofs.Journaling.{got, one-part}
+use Rattle.cache_spaces.proofs.Noting.{same-or-not}
+use Rattle.cache_spaces.specs.Moves.{At}
+use Rattle.cache_spaces.specs.Recorded.{AreEmpty, namespace_of}
+use Rattle.cache_spaces.specs.Serves.{IsUnknown, SameSpace, TakesNotice, TakesOutput}
+use Rattle.cache_spaces.specs.Served.{is_served}
+use Rattle.cache_spaces.specs.Services.{AreNew, Refuses}
+use Rattle.cache_spaces.specs.Spaces.{Stands, config_of}
+use Rattle.cache_spaces.specs.declared.space.Space.{Space}
+
+-- ---- places
+
+elsewhere : {X : Type 0} (xs : List X) (i j : ℕ) (x : X) → j ≢ i → slice_get (slice_set xs i x) j ≡ slice_get xs j
+elsewhere [] i j x ne = refl
+elsewhere (y ∷ ys) zero zero x ne = absurd (ne refl)
+elsewhere (y ∷ ys) zero (suc j) x ne = refl
+elsewhere (y ∷ ys) (suc i) zero x ne = refl
+elsewhere (y ∷ ys) (suc i) (suc j) x ne = elsewhere ys i j x (λ e. ne (ap suc e))
+
+set-same : {X : Type 0} (xs : List X) (n : ℕ) (a : X) → slice_get xs n ≡ Some a → slice_set xs n a ≡ xs
+set-same [] n a at = refl
+set-same (x ∷ xs) zero a at = ap (λ y. y ∷ xs) (sym (same_Some x a at))
+set-same (x ∷ xs) (suc n) a at = ap (λ l. x ∷ l) (set-same xs n a at)
+
+-- what was put there
+there : {X : Type 0} (xs : List X) (k : ℕ) (was is x : X) → slice_get xs k ≡ Some was → slice_get (slice_set xs k is) k ≡ Some x → is ≡ x
+there xs k was is x at here = same_Some is x (sym (at-replaced xs k is (slice_get_within xs k was at)) ∙ here)
+
+-- ---- the beginning
+
+-- journals of that moment without records
+empties : Instant → List Space → List Transcript
+empties made spaces = map (λ space. record { made = made; records = [] }) spaces
+
+empties-at : (made : Instant) (spaces : List Space) (k : ℕ) (journal : Transcript) → slice_get (empties made spaces) k ≡ Some journal → journal ≡ record { made = made; records = [] }
+unfolding empties
+empties-at made [] k journal at = absurd (none-some journal at)
+empties-at made (x ∷ xs) zero journal at = sym (same_Some _ journal at)
+empties-at made (x ∷ xs) (suc k) journal at = empties-at made xs k journal at
+
+empties-count : (made : Instant) (spaces : List Space) → length (empties made spaces) ≡ length spaces
+unfolding empties
+empties-count made [] = refl
+empties-count made (x ∷ xs) = let e = empties-count made xs in omega (arith, e)
+
+pub lived-none : (configs : List Config) (generator : List ℕ) (moment : Instant) (spaces : List Space) → AreNew spaces configs generator moment.nanos → Lived spaces 0
+lived-none configs generator moment spaces new = record {
+  journals = empties moment spaces;
+  count = empties-count moment spaces;
+  each = λ k space journal s j.
+      let lt = slice_get_within spaces k space s in
+      let config = got configs k (let e = new.count in omega arith) in
+      let n = new.each k config.0 space config.1 s in
+      let e = empties-at moment spaces k journal j in
+      subst (HasLived space) (sym e)
+      (record {
+        served = subst (λ c. IsTrue (is_served c)) (sym n.configured) n.served;
+        led = record { last = empty_situation moment.nanos; stands = n.stands; leads = refl };
+      });
+  records = count-empty moment (empties moment spaces) (empties-at moment spaces);
+}
+
+-- ---- one namespace changes
+
+lived-set : (F : Space → Space → Type 0) (old new : List Space) (k n m : ℕ) (w : Lived old n) (a : At old new k F) (t u : Transcript)
+    → slice_get w.journals k ≡ Some t → HasLived a.is u → record_count (slice_set w.journals k u) ≡ m → Lived new m
+lived-set F old new k n m w a t u at lived records = record {
+  journals = slice_set w.journals k u;
+  count = length-set w.journals k u ∙ w.count ∙ sym (length-set old k a.is) ∙ ap length (sym a.set);
+  each = λ j space journal s c. go j space journal s c (same-or-not j k);
+  records = records;
+}
+  where
+    go : (j : ℕ) (space : Space) (journal : Transcript) → slice_get new j ≡ Some space → slice_get (slice_set w.journals k u) j ≡ Some journal → (j ≡ k) ⊎ (j ≢ k) → HasLived space journal
+    go j space journal s c (inl here) =
+        let is = there old k a.was a.is space a.at (ap (λ l. slice_get l k) (sym a.set) ∙ ap (slice_get new) (sym here) ∙ s) in
+        let same = there w.journals k t u journal at (ap (slice_get (slice_set w.journals k u)) (sym here) ∙ c) in
+        subst (λ x. HasLived x journal) is (subst (HasLived a.is) same lived)
+    go j space journal s c (inr ne) =
+        w.each j space journal (sym (elsewhere old k j a.is ne) ∙ ap (λ l. slice_get l j) (sym a.set) ∙ s) (sym (elsewhere w.journals k j u ne) ∙ c)
+
+-- the journal of that namespace
+journal-at : (F : Space → Space → Type 0) (old new : List Space) (k n : ℕ) (w : Lived old n) → At old new k F → (t : Transcript) × (slice_get w.journals k ≡ Some t)
+journal-at F old new k n w a =
+    let lt = slice_get_within old k a.was a.at in
+    got w.journals k (let e = w.count in omega arith)
+
+-- an input was taken
+pub lived-more : (i : Input) (output : Output) (old new : List Space) (n : ℕ) → Lived old n → At old new (namespace_of i) (TakesInput i output) → Lived new (n + 1)
+lived-more i output old new n w a =
+    let k = namespace_of i in
+    let t = journal-at (TakesInput i output) old new k n w a in
+    let h = w.each k a.was t.0 a.at t.1 in
+    let sv = a.fact.takes.serves h.led.last h.led.stands in
+    let entry = record_of a.fact.happened sv.steps in
+    let u : Transcript = record { made = t.0.made; records = t.0.records ++ entry ∷ [] } in
+    lived-set (TakesInput i output) old new k n (n + 1) w a t.0 u t.1
+    (record {
+      served = subst (λ c. IsTrue (is_served c)) (sym a.fact.takes.config) h.served;
+      led = record {
+        last = sv.next;
+        stands = sv.stands;
+        leads = subst (λ c. LeadsTo c u sv.next) (sym a.fact.takes.config) (leads-more (config_of a.was) t.0.made t.0.records entry h.led.last sv.next h.led.leads sv.follows);
+      };
+    })
+    (count-more w.journals (slice_set w.journals k u) k t.0 u t.1 refl (length-append t.0.records (entry ∷ [])) ∙ ap (λ c. c + 1) w.records)
+
+-- nothing that is told of it changed
+pub lived-still : (F : Space → Space → Type 0) (old new : List Space) (k n : ℕ) → ((x y : Space) → F x y → ((s : Situation) → Stands x s → Stands y s) × (config_of y ≡ config_of x)) → At old new k F → Lived old n → Lived new n
+lived-still F old new k n same a w =
+    let t = journal-at F old new k n w a in
+    let h = w.each k a.was t.0 a.at t.1 in
+    let e = same a.was a.is a.fact in
+    lived-set F old new k n n w a t.0 t.0 t.1
+    (record {
+      served = subst (λ c. IsTrue (is_served c)) (sym e.1) h.served;
+      led = record { last = h.led.last; stands = e.0 h.led.last h.led.stands; leads = subst (λ c. LeadsTo c t.0 h.led.last) (sym e.1) h.led.leads };
+    })
+    (ap record_count (set-same w.journals k t.0 t.1) ∙ w.records)
+
+pub lived-refused : (Cause : Space → Type 0) (old new : List Space) (k n : ℕ) (e : ServiceError) → Refuses old new k e Cause → Lived old n → Lived new n
+lived-refused Cause old new k n e (inl none) w = subst (λ x. Lived x n) (sym none.2) w
+lived-refused Cause old new k n e (inr a) w = lived-still (λ was is. SameSpace was is × Cause was) old new k n (λ x y p. (p.0.stands, p.0.config)) a w
+
+-- replies were taken, or refused
+pub lived-text : (k number : ℕ) (old new : List Space) (n : ℕ) (r : Result (Vec ℕ Global) ServiceError)
+    → IfOk r (λ text. At old new k (λ was is. TakesOutput was is number text.items)) → IfErr r (λ e. Refuses old new k e (λ was. IsUnknown was number e)) → Lived old n → Lived new n
+lived-text k number old new n (Ok text) taken refused w = lived-still (λ was is. TakesOutput was is number text.items) old new k n (λ x y t. (t.stands, t.config)) taken w
+lived-text k number old new n (Err e) taken refused w = lived-refused (λ was. IsUnknown was number e) old new k n e refused w
+
+-- a note was taken, or refused
+pub lived-note : (k : ℕ) (old new : List Space) (n : ℕ) (r : Result (Option Note) ServiceError)
+    → IfOk r (λ note. At old new k (λ was is. TakesNotice was is note)) → IfErr r (λ e. Refuses old new k e (λ was. ⊥)) → Lived old n → Lived new n
+lived-note k old new n (Ok note) taken refused w = lived-still (λ was is. TakesNotice was is note) old new k n (λ x y t. (t.stands, t.config)) taken w
+lived-note k old new n (Err e) taken refused w = lived-refused (λ was. ⊥) old new k n e refused w
+
+-- ---- journals that obey
+
+pub reached : (spaces : List Space) (n : ℕ) → Lived spaces n → Reached spaces n
+reached spaces n w = record {
+  journals = w.journals;
+  are = record {
+    count = w.count;
+    each = λ k space journal s j.
+        let h = w.each k space journal s j in
+        let o = one-part-obeys (config_of space) journal h.led.last (one-part (config_of space) h.served) h.led.leads in
+        record { obeys = o.0; admitted = o.1; leads = h.led };
+  };
+  count = w.records;
+}

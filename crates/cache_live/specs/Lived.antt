@@ -1,0 +1,22 @@
+-- What some journals, which nobody keeps, lead to.
+use Rattle.std.specs.Prelude.{◌≡◌, ℕ, List, length, Some, IsTrue}
+use Rattle.std.specs.List.{slice_get}
+use Rattle.audit_model.specs.declared.transcript.Transcript.{Transcript}
+use Rattle.cache_shared.specs.Events.{record_count}
+use Rattle.cache_spaces.specs.Journals.{LeadsSo}
+use Rattle.cache_spaces.specs.Served.{is_served}
+use Rattle.cache_spaces.specs.Spaces.{config_of}
+use Rattle.cache_spaces.specs.declared.space.Space.{Space}
+
+-- the journal leads to where the namespace stands
+pub record HasLived (space : Space) (journal : Transcript) : Type 0 where
+  pub served : IsTrue (is_served (config_of space))
+  pub led : LeadsSo space journal
+
+-- some journals of so many records lead here
+pub record Lived (spaces : List Space) (events : ℕ) : Type 0 where
+  pub journals : List Transcript
+  pub count : length journals ≡ length spaces
+  pub each : (namespace : ℕ) (space : Space) (journal : Transcript)
+      → slice_get spaces namespace ≡ Some space → slice_get journals namespace ≡ Some journal → HasLived space journal
+  pub records : record_count journals ≡ events

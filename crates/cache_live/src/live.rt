@@ -1,0 +1,123 @@
+//! A service that keeps nothing of what it took.
+ghost use Rattle.std.specs.Prelude.{◌≡◌, ◌≤◌, ◌<◌, ◌^◌, ◌+◌, ◌-◌, ◌↔◌, ◌⊎◌, [], None, Some, false, ℕ, IfOk, IfErr, OnOk, OnErr, IsErrOf, length};
+ghost use Rattle.cache_live.specs.Lived.{Lived};
+ghost use Rattle.cache_spaces.specs.Services.{are_taken, AreNew, Refuses, spaces_of};
+
+use crate::taking::take_input;
+use audit_model::{Closing, Config, Conn, Input, Instant, Note, ServiceError};
+use cache_spaces::{Output, Refusal, Service};
+use rand_xoshiro::Xoshiro256PlusPlus;
+use std::alloc::Global;
+
+/// A service with a count of the inputs that it took. It keeps no journal, so its memory does not grow with them.
+///
+/// There are journals of as many records as inputs were taken, which obey and lead to where it stands.
+#[derive(Drop)]
+pub struct LiveService {
+    service: Service,
+    events: u64,
+    ghost lived: { ∥ Lived (spaces_of service) events ∥₁ },
+}
+
+impl LiveService {
+    ghost use Rattle.cache_live.specs.Live.{events_of, service_of};
+    ghost use Rattle.cache_live.specs.Taken.{TakesInput};
+    ghost use Rattle.cache_shared.specs.Events.{RefusesEvent};
+    ghost use Rattle.cache_spaces.specs.Moves.{At};
+    ghost use Rattle.cache_spaces.specs.Recorded.{namespace_of};
+    ghost use Rattle.cache_spaces.specs.Serves.{IsUnknown, TakesNotice, TakesOutput};
+    ghost use Rattle.cache_spaces.specs.Services.{IsSpace};
+    ghost use Rattle.cache_spaces.specs.Spaces.{closing_of};
+    ghost use Rattle.cache_spaces.specs.declared.space.Space.{Space as Seen};
+
+    /// A service of these configurations, made at that moment, which has taken no input. Refused as `Service::new` is.
+    pub fn new(
+        alloc: Global,
+        configs: &[Config],
+        generator: Xoshiro256PlusPlus,
+        moment: Instant,
+    ) -> Result<LiveService, ServiceError>
+        ensures made { IfOk result (λ live. AreNew (spaces_of (service_of live)) configs.now generator moment.nanos) }
+        ensures none { IfOk result (λ live. events_of live ≡ 0) }
+        ensures moment { IsErrOf result ServiceError.Moment ↔ (2 ^ 63 ≤ moment.nanos) }
+        ensures config { IsErrOf result ServiceError.Config ↔ ((moment.nanos < 2 ^ 63) × (are_taken configs.now ≡ false)) }
+        ensures memory { IfErr result (λ e. (e ≡ ServiceError.Moment) ⊎ (e ≡ ServiceError.Config) ⊎ (e ≡ ServiceError.OutOfMemory)) }
+    {
+        match Service::new(alloc, configs, generator, moment) {
+            Ok(service) => Ok(LiveService { service, events: 0 }),
+            Err(error) => Err(error),
+        }
+    }
+
+    /// Takes an input, and keeps nothing of it but its count.
+    ///
+    /// An input that is refused is handed back; then nothing has changed. Besides the service's refusals, `UsedUp` where the count of
+    /// inputs is used up.
+    pub fn step(&mut self, input: Input) -> Result<Output, Refusal>
+        ensures taken { IfOk result (λ output. At (spaces_of (service_of self.old)) (spaces_of (service_of self.new)) (namespace_of input) (TakesInput input output)) }
+        ensures count { OnOk result (events_of self.new ≡ events_of self.old + 1) }
+        ensures refused { IfErr result (λ refusal. RefusesEvent input refusal.error (events_of self.old) (spaces_of (service_of self.old)) (spaces_of (service_of self.new))) }
+        ensures uncounted { OnErr result (events_of self.new ≡ events_of self.old) }
+        ensures back { IfErr result (λ refusal. refusal.input ≡ input) }
+    {
+        let LiveService { service, events } = self;
+        let Some(next) = events.checked_add(1) else {
+            return Err(Refusal {
+                error: ServiceError::UsedUp,
+                input,
+            });
+        };
+        let output = match take_input(service, input) {
+            Ok(output) => output,
+            Err(refusal) => return Err(refusal),
+        };
+        *events = next;
+        Ok(output)
+    }
+
+    /// The reply bytes of a connection since the last taking, moved out. It is no event. Refused with `NoNamespace`, `NoConnection`.
+    pub fn take_output(&mut self, conn: Conn) -> Result<Vec<u8>, ServiceError>
+        ensures taken { IfOk result (λ text. At (spaces_of (service_of self.old)) (spaces_of (service_of self.new)) conn.namespace (λ was is. TakesOutput was is conn.number text.items)) }
+        ensures refused { IfErr result (λ e. Refuses (spaces_of (service_of self.old)) (spaces_of (service_of self.new)) conn.namespace e (λ was. IsUnknown was conn.number e)) }
+        ensures events { events_of self.new ≡ events_of self.old }
+    {
+        match self.service.take_output(conn) {
+            Ok(text) => Ok(text),
+            Err(error) => Err(error),
+        }
+    }
+
+    /// The oldest note of a namespace that was told and not taken. It is no event. Refused with `NoNamespace`.
+    pub fn next_notice(&mut self, namespace: u64) -> Result<Option<Note>, ServiceError>
+        ensures taken { IfOk result (λ note. At (spaces_of (service_of self.old)) (spaces_of (service_of self.new)) namespace (λ was is. TakesNotice was is note)) }
+        ensures refused { IfErr result (λ e. Refuses (spaces_of (service_of self.old)) (spaces_of (service_of self.new)) namespace e (λ was. ⊥)) }
+        ensures events { events_of self.new ≡ events_of self.old }
+    {
+        match self.service.next_notice(namespace) {
+            Ok(note) => Ok(note),
+            Err(error) => Err(error),
+        }
+    }
+
+    /// Why a connection is closed, if it is. Refused with `NoNamespace`, `NoConnection`.
+    pub fn closed(&self, conn: Conn) -> Result<Option<Closing>, ServiceError>
+        ensures closing { IfOk result (λ closing. (space : Seen) → IsSpace (spaces_of (service_of self.now)) conn.namespace space → closing ≡ closing_of space conn.number) }
+        ensures refused { IfErr result (λ e. ((e ≡ ServiceError.NoNamespace) × (length (spaces_of (service_of self.now)) ≤ conn.namespace)) ⊎ ((space : Seen) → IsSpace (spaces_of (service_of self.now)) conn.namespace space → IsUnknown space conn.number e)) }
+    {
+        self.service.closed(conn)
+    }
+
+    /// How many inputs it took.
+    pub fn events(&self) -> u64
+        ensures { result ≡ events_of self.now }
+    {
+        self.events
+    }
+
+    /// The service.
+    pub fn service(&self) -> &Service
+        ensures { result.now ≡ service_of self.now }
+    {
+        &self.service
+    }
+}

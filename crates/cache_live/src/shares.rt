@@ -1,0 +1,49 @@
+//! The core that keeps no journal.
+use crate::live::LiveService;
+use audit_model::{Closing, Conn, Input, Note, ServiceError, Transcript};
+use cache_shared::{Core, Takings};
+use cache_spaces::{Output, Refusal};
+
+impl Core for LiveService {
+    ghost use Rattle.std.specs.Prelude.{[], false};
+    ghost use Rattle.cache_live.specs.Live.{events_of, service_of};
+
+    ghost service = { service_of };
+
+    ghost events = { events_of };
+
+    ghost journals = { λ live. [] };
+
+    ghost KEEPS = { false };
+
+    const KEEPS: bool = false;
+
+    ghost Recorded = { λ i output was is. Unit {0} };
+
+    fn step(&mut self, input: Input) -> Result<Output, Refusal> {
+        LiveService::step(self, input)
+    }
+
+    fn stands(&self) {
+        let _ = self.service();
+    }
+
+    fn journal(&self, namespace: u64) -> Result<&Transcript, ServiceError> {
+        let _namespace = namespace;
+        Err(ServiceError::NoNamespace)
+    }
+}
+
+impl Takings for LiveService {
+    fn take_output(&mut self, conn: Conn) -> Result<Vec<u8>, ServiceError> {
+        LiveService::take_output(self, conn)
+    }
+
+    fn next_notice(&mut self, namespace: u64) -> Result<Option<Note>, ServiceError> {
+        LiveService::next_notice(self, namespace)
+    }
+
+    fn closed(&self, conn: Conn) -> Result<Option<Closing>, ServiceError> {
+        LiveService::closed(self, conn)
+    }
+}

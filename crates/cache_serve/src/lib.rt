@@ -1,0 +1,12 @@
+//! Connections over a service that threads share.
+#![tactic(auto)]
+
+mod devices;
+mod errors;
+mod hosting;
+mod serving;
+mod turns;
+
+pub use devices::{Devices, Teller, Untold};
+pub use hosting::{Hosted, host};
+pub use serving::{serve, serve_and_tell};

@@ -1,0 +1,185 @@
+//! One connection of a shared service, from its opening to its closing.
+ghost use Rattle.std.specs.Prelude.{◌≡◌, ◌≢◌, ◌≤◌, IfErr, IsErrOf};
+ghost use Rattle.cache_devices.specs.Failures.{HasFailed};
+ghost use Rattle.cache_devices.specs.Watched.{failures};
+ghost use Rattle.cache_run.specs.Turns.{HasToldLate};
+
+use crate::devices::{Teller, Untold};
+use crate::errors::error_of_refusal;
+use crate::turns::{Progress, take_turn};
+use audit_model::{Conn, Input, ServiceError};
+use cache_devices::{Clock, Loader, Watched};
+use cache_run::RunError;
+use cache_shared::{Seat, Seating, SharedService, Takings};
+use cache_spaces::{Output, Refusal};
+use std::alloc::Global;
+use std::io::{Read, Write};
+use std::sync::Wait;
+
+/// The most bytes that are read at once.
+const PIECE_BYTES: usize = 8192;
+
+/// Opens a connection of a namespace.
+fn open_connection<L: Seating, C: Takings>(
+    rt: &impl Wait,
+    shared: &SharedService<L, C>,
+    seat: &mut Seat<L>,
+    namespace: u64,
+) -> Result<Conn, RunError>
+    ensures count { seat.old.count ≤ seat.new.count }
+    ensures causes { IfErr result (λ e. (e ≢ RunError.Read) × (e ≢ RunError.Write) × (e ≢ RunError.Moment)) }
+{
+    match shared.step(rt, seat, Input::Open { namespace }) {
+        Ok(Output::Opened { conn }) => Ok(conn),
+        Err(
+            Refusal {
+                error: ServiceError::UsedUp,
+                ..
+            },
+        ) => Err(RunError::UsedUp),
+        _ => Err(RunError::OutOfMemory),
+    }
+}
+
+/// Closes a connection, unless it has closed. Where that is refused for memory it is tried again.
+fn close_if_open<L: Seating, C: Takings>(
+    rt: &impl Wait,
+    shared: &SharedService<L, C>,
+    seat: &mut Seat<L>,
+    conn: Conn,
+)
+    ensures { seat.old.count ≤ seat.new.count }
+{
+    for _try in 0..u64::MAX {
+        match shared.step(rt, seat, Input::Close { conn }) {
+            Err(
+                Refusal {
+                    error: ServiceError::OutOfMemory,
+                    ..
+                },
+            ) => {}
+            _ => return,
+        }
+    }
+}
+
+/// Answers the pieces that are read, to the end of the input or until the connection has closed.
+fn converse<L: Seating, C: Takings, I: Read, O: Write, K: Clock, T: Teller, R: Wait>(
+    rt: &R,
+    alloc: Global,
+    shared: &SharedService<L, C>,
+    seat: &mut Seat<L>,
+    conn: Conn,
+    buffer: &mut [u8],
+    reader: &mut Watched<I>,
+    writer: &mut Watched<O>,
+    clock: &mut K,
+    teller: &mut T,
+) -> Result<(), RunError>
+    ensures count { seat.old.count ≤ seat.new.count }
+    ensures read { IsErrOf result RunError.Read → HasFailed (failures reader.old) (failures reader.new) }
+    ensures write { IsErrOf result RunError.Write → HasFailed (failures writer.old) (failures writer.new) }
+    ensures moment { IsErrOf result RunError.Moment → HasToldLate K.reads clock.new }
+{
+    for _turn in 0..u64::MAX {
+        match take_turn(
+            rt, alloc, shared, seat, conn, buffer, reader, writer, clock, teller,
+        ) {
+            Ok(Progress::More) => {}
+            Ok(Progress::Over) => return Ok(()),
+            Err(error) => return Err(error),
+        }
+    }
+    Err(RunError::UsedUp)
+}
+
+/// Serves one connection of a namespace that there is, from its opening to the end of its input, where it is closed, or until it has
+/// closed. Each of its events is one hold of the lock, and counted by the seat. While replies wait to be written, nothing is read.
+///
+/// In this stage no load goes out, and the loader is not asked. The notes stay to be taken.
+pub fn serve<L: Seating, C: Takings, I: Read, O: Write, K: Clock, D: Loader, R: Wait>(
+    rt: &R,
+    alloc: Global,
+    shared: &SharedService<L, C>,
+    seat: &mut Seat<L>,
+    namespace: u64,
+    reader: &mut Watched<I>,
+    writer: &mut Watched<O>,
+    clock: &mut K,
+    loader: &mut D,
+) -> Result<(), RunError>
+    ensures count { seat.old.count ≤ seat.new.count }
+    ensures read { IsErrOf result RunError.Read → HasFailed (failures reader.old) (failures reader.new) }
+    ensures write { IsErrOf result RunError.Write → HasFailed (failures writer.old) (failures writer.new) }
+    ensures moment { IsErrOf result RunError.Moment → HasToldLate K.reads clock.new }
+    ensures loader { loader.new ≡ loader.old }
+{
+    match serve_and_tell(
+        rt,
+        alloc,
+        shared,
+        seat,
+        namespace,
+        reader,
+        writer,
+        clock,
+        loader,
+        &mut Untold,
+    ) {
+        Ok(()) => Ok(()),
+        Err(error) => Err(error),
+    }
+}
+
+/// As `serve`; the notes of the namespace are told as soon as they can be taken.
+pub fn serve_and_tell<
+    L: Seating,
+    C: Takings,
+    I: Read,
+    O: Write,
+    K: Clock,
+    D: Loader,
+    T: Teller,
+    R: Wait,
+>(
+    rt: &R,
+    alloc: Global,
+    shared: &SharedService<L, C>,
+    seat: &mut Seat<L>,
+    namespace: u64,
+    reader: &mut Watched<I>,
+    writer: &mut Watched<O>,
+    clock: &mut K,
+    loader: &mut D,
+    teller: &mut T,
+) -> Result<(), RunError>
+    ensures count { seat.old.count ≤ seat.new.count }
+    ensures read { IsErrOf result RunError.Read → HasFailed (failures reader.old) (failures reader.new) }
+    ensures write { IsErrOf result RunError.Write → HasFailed (failures writer.old) (failures writer.new) }
+    ensures moment { IsErrOf result RunError.Moment → HasToldLate K.reads clock.new }
+    ensures loader { loader.new ≡ loader.old }
+{
+    let _loader = loader;
+    let mut buffer = match vec![in alloc; 0u8; PIECE_BYTES] {
+        Ok(buffer) => buffer,
+        Err(_) => return Err(RunError::OutOfMemory),
+    };
+    let conn = match open_connection(rt, shared, seat, namespace) {
+        Ok(conn) => conn,
+        Err(error) => return Err(error),
+    };
+    let outcome = converse(
+        rt,
+        alloc,
+        shared,
+        seat,
+        conn,
+        &mut buffer,
+        reader,
+        writer,
+        clock,
+        teller,
+    );
+    close_if_open(rt, shared, seat, conn);
+    outcome
+}

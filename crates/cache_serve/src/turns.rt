@@ -1,0 +1,166 @@
+//! One turn of a connection.
+ghost use Rattle.std.specs.Prelude.{◌≡◌, ◌≢◌, ◌≤◌, ◌^◌, IfErr, IsErrOf};
+ghost use Rattle.cache_devices.specs.Failures.{HasFailed};
+ghost use Rattle.cache_devices.specs.Watched.{failures};
+ghost use Rattle.cache_run.specs.Turns.{HasToldLate};
+
+use crate::devices::Teller;
+use crate::errors::{error_of_refusal, error_of_send};
+use audit_model::{Conn, Input, Instant, Seq, ServiceError};
+use cache_devices::{Clock, Watched, send};
+use cache_run::RunError;
+use cache_shared::{Seat, Seating, SharedService, Takings};
+use cache_spaces::{Output, Refusal};
+use std::alloc::Global;
+use std::io::{ErrorKind, Read, Write};
+use std::sync::Wait;
+
+/// Whether a connection goes on.
+#[derive(Clone, Copy, Debug, PartialEq, Eq, Drop)]
+pub enum Progress {
+    /// It goes on.
+    More,
+    /// It is over.
+    Over,
+}
+
+/// Hands a piece in, in one hold of the lock. It is over where the connection was closed.
+fn feed_piece<L: Seating, C: Takings>(
+    rt: &impl Wait,
+    alloc: Global,
+    shared: &SharedService<L, C>,
+    seat: &mut Seat<L>,
+    conn: Conn,
+    piece: &[u8],
+    moment: u64,
+) -> Result<Progress, RunError>
+    ensures count { seat.old.count ≤ seat.new.count }
+    ensures moment { IsErrOf result RunError.Moment → 2 ^ 63 ≤ moment }
+    ensures causes { IfErr result (λ e. (e ≢ RunError.Read) × (e ≢ RunError.Write)) }
+{
+    let Ok(copy) = Vec::from_slice(alloc, piece) else {
+        return Err(RunError::OutOfMemory);
+    };
+    let input = Input::Feed {
+        conn,
+        piece: Seq::from_vec(copy),
+        moment: Instant { nanos: moment },
+    };
+    match shared.step(rt, seat, input) {
+        Ok(Output::Held) => Err(RunError::OutOfMemory),
+        Ok(_) => Ok(Progress::More),
+        Err(
+            Refusal {
+                error: ServiceError::Closed,
+                ..
+            },
+        ) => Ok(Progress::Over),
+        Err(Refusal { error, .. }) => Err(error_of_refusal(error)),
+    }
+}
+
+/// Sends the replies that wait.
+fn deliver<L: Seating, C: Takings, W: Write>(
+    rt: &impl Wait,
+    shared: &SharedService<L, C>,
+    conn: Conn,
+    writer: &mut Watched<W>,
+) -> Result<(), RunError>
+    ensures write { IsErrOf result RunError.Write → HasFailed (failures writer.old) (failures writer.new) }
+    ensures used_up { IsErrOf result RunError.UsedUp → HasFailed (failures writer.old) (failures writer.new) }
+    ensures causes { IfErr result (λ e. (e ≢ RunError.Read) × (e ≢ RunError.Moment)) }
+    ensures count { failures writer.old ≤ failures writer.new }
+{
+    let Ok(replies) = shared.take_output(rt, conn) else {
+        return Err(RunError::OutOfMemory);
+    };
+    if replies.is_empty() {
+        return Ok(());
+    }
+    match send(&replies, writer) {
+        Ok(()) => {}
+        Err(error) => return Err(error_of_send(error)),
+    }
+    match writer.flush() {
+        Ok(()) => Ok(()),
+        Err(_) => Err(RunError::Write),
+    }
+}
+
+/// Tells the notes that wait.
+fn tell_notes<L: Seating, C: Takings, T: Teller, R: Wait>(
+    rt: &R,
+    shared: &SharedService<L, C>,
+    namespace: u64,
+    teller: &mut T,
+) {
+    if !teller.is_told() {
+        return;
+    }
+    for _note in 0..u64::MAX {
+        match shared.next_notice(rt, namespace) {
+            Ok(Some(note)) => teller.tell(rt, &note),
+            _ => return,
+        }
+    }
+}
+
+/// Whether a connection goes on: not where it has closed.
+fn progress_of<L: Seating, C: Takings>(
+    rt: &impl Wait,
+    shared: &SharedService<L, C>,
+    conn: Conn,
+) -> Progress {
+    match shared.closed(rt, conn) {
+        Ok(None) => Progress::More,
+        _ => Progress::Over,
+    }
+}
+
+/// Reads a piece, hands it in, and sends its replies. Nothing more is read before they are sent.
+pub fn take_turn<L: Seating, C: Takings, I: Read, O: Write, K: Clock, T: Teller, R: Wait>(
+    rt: &R,
+    alloc: Global,
+    shared: &SharedService<L, C>,
+    seat: &mut Seat<L>,
+    conn: Conn,
+    buffer: &mut [u8],
+    reader: &mut Watched<I>,
+    writer: &mut Watched<O>,
+    clock: &mut K,
+    teller: &mut T,
+) -> Result<Progress, RunError>
+    ensures count { seat.old.count ≤ seat.new.count }
+    ensures read { IsErrOf result RunError.Read → HasFailed (failures reader.old) (failures reader.new) }
+    ensures write { IsErrOf result RunError.Write → HasFailed (failures writer.old) (failures writer.new) }
+    ensures moment { IsErrOf result RunError.Moment → HasToldLate K.reads clock.new }
+    ensures reads { failures reader.old ≤ failures reader.new }
+    ensures writes { failures writer.old ≤ failures writer.new }
+{
+    let count = match reader.read(buffer) {
+        Ok(count) => count,
+        Err(error) => {
+            if error.kind() == ErrorKind::Interrupted {
+                return Ok(Progress::More);
+            }
+            return Err(RunError::Read);
+        }
+    };
+    if count == 0 {
+        return Ok(Progress::Over);
+    }
+    let moment = clock.now();
+    match feed_piece(rt, alloc, shared, seat, conn, &buffer[..count], moment) {
+        Ok(Progress::More) => {}
+        Ok(Progress::Over) => return Ok(Progress::Over),
+        Err(error) => {
+            tell_notes(rt, shared, conn.namespace, teller);
+            return Err(error);
+        }
+    }
+    tell_notes(rt, shared, conn.namespace, teller);
+    match deliver(rt, shared, conn, writer) {
+        Ok(()) => Ok(progress_of(rt, shared, conn)),
+        Err(error) => Err(error),
+    }
+}

@@ -1,0 +1,7 @@
+//! Connections over a shared service: over sockets, and over devices that fail.
+#![tactic(auto)]
+
+mod devices;
+mod sockets;
+#[cfg(test)]
+mod tests;

@@ -1,0 +1,10 @@
+//! The configuration file of a server: which namespaces it has, each with its port and the values that its loads find.
+#![tactic(auto)]
+
+mod fields;
+mod good;
+mod listed;
+mod reading;
+
+pub use listed::{ConfigError, Hosted, Listed};
+pub use reading::read_config;

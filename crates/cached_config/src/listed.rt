@@ -1,0 +1,37 @@
+//! What a configuration file says.
+use audit_model::{Bytes, Config};
+use std::alloc::AllocError;
+
+/// A key that loads find, with its value.
+#[derive(Drop)]
+pub struct Listed {
+    pub key: Bytes,
+    pub value: Bytes,
+}
+
+/// A namespace that is served.
+#[derive(Drop)]
+pub struct Hosted {
+    /// Its name: 1 to 32 of `a` to `z`, `0` to `9`, `-` and `_`.
+    pub name: Bytes,
+    /// Its port on 127.0.0.1, from 1 on.
+    pub port: u16,
+    pub config: Config,
+    /// What its loads find; a key that is not listed is not found.
+    pub loads: Vec<Listed>,
+}
+
+/// Why a file is not taken.
+#[derive(Clone, Copy, Debug, PartialEq, Eq, Drop)]
+pub enum ConfigError {
+    /// It is no such file.
+    Bad,
+    /// There was no memory.
+    OutOfMemory,
+}
+
+impl From<AllocError> for ConfigError {
+    fn from(_e: AllocError) -> ConfigError {
+        ConfigError::OutOfMemory
+    }
+}

@@ -1,0 +1,5 @@
+//! Configuration files, good and bad.
+#![tactic(auto)]
+
+#[cfg(test)]
+mod tests;

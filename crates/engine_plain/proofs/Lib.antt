@@ -1,0 +1,2 @@
+pub mod Dropped
+pub mod Looks

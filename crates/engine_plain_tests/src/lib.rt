@@ -1,0 +1,5 @@
+//! Tests of the plain engine at concrete types.
+#![tactic(auto)]
+
+#[cfg(test)]
+mod calls;

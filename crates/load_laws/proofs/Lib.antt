@@ -1,0 +1,4 @@
+pub mod Counts
+pub mod Records
+pub mod Standing
+pub mod Turns
