@@ -1,13 +1,16 @@
 //! The program over its words and streams.
-ghost use Rattle.std.specs.Prelude.{◌≡◌, ◌≢◌, ◌≤◌};
+ghost use Rattle.std.specs.Prelude.{◌≡◌, ◌≢◌, ◌≤◌, ◌⊎◌};
 
+use crate::auditing::judge;
 use crate::replaying::{ReplayError, replay};
+use audit_records::Verdict;
+use audit_text::TextError;
 use itoa::Buffer;
 use std::alloc::Global;
 use std::convert::AsStr;
 use std::io::{ErrorKind, Read, Write};
 
-const USAGE: &[u8] = b"usage: transcript replay\n";
+const USAGE: &[u8] = b"usage: transcript audit | transcript replay\n";
 
 const OUT_OF_MEMORY: &[u8] = b"transcript: out of memory\n";
 
@@ -19,8 +22,8 @@ const BAD_CONFIGURATION: &[u8] = b"transcript: bad configuration\n";
 
 const BAD_INPUT: &[u8] = b"transcript: bad input, line ";
 
-/// The program, over its words and streams. Answers its status: 0 where the transcripts were printed, 1 after an error, 2 where the
-/// words are not served. What cannot be written to `errors` is lost.
+/// The program, over its words and streams. Answers its status: 0 where the transcripts were printed or the one that was read obeys, 3
+/// where it breaks a rule, 1 after an error, 2 where the words are not served. What cannot be written to `errors` is lost.
 pub fn transcript<S: AsStr, R: Read, W: Write, E: Write>(
     alloc: Global,
     words: &[S],
@@ -28,12 +31,14 @@ pub fn transcript<S: AsStr, R: Read, W: Write, E: Write>(
     writer: &mut W,
     errors: &mut E,
 ) -> u8
-    ensures status { result ≤ 2 }
+    ensures status { result ≤ 3 }
     ensures unread { result ≡ 2 → reader.new ≡ reader.old }
     ensures unwritten { result ≡ 2 → writer.new ≡ writer.old }
 {
-    if is_replay(words) {
+    if is_word(words, "replay") {
         run_replay(alloc, reader, writer, errors)
+    } else if is_word(words, "audit") {
+        run_audit(alloc, reader, writer, errors)
     } else {
         let _ = errors.write_all(USAGE);
         2
@@ -53,10 +58,10 @@ pub fn without_words<E: Write>(cause: ErrorKind, errors: &mut E) -> u8
     2
 }
 
-/// Whether the one word behind the program's name is `replay`.
-fn is_replay<S: AsStr>(words: &[S]) -> bool {
+/// Whether this is the one word behind the program's name.
+fn is_word<S: AsStr>(words: &[S], wanted: &str) -> bool {
     match words {
-        [_, word] => word.as_str() == "replay",
+        [_, word] => word.as_str() == wanted,
         _ => false,
     }
 }
@@ -91,6 +96,58 @@ fn run_replay<R: Read, W: Write, E: Write>(
         Ok(()) => 0,
         Err(_) => fail(errors, WRITE_FAILED),
     }
+}
+
+/// Reads a transcript, judges it, and prints the verdict. Answers 0, 1 or 3.
+fn run_audit<R: Read, W: Write, E: Write>(
+    alloc: Global,
+    reader: &mut R,
+    writer: &mut W,
+    errors: &mut E,
+) -> u8
+    ensures below { result ≤ 3 }
+    ensures served { result ≢ 2 }
+{
+    let mut text = Vec::new(alloc);
+    match reader.read_to_end(&mut text) {
+        Ok(_) => {}
+        Err(error) => return fail(errors, read_error_text(error.kind())),
+    }
+    match judge(alloc, text.as_slice()) {
+        Ok(verdict) => print_verdict(verdict, writer, errors),
+        Err(TextError::Line(number)) => fail_line(errors, number),
+        Err(TextError::OutOfMemory) => fail(errors, OUT_OF_MEMORY),
+    }
+}
+
+/// Prints a verdict, and answers the status after it: 0 where the transcript obeys, 3 where it breaks, 1 where nothing can be said.
+fn print_verdict<W: Write, E: Write>(verdict: Verdict, writer: &mut W, errors: &mut E) -> u8
+    ensures below { result ≤ 3 }
+    ensures served { result ≢ 2 }
+    ensures yes { result ≡ 0 → verdict ≡ Verdict.Yes }
+{
+    match verdict {
+        Verdict::Yes => match writer.write_all(b"verdict yes\n") {
+            Ok(()) => 0,
+            Err(_) => fail(errors, WRITE_FAILED),
+        },
+        Verdict::Breaks(number) => print_break(number, writer, errors),
+        Verdict::OutOfMemory => fail(errors, OUT_OF_MEMORY),
+    }
+}
+
+/// Prints the number of the first record that breaks a rule.
+fn print_break<W: Write, E: Write>(number: u64, writer: &mut W, errors: &mut E) -> u8
+    ensures { (result ≡ 1) ⊎ (result ≡ 3) }
+{
+    let mut digits = Buffer::new();
+    let head = writer.write_all(b"verdict breaks ");
+    let middle = writer.write_all(digits.format(number).as_bytes());
+    let end = writer.write_all(b"\n");
+    if head.is_ok() && middle.is_ok() && end.is_ok() {
+        return 3;
+    }
+    fail(errors, WRITE_FAILED)
 }
 
 /// The text of an error of reading.

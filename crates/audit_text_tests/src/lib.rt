@@ -1,0 +1,5 @@
+//! Tests of the text form of transcripts.
+#![tactic(auto)]
+
+#[cfg(test)]
+mod reading;
