@@ -3,7 +3,7 @@
 usage: python3 tools/refuse_allocations.py CRATE [WORD]     after `rt test` in crates/CRATE; WORD: only tests whose names contain it
        python3 tools/refuse_allocations.py cached           after `rt run` in crates/cached: the program over its stored first run
 
-A test has to pass each time. The program has to end with status 0 and the right texts, or with status 1 and a text on standard error, and
+A test that is meant for it (it tries what was refused a second time) has to pass each time. The program has to end with status 0 and the right texts, or with status 1 and a text on standard error, and
 then what it wrote is a beginning of the right replies.
 """
 
@@ -47,6 +47,13 @@ def sweep(words, library, mark, passes, given=b""):
             return number - 1, wrong
 
 
+def told(count, wrong):
+    """The line of a sweep, with at most ten of the allocations at which it failed."""
+    if not wrong:
+        return f"{count} allocations, ok"
+    return f"{count} allocations, failed at {len(wrong)}: {wrong[:10]}"
+
+
 def sweep_tests(crate, word, library, mark):
     program = os.path.join(CRATES, crate, "out", f"{crate}_tests")
     listed = subprocess.run([program, "--list"], capture_output=True, check=True).stdout.decode()
@@ -58,7 +65,7 @@ def sweep_tests(crate, word, library, mark):
         count, wrong = sweep(
             [program, name], library, mark, lambda ran: ran.returncode == 0
         )
-        print(f"{name}: {count} allocations, " + (f"failed at {wrong}" if wrong else "ok"))
+        print(f"{name}: {told(count, wrong)}")
         failed += bool(wrong)
     return failed
 
@@ -76,7 +83,7 @@ def sweep_program(library, mark):
         return ran.returncode == 1 and ran.stderr and right.stdout.startswith(ran.stdout)
 
     count, wrong = sweep([program, "--script"], library, mark, passes, given)
-    print(f"cached --script: {count} allocations, " + (f"failed at {wrong}" if wrong else "ok"))
+    print(f"cached --script: {told(count, wrong)}")
     return bool(wrong)
 
 
