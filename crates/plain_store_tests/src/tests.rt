@@ -217,7 +217,7 @@ fn a_second_drop_finds_no_identifier(rt: HostRuntime) -> Result<(), Fail> {
     Ok(())
 }
 
-// `tools/refuse_allocations.py` runs these with each allocation refused in turn
+// these three are for `tools/refuse_allocations.py`: the call that may be refused is tried again; where an earlier allocation is refused, they fail
 #[test]
 fn a_refused_call_changes_nothing(rt: HostRuntime) -> Result<(), Fail> {
     let mut store = PlainStore::new(rt.alloc(), PLAIN, 5, SplitMix64::seed_from_u64(1))?;
