@@ -34,7 +34,7 @@ use Rattle.cache_namespace.proofs.LoadTurns.{right-turn}
 use Rattle.cache_settling.specs.Laws.{record_answered, record_given_up, when_stored}
 use Rattle.cache_settling.specs.Leads.{BeginsUnknown, Leads, LeavesUnknown, Settles}
 use Rattle.cache_settling.proofs.Leading.{on, one}
-use Rattle.cache_settling.proofs.Telling.{draws-no}
+use Rattle.cache_settling.proofs.Turns.{draws-no}
 
 -- ---- an answer's own step
 

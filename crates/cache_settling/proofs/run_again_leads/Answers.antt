@@ -1,4 +1,4 @@
-use Rattle.cache_settling.proofs.Telling.{abandoned, answered, held_back, waits_again}
+use Rattle.cache_settling.proofs.Turns.{abandoned, answered, held_back, waits_again}
 use Rattle.cache_settling.proofs.run_again_leads.Goals as goal
 
 pub returns-clause-answered : goal.returns-clause-answered

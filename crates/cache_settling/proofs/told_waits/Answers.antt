@@ -1,4 +1,4 @@
-use Rattle.cache_settling.proofs.Telling.{answer-tidy, give-up-tidy, told-waits}
+use Rattle.cache_settling.proofs.Turns.{answer-tidy, give-up-tidy, told-waits}
 use Rattle.cache_settling.proofs.told_waits.Goals as goal
 
 pub returns-clause-answer : goal.returns-clause-answer

@@ -42,7 +42,7 @@ use Rattle.cache_settling.proofs.Leading.{one}
 -- ---- whose turn it is
 
 -- where something is counted of a connection that may be there, it is there, and its `LOAD` waits
-counted : (o : Option Connection) → 1 ≤ wait_of o → (c : Connection) × (o ≡ Some c) × (is_waiting_now c.standing ≡ true)
+pub counted : (o : Option Connection) → 1 ≤ wait_of o → (c : Connection) × (o ≡ Some c) × (is_waiting_now c.standing ≡ true)
 counted None some = absurd (omega arith)
 counted (Some c) some = (c, refl, go (is_waiting_now c.standing) refl some)
   where
