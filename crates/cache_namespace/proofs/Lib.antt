@@ -1,3 +1,4 @@
+pub mod Asking
 pub mod Draining
 pub mod Drawn
 pub mod FeedSteps

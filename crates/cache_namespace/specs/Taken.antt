@@ -7,7 +7,7 @@ use Rattle.audit_laws.specs.Placing.{accepted_in}
 use Rattle.audit_model.specs.Belongs.{Known, refusal_of}
 use Rattle.audit_model.specs.Follows.{Follows, after_event, after_steps, known_in, tasks_in}
 use Rattle.audit_model.specs.Places.{steps_of, tasks_to_feed}
-use Rattle.audit_model.specs.Situation.{Situation, HeldValue, is_holding_in}
+use Rattle.audit_model.specs.Situation.{Situation, HeldValue, connection_in, is_holding_in, is_waiting_now}
 use Rattle.audit_model.specs.declared.config.Config.{Config}
 use Rattle.audit_model.specs.declared.event.Event.{Event}
 use Rattle.audit_model.specs.declared.event.Event.TheVariants as event
@@ -92,6 +92,14 @@ RefusedFor config connections happened held e =
 -- a command of the connection of that number is held back
 abbrev pub holds_at : List Connection → ℕ → Bool
 holds_at connections number = is_holding_in (situation 0 no_loads connections false []) number
+
+-- a `LOAD` of that connection waits
+abbrev pub is_waiting_in : Situation → ℕ → Bool
+is_waiting_in s conn = option_map_or (λ c. is_waiting_now c.standing) (connection_in conn s) false
+
+-- a `LOAD` of the connection of that number waits
+abbrev pub waits_at : List Connection → ℕ → Bool
+waits_at connections number = is_waiting_in (situation 0 no_loads connections false []) number
 
 -- why the connection at a place is closed, if it is
 abbrev pub closing_at : List Connection → ℕ → Option Closing

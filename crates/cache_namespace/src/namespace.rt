@@ -19,7 +19,7 @@ ghost use Rattle.cache_namespace.specs.Waiting.{UnderWay, loads_in, under_way, w
 ghost use Rattle.cache_namespace.specs.Whole.{holds, waits};
 ghost use Rattle.audit_model.specs.Belongs.{refusal_of, refusal_of_conn};
 ghost use Rattle.audit_model.specs.declared.event.Event.TheVariants as event;
-ghost use Rattle.cache_namespace.specs.Taken.{is_quit, FeedsConnection, IsOpenOrEnded, Takes, fed, known, holds_at, RefusedFor, text_at, closing_at, ReplacedAt, SameConnections, LooksSame, IsSound};
+ghost use Rattle.cache_namespace.specs.Taken.{is_quit, FeedsConnection, IsOpenOrEnded, Takes, fed, known, holds_at, RefusedFor, text_at, closing_at, waits_at, ReplacedAt, SameConnections, LooksSame, IsSound};
 
 use crate::connection::{Connection, new_connection};
 use crate::feeding::{End, FeedError, feed_lines};
@@ -373,6 +373,19 @@ impl<S: Store> Namespace<S> {
         };
         Ok(closing_of(&self.connections, index))
     }
+
+    /// Whether a `LOAD` of a connection waits.
+    pub fn waiting(&self, number: u64) -> Result<bool, ServiceError>
+        ensures waits { IfOk result (λ is_waiting. is_waiting ≡ waits_at self.now.connections.items number) }
+        ensures refused { IsErr result ↔ (((known self.now.connections.items).was_opened number) ≡ false) }
+        ensures error { IfErr result (λ e. e ≡ ServiceError.NoConnection) }
+    {
+        let index = match find_opened(&self.connections, number) {
+            Ok(index) => index,
+            Err(error) => return Err(error),
+        };
+        Ok(waits_at_place(&self.connections, index))
+    }
 }
 
 /// The place of a connection that was opened.
@@ -404,6 +417,15 @@ fn closing_of(connections: &[Connection], index: usize) -> Option<Closing>
 {
     let connection = &connections[index];
     connection.closing
+}
+
+/// Whether a `LOAD` of the connection at a place waits.
+fn waits_at_place(connections: &[Connection], index: usize) -> bool
+    requires { index < length connections.now }
+    ensures { result ≡ waits_at connections.now (index + 1) }
+{
+    let connection = &connections[index];
+    is_open(connection) && is_waiting(connection.standing)
 }
 
 /// Closes the connection at a place.
