@@ -61,7 +61,7 @@ turned_end change all table place beyond t =
 
 -- ---- a sweep
 
-module _ (config : Config) (now part : ℕ) (limit : Option ℕ) (start : ℕ) (all : List HeldValue) (old : List Note) where
+module _ (config : Config) (now : ℕ) (part limit : Option ℕ) (start : ℕ) (all : List HeldValue) (old : List Note) where
   abbrev sw : List HeldValue → Swept
   sw items = swept config now part limit start items
 
