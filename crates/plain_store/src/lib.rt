@@ -2,9 +2,12 @@
 #![tactic(auto)]
 
 mod drawing;
+mod hashing;
 mod listing;
 mod putting;
 mod store;
 mod valuing;
+mod weights;
 
+pub use hashing::KeyHasher;
 pub use store::PlainStore;
