@@ -1,3 +1,4 @@
+pub mod Parting
 pub mod Drawing
 pub mod Putting
 pub mod Standing

@@ -1,6 +1,7 @@
 //! Identifiers of predicates.
-ghost use Rattle.std.specs.Prelude.{◌≡◌, ◌<◌, ◌≤◌, ◌++◌, ◌∷◌, [], true, Bool, IfSome, None, OnOk, OnErr, vec_len, vec_capacity};
+ghost use Rattle.std.specs.Prelude.{◌≡◌, ◌<◌, ◌≤◌, ◌+◌, ◌==◌, ◌&&◌, ◌++◌, ◌∷◌, [], IfSome, None, OnOk, OnErr, vec_len, vec_capacity};
 ghost use Rattle.std.specs.Result.{IsErrOf};
+ghost use Rattle.audit_model.specs.Bytewise.{same};
 ghost use Rattle.cache_store.specs.Identifiers.{Registers, AreUsedUp};
 ghost use Rattle.plain_store.specs.Drawing.{Draws, DrawsNone, DrawsOn, is_registered};
 
@@ -13,11 +14,18 @@ fn is_registered(register: &Vec<(u64, Uuid)>, part: u64, id: &Uuid) -> bool
     ensures { result ≡ is_registered register.now.items part id.now }
 {
     for entry in register {
-        if entry.0 == part && entry.1 == *id {
+        if is_entry(entry, part, id) {
             return true;
         }
     }
     false
+}
+
+/// Whether that is the entry of the part and the identifier.
+fn is_entry(entry: &(u64, Uuid), part: u64, id: &Uuid) -> bool
+    ensures { result ≡ (entry.now.0 == part && same entry.now.1 id.now) }
+{
+    entry.0 == part && entry.1 == *id
 }
 
 /// Draws identifiers until one is not registered in the part, a thousand at most.

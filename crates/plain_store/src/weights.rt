@@ -1,7 +1,6 @@
 //! What the values of each part weigh.
-ghost use Rattle.std.specs.Prelude.{◌≡◌, ℕ, ◌<◌, ◌≤◌, Option, option_map, length, get_or, slice_set, IfOk};
-ghost use Rattle.std.specs.List.{sum_by};
-ghost use Rattle.audit_model.specs.History.{part_count, share};
+ghost use Rattle.std.specs.Prelude.{◌≡◌, ◌<◌, ◌≤◌, ◌+◌, ◌-◌, ◌/◌, [], length, get_or, slice_set, IfOk};
+ghost use Rattle.audit_model.specs.History.{part_count};
 ghost use Rattle.plain_store.specs.Standing.{limit_of, WeighEach};
 
 use audit_model::Config;
