@@ -39,7 +39,9 @@ fn place_of(number: u64, parts: u64) -> u64
 
 /// How many parts a configuration asks for: the next power of two, at most 256.
 pub fn count_parts(config: &Config) -> u64
-    ensures { result ≡ part_count config.now }
+    ensures number { result ≡ part_count config.now }
+    ensures some { 0 < result }
+    ensures few { result ≤ 256 }
 {
     if config.parts <= 1 {
         return 1;

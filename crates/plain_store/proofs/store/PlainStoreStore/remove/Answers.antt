@@ -1,4 +1,4 @@
-use Rattle.std.proofs.Common.{◌≡◌, ◌+◌, ◌<◌, ◌≢◌, subst, sym, ap, ◌∙◌, arith}
+use Rattle.std.proofs.Common.{◌≡◌, ◌+◌, ◌-◌, ◌<◌, subst, sym, ap, ◌∙◌, arith}
 use Rattle.cache_store.specs.Running.{weight_in}
 use Rattle.plain_table.specs.Items.{without}
 use Rattle.plain_store.specs.Laws.{parted_from}
