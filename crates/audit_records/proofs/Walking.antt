@@ -13,8 +13,8 @@ use Rattle.audit_model.specs.Situation.{Situation, may_run_in}
 use Rattle.audit_model.specs.Steps.{Task, Store, Deliver, RunAgain, RunHeld, RunLines, is_right}
 use Rattle.audit_model.specs.declared.config.Config.{Config}
 use Rattle.audit_model.specs.declared.transcript.Step.{Step}
-use Rattle.audit_steps.specs.declared.accepting.PartOf.{PartOf}
-use Rattle.audit_steps.specs.Judging.{IsJudged, agrees_with, parts_of}
+use Rattle.audit_parts.specs.Known.{KeyPart, agrees_with, with_value}
+use Rattle.audit_steps.specs.Judging.{IsJudged}
 use Rattle.audit_steps.specs.Showing.{runs_lines}
 use Rattle.audit_records.specs.Auditing.{Reached, Reaches, audited_steps}
 use Rattle.audit_records.specs.Tidy.{is_tidy}
@@ -37,30 +37,30 @@ left-cons (RunAgain conn) tasks = refl
 left-cons (RunHeld conn) tasks = refl
 left-cons (RunLines conn) tasks = refl
 
-module _ (config : Config) (parts more : List PartOf) (s t : Situation) (tasks : List Task) (task : Option Task) (step : Step) (rest : List Step) where
+module _ (config : Config) (parts more : List KeyPart) (s t : Situation) (tasks : List Task) (task : Option Task) (step : Step) (rest : List Step) where
   abbrev now_due : List Task
   now_due = due (may_run_in s) tasks
 
   -- a right step leads on
   pub walk-on : first_due now_due ≡ task → IsJudged config s parts task step (placed_step_in config s task step) true t more
       → audited_steps config parts s tasks (step ∷ rest) ≡ audited_steps config more t (left_after now_due) rest
-  walk-on e j = ap go e ∙ ap (λ b. if b then audited_steps config (parts ++ parts_of (placed_step_in config s task step).effect.value) (after_step config s task step (placed_step_in config s task step).effect) (left_after now_due) rest else None) (sym j.right)
+  walk-on e j = ap go e ∙ ap (λ b. if b then audited_steps config (with_value parts (placed_step_in config s task step).effect.value) (after_step config s task step (placed_step_in config s task step).effect) (left_after now_due) rest else None) (sym j.right)
       ∙ ap (λ ps. audited_steps config ps (after_step config s task step (placed_step_in config s task step).effect) (left_after now_due) rest) (sym (j.kept refl))
       ∙ ap (λ u. audited_steps config more u (left_after now_due) rest) (sym (j.left refl))
     where
       go : Option Task → Option Reached
       go o =
           let placed = placed_step_in config s o step in
-          if is_right config placed && agrees_with parts placed.effect.value then audited_steps config (parts ++ parts_of placed.effect.value) (after_step config s placed.task step placed.effect) (left_after now_due) rest else None
+          if is_right config placed && agrees_with parts placed.effect.value then audited_steps config (with_value parts placed.effect.value) (after_step config s placed.task step placed.effect) (left_after now_due) rest else None
 
   -- a wrong one leads nowhere
   pub walk-off : first_due now_due ≡ task → IsJudged config s parts task step (placed_step_in config s task step) false t more → audited_steps config parts s tasks (step ∷ rest) ≡ None
-  walk-off e j = ap go e ∙ ap (λ b. if b then audited_steps config (parts ++ parts_of (placed_step_in config s task step).effect.value) (after_step config s task step (placed_step_in config s task step).effect) (left_after now_due) rest else None) (sym j.right)
+  walk-off e j = ap go e ∙ ap (λ b. if b then audited_steps config (with_value parts (placed_step_in config s task step).effect.value) (after_step config s task step (placed_step_in config s task step).effect) (left_after now_due) rest else None) (sym j.right)
     where
       go : Option Task → Option Reached
       go o =
           let placed = placed_step_in config s o step in
-          if is_right config placed && agrees_with parts placed.effect.value then audited_steps config (parts ++ parts_of placed.effect.value) (after_step config s placed.task step placed.effect) (left_after now_due) rest else None
+          if is_right config placed && agrees_with parts placed.effect.value then audited_steps config (with_value parts placed.effect.value) (after_step config s placed.task step placed.effect) (left_after now_due) rest else None
 
   pub walk-tidy : IsJudged config s parts task step (placed_step_in config s task step) true t more → is_tidy s ≡ true → is_tidy t ≡ true
   walk-tidy j tidy = ap is_tidy (j.left refl) ∙ step-tidy config s task step (placed_step_in config s task step).effect tidy
@@ -88,12 +88,12 @@ end-is f (x ∷ xs) (suc at) = both-less (length xs) at ∙ end-is f xs at
     both-less : (m n : ℕ) → leb (suc m) (suc n) ≡ leb m n
     both-less m n = grind (arith, nat_tests)
 
-pub reaches-end : (b : Bool) (t : Situation) (parts : List PartOf) (o : Option Reached) → o ≡ (if b then Some (record { situation = t; parts = parts }) else None) → Reaches b t parts o
+pub reaches-end : (b : Bool) (t : Situation) (parts : List KeyPart) (o : Option Reached) → o ≡ (if b then Some (record { situation = t; parts = parts }) else None) → Reaches b t parts o
 reaches-end true t parts o e = e
 reaches-end false t parts o e = e
 
 -- a right own step of an answer leads on
-pub store-on : (config : Config) (parts more : List PartOf) (s t : Situation) (key : Option (List ℕ)) (outcome : Outcome) (tasks : List Task) (step : Step) (rest : List Step)
+pub store-on : (config : Config) (parts more : List KeyPart) (s t : Situation) (key : Option (List ℕ)) (outcome : Outcome) (tasks : List Task) (step : Step) (rest : List Step)
     → IsJudged config s parts (Some (Store key outcome)) step (placed_step_in config s (Some (Store key outcome)) step) true t more
     → audited_steps config parts s (Store key outcome ∷ tasks) (step ∷ rest) ≡ audited_steps config more t tasks rest
 store-on config parts more s t key outcome tasks step rest j = walk-on config parts more s t (Store key outcome ∷ tasks) (Some (Store key outcome)) step rest refl j

@@ -13,25 +13,24 @@ use Rattle.audit_model.specs.Steps.{Task, is_right}
 use Rattle.audit_model.specs.declared.config.Config.{Config}
 use Rattle.audit_model.specs.declared.transcript.Record.{Record}
 use Rattle.audit_model.specs.declared.transcript.Step.{Step}
-use Rattle.audit_steps.specs.declared.accepting.PartOf.{PartOf}
-use Rattle.audit_steps.specs.Judging.{part_of, parts_of, agrees_with}
+use Rattle.audit_parts.specs.Known.{KeyPart, agrees_with, with_value}
 
--- a situation, and the parts of all values that were accepted
+-- a situation, and the part of each key of which a value was accepted
 pub record Reached : Type 0 where
   pub situation : Situation
-  pub parts : List PartOf
+  pub parts : List KeyPart
 
 -- what these steps lead to, if they are right and each key keeps to one part
-abbrev pub audited_steps : Config → List PartOf → Situation → List Task → List Step → Option Reached
+abbrev pub audited_steps : Config → List KeyPart → Situation → List Task → List Step → Option Reached
 audited_steps config parts s tasks [] = if is_empty (due (may_run_in s) tasks) then Some (record { situation = s; parts = parts }) else None
 audited_steps config parts s tasks (step ∷ steps) =
     let now_due = due (may_run_in s) tasks in
     let placed = placed_step_in config s (first_due now_due) step in
-    let rest = audited_steps config (parts ++ parts_of placed.effect.value) (after_step config s placed.task step placed.effect) (left_after now_due) steps in
+    let rest = audited_steps config (with_value parts placed.effect.value) (after_step config s placed.task step placed.effect) (left_after now_due) steps in
     if is_right config placed && agrees_with parts placed.effect.value then rest else None
 
 -- the same of a record's steps
-abbrev pub audited_event : Config → List PartOf → Situation → Record → Option Reached
+abbrev pub audited_event : Config → List KeyPart → Situation → Record → Option Reached
 audited_event config parts s entry = audited_steps config parts (after_event entry.event s) (tasks_in s entry.event) (steps_of entry)
 
 -- the record's event is taken: it is not refused, has the next number, and only an answer has a value of its own
@@ -39,24 +38,29 @@ abbrev pub is_taken : Config → Situation → Record → Bool
 is_taken config s entry = is_none (refusal_of config (known_in s) entry.event) && is_numbered s.opened entry.event && has_right_own_value entry
 
 -- what a record leads to
-abbrev pub audited_record : Config → List PartOf → Situation → Record → Option Reached
+abbrev pub audited_record : Config → List KeyPart → Situation → Record → Option Reached
 audited_record config parts s entry = let rest = audited_event config parts s entry in if is_taken config s entry then rest else None
 
 -- the number of the first record that leads to nothing; n records came before
-abbrev pub audited_from : Config → List PartOf → Situation → ℕ → List Record → Option ℕ
+abbrev pub audited_from : Config → List KeyPart → Situation → ℕ → List Record → Option ℕ
 audited_from config parts s n [] = None
 audited_from config parts s n (entry ∷ entries) =
     option_map_or (λ r. audited_from config r.parts r.situation (suc n) entries) (audited_record config parts s entry) (Some (suc n))
 
 -- what was reached, where the answer is true; where it is false, nothing was
-abbrev pub Reaches : Bool → Situation → List PartOf → Option Reached → Type 0
+abbrev pub Reaches : Bool → Situation → List KeyPart → Option Reached → Type 0
 Reaches true t parts reached = reached ≡ Some (record { situation = t; parts = parts })
 Reaches false t parts reached = reached ≡ None
 
+-- the parts with those of these values
+abbrev pub with_values : List KeyPart → List Value → List KeyPart
+with_values parts [] = parts
+with_values parts (v ∷ vs) = with_values (with_value parts (Some v)) vs
+
 -- what is reached where steps lead there and accept those values
-abbrev pub reached_by : List Value → List Value → Option Situation → Option Reached
-reached_by values more None = None
-reached_by values more (Some t) = if agree_on_parts (values ++ more) then Some (record { situation = t; parts = map part_of (values ++ more) }) else None
+abbrev pub reached_by : List KeyPart → List Value → List Value → Option Situation → Option Reached
+reached_by parts values more None = None
+reached_by parts values more (Some t) = if agree_on_parts (values ++ more) then Some (record { situation = t; parts = with_values parts more }) else None
 
 -- an answer's own step
 abbrev pub own_step : Record → Step

@@ -18,8 +18,9 @@ use crate::duties::{
 };
 use audit_laws::breaks_agree;
 use audit_model::{Bytes, Config, Event, Instant, Outcome, Record, Step, Transcript};
+use audit_parts::Parts;
 use audit_situation::{State, begin, close, feed, find_pending, is_holding, open, settle};
-use audit_steps::{Duty, PartOf, Shown, judge, show};
+use audit_steps::{Duty, Shown, judge, show};
 use std::alloc::{AllocError, Global};
 
 /// Judges steps for which those are due, and does what they do. Where one is wrong, or more is due behind the last, the answer is `false`, and
@@ -28,12 +29,12 @@ fn judge_steps(
     alloc: Global,
     config: &Config,
     s: &mut State,
-    parts: &mut Vec<PartOf>,
+    parts: &mut Parts,
     duties: &[Duty<'_>],
     steps: &[Step],
 ) -> Result<bool, AllocError>
     requires { IsTrue (is_tidy (situation_of s.old)) }
-    ensures reaches { IfOk result (λ b. Reaches b (situation_of s.new) parts.new.items (audited_steps config.now parts.old.items (situation_of s.old) (map task_of duties.entry.now) steps.now)) }
+    ensures reaches { IfOk result (λ b. Reaches b (situation_of s.new) parts.new (audited_steps config.now parts.old (situation_of s.old) (map task_of duties.entry.now) steps.now)) }
     ensures tidy { IfOk result (λ b. b ≡ true → is_tidy (situation_of s.new) ≡ true) }
 {
     let mut at = 0;
@@ -53,13 +54,13 @@ fn judge_open(
     alloc: Global,
     config: &Config,
     s: &mut State,
-    parts: &mut Vec<PartOf>,
+    parts: &mut Parts,
     conn: u64,
     steps: &[Step],
 ) -> Result<bool, AllocError>
     requires tidy { IsTrue (is_tidy (situation_of s.old)) }
     requires numbered { is_numbered s.old.opened (event.Open conn) ≡ true }
-    ensures reaches { IfOk result (λ b. Reaches b (situation_of s.new) parts.new.items (audited_steps config.now parts.old.items (after_event (event.Open conn) (situation_of s.old)) [] steps.now)) }
+    ensures reaches { IfOk result (λ b. Reaches b (situation_of s.new) parts.new (audited_steps config.now parts.old (after_event (event.Open conn) (situation_of s.old)) [] steps.now)) }
     ensures tidy { IfOk result (λ b. b ≡ true → is_tidy (situation_of s.new) ≡ true) }
 {
     open(alloc, s, conn)?;
@@ -71,12 +72,12 @@ fn judge_close(
     alloc: Global,
     config: &Config,
     s: &mut State,
-    parts: &mut Vec<PartOf>,
+    parts: &mut Parts,
     conn: u64,
     steps: &[Step],
 ) -> Result<bool, AllocError>
     requires tidy { IsTrue (is_tidy (situation_of s.old)) }
-    ensures reaches { IfOk result (λ b. Reaches b (situation_of s.new) parts.new.items (audited_steps config.now parts.old.items (after_event (event.Close conn) (situation_of s.old)) [] steps.now)) }
+    ensures reaches { IfOk result (λ b. Reaches b (situation_of s.new) parts.new (audited_steps config.now parts.old (after_event (event.Close conn) (situation_of s.old)) [] steps.now)) }
     ensures tidy { IfOk result (λ b. b ≡ true → is_tidy (situation_of s.new) ≡ true) }
 {
     close(s, conn);
@@ -88,14 +89,14 @@ fn judge_feed(
     alloc: Global,
     config: &Config,
     s: &mut State,
-    parts: &mut Vec<PartOf>,
+    parts: &mut Parts,
     conn: u64,
     piece: &Bytes,
     moment: Instant,
     steps: &[Step],
 ) -> Result<bool, AllocError>
     requires tidy { IsTrue (is_tidy (situation_of s.old)) }
-    ensures reaches { IfOk result (λ b. Reaches b (situation_of s.new) parts.new.items (audited_steps config.now parts.old.items (after_event (event.Feed conn piece.now moment) (situation_of s.old)) (tasks_in (situation_of s.old) (event.Feed conn piece.now moment)) steps.now)) }
+    ensures reaches { IfOk result (λ b. Reaches b (situation_of s.new) parts.new (audited_steps config.now parts.old (after_event (event.Feed conn piece.now moment) (situation_of s.old)) (tasks_in (situation_of s.old) (event.Feed conn piece.now moment)) steps.now)) }
     ensures tidy { IfOk result (λ b. b ≡ true → is_tidy (situation_of s.new) ≡ true) }
 {
     let duties = duties_to_feed(alloc, conn, is_holding(s, conn))?;
@@ -129,13 +130,13 @@ fn judge_give_up(
     alloc: Global,
     config: &Config,
     s: &mut State,
-    parts: &mut Vec<PartOf>,
+    parts: &mut Parts,
     load: u64,
     moment: Instant,
     steps: &[Step],
 ) -> Result<bool, AllocError>
     requires tidy { IsTrue (is_tidy (situation_of s.old)) }
-    ensures reaches { IfOk result (λ b. Reaches b (situation_of s.new) parts.new.items (audited_steps config.now parts.old.items (after_event (event.GiveUp load moment) (situation_of s.old)) (tasks_in (situation_of s.old) (event.GiveUp load moment)) steps.now)) }
+    ensures reaches { IfOk result (λ b. Reaches b (situation_of s.new) parts.new (audited_steps config.now parts.old (after_event (event.GiveUp load moment) (situation_of s.old)) (tasks_in (situation_of s.old) (event.GiveUp load moment)) steps.now)) }
     ensures tidy { IfOk result (λ b. b ≡ true → is_tidy (situation_of s.new) ≡ true) }
 {
     let conns = waiting_of(alloc, s, load)?;
@@ -164,14 +165,14 @@ fn judge_answer(
     alloc: Global,
     config: &Config,
     s: &mut State,
-    parts: &mut Vec<PartOf>,
+    parts: &mut Parts,
     load: u64,
     outcome: &Outcome,
     moment: Instant,
     entry: &Record,
 ) -> Result<bool, AllocError>
     requires tidy { IsTrue (is_tidy (situation_of s.old)) }
-    ensures reaches { IfOk result (λ b. Reaches b (situation_of s.new) parts.new.items (audited_steps config.now parts.old.items (after_event (event.Answer load outcome.now moment) (situation_of s.old)) (tasks_in (situation_of s.old) (event.Answer load outcome.now moment)) (own_step entry.now ∷ entry.now.steps))) }
+    ensures reaches { IfOk result (λ b. Reaches b (situation_of s.new) parts.new (audited_steps config.now parts.old (after_event (event.Answer load outcome.now moment) (situation_of s.old)) (tasks_in (situation_of s.old) (event.Answer load outcome.now moment)) (own_step entry.now ∷ entry.now.steps))) }
     ensures tidy { IfOk result (λ b. b ≡ true → is_tidy (situation_of s.new) ≡ true) }
 {
     let conns = waiting_of(alloc, s, load)?;
@@ -196,13 +197,13 @@ fn store(
     alloc: Global,
     config: &Config,
     s: &mut State,
-    parts: &mut Vec<PartOf>,
+    parts: &mut Parts,
     key: Option<&Vec<u8>>,
     outcome: &Outcome,
     entry: &Record,
 ) -> Result<bool, AllocError>
     requires { IsTrue (is_tidy (situation_of s.old)) }
-    ensures judged { IfOk result (λ b. let task = Some (Store (option_map (λ k. k.now.items) key.entry) outcome.now) in IsJudged config.now (situation_of s.old) parts.old.items task (own_step entry.now) (placed_step_in config.now (situation_of s.old) task (own_step entry.now)) b (situation_of s.new) parts.new.items) }
+    ensures judged { IfOk result (λ b. let task = Some (Store (option_map (λ k. k.now.items) key.entry) outcome.now) in IsJudged config.now (situation_of s.old) parts.old task (own_step entry.now) (placed_step_in config.now (situation_of s.old) task (own_step entry.now)) b (situation_of s.new) parts.new) }
     ensures tidy { IfOk result (λ b. b ≡ true → is_tidy (situation_of s.new) ≡ true) }
 {
     let shown = show_own(entry);
@@ -227,12 +228,12 @@ fn judge_event(
     alloc: Global,
     config: &Config,
     s: &mut State,
-    parts: &mut Vec<PartOf>,
+    parts: &mut Parts,
     entry: &Record,
 ) -> Result<bool, AllocError>
     requires tidy { IsTrue (is_tidy (situation_of s.old)) }
     requires numbered { is_numbered s.old.opened entry.now.event ≡ true }
-    ensures reaches { IfOk result (λ b. Reaches b (situation_of s.new) parts.new.items (audited_event config.now parts.old.items (situation_of s.old) entry.now)) }
+    ensures reaches { IfOk result (λ b. Reaches b (situation_of s.new) parts.new (audited_event config.now parts.old (situation_of s.old) entry.now)) }
     ensures tidy { IfOk result (λ b. b ≡ true → is_tidy (situation_of s.new) ≡ true) }
 {
     let steps = entry.steps.as_slice();
@@ -260,11 +261,11 @@ fn judge_record(
     alloc: Global,
     config: &Config,
     s: &mut State,
-    parts: &mut Vec<PartOf>,
+    parts: &mut Parts,
     entry: &Record,
 ) -> Result<bool, AllocError>
     requires { IsTrue (is_tidy (situation_of s.old)) }
-    ensures reaches { IfOk result (λ b. Reaches b (situation_of s.new) parts.new.items (audited_record config.now parts.old.items (situation_of s.old) entry.now)) }
+    ensures reaches { IfOk result (λ b. Reaches b (situation_of s.new) parts.new (audited_record config.now parts.old (situation_of s.old) entry.now)) }
     ensures tidy { IfOk result (λ b. b ≡ true → is_tidy (situation_of s.new) ≡ true) }
 {
     if !is_taken(config, s, entry) {
@@ -283,7 +284,7 @@ fn audited(
     ensures { IfOk result (λ n. n ≡ audited_from config.now [] (empty_situation made) 0 records.now) }
 {
     let mut s = begin(alloc, made);
-    let mut parts = Vec::new(alloc);
+    let mut parts = Parts::new(alloc)?;
     for (i, entry) in records.iter().enumerate() {
         if !judge_record(alloc, config, &mut s, &mut parts, entry)? {
             return Ok(Some(i as u64 + 1));

@@ -16,7 +16,7 @@ use Rattle.audit_model.specs.declared.config.Config.{Config}
 use Rattle.audit_model.specs.declared.transcript.Step.{Step}
 use Rattle.audit_judge.specs.After.{IsNew}
 use Rattle.audit_steps.specs.declared.accepting.Proposal.{Proposal}
-use Rattle.audit_steps.specs.declared.accepting.PartOf.{PartOf}
+use Rattle.audit_parts.specs.Known.{KeyPart, agrees_with, with_value}
 
 -- the step in its place, doing that and accepting that value
 abbrev pub placed_with : Config → Situation → Option Task → Action → Step → Option Value → PlacedStep
@@ -53,23 +53,6 @@ is_synced config placed = not (syncs placed.effect) || (has_right_reply config p
 abbrev pub offer_from : Proposal → Offer
 offer_from o = record { key = o.key; bytes = o.bytes; ms = o.ms }
 
--- a value's key and its part
-abbrev pub part_of : Value → PartOf
-part_of v = record { key = v.key; part = v.part }
-
--- the parts of the values that are accepted
-abbrev pub parts_of : Option Value → List PartOf
-parts_of value = map part_of (option_to_list value)
-
--- the key has that part wherever it has one
-abbrev pub agrees : List PartOf → List ℕ → ℕ → Bool
-agrees parts key part = list_all (λ p. not (same p.key key) || (p.part == part)) parts
-
--- the same of a value, if there is one
-abbrev pub agrees_with : List PartOf → Option Value → Bool
-agrees_with parts None = true
-agrees_with parts (Some v) = agrees parts v.key v.part
-
 -- what is accepted of an offer, where the step shows that part: none of these where it accepts wrongly
 abbrev pub Takes : Config → ℕ → Option ℕ → Option Offer → Option (Option HeldValue) → Type 0
 Takes config now part offer None = takes_rightly config part (is_some offer) ≡ false
@@ -81,7 +64,7 @@ abbrev pub Accepts : Config → Situation → Action → Option ℕ → Option (
 Accepts config s action part newcomer = Takes config s.latest part (offer_of config (view_in config s) action) newcomer
 
 -- the step is right and its value has its key's part exactly where the answer is true; and then this situation and these parts are left
-pub record IsJudged (config : Config) (s : Situation) (parts : List PartOf) (task : Option Task) (step : Step) (placed : PlacedStep) (b : Bool) (t : Situation) (more : List PartOf) : Type 0 where
+pub record IsJudged (config : Config) (s : Situation) (parts : List KeyPart) (task : Option Task) (step : Step) (placed : PlacedStep) (b : Bool) (t : Situation) (more : List KeyPart) : Type 0 where
   pub right : b ≡ (is_right config placed && agrees_with parts placed.effect.value)
   pub left : b ≡ true → t ≡ after_step config s task step placed.effect
-  pub kept : b ≡ true → more ≡ parts ++ parts_of placed.effect.value
+  pub kept : b ≡ true → more ≡ with_value parts placed.effect.value

@@ -10,13 +10,15 @@ ghost use Rattle.audit_judge.specs.After.{IsNew};
 ghost use Rattle.audit_situation.specs.States.{situation_of};
 ghost use Rattle.audit_model.specs.declared.config.Config.{Config};
 ghost use Rattle.audit_steps.specs.Doings.{action_of};
-ghost use Rattle.audit_steps.specs.Judging.{offer_from, part_of, parts_of, agrees, agrees_with, Takes, Accepts};
+ghost use Rattle.audit_parts.specs.Known.{agrees, agrees_with, with_part, with_value};
+ghost use Rattle.audit_steps.specs.Judging.{offer_from, Takes, Accepts};
 
 use crate::doing::Doing;
 use crate::owing::found;
 use crate::replies::{accepts, digits_of, sum_with};
 use audit_judge::{Held, part_count};
 use audit_model::{Accepted, Bytes, Config, Outcome, Seq, Weight};
+use audit_parts::Parts;
 use audit_situation::State;
 use std::alloc::{AllocError, Global};
 
@@ -26,13 +28,6 @@ pub struct Proposal {
     pub key: Bytes,
     pub bytes: Bytes,
     pub ms: Option<u64>,
-}
-
-/// A key with the part that took its values.
-#[derive(Drop)]
-pub struct PartOf {
-    pub key: Bytes,
-    pub part: u64,
 }
 
 /// What a step would have accepted, if values are.
@@ -193,42 +188,25 @@ fn take(
     }
 }
 
-/// Whether a key has that part in all of these.
-fn agrees(parts: &[PartOf], key: &[u8], part: u64) -> bool
-    ensures { result ≡ agrees parts.now key.now part }
-{
-    parts
-        .iter()
-        .all(|p| p.key.as_slice() != key || p.part == part)
-}
-
 /// Keeps the part of a value that is accepted, and answers whether its key has no other.
-pub fn admit(
-    alloc: Global,
-    parts: &mut Vec<PartOf>,
-    newcomer: Option<&Held>,
-) -> Result<bool, AllocError>
-    ensures agrees { IfOk result (λ b. b ≡ agrees_with parts.old.items (option_map (λ h. h.now.value) newcomer.entry)) }
-    ensures kept { IfOk result (λ b. b ≡ true → parts.new.items ≡ parts.old.items ++ parts_of (option_map (λ h. h.now.value) newcomer.entry)) }
+pub fn admit(parts: &mut Parts, newcomer: Option<&Held>) -> Result<bool, AllocError>
+    ensures agrees { IfOk result (λ b. b ≡ agrees_with parts.old (option_map (λ h. h.now.value) newcomer.entry)) }
+    ensures kept { IfOk result (λ b. b ≡ true → parts.new ≡ with_value parts.old (option_map (λ h. h.now.value) newcomer.entry)) }
 {
     match newcomer {
-        Some(held) => admit_value(alloc, parts, held),
+        Some(held) => admit_value(parts, held),
         None => Ok(true),
     }
 }
 
 /// The same of one value.
-fn admit_value(alloc: Global, parts: &mut Vec<PartOf>, held: &Held) -> Result<bool, AllocError>
-    ensures agrees { IfOk result (λ b. b ≡ agrees parts.old.items held.now.value.key held.now.value.part) }
-    ensures kept { IfOk result (λ b. b ≡ true → parts.new.items ≡ parts.old.items ++ part_of held.now.value ∷ []) }
+fn admit_value(parts: &mut Parts, held: &Held) -> Result<bool, AllocError>
+    ensures agrees { IfOk result (λ b. b ≡ agrees parts.old held.now.value.key held.now.value.part) }
+    ensures kept { IfOk result (λ b. b ≡ true → parts.new ≡ with_part parts.old held.now.value.key held.now.value.part) }
 {
-    if !agrees(parts, held.key(), held.part()) {
+    if !parts.agrees(held.key(), held.part()) {
         return Ok(false);
     }
-    let key = Seq::from_vec(Vec::from_slice(alloc, held.key())?);
-    parts.push(PartOf {
-        key,
-        part: held.part(),
-    })?;
+    parts.keep(held.key(), held.part())?;
     Ok(true)
 }

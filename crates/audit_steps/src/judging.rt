@@ -17,13 +17,14 @@ ghost use Rattle.audit_steps.specs.Doings.{action_of, acting};
 ghost use Rattle.audit_steps.specs.Judging.{placed_by, placed_with, is_fit, is_synced, reply_fits, IsJudged};
 ghost use Rattle.audit_steps.specs.Showing.{step_of, task_of};
 
-use crate::accepting::{PartOf, accept, admit};
+use crate::accepting::{accept, admit};
 use crate::doing::{Doing, deed_of, is_drop, is_hold, is_silent, is_sync, key_loaded, quits};
 use crate::owing::{loads_rightly, replies_rightly};
 use crate::replies::{counts_of, is_said};
 use crate::shown::{Duty, Shown, do_due, is_duty_of, is_held_rightly, is_run_lines, is_store};
 use audit_judge::{Held, do_deed, is_over};
 use audit_model::{Config, Note};
+use audit_parts::Parts;
 use audit_situation::{Link, Moved, Moving, State, find_link, first_line, pass, waited};
 use std::alloc::{AllocError, Global};
 
@@ -223,13 +224,13 @@ fn judge_doing(
     alloc: Global,
     config: &Config,
     s: &mut State,
-    parts: &mut Vec<PartOf>,
+    parts: &mut Parts,
     duty: Option<Duty<'_>>,
     shown: Shown<'_>,
     doing: Doing<'_>,
 ) -> Result<bool, AllocError>
     requires { IsTrue (are_apart s.old.connections.items) }
-    ensures { IfOk result (λ b. IsJudged config.now (situation_of s.old) parts.old.items (option_map task_of duty.entry) (step_of shown.entry) (placed_by config.now (situation_of s.old) (option_map task_of duty.entry) (action_of doing.entry) (step_of shown.entry)) b (situation_of s.new) parts.new.items) }
+    ensures { IfOk result (λ b. IsJudged config.now (situation_of s.old) parts.old (option_map task_of duty.entry) (step_of shown.entry) (placed_by config.now (situation_of s.old) (option_map task_of duty.entry) (action_of doing.entry) (step_of shown.entry)) b (situation_of s.new) parts.new) }
 {
     if !is_fit(alloc, config, s, duty, shown, doing)? {
         return Ok(false);
@@ -237,7 +238,7 @@ fn judge_doing(
     let Some(newcomer) = accept(alloc, config, s, doing, shown.accepted)? else {
         return Ok(false);
     };
-    if !admit(alloc, parts, newcomer.as_ref())? {
+    if !admit(parts, newcomer.as_ref())? {
         return Ok(false);
     }
     Ok(finish(alloc, config, s, duty, shown, doing, newcomer)?)
@@ -249,12 +250,12 @@ pub fn judge(
     alloc: Global,
     config: &Config,
     s: &mut State,
-    parts: &mut Vec<PartOf>,
+    parts: &mut Parts,
     duty: Option<Duty<'_>>,
     shown: Shown<'_>,
 ) -> Result<bool, AllocError>
     requires { IsTrue (are_apart s.old.connections.items) }
-    ensures { IfOk result (λ b. IsJudged config.now (situation_of s.old) parts.old.items (option_map task_of duty.entry) (step_of shown.entry) (placed_step_in config.now (situation_of s.old) (option_map task_of duty.entry) (step_of shown.entry)) b (situation_of s.new) parts.new.items) }
+    ensures { IfOk result (λ b. IsJudged config.now (situation_of s.old) parts.old (option_map task_of duty.entry) (step_of shown.entry) (placed_step_in config.now (situation_of s.old) (option_map task_of duty.entry) (step_of shown.entry)) b (situation_of s.new) parts.new) }
 {
     let waited = waited(s, shown.conn);
     let doing = do_due(config, waited, duty, shown);

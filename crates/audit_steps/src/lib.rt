@@ -9,7 +9,6 @@ mod owing;
 mod replies;
 mod shown;
 
-pub use accepting::PartOf;
 pub use doing::Doing;
 pub use judging::judge;
 pub use shown::{Duty, Shown, show};

@@ -30,7 +30,8 @@ use Rattle.cache_namespace.specs.Drawing.{Workings, identifiers_in}
 use Rattle.cache_namespace.specs.Making.{Making}
 use Rattle.cache_namespace.specs.Gathered.{Gathered, gather}
 use Rattle.cache_namespace.specs.Lines.{ArePartedIn, Runs, IsThere, are_timely, ended, ends_quit, held_step, holding, is_timely_after, placed_in, ready, says_quit, set_in, with_drops}
-use Rattle.cache_namespace.specs.Ran.{RanOne, RanLines, RanReady, RanFeed, ends_held}
+use Rattle.cache_namespace.specs.Ran.{RanOne, RanLines, RanReady, RanFeed, ends_held, standing_with}
+use Rattle.cache_namespace.specs.Waiting.{holding_load}
 use Rattle.cache_namespace.proofs.Drawn.{draws-first, draws-more, held-draws, spends-same}
 use Rattle.cache_namespace.specs.Ordered.{HasKeys, HaveKeys}
 use Rattle.cache_steps.specs.Order.{AgreesWith, order_by}
@@ -167,7 +168,7 @@ starts-quit config x (y ∷ ys) quit one e = e
 -- lines ran until less than one, or too long a one, was left, or a `QUIT` ran
 pub ready-stopped : (config : Config) (base : Situation) (number : ℕ) (making : Making) (held : List HeldValue) (bytes : List ℕ) (quit : Bool) (rest : List ℕ) (Stands : List HeldValue → Type 0) (dropped : Bool) (drawn drawing : Workings) (old new : Gathered)
     → (r : RanLines config base number making held bytes quit rest Stands dropped drawn drawing old new) → may_run_in (ended quit (with_drops dropped base) r.left (ready number rest)) number ≡ false
-    → RanReady config base number making held bytes quit false rest Stands dropped drawn drawing old new
+    → RanReady config base number making held bytes quit false (λ left. ended quit (with_drops dropped base) left (standing_with number false 0 rest)) Stands drawn drawing old new
 ready-stopped config base number making held bytes quit rest Stands dropped drawn drawing old new r stops = record {
   steps = r.steps;
   left = r.left;
@@ -188,7 +189,7 @@ ready-stopped config base number making held bytes quit rest Stands dropped draw
 pub ready-held : (config : Config) (base : Situation) (number : ℕ) (making : Making) (held : List HeldValue) (bytes rest line : List ℕ) (n : ℕ) (Stands : List HeldValue → Type 0) (dropped : Bool) (drawn drawing : Workings) (old middle new : Gathered)
     → IsThere number base → (r : RanLines config base number making held bytes false rest Stands dropped drawn drawing old middle) → IsLine rest n → line ≡ without_return (take n rest)
     → Stands (all_held_after config base.latest r.left no_deed []) → new ≡ gather middle (held_step number line ∷ [])
-    → RanReady config base number making held bytes false true rest Stands dropped drawn drawing old new
+    → RanReady config base number making held bytes false true (λ left. ended false (with_drops dropped base) left (standing_with number true 0 rest)) Stands drawn drawing old new
 ready-held config base number making held bytes rest line n Stands dropped drawn drawing old middle new there r at said stands gathers =
     let from = with_drops dropped base in
     let left = all_held_after config base.latest r.left no_deed [] in
@@ -217,50 +218,50 @@ ready-held config base number making held bytes rest line n Stands dropped drawn
 -- ---- feeds
 
 -- a feed of a connection that is ready
-pub feeds-ready : (config : Config) (base : Situation) (number : ℕ) (making : Making) (held : List HeldValue) (bytes piece : List ℕ) (quit is_held : Bool) (rest : List ℕ) (Stands : List HeldValue → Type 0) (dropped : Bool) (drawn drawing : Workings) (old new : Gathered)
-    → RanReady config base number making held (bytes ++ piece) quit is_held rest Stands dropped drawn drawing old new → RanFeed config base number making held false bytes piece quit is_held rest Stands dropped drawn drawing old new
-feeds-ready config base number making held bytes piece quit is_held rest Stands dropped drawn drawing old new r =
+pub feeds-ready : (config : Config) (base : Situation) (number : ℕ) (making : Making) (held : List HeldValue) (times : ℕ) (bytes piece : List ℕ) (quit is_held : Bool) (target : List HeldValue → Situation) (Stands : List HeldValue → Type 0) (drawn drawing : Workings) (old new : Gathered)
+    → RanReady config base number making held (bytes ++ piece) quit is_held target Stands drawn drawing old new → RanFeed config base number making held false times bytes piece quit is_held target Stands drawn drawing old new
+feeds-ready config base number making held times bytes piece quit is_held target Stands drawn drawing old new r =
     record { steps = r.steps; left = r.left; stands = r.stands; after = r.after; parted = r.parted; timely = r.timely; ends = r.ends; quits = r.quits; draws = r.draws; ordered = r.ordered; gathered = r.gathered }
 
 -- a connection that holds a line back, fed a piece
-abbrev held_with : Situation → List HeldValue → ℕ → List ℕ → List ℕ → Situation
-held_with base held number bytes piece = set_in base held (holding number (held_line bytes) (behind_lines 1 bytes ++ piece))
+abbrev held_with : Situation → List HeldValue → ℕ → ℕ → List ℕ → List ℕ → Situation
+held_with base held number times bytes piece = set_in base held (holding_load number (held_line bytes) (behind_lines 1 bytes ++ piece) times)
 
 -- the command that is held back runs
 abbrev step_released : ℕ → List ℕ → List ℕ → Option Accepted → List Note → Step
 step_released number bytes reply accepted told = step_saying number (held_line bytes) reply accepted told
 
 -- it is right
-right-released : (config : Config) (base : Situation) (number : ℕ) (making : Making) (held : List HeldValue) (bytes piece : List ℕ) (quit : Bool) (Stood : List HeldValue → Type 0) (dropped : Bool) (drawn drawing : Workings) (old new : Gathered) → IsThere number base
-    → (one : RanOne config (held_with base held number bytes piece) number making (held_line bytes) quit Stood dropped drawn drawing old new)
-    → is_right config (placed_step_in config (held_with base held number bytes piece) (Some (RunHeld number)) (step_released number bytes one.reply one.accepted one.told)) ≡ true
-right-released config base number making held bytes piece quit Stood dropped drawn drawing old new there one =
-    subst (λ d. is_right config (placed_by config (held_with base held number bytes piece) (Some (RunHeld number)) d (action_by (reading config (held_line bytes))) (step_released number bytes one.reply one.accepted one.told)) ≡ true)
-    (sym (ap (line_in (Some (RunHeld number))) (found-there base held number (holding number (held_line bytes) (behind_lines 1 bytes ++ piece)) there refl)))
-    (right-in-turn config (held_with base held number bytes piece) (RunHeld number) number (held_line bytes) one.reply one.accepted one.told one.right (eq-eqb number number refl))
+right-released : (config : Config) (base : Situation) (number : ℕ) (making : Making) (held : List HeldValue) (times : ℕ) (bytes piece : List ℕ) (quit : Bool) (Stood : List HeldValue → Type 0) (dropped : Bool) (drawn drawing : Workings) (old new : Gathered) → IsThere number base
+    → (one : RanOne config (held_with base held number times bytes piece) number making (held_line bytes) quit Stood dropped drawn drawing old new)
+    → is_right config (placed_step_in config (held_with base held number times bytes piece) (Some (RunHeld number)) (step_released number bytes one.reply one.accepted one.told)) ≡ true
+right-released config base number making held times bytes piece quit Stood dropped drawn drawing old new there one =
+    subst (λ d. is_right config (placed_by config (held_with base held number times bytes piece) (Some (RunHeld number)) d (action_by (reading config (held_line bytes))) (step_released number bytes one.reply one.accepted one.told)) ≡ true)
+    (sym (ap (line_in (Some (RunHeld number))) (found-there base held number (holding_load number (held_line bytes) (behind_lines 1 bytes ++ piece) times) there refl)))
+    (right-in-turn config (held_with base held number times bytes piece) (RunHeld number) number (held_line bytes) one.reply one.accepted one.told one.right (eq-eqb number number refl))
 
 -- what it leaves
-after-released : (config : Config) (base : Situation) (number : ℕ) (making : Making) (held : List HeldValue) (bytes piece : List ℕ) (quit : Bool) (Stood : List HeldValue → Type 0) (dropped : Bool) (drawn drawing : Workings) (old new : Gathered) → IsThere number base
-    → (one : RanOne config (held_with base held number bytes piece) number making (held_line bytes) quit Stood dropped drawn drawing old new)
-    → after_step config (held_with base held number bytes piece) (Some (RunHeld number)) (step_released number bytes one.reply one.accepted one.told)
-    (effect_in config (view_in config (held_with base held number bytes piece)) (action_by (reading config (held_line bytes))) (step_released number bytes one.reply one.accepted one.told))
-    ≡ ended quit (with_drops dropped base) (held_when_run config (held_with base held number bytes piece) (action_by (reading config (held_line bytes))) (step_saying 0 [] one.reply one.accepted one.told)) (ready number (behind_lines 1 bytes ++ piece))
-after-released config base number making held bytes piece quit Stood dropped drawn drawing old new there one =
-    after-held config base held number (holding number (held_line bytes) (behind_lines 1 bytes ++ piece)) (held_line bytes) one.reply one.accepted one.told quit there refl one.plain
-    ∙ ap (λ b. ended quit (with_drops b base) (held_when_run config (held_with base held number bytes piece) (action_by (reading config (held_line bytes))) (step_saying 0 [] one.reply one.accepted one.told)) (ready number (behind_lines 1 bytes ++ piece))) (sym one.dropped_is)
+after-released : (config : Config) (base : Situation) (number : ℕ) (making : Making) (held : List HeldValue) (times : ℕ) (bytes piece : List ℕ) (quit : Bool) (Stood : List HeldValue → Type 0) (dropped : Bool) (drawn drawing : Workings) (old new : Gathered) → IsThere number base
+    → (one : RanOne config (held_with base held number times bytes piece) number making (held_line bytes) quit Stood dropped drawn drawing old new)
+    → after_step config (held_with base held number times bytes piece) (Some (RunHeld number)) (step_released number bytes one.reply one.accepted one.told)
+    (effect_in config (view_in config (held_with base held number times bytes piece)) (action_by (reading config (held_line bytes))) (step_released number bytes one.reply one.accepted one.told))
+    ≡ ended quit (with_drops dropped base) (held_when_run config (held_with base held number times bytes piece) (action_by (reading config (held_line bytes))) (step_saying 0 [] one.reply one.accepted one.told)) (ready number (behind_lines 1 bytes ++ piece))
+after-released config base number making held times bytes piece quit Stood dropped drawn drawing old new there one =
+    after-held config base held number (holding_load number (held_line bytes) (behind_lines 1 bytes ++ piece) times) (held_line bytes) one.reply one.accepted one.told quit there refl one.plain
+    ∙ ap (λ b. ended quit (with_drops b base) (held_when_run config (held_with base held number times bytes piece) (action_by (reading config (held_line bytes))) (step_saying 0 [] one.reply one.accepted one.told)) (ready number (behind_lines 1 bytes ++ piece))) (sym one.dropped_is)
 
 -- a feed of a connection that holds a command back: that command runs first
-pub feeds-held : (config : Config) (base : Situation) (number : ℕ) (making : Making) (held : List HeldValue) (bytes piece : List ℕ) (quit is_held : Bool) (rest : List ℕ) (Stood Stands : List HeldValue → Type 0) (was dropped : Bool) (drawn middling drawing : Workings) (old middle new : Gathered)
+pub feeds-held : (config : Config) (base : Situation) (number : ℕ) (making : Making) (held : List HeldValue) (times : ℕ) (bytes piece : List ℕ) (quit is_held : Bool) (target : List HeldValue → Situation) (Stood Stands : List HeldValue → Type 0) (was : Bool) (drawn middling drawing : Workings) (old middle new : Gathered)
     → IsThere number base
-    → (one : RanOne config (held_with base held number bytes piece) number making (held_line bytes) false Stood was drawn middling old middle)
-    → RanReady config (with_drops was base) number making (held_when_run config (held_with base held number bytes piece) (action_by (reading config (held_line bytes))) (step_saying 0 [] one.reply one.accepted one.told)) (behind_lines 1 bytes ++ piece) quit is_held rest Stands dropped middling drawing middle new
-    → RanFeed config base number making held true bytes piece quit is_held rest Stands dropped drawn drawing old new
-feeds-held config base number making held bytes piece quit is_held rest Stood Stands was dropped drawn middling drawing old middle new there one r =
-    let s = held_with base held number bytes piece in
+    → (one : RanOne config (held_with base held number times bytes piece) number making (held_line bytes) false Stood was drawn middling old middle)
+    → RanReady config (with_drops was base) number making (held_when_run config (held_with base held number times bytes piece) (action_by (reading config (held_line bytes))) (step_saying 0 [] one.reply one.accepted one.told)) (behind_lines 1 bytes ++ piece) quit is_held target Stands middling drawing middle new
+    → RanFeed config base number making held true times bytes piece quit is_held target Stands drawn drawing old new
+feeds-held config base number making held times bytes piece quit is_held target Stood Stands was drawn middling drawing old middle new there one r =
+    let s = held_with base held number times bytes piece in
     let step = step_released number bytes one.reply one.accepted one.told in
     let effect = effect_in config (view_in config s) (action_by (reading config (held_line bytes))) step in
-    let right = right-released config base number making held bytes piece false Stood was drawn middling old middle there one in
-    let after = after-released config base number making held bytes piece false Stood was drawn middling old middle there one in
+    let right = right-released config base number making held times bytes piece false Stood was drawn middling old middle there one in
+    let after = after-released config base number making held times bytes piece false Stood was drawn middling old middle there one in
     record {
       steps = step ∷ r.steps;
       left = r.left;
@@ -286,22 +287,22 @@ feeds-held config base number making held bytes piece quit is_held rest Stood St
     starts x (y ∷ ys) b e h = h
 
 -- a feed of a connection that holds a `QUIT` back: nothing runs behind it
-pub feeds-quit : (config : Config) (base : Situation) (number : ℕ) (making : Making) (held : List HeldValue) (bytes piece rest : List ℕ) (Stands : List HeldValue → Type 0) (dropped : Bool) (drawn drawing : Workings) (old new : Gathered)
-    → IsThere number base → RanOne config (held_with base held number bytes piece) number making (held_line bytes) true Stands dropped drawn drawing old new
-    → RanFeed config base number making held true bytes piece true false rest Stands dropped drawn drawing old new
-feeds-quit config base number making held bytes piece rest Stands dropped drawn drawing old new there one =
-    let s = held_with base held number bytes piece in
+pub feeds-quit : (config : Config) (base : Situation) (number : ℕ) (making : Making) (held : List HeldValue) (times : ℕ) (bytes piece rest : List ℕ) (Stands : List HeldValue → Type 0) (dropped : Bool) (drawn drawing : Workings) (old new : Gathered)
+    → IsThere number base → RanOne config (held_with base held number times bytes piece) number making (held_line bytes) true Stands dropped drawn drawing old new
+    → RanFeed config base number making held true times bytes piece true false (λ left. ended true (with_drops dropped base) left (standing_with number false 0 rest)) Stands drawn drawing old new
+feeds-quit config base number making held times bytes piece rest Stands dropped drawn drawing old new there one =
+    let s = held_with base held number times bytes piece in
     let step = step_released number bytes one.reply one.accepted one.told in
     let effect = effect_in config (view_in config s) (action_by (reading config (held_line bytes))) step in
     let left = held_when_run config s (action_by (reading config (held_line bytes))) (step_saying 0 [] one.reply one.accepted one.told) in
-    let after = after-released config base number making held bytes piece true Stands dropped drawn drawing old new there one in
+    let after = after-released config base number making held times bytes piece true Stands dropped drawn drawing old new there one in
     let last = ended true (with_drops dropped base) left (ready number (behind_lines 1 bytes ++ piece)) in
     record {
       steps = step ∷ [];
       left = left;
       stands = one.left;
       after =
-          ap (λ b. if b then after_steps config (after_step config s (Some (RunHeld number)) step effect) (RunLines number ∷ []) [] else None) (right-released config base number making held bytes piece true Stands dropped drawn drawing old new there one)
+          ap (λ b. if b then after_steps config (after_step config s (Some (RunHeld number)) step effect) (RunLines number ∷ []) [] else None) (right-released config base number making held times bytes piece true Stands dropped drawn drawing old new there one)
           ∙ ap (λ x. after_steps config x (RunLines number ∷ []) []) after
           ∙ ap (λ b. if is_empty (due_if b number) then Some last else None) (stops-quit (with_drops dropped base) left number (ready number (behind_lines 1 bytes ++ piece)) refl);
       parted = cons-parted making.part_of effect.value [] one.parted refl;

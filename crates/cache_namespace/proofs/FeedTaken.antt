@@ -18,6 +18,7 @@ use Rattle.cache_namespace.specs.Lines.{IsThere}
 use Rattle.cache_namespace.specs.Shown.{situation, is_listed}
 use Rattle.cache_namespace.specs.Taken.{is_quit, FeedsConnection, Takes, fed, text_at, closing_at, ReplacedAt, RefusedFor, holds_at}
 use Rattle.cache_namespace.specs.Waiting.{UnderWay, when_left}
+use Rattle.cache_namespace.specs.Whole.{holds}
 use Rattle.cache_namespace.specs.declared.connection.Connection.{Connection}
 use Rattle.cache_namespace.specs.declared.kept.Kept.{Kept}
 use Rattle.cache_namespace.proofs.Places.{closing-is, replaced-is}
@@ -62,11 +63,11 @@ late-is config cs m i moment piece held e lt is_open high = go (slice_get cs i) 
 
 -- memory was wanted
 pub memory-is : (config : Config) (cs : List Connection) (m i moment : ℕ) (piece : List ℕ) (why : ServiceError) → m ≡ i + 1 → i < length cs → ((c : Connection) → slice_get cs i ≡ Some c → c.closing ≡ None) → moment < 2 ^ 63
-    → ((c : Connection) → slice_get cs i ≡ Some c → (why ≡ error.OutOfMemory) ⊎ ((why ≡ error.HeldAgain) × (c.held ≡ true)))
+    → ((c : Connection) → slice_get cs i ≡ Some c → (why ≡ error.OutOfMemory) ⊎ ((why ≡ error.HeldAgain) × (holds c.standing ≡ true)))
     → RefusedFor config cs (fed m piece moment) (holds_at cs m) why
 memory-is config cs m i moment piece why e lt is_open low cause = go (slice_get cs i) refl
   where
-    held : (c : Connection) → holds_at cs m ≡ c.held → (why ≡ error.OutOfMemory) ⊎ ((why ≡ error.HeldAgain) × (c.held ≡ true)) → (why ≡ error.OutOfMemory) ⊎ ((why ≡ error.HeldAgain) × (holds_at cs m ≡ true))
+    held : (c : Connection) → holds_at cs m ≡ holds c.standing → (why ≡ error.OutOfMemory) ⊎ ((why ≡ error.HeldAgain) × (holds c.standing ≡ true)) → (why ≡ error.OutOfMemory) ⊎ ((why ≡ error.HeldAgain) × (holds_at cs m ≡ true))
     held c h (inl x) = inl x
     held c h (inr x) = inr (x.0, h ∙ x.1)
 

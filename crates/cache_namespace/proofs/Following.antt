@@ -6,7 +6,7 @@ use Rattle.audit_laws.specs.Leading.{is_parted}
 use Rattle.audit_laws.specs.Placing.{placed_steps_in}
 use Rattle.audit_model.specs.Obeys.{accepted_values}
 use Rattle.std.specs.Option.{option_map_or, option_or}
-use Rattle.std.proofs.lemmas.Bool.{and_from, eq-eqb, lt-ltb, le-leb, leb-true}
+use Rattle.std.proofs.lemmas.Bool.{and_from, eq-eqb, lt-ltb, le-leb, leb-true, ltb-true}
 use Rattle.std.proofs.lemmas.List.{length-set}
 use Rattle.audit_model.specs.Belongs.{refusal_where, refusal_of, refusal_of_conn}
 use Rattle.audit_model.specs.Follows.{after_steps, after_event, known_in, tasks_in}
@@ -22,11 +22,14 @@ use Rattle.cache_namespace.specs.Making.{Making}
 use Rattle.cache_namespace.specs.Gathered.{Gathered}
 use Rattle.cache_namespace.specs.Lines.{are_timely, set_in, ready}
 use Rattle.cache_namespace.specs.Ordered.{HaveKeys}
-use Rattle.cache_namespace.specs.Ran.{standing_with, with_piece}
-use Rattle.cache_namespace.specs.Shown.{shown, is_listed, is_open_with, open_from, situation, put_in}
+use Rattle.cache_namespace.specs.Ran.{with_piece}
+use Rattle.cache_namespace.specs.Shown.{shown, standing_as, is_listed, is_open_with, open_from, situation, put_in}
 use Rattle.cache_namespace.specs.Taken.{is_quit, FeedsConnection, Takes, fed, known, holds_at}
 use Rattle.cache_namespace.specs.Waiting.{UnderWay, no_loads, when_left}
-use Rattle.cache_namespace.specs.Whole.{is_long_line}
+use Rattle.audit_model.specs.Stream.{behind_lines}
+use Rattle.cache_namespace.specs.Whole.{holds, is_long_line, is_near, keeps_line, waits}
+use Rattle.cache_namespace.specs.declared.standing.Standing.{Standing}
+use Rattle.cache_namespace.specs.declared.standing.Standing.TheVariants as now
 use Rattle.cache_namespace.specs.declared.connection.Connection.{Connection}
 use Rattle.cache_namespace.proofs.Drawn.{spends-same}
 use Rattle.cache_namespace.proofs.Running.{gather-none}
@@ -70,12 +73,13 @@ leb-above a b lt = go (nat_le a b) refl
     go true e = let h = leb-true a b e in absurd (omega arith)
     go false e = refl
 
-holding-shown : (m : ℕ) (c : Connection) → is_holding (shown m c).standing ≡ c.held
-holding-shown m c = go c.held
+holding-shown : (m : ℕ) (c : Connection) → is_holding (shown m c).standing ≡ holds c.standing
+holding-shown m c = go c.standing
   where
-    go : (b : Bool) → is_holding (standing_with m b c.unread.bytes).standing ≡ b
-    go true = refl
-    go false = refl
+    go : (standing : Standing) → is_holding (standing_as m standing c.waited c.unread.bytes).standing ≡ holds standing
+    go now.Ready = refl
+    go now.Held = refl
+    go now.Waiting = refl
 
 -- an open connection is known
 known-open : (latest m i : ℕ) (l : UnderWay) (c : Connection) (cs : List Connection) (dropped : Bool) (x : List HeldValue) → m ≡ suc i → i < length cs → get_or cs i c ≡ c → is_listed m c ≡ true
@@ -85,16 +89,25 @@ known-open latest m i l c cs dropped x e lt at listed =
 
 -- a connection is listed exactly where it is not closed
 pub listed-open : (m : ℕ) (c : Connection) → is_listed m c ≡ is_none c.closing
-listed-open m c = go c.closing c.held c.unread.bytes c.short
+listed-open m c = go c.closing c.standing c.unread.bytes c.short c.near
   where
+    not-behind : (n : ℕ) → nat_le n 8192 ≡ true → nat_lt 8192 n ≡ false
+    not-behind n near = let h = leb-true n 8192 near in above (nat_lt 8192 n) refl
+      where
+        above : (t : Bool) → nat_lt 8192 n ≡ t → t ≡ false
+        above true e = let g = ltb-true 8192 n e in let h = leb-true n 8192 near in absurd (omega arith)
+        above false e = refl
+
     not-long : (b : Bool) → IsTrue (not b) → not (b || false) ≡ true
     not-long true h = h
     not-long false h = refl
 
-    go : (closing : Option Closing) (held : Bool) (bytes : List ℕ) → IsTrue (is_some closing || held || not (is_long_line bytes)) → is_open_with m closing held bytes ≡ is_none closing
-    go (Some by) held bytes h = refl
-    go None true bytes h = refl
-    go None false bytes h = not-long (is_long_line bytes) h
+    go : (closing : Option Closing) (standing : Standing) (bytes : List ℕ) → IsTrue (is_some closing || keeps_line standing || not (is_long_line bytes)) → IsTrue (is_some closing || not (waits standing) || is_near bytes)
+        → is_open_with m closing standing c.waited bytes ≡ is_none closing
+    go (Some by) standing bytes h near = refl
+    go None now.Ready bytes h near = not-long (is_long_line bytes) h
+    go None now.Held bytes h near = refl
+    go None now.Waiting bytes h near = ap not (not-behind (length (behind_lines 1 bytes)) near)
 
 -- a feed's record follows
 pub follows-feed : (config : Config) (making : Making) (latest m i moment : ℕ) (l : UnderWay) (old new : Connection) (cs : List Connection) (dropped dropping : Bool) (x : List HeldValue) (piece : List ℕ) (is_held : Bool) (Stands : List HeldValue → Type 0) (drawn drawing : Workings) (was is : Gathered)
@@ -143,7 +156,7 @@ follows-feed config making latest m i moment l old new cs dropped dropping x pie
 
 -- a new connection's record follows
 pub follows-open : (config : Config) (making : Making) (latest m : ℕ) (l : UnderWay) (new : Connection) (cs : List Connection) (dropped : Bool) (x : List HeldValue) (Stands : List HeldValue → Type 0) (drawn : Workings) (was : Gathered)
-    → m ≡ suc (length cs) → new.closing ≡ None → new.held ≡ false → new.unread.bytes ≡ [] → Stands x
+    → m ≡ suc (length cs) → new.closing ≡ None → new.standing ≡ now.Ready → new.unread.bytes ≡ [] → Stands x
     → Takes config making (situation latest l cs dropped x) (event.Open m) false false Stands (situation latest l (cs ++ new ∷ []) dropped) drawn drawn was was
 follows-open config making latest m l new cs dropped x Stands drawn was e is_open free empty stands =
     let n_is : 1 + length cs ≡ m = omega arith in
@@ -155,7 +168,7 @@ follows-open config making latest m l new cs dropped x Stands drawn was e is_ope
           ap (λ b. if b && true then Some (record (situation latest l cs dropped x) { opened = suc (length cs); connections = open_from 1 cs ++ ready m [] ∷ [] }) else None) (eq-eqb m (suc (length cs)) e)
           ∙ ap (λ ks. Some (record (situation latest l cs dropped x) { opened = suc (length cs); connections = ks }))
           (sym (opened-last 1 cs new (listed-open (1 + length cs) new ∙ ap is_none is_open) ∙ ap (λ k. open_from 1 cs ++ shown k new ∷ []) n_is
-          ∙ ap (λ b. open_from 1 cs ++ standing_with m b new.unread.bytes ∷ []) free ∙ ap (λ bs. open_from 1 cs ++ ready m bs ∷ []) empty))
+          ∙ ap (λ st. open_from 1 cs ++ standing_as m st new.waited new.unread.bytes ∷ []) free ∙ ap (λ bs. open_from 1 cs ++ ready m bs ∷ []) empty))
           ∙ ap (λ n. Some (record (situation latest l cs dropped x) { opened = n; connections = open_from 1 (cs ++ new ∷ []) })) (let l = length-append cs (new ∷ []) in omega arith);
       parted = refl;
       timely = refl;
@@ -226,6 +239,6 @@ refused-late config m i moment c cs piece e lt at is_open high =
     ∙ ap (λ a. refusal_where a error.Moment) (le-leb (2 ^ 63) moment high)
 
 -- whether a command is held back
-pub holds-is : (m i : ℕ) (c : Connection) (cs : List Connection) → m ≡ suc i → i < length cs → get_or cs i c ≡ c → c.closing ≡ None → holds_at cs m ≡ c.held
+pub holds-is : (m i : ℕ) (c : Connection) (cs : List Connection) → m ≡ suc i → i < length cs → get_or cs i c ≡ c → c.closing ≡ None → holds_at cs m ≡ holds c.standing
 holds-is m i c cs e lt at is_open =
     ap (λ o. option_map_or (λ (k : model.Connection). is_holding k.standing) o false) (found-open m i c cs e lt at (listed-open m c ∙ ap is_none is_open)) ∙ holding-shown m c

@@ -9,6 +9,7 @@ pub mod LoadTurns
 pub mod Places
 pub mod Placing
 pub mod Putting
+pub mod Receiving
 pub mod Recording
 pub mod Running
 pub mod Stepping

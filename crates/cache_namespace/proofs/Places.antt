@@ -5,8 +5,7 @@ use Rattle.std.specs.List.{slice_get}
 use Rattle.std.specs.Option.{option_map_or}
 use Rattle.std.proofs.lemmas.List.{get_or-set_same, length-set}
 use Rattle.std.proofs.lemmas.Option.{slice_get-get_or, slice_get_within, same_Some}
-use Rattle.cache_namespace.specs.Ran.{standing_with}
-use Rattle.cache_namespace.specs.Shown.{shown, is_listed, is_open_with, open_from, situation}
+use Rattle.cache_namespace.specs.Shown.{shown, standing_as, is_listed, is_open_with, open_from, situation}
 use Rattle.audit_model.specs.Situation.{Situation, HeldValue}
 use Rattle.cache_namespace.specs.Taken.{text_at, closing_at, ReplacedAt, SameConnections, LooksSame}
 use Rattle.cache_namespace.specs.Waiting.{UnderWay, no_loads}
@@ -39,27 +38,28 @@ other-place (c ∷ cs) (suc i) zero new ne = refl
 other-place (c ∷ cs) (suc i) (suc j) new ne = other-place cs i j new (λ e. ne (ap suc e))
 
 -- the same connections are listed
-open-same : (n i : ℕ) (old new : Connection) (cs : List Connection) → slice_get cs i ≡ Some old → new.unread.bytes ≡ old.unread.bytes → new.held ≡ old.held → new.closing ≡ old.closing → open_from n (slice_set cs i new) ≡ open_from n cs
-open-same n i old new [] at bytes_same held_same closing_same = refl
-open-same n zero old new (c ∷ cs) at bytes_same held_same closing_same =
-    ap (λ closing. if is_open_with n closing new.held new.unread.bytes then standing_with n new.held new.unread.bytes ∷ open_from (suc n) cs else open_from (suc n) cs) closing_same
-    ∙ ap (λ held. if is_open_with n old.closing held new.unread.bytes then standing_with n held new.unread.bytes ∷ open_from (suc n) cs else open_from (suc n) cs) held_same
-    ∙ ap (λ bytes. if is_open_with n old.closing old.held bytes then standing_with n old.held bytes ∷ open_from (suc n) cs else open_from (suc n) cs) bytes_same
+open-same : (n i : ℕ) (old new : Connection) (cs : List Connection) → slice_get cs i ≡ Some old → new.unread.bytes ≡ old.unread.bytes → new.standing ≡ old.standing → new.waited ≡ old.waited → new.closing ≡ old.closing → open_from n (slice_set cs i new) ≡ open_from n cs
+open-same n i old new [] at bytes_same standing_same waited_same closing_same = refl
+open-same n zero old new (c ∷ cs) at bytes_same standing_same waited_same closing_same =
+    ap (λ closing. if is_open_with n closing new.standing new.waited new.unread.bytes then standing_as n new.standing new.waited new.unread.bytes ∷ open_from (suc n) cs else open_from (suc n) cs) closing_same
+    ∙ ap (λ st. if is_open_with n old.closing st new.waited new.unread.bytes then standing_as n st new.waited new.unread.bytes ∷ open_from (suc n) cs else open_from (suc n) cs) standing_same
+    ∙ ap (λ times. if is_open_with n old.closing old.standing times new.unread.bytes then standing_as n old.standing times new.unread.bytes ∷ open_from (suc n) cs else open_from (suc n) cs) waited_same
+    ∙ ap (λ bytes. if is_open_with n old.closing old.standing old.waited bytes then standing_as n old.standing old.waited bytes ∷ open_from (suc n) cs else open_from (suc n) cs) bytes_same
     ∙ sym (ap (λ k. if is_listed n k then shown n k ∷ open_from (suc n) cs else open_from (suc n) cs) (same_Some c old at))
-open-same n (suc i) old new (c ∷ cs) at bytes_same held_same closing_same = ap (λ ks. if is_listed n c then shown n c ∷ ks else ks) (open-same (suc n) i old new cs at bytes_same held_same closing_same)
+open-same n (suc i) old new (c ∷ cs) at bytes_same standing_same waited_same closing_same = ap (λ ks. if is_listed n c then shown n c ∷ ks else ks) (open-same (suc n) i old new cs at bytes_same standing_same waited_same closing_same)
 
 -- a connection that stands for the same leaves the situation
-pub same-situation : (old new : List Connection) (i : ℕ) → (p : ReplacedAt old new i) → p.is.unread.bytes ≡ p.was.unread.bytes → p.is.held ≡ p.was.held → p.is.closing ≡ p.was.closing
+pub same-situation : (old new : List Connection) (i : ℕ) → (p : ReplacedAt old new i) → p.is.unread.bytes ≡ p.was.unread.bytes → p.is.standing ≡ p.was.standing → p.is.waited ≡ p.was.waited → p.is.closing ≡ p.was.closing
     → (latest : ℕ) (loads : UnderWay) (dropped : Bool) (values : List HeldValue) → situation latest loads new dropped values ≡ situation latest loads old dropped values
-same-situation old new i p bytes held closing latest loads dropped values =
+same-situation old new i p bytes standing waited closing latest loads dropped values =
     ap (λ cs. situation latest loads cs dropped values) p.set
     ∙ ap (λ n. record { latest = latest; opened = n; sent = loads.sent; connections = open_from 1 (slice_set old i p.is); pending = loads.pending; held = values; dropped = dropped }) (length-set old i p.is)
-    ∙ ap (λ ks. record { latest = latest; opened = length old; sent = loads.sent; connections = ks; pending = loads.pending; held = values; dropped = dropped }) (open-same 1 i p.was p.is old p.at bytes held closing)
+    ∙ ap (λ ks. record { latest = latest; opened = length old; sent = loads.sent; connections = ks; pending = loads.pending; held = values; dropped = dropped }) (open-same 1 i p.was p.is old p.at bytes standing waited closing)
 
 -- a connection that looks the same makes no difference
 pub same-connections : (old new : List Connection) (i : ℕ) → (p : ReplacedAt old new i) → LooksSame p.was p.is → SameConnections old new
 same-connections old new i p same = record {
-  situation = same-situation old new i p same.bytes same.held same.closing;
+  situation = same-situation old new i p same.bytes same.standing same.waited same.closing;
   texts = λ j. ap (λ cs. text_at cs j) p.set ∙ seen-same (λ (c : Connection). c.output.items) [] old i j p.was p.is p.at same.output;
   closings = λ j. ap (λ cs. closing_at cs j) p.set ∙ seen-same (λ (c : Connection). c.closing) None old i j p.was p.is p.at same.closing;
 }

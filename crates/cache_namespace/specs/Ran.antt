@@ -68,21 +68,21 @@ ends_held [] = false
 ends_held (step ∷ []) = step.held
 ends_held (step ∷ next ∷ steps) = ends_held (next ∷ steps)
 
--- the connection with those bytes, of which the first line is held back or not
-abbrev pub standing_with : ℕ → Bool → List ℕ → Connection
-standing_with number held bytes =
-    record { number = number; unread = if held then behind_lines 1 bytes else bytes; standing = if held then Held (held_line bytes) else Ready; waited = 0 }
+-- the connection with those bytes, of which the first line is held back, and began to wait so often, or not
+abbrev pub standing_with : ℕ → Bool → ℕ → List ℕ → Connection
+standing_with number held times bytes =
+    record { number = number; unread = if held then behind_lines 1 bytes else bytes; standing = if held then Held (held_line bytes) else Ready; waited = if held then times else 0 }
 
 -- the connection with a piece more
 abbrev pub with_piece : List ℕ → Connection → Connection
 with_piece piece c = record c { unread = c.unread ++ piece }
 
--- Lines of a connection that is ready ran; the last one may be held, or a `QUIT`.
-pub record RanReady (config : Config) (base : Situation) (number : ℕ) (making : Making) (held : List HeldValue) (bytes : List ℕ) (quit is_held : Bool) (rest : List ℕ) (Stands : List HeldValue → Type 0) (dropped : Bool) (drawn drawing : Workings) (old new : Gathered) : Type 0 where
+-- Lines of a connection that is ready ran; the last one may be held, or a `QUIT`. What they leave stands for that situation.
+pub record RanReady (config : Config) (base : Situation) (number : ℕ) (making : Making) (held : List HeldValue) (bytes : List ℕ) (quit is_held : Bool) (target : List HeldValue → Situation) (Stands : List HeldValue → Type 0) (drawn drawing : Workings) (old new : Gathered) : Type 0 where
   pub steps : List Step
   pub left : List HeldValue
   pub stands : Stands left
-  pub after : after_steps config (set_in base held (ready number bytes)) (RunLines number ∷ []) steps ≡ Some (ended quit (with_drops dropped base) left (standing_with number is_held rest))
+  pub after : after_steps config (set_in base held (ready number bytes)) (RunLines number ∷ []) steps ≡ Some (target left)
   pub parted : ArePartedIn config making.part_of (set_in base held (ready number bytes)) (RunLines number ∷ []) steps
   pub timely : IsTrue (are_timely config making.made (set_in base held (ready number bytes)) (RunLines number ∷ []) steps)
   pub ends : ends_held steps ≡ is_held
@@ -92,15 +92,15 @@ pub record RanReady (config : Config) (base : Situation) (number : ℕ) (making 
   pub gathered : new ≡ gather old steps
 
 -- The steps of a feed ran: a held command first, then lines; the last one may be held, or a `QUIT`.
-pub record RanFeed (config : Config) (base : Situation) (number : ℕ) (making : Making) (held : List HeldValue) (was_held : Bool) (bytes piece : List ℕ) (quit is_held : Bool) (rest : List ℕ) (Stands : List HeldValue → Type 0) (dropped : Bool) (drawn drawing : Workings) (old new : Gathered) : Type 0 where
+pub record RanFeed (config : Config) (base : Situation) (number : ℕ) (making : Making) (held : List HeldValue) (was_held : Bool) (times : ℕ) (bytes piece : List ℕ) (quit is_held : Bool) (target : List HeldValue → Situation) (Stands : List HeldValue → Type 0) (drawn drawing : Workings) (old new : Gathered) : Type 0 where
   pub steps : List Step
   pub left : List HeldValue
   pub stands : Stands left
-  pub after : after_steps config (set_in base held (with_piece piece (standing_with number was_held bytes))) (tasks_to_feed number was_held) steps ≡ Some (ended quit (with_drops dropped base) left (standing_with number is_held rest))
-  pub parted : ArePartedIn config making.part_of (set_in base held (with_piece piece (standing_with number was_held bytes))) (tasks_to_feed number was_held) steps
-  pub timely : IsTrue (are_timely config making.made (set_in base held (with_piece piece (standing_with number was_held bytes))) (tasks_to_feed number was_held) steps)
+  pub after : after_steps config (set_in base held (with_piece piece (standing_with number was_held times bytes))) (tasks_to_feed number was_held) steps ≡ Some (target left)
+  pub parted : ArePartedIn config making.part_of (set_in base held (with_piece piece (standing_with number was_held times bytes))) (tasks_to_feed number was_held) steps
+  pub timely : IsTrue (are_timely config making.made (set_in base held (with_piece piece (standing_with number was_held times bytes))) (tasks_to_feed number was_held) steps)
   pub ends : ends_held steps ≡ is_held
   pub quits : ends_quit config steps ≡ quit
   pub draws : StepsDraw config steps (identifiers_in drawn) (identifiers_in drawing)
-  pub ordered : OrdersSteps config drawn.recency drawing.recency (set_in base held (with_piece piece (standing_with number was_held bytes))) (tasks_to_feed number was_held) steps
+  pub ordered : OrdersSteps config drawn.recency drawing.recency (set_in base held (with_piece piece (standing_with number was_held times bytes))) (tasks_to_feed number was_held) steps
   pub gathered : new ≡ gather old steps

@@ -26,6 +26,7 @@ use Rattle.cache_namespace.specs.Lines.{ArePartedIn, are_timely, ends_quit, set_
 use Rattle.cache_namespace.specs.Ran.{ends_held, with_piece}
 use Rattle.cache_namespace.specs.Shown.{shown, put_in, situation}
 use Rattle.cache_namespace.specs.Waiting.{UnderWay, no_loads}
+use Rattle.cache_namespace.specs.Whole.{holds}
 use Rattle.cache_namespace.specs.declared.connection.Connection.{Connection}
 
 -- the record of an event that is no answer
@@ -45,13 +46,13 @@ pub record FeedsConnection (config : Config) (base : Situation) (number : ℕ) (
   pub steps : List Step
   pub left : List HeldValue
   pub stands : Stands left
-  pub after : after_steps config (set_in base values (with_piece piece (shown number old))) (tasks_to_feed number old.held) steps ≡ Some (put_in (with_drops dropped base) left number new)
-  pub parted : ArePartedIn config making.part_of (set_in base values (with_piece piece (shown number old))) (tasks_to_feed number old.held) steps
-  pub timely : IsTrue (are_timely config making.made (set_in base values (with_piece piece (shown number old))) (tasks_to_feed number old.held) steps)
+  pub after : after_steps config (set_in base values (with_piece piece (shown number old))) (tasks_to_feed number (holds old.standing)) steps ≡ Some (put_in (with_drops dropped base) left number new)
+  pub parted : ArePartedIn config making.part_of (set_in base values (with_piece piece (shown number old))) (tasks_to_feed number (holds old.standing)) steps
+  pub timely : IsTrue (are_timely config making.made (set_in base values (with_piece piece (shown number old))) (tasks_to_feed number (holds old.standing)) steps)
   pub ends : ends_held steps ≡ is_held
   pub quits : ends_quit config steps ≡ is_quit new.closing
   pub draws : StepsDraw config steps (identifiers_in drawn) (identifiers_in drawing)
-  pub ordered : OrdersSteps config drawn.recency drawing.recency (set_in base values (with_piece piece (shown number old))) (tasks_to_feed number old.held) steps
+  pub ordered : OrdersSteps config drawn.recency drawing.recency (set_in base values (with_piece piece (shown number old))) (tasks_to_feed number (holds old.standing)) steps
   pub gathered : is ≡ gather was steps
 
 -- The event's record followed, with these steps, of which the last one may be held or a `QUIT`; each value that they accept stands in its
@@ -96,9 +97,9 @@ holds_at connections number = is_holding_in (situation 0 no_loads connections fa
 abbrev pub closing_at : List Connection → ℕ → Option Closing
 closing_at connections index = option_map_or (λ c. c.closing) (slice_get connections index) None
 
--- open, or closed for what it was fed: too long a line, or a `QUIT`
+-- open, or closed for what it was fed: too long a line, too many bytes behind a `LOAD` that waits, or a `QUIT`
 abbrev pub IsOpenOrEnded : Option Closing → Type 0
-IsOpenOrEnded closing = (closing ≡ None) ⊎ (closing ≡ Some by.Long) ⊎ (closing ≡ Some by.Quit)
+IsOpenOrEnded closing = (closing ≡ None) ⊎ (closing ≡ Some by.Long) ⊎ (closing ≡ Some by.Quit) ⊎ (closing ≡ Some by.Behind)
 
 -- one connection was put in the place of another
 pub record ReplacedAt (old new : List Connection) (index : ℕ) : Type 0 where
@@ -116,6 +117,7 @@ pub record SameConnections (old new : List Connection) : Type 0 where
 -- the connection is the same to whoever looks at it
 pub record LooksSame (old new : Connection) : Type 0 where
   pub bytes : new.unread.bytes ≡ old.unread.bytes
-  pub held : new.held ≡ old.held
+  pub standing : new.standing ≡ old.standing
+  pub waited : new.waited ≡ old.waited
   pub closing : new.closing ≡ old.closing
   pub output : new.output.items ≡ old.output.items

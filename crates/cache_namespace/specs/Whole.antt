@@ -1,7 +1,27 @@
--- What is known of a connection's unread bytes.
-use Rattle.std.specs.Prelude.{ℕ, Bool, ◌&&◌, nat_lt, nat_le, List, [], length, is_some, unwrap_or}
+-- What is known of a connection's unread bytes, and of what it waits for.
+use Rattle.std.specs.Prelude.{ℕ, ◌+◌, Bool, true, false, ◌&&◌, ◌||◌, nat_lt, nat_le, nat_eq, List, [], length, if◌then◌else◌, is_some, unwrap_or}
 use Rattle.audit_model.specs.Bytewise.{cut_at}
-use Rattle.audit_model.specs.Stream.{first_line}
+use Rattle.audit_model.specs.Stream.{behind_lines, first_line}
+use Rattle.cache_namespace.specs.declared.standing.Standing.{Standing}
+use Rattle.cache_namespace.specs.declared.standing.Standing.TheVariants.{Ready, Held, Waiting}
+
+-- its first unread line is held back
+abbrev pub holds : Standing → Bool
+holds Ready = false
+holds Held = true
+holds Waiting = false
+
+-- its first unread line is a `LOAD` that waits
+abbrev pub waits : Standing → Bool
+waits Ready = false
+waits Held = false
+waits Waiting = true
+
+-- its first unread line is one of these
+abbrev pub keeps_line : Standing → Bool
+keeps_line Ready = false
+keeps_line Held = true
+keeps_line Waiting = true
 
 -- a whole line has come, which is no longer than a line may be
 abbrev pub has_line : List ℕ → Bool
@@ -14,3 +34,16 @@ is_long_line bytes = nat_lt 8192 (length (cut_at 10 bytes).0)
 -- the line that is held back
 abbrev pub held_line : List ℕ → List ℕ
 held_line bytes = unwrap_or (first_line bytes) []
+
+-- no more bytes stand behind the first line than may behind a `LOAD` that waits
+abbrev pub is_near : List ℕ → Bool
+is_near bytes = nat_le (length (behind_lines 1 bytes)) 8192
+
+-- a `LOAD` began to wait at most 200 times, and fewer times where it is held back
+abbrev pub is_few : Standing → ℕ → Bool
+is_few standing times = nat_lt times (if waits standing then 201 else 200)
+
+-- an output of that length and capacity has room for `ERR abandoned` and a line feed, also when it is taken and the spare one put in its
+-- place; an empty one stays
+abbrev pub has_room : ℕ → ℕ → ℕ → ℕ → Bool
+has_room len capacity spare_len spare_capacity = nat_le (len + 14) capacity && (nat_eq len 0 || (nat_eq spare_len 0 && nat_le 14 spare_capacity))

@@ -10,8 +10,8 @@ ghost use Rattle.cache_steps.specs.Right.{KeepsFrame};
 ghost use Rattle.cache_namespace.specs.Gathered.{IsFresh, gather};
 ghost use Rattle.cache_namespace.specs.Kept.{IsReadyToHold, gathered};
 ghost use Rattle.cache_namespace.specs.Making.{making_of};
-ghost use Rattle.cache_namespace.specs.Lines.{IsThere, held_step};
-ghost use Rattle.cache_namespace.specs.Ran.{RanReady, RanFeed};
+ghost use Rattle.cache_namespace.specs.Lines.{IsThere, ended, held_step, with_drops};
+ghost use Rattle.cache_namespace.specs.Ran.{RanReady, RanFeed, standing_with};
 ghost use Rattle.cache_namespace.specs.Stops.{StopsFor, holds_back, is_quit};
 ghost use Rattle.cache_namespace.specs.Whole.{has_line};
 
@@ -61,7 +61,7 @@ fn run_ready<S: Store>(
     requires fresh { IsFresh (gathered text.old.items kept.old (S.untaken store.old)) }
     requires ready { IsReadyToHold kept.old }
     requires room { length piece.now ≤ unread.old.room }
-    ensures ran { (base : Situation) (held : List HeldValue) → base.latest ≡ now → base.dropped ≡ (S.frame store.old).dropped → IsThere number base → S.stands store.old held → RanReady config.now base number (making_of (S.frame store.old)) held (unread.old.bytes ++ piece.now) (is_quit result) (holds_back result) unread.new.bytes (S.stands store.new) (S.frame store.new).dropped (workings (S.stream store.old) (S.registered store.old) (S.recency store.old)) (workings (S.stream store.new) (S.registered store.new) (S.recency store.new)) (gathered text.old.items kept.old (S.untaken store.old)) (gathered text.new.items kept.new (S.untaken store.new)) }
+    ensures ran { (base : Situation) (held : List HeldValue) → base.latest ≡ now → base.dropped ≡ (S.frame store.old).dropped → IsThere number base → S.stands store.old held → RanReady config.now base number (making_of (S.frame store.old)) held (unread.old.bytes ++ piece.now) (is_quit result) (holds_back result) (λ left. ended (is_quit result) (with_drops (S.frame store.new).dropped base) left (standing_with number (holds_back result) 0 unread.new.bytes)) (S.stands store.new) (workings (S.stream store.old) (S.registered store.old) (S.recency store.old)) (workings (S.stream store.new) (S.registered store.new) (S.recency store.new)) (gathered text.old.items kept.old (S.untaken store.old)) (gathered text.new.items kept.new (S.untaken store.new)) }
     ensures stops { StopsFor result unread.new.bytes }
     ensures frame { KeepsFrame (S.frame store.old) (S.frame store.new) now }
     ensures fresh { IsFresh (gathered text.new.items kept.new (S.untaken store.new)) }
@@ -97,7 +97,7 @@ pub fn feed_lines<S: Store>(
     requires fresh { IsFresh (gathered text.old.items kept.old (S.untaken store.old)) }
     requires ready { IsReadyToHold kept.old }
     requires whole { IsTrue (not held || has_line unread.old.bytes) }
-    ensures ran { IfOk result (λ stop. (base : Situation) (values : List HeldValue) → base.latest ≡ now → base.dropped ≡ (S.frame store.old).dropped → IsThere number base → S.stands store.old values → RanFeed config.now base number (making_of (S.frame store.old)) values held unread.old.bytes piece.now (is_quit stop) (holds_back stop) unread.new.bytes (S.stands store.new) (S.frame store.new).dropped (workings (S.stream store.old) (S.registered store.old) (S.recency store.old)) (workings (S.stream store.new) (S.registered store.new) (S.recency store.new)) (gathered text.old.items kept.old (S.untaken store.old)) (gathered text.new.items kept.new (S.untaken store.new))) }
+    ensures ran { IfOk result (λ stop. (base : Situation) (values : List HeldValue) (times : ℕ) → base.latest ≡ now → base.dropped ≡ (S.frame store.old).dropped → IsThere number base → S.stands store.old values → RanFeed config.now base number (making_of (S.frame store.old)) values held times unread.old.bytes piece.now (is_quit stop) (holds_back stop) (λ left. ended (is_quit stop) (with_drops (S.frame store.new).dropped base) left (standing_with number (holds_back stop) 0 unread.new.bytes)) (S.stands store.new) (workings (S.stream store.old) (S.registered store.old) (S.recency store.old)) (workings (S.stream store.new) (S.registered store.new) (S.recency store.new)) (gathered text.old.items kept.old (S.untaken store.old)) (gathered text.new.items kept.new (S.untaken store.new))) }
     ensures stops { IfOk result (λ stop. StopsFor stop unread.new.bytes) }
     ensures frame { KeepsFrame (S.frame store.old) (S.frame store.new) now }
     ensures fresh { IsFresh (gathered text.new.items kept.new (S.untaken store.new)) }

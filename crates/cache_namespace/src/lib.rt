@@ -6,7 +6,10 @@ mod feeding;
 mod kept;
 mod lines;
 mod namespace;
+mod standing;
+mod waiting;
 
 pub use connection::Connection;
 pub use kept::Kept;
 pub use namespace::Namespace;
+pub use standing::Standing;

@@ -15,6 +15,7 @@ ghost use Rattle.cache_namespace.specs.Making.{making_of};
 ghost use Rattle.cache_namespace.specs.Lines.{IsThere};
 ghost use Rattle.cache_namespace.specs.Shown.{situation};
 ghost use Rattle.cache_namespace.specs.Waiting.{UnderWay, under_way, when_left};
+ghost use Rattle.cache_namespace.specs.Whole.{holds, waits};
 ghost use Rattle.audit_model.specs.Belongs.{refusal_of, refusal_of_conn};
 ghost use Rattle.audit_model.specs.declared.event.Event.TheVariants as event;
 ghost use Rattle.cache_namespace.specs.Taken.{is_quit, FeedsConnection, IsOpenOrEnded, Takes, fed, known, holds_at, RefusedFor, text_at, closing_at, ReplacedAt, SameConnections, LooksSame, IsSound};
@@ -23,6 +24,8 @@ use crate::connection::{Connection, new_connection};
 use crate::feeding::{FeedError, feed_lines};
 use crate::kept::Kept;
 use crate::lines::Stop;
+use crate::standing::{Standing, is_holding, is_waiting};
+use crate::waiting::{receive, take_keeping_room};
 use audit_model::{Closing, Config, ServiceError};
 use cache_loads::Loads;
 use cache_store::Store;
@@ -31,6 +34,76 @@ use std::mem;
 
 /// The latest moment that may be handed in.
 const MAX_MOMENT: u64 = (1 << 63) - 1;
+
+/// Takes a piece of the bytes of a connection of which no `LOAD` waits, and answers whether its last command is held back. An `Err` changes nothing.
+fn feed_ready<S: Store>(
+    store: &mut S,
+    alloc: Global,
+    config: &Config,
+    now: u64,
+    number: u64,
+    connection: &mut Connection,
+    piece: &[u8],
+    kept: &mut Option<Kept>,
+) -> Result<bool, FeedError>
+    requires config { (S.frame store.old).config ≡ config.now }
+    requires in_time { (S.frame store.old).latest ≤ now }
+    requires moment { now < 2 ^ 63 }
+    requires fresh { IsFresh (gathered connection.old.output.items kept.old (S.untaken store.old)) }
+    requires ready { IsReadyToHold kept.old }
+    requires open { connection.old.closing ≡ None }
+    requires runs { waits connection.old.standing ≡ false }
+    ensures ran { IfOk result (λ is_held. (base : Situation) (values : List HeldValue) → base.latest ≡ now → base.dropped ≡ (S.frame store.old).dropped → IsThere number base → S.stands store.old values → FeedsConnection config.now base number (making_of (S.frame store.old)) values connection.old piece.now connection.new is_held (S.stands store.new) (S.frame store.new).dropped (workings (S.stream store.old) (S.registered store.old) (S.recency store.old)) (workings (S.stream store.new) (S.registered store.new) (S.recency store.new)) (gathered connection.old.output.items kept.old (S.untaken store.old)) (gathered connection.new.output.items kept.new (S.untaken store.new))) }
+    ensures frame { KeepsFrame (S.frame store.old) (S.frame store.new) now }
+    ensures fresh { IsFresh (gathered connection.new.output.items kept.new (S.untaken store.new)) }
+    ensures same { OnErr result (LooksSame connection.old connection.new) }
+    ensures unmoved { OnErr result (KeepsRecency (S.recency store.old) (S.recency store.new)) }
+    ensures unchanged { OnErr result (IsUnchanged (S.stands store.old) (S.stands store.new) (S.frame store.old) (S.frame store.new) (S.untaken store.old) (S.untaken store.new)) }
+    ensures spends { OnErr result (DrawsAlone (S.stream store.old) (S.stream store.new) (S.registered store.old) (S.registered store.new)) }
+    ensures ungathered { OnErr result (gathered connection.new.output.items kept.new (S.untaken store.new) ≡ gathered connection.old.output.items kept.old (S.untaken store.old)) }
+    ensures again { IsErrOf result FeedError.HeldAgain → holds connection.old.standing ≡ true }
+    ensures closing { OnOk result (IsOpenOrEnded connection.new.closing) }
+{
+    let held = is_holding(connection.standing);
+    match feed_lines(
+        store,
+        alloc,
+        config,
+        now,
+        number,
+        held,
+        &mut connection.unread,
+        &mut connection.output,
+        piece,
+        kept,
+    ) {
+        Ok(Stop::More) => {
+            connection.standing = Standing::Ready;
+            connection.waited = 0;
+            Ok(false)
+        }
+        Ok(Stop::TooLong) => {
+            connection.standing = Standing::Ready;
+            connection.waited = 0;
+            connection.closing = Some(Closing::Long);
+            connection.unread.clear();
+            Ok(false)
+        }
+        Ok(Stop::Quit) => {
+            connection.standing = Standing::Ready;
+            connection.waited = 0;
+            connection.closing = Some(Closing::Quit);
+            connection.unread.clear();
+            Ok(false)
+        }
+        Ok(Stop::Held(_)) => {
+            connection.standing = Standing::Held;
+            connection.waited = 0;
+            Ok(true)
+        }
+        Err(error) => Err(error),
+    }
+}
 
 /// Takes a piece of a connection's bytes, and answers whether its last command is held back. An `Err` changes nothing.
 fn feed_connection<S: Store>(
@@ -57,43 +130,15 @@ fn feed_connection<S: Store>(
     ensures unchanged { OnErr result (IsUnchanged (S.stands store.old) (S.stands store.new) (S.frame store.old) (S.frame store.new) (S.untaken store.old) (S.untaken store.new)) }
     ensures spends { OnErr result (DrawsAlone (S.stream store.old) (S.stream store.new) (S.registered store.old) (S.registered store.new)) }
     ensures ungathered { OnErr result (gathered connection.new.output.items kept.new (S.untaken store.new) ≡ gathered connection.old.output.items kept.old (S.untaken store.old)) }
-    ensures again { IsErrOf result FeedError.HeldAgain → connection.old.held ≡ true }
+    ensures again { IsErrOf result FeedError.HeldAgain → holds connection.old.standing ≡ true }
     ensures closing { OnOk result (IsOpenOrEnded connection.new.closing) }
 {
-    let held = connection.held;
-    match feed_lines(
-        store,
-        alloc,
-        config,
-        now,
-        number,
-        held,
-        &mut connection.unread,
-        &mut connection.output,
-        piece,
-        kept,
-    ) {
-        Ok(Stop::More) => {
-            connection.held = false;
-            Ok(false)
-        }
-        Ok(Stop::TooLong) => {
-            connection.held = false;
-            connection.closing = Some(Closing::Long);
-            connection.unread.clear();
-            Ok(false)
-        }
-        Ok(Stop::Quit) => {
-            connection.held = false;
-            connection.closing = Some(Closing::Quit);
-            connection.unread.clear();
-            Ok(false)
-        }
-        Ok(Stop::Held(_)) => {
-            connection.held = true;
-            Ok(true)
-        }
-        Err(error) => Err(error),
+    if !is_waiting(connection.standing) {
+        return feed_ready(store, alloc, config, now, number, connection, piece, kept);
+    }
+    match receive(connection, piece) {
+        Ok(()) => Ok(false),
+        Err(_) => Err(FeedError::OutOfMemory),
     }
 }
 
@@ -124,7 +169,7 @@ fn feed_at<S: Store>(
     ensures unchanged { OnErr result (IsUnchanged (S.stands store.old) (S.stands store.new) (S.frame store.old) (S.frame store.new) (S.untaken store.old) (S.untaken store.new)) }
     ensures spends { OnErr result (DrawsAlone (S.stream store.old) (S.stream store.new) (S.registered store.old) (S.registered store.new)) }
     ensures ungathered { OnErr result (gathered (text_at connections.new.items index) kept.new (S.untaken store.new) ≡ gathered (text_at connections.old.items index) kept.old (S.untaken store.old)) }
-    ensures again { IsErrOf result FeedError.HeldAgain → (c : Open) → slice_get connections.old.items index ≡ Some c → c.held ≡ true }
+    ensures again { IsErrOf result FeedError.HeldAgain → (c : Open) → slice_get connections.old.items index ≡ Some c → holds c.standing ≡ true }
     ensures closing { OnOk result (IsOpenOrEnded (closing_at connections.new.items index)) }
     ensures count { length connections.new.items ≡ length connections.old.items }
 {
@@ -350,15 +395,31 @@ fn close_connection(connection: &mut Connection)
     ensures output { connection.new.output.items ≡ connection.old.output.items }
 {
     connection.closing = Some(Closing::Asked);
-    connection.held = false;
+    connection.standing = Standing::Ready;
+    connection.waited = 0;
     connection.unread.clear();
 }
 
 /// Moves out the replies of the connection at a place.
 fn take_at(connections: &mut Vec<Connection>, alloc: Global, index: usize) -> Vec<u8>
     requires { index < length connections.old.items }
-    ensures replaced { (p : ReplacedAt connections.old.items connections.new.items index) × (p.is.unread.bytes ≡ p.was.unread.bytes) × (p.is.held ≡ p.was.held) × (p.is.closing ≡ p.was.closing) × (p.is.output.items ≡ []) × (result.items ≡ p.was.output.items) }
+    ensures replaced { (p : ReplacedAt connections.old.items connections.new.items index) × (p.is.unread.bytes ≡ p.was.unread.bytes) × (p.is.standing ≡ p.was.standing) × (p.is.waited ≡ p.was.waited) × (p.is.closing ≡ p.was.closing) × (p.is.output.items ≡ []) × (result.items ≡ p.was.output.items) }
 {
     let connection = &mut connections[index];
+    take_text(connection, alloc)
+}
+
+/// Moves out the replies of a connection.
+fn take_text(connection: &mut Connection, alloc: Global) -> Vec<u8>
+    ensures bytes { connection.new.unread.bytes ≡ connection.old.unread.bytes }
+    ensures standing { connection.new.standing ≡ connection.old.standing }
+    ensures waited { connection.new.waited ≡ connection.old.waited }
+    ensures closing { connection.new.closing ≡ connection.old.closing }
+    ensures none { connection.new.output.items ≡ [] }
+    ensures taken { result.items ≡ connection.old.output.items }
+{
+    if is_waiting(connection.standing) {
+        return take_keeping_room(&mut connection.output, &mut connection.spare, alloc);
+    }
     mem::replace(&mut connection.output, Vec::new(alloc))
 }

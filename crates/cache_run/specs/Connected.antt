@@ -20,9 +20,9 @@ pub record Connected (spaces : List Space) (namespace number : ℕ) (IsLeft : �
 abbrev pub IsReady : ℕ → Space → Type 0
 IsReady number space = (closing_of space number ≡ None) × (output_of space number ≡ [])
 
--- it has closed for what it was fed: too long a line, or a `QUIT`
+-- it has closed for what it was fed: too long a line, a `QUIT`, or too many bytes behind a `LOAD` that waits
 abbrev pub IsEnded : Option Closing → Type 0
-IsEnded closing = (closing ≡ Some by.Long) ⊎ (closing ≡ Some by.Quit)
+IsEnded closing = (closing ≡ Some by.Long) ⊎ (closing ≡ Some by.Quit) ⊎ (closing ≡ Some by.Behind)
 
 -- its replies were taken, and it may have closed for what it was fed
 abbrev pub IsTaken : ℕ → Space → Type 0

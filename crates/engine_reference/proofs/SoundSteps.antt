@@ -23,7 +23,7 @@ use Rattle.engine_reference.proofs.HeldRecords.{record_at-number}
 use Rattle.engine_reference.proofs.Accounts.{once-without, once-moved, IsIn-without, IsIn-append_right, IsIn-moved, each-map, each-both, none_there, only_one, numbered-changed, numbered-without, each-changed, each-without, popped, popped_other, popped_counts, popped_put_off, was_pending}
 
 module _ {K V : Type 0} (unsent : List Unsent) (next : ℕ) where
-  sound-without : (ws : List Write) (n : ℕ) (rs : List (Record K V)) (ns : List ℕ) → AreSound unsent ws next rs ns → AreSound unsent ws next (without_record n rs) (without n ns)
+  pub sound-without : (ws : List Write) (n : ℕ) (rs : List (Record K V)) (ns : List ℕ) → AreSound unsent ws next rs ns → AreSound unsent ws next (without_record n rs) (without n ns)
   sound-without ws n rs ns h = record {
     numbered = numbered-without n rs h.numbered;
     below = each-without n (λ r. r.number < next) (λ r. r.number < next) (λ r other k. k) rs h.numbered h.below;
@@ -33,7 +33,7 @@ module _ {K V : Type 0} (unsent : List Unsent) (next : ℕ) where
   }
 
   -- the oldest write is taken off, and is the last of no record that is not settled
-  sound-popped : (w : Write) (rest : List Write) (rs : List (Record K V)) (ns : List ℕ) → Each (λ r. (r.applied ≡ r.writes → ⊥) → IsLastOf w r → ⊥) rs
+  pub sound-popped : (w : Write) (rest : List Write) (rs : List (Record K V)) (ns : List ℕ) → Each (λ r. (r.applied ≡ r.writes → ⊥) → IsLastOf w r → ⊥) rs
       → AreSound unsent (w ∷ rest) next rs ns → AreSound unsent rest next rs ns
   sound-popped w rest rs ns not_last h = record {
     numbered = h.numbered;
@@ -45,7 +45,7 @@ module _ {K V : Type 0} (unsent : List Unsent) (next : ℕ) where
   }
 
   -- and its record goes
-  sound-gone : (w : Write) (rest : List Write) (n : ℕ) (rs : List (Record K V)) (ns : List ℕ) → number_of w ≡ n → AreSound unsent (w ∷ rest) next rs ns → AreSound unsent rest next (without_record n rs) (without n ns)
+  pub sound-gone : (w : Write) (rest : List Write) (n : ℕ) (rs : List (Record K V)) (ns : List ℕ) → number_of w ≡ n → AreSound unsent (w ∷ rest) next rs ns → AreSound unsent rest next (without_record n rs) (without n ns)
   sound-gone w rest n rs ns same h =
       let k = sound-without (w ∷ rest) n rs ns h in
       record {
@@ -56,7 +56,7 @@ module _ {K V : Type 0} (unsent : List Unsent) (next : ℕ) where
         once = k.once;
       }
 
-  sound-counting : (u : Upsert) (rest : List Write) (rs : List (Record K V)) (ns : List ℕ) → Each (λ r. r.number ≡ u.number → r.applied < u.write) rs
+  pub sound-counting : (u : Upsert) (rest : List Write) (rs : List (Record K V)) (ns : List ℕ) → Each (λ r. r.number ≡ u.number → r.applied < u.write) rs
       → AreSound unsent (Put u ∷ rest) next rs ns
       → AreSound unsent rest next (changed_at u.number (λ r. record r { applied = u.write; counts = Some u.weight }) rs) (moved_to_back u.number ns)
   sound-counting u rest rs ns newer h = record {
@@ -108,14 +108,14 @@ module _ {K V P S R : Type 0} where
   Frame-either true s t u h k = h
   Frame-either false s t u h k = k
 
-  with_left-frame : (why : RemovalCause) (s : State K V P S R) (o : Option (Record K V)) → Frame s (with_left why s o)
+  pub with_left-frame : (why : RemovalCause) (s : State K V P S R) (o : Option (Record K V)) → Frame s (with_left why s o)
   with_left-frame why s None = Frame-refl s
   with_left-frame why s (Some r) = record { unsent = refl; writes = refl; reads = refl; next = refl }
 
-  left-frame : (why : RemovalCause) (n : ℕ) (s : State K V P S R) → Frame s (left why n s)
+  pub left-frame : (why : RemovalCause) (n : ℕ) (s : State K V P S R) → Frame s (left why n s)
   left-frame why n s = with_left-frame why s (record_at s.records n)
 
-  all_left-frame : (why : RemovalCause) (vs : List (Record K V)) (s : State K V P S R) → Frame s (all_left why vs s)
+  pub all_left-frame : (why : RemovalCause) (vs : List (Record K V)) (s : State K V P S R) → Frame s (all_left why vs s)
   all_left-frame why [] s = Frame-refl s
   all_left-frame why (v ∷ vs) s = Frame-trans s (left why v.number s) (all_left why (v ∷ vs) s) (left-frame why v.number s) (all_left-frame why vs (left why v.number s))
 
@@ -137,27 +137,27 @@ module _ {K V P S R : Type 0} where
   after_removal-frame None s = Frame-refl s
   after_removal-frame (Some r) s = Frame-either r.is_held s s (record s { records = without_record r.number s.records; access = without r.number s.access }) (Frame-refl s) (record { unsent = refl; writes = refl; reads = refl; next = refl })
 
-  after_write-frame : (w : Write) (s : State K V P S R) → Frame s (after_write w s)
+  pub after_write-frame : (w : Write) (s : State K V P S R) → Frame s (after_write w s)
   after_write-frame (Put u) s = after_put-frame u (record_at s.records u.number) s
   after_write-frame (Removed n) s = after_removal-frame (record_at s.records n) s
 
   -- ---- soundness, step by step
 
-  left-sound : (unsent : List Unsent) (ws : List Write) (next : ℕ) (why : RemovalCause) (n : ℕ) (s : State K V P S R) → AreSound unsent ws next s.records s.access → AreSound unsent ws next (left why n s).records (left why n s).access
+  pub left-sound : (unsent : List Unsent) (ws : List Write) (next : ℕ) (why : RemovalCause) (n : ℕ) (s : State K V P S R) → AreSound unsent ws next s.records s.access → AreSound unsent ws next (left why n s).records (left why n s).access
   left-sound unsent ws next why n s h = go (record_at s.records n)
     where
       go : (o : Option (Record K V)) → AreSound unsent ws next (with_left why s o).records (with_left why s o).access
       go None = h
       go (Some r) = sound-without unsent next ws r.number s.records s.access h
 
-  left-each : (Q : Record K V → Type 0) (why : RemovalCause) (n : ℕ) (s : State K V P S R) → AreNumbered s.records → Each Q s.records → Each Q (left why n s).records
+  pub left-each : (Q : Record K V → Type 0) (why : RemovalCause) (n : ℕ) (s : State K V P S R) → AreNumbered s.records → Each Q s.records → Each Q (left why n s).records
   left-each Q why n s numbered h = go (record_at s.records n)
     where
       go : (o : Option (Record K V)) → Each Q (with_left why s o).records
       go None = h
       go (Some r) = each-without r.number Q Q (λ x other k. k) s.records numbered h
 
-  all_left-sound : (unsent : List Unsent) (ws : List Write) (next : ℕ) (Q : Record K V → Type 0) (why : RemovalCause) (vs : List (Record K V)) (s : State K V P S R)
+  pub all_left-sound : (unsent : List Unsent) (ws : List Write) (next : ℕ) (Q : Record K V → Type 0) (why : RemovalCause) (vs : List (Record K V)) (s : State K V P S R)
       → AreSound unsent ws next s.records s.access → Each Q s.records → AreSound unsent ws next (all_left why vs s).records (all_left why vs s).access × Each Q (all_left why vs s).records
   all_left-sound unsent ws next Q why [] s h k = (h, k)
   all_left-sound unsent ws next Q why (v ∷ vs) s h k =
@@ -190,7 +190,7 @@ module _ {K V P S R : Type 0} where
             sound-counting unsent next u rest (all_left cause.Size vs s).records (all_left cause.Size vs s).access k.1 k.0
         go refuse = refused (is_overtaken u x) refl
 
-    after_put-sound : (o : Option (Record K V)) → record_at s.records u.number ≡ o → AreSound unsent rest next (after_put u o s).records (after_put u o s).access
+    pub after_put-sound : (o : Option (Record K V)) → record_at s.records u.number ≡ o → AreSound unsent rest next (after_put u o s).records (after_put u o s).access
     after_put-sound None here =
         sound-popped unsent next (Put u) rest s.records s.access
         (each-map (λ r. r.number ≡ u.number → ⊥) (λ r. (r.applied ≡ r.writes → ⊥) → IsLastOf (Put u) r → ⊥) (λ r other unsettled last. other (sym last.0)) s.records (none_there u.number s.records here)) h
@@ -233,7 +233,7 @@ module _ {K V P S R : Type 0} where
           (λ r one unsettled last. true≢false (sym held ∙ ap (λ y. y.is_held) (sym (one (sym last.0))) ∙ last.1)) s.records (only_one n x s.records h.numbered here)) h
       go false out = sound-gone unsent next (Removed n) rest x.number s.records s.access (sym (record_at-number s.records n x here)) h
 
-  after_write-sound : (unsent : List Unsent) (rest : List Write) (next : ℕ) (w : Write) (s : State K V P S R) → AreSound unsent (w ∷ rest) next s.records s.access → AreSound unsent rest next (after_write w s).records (after_write w s).access
+  pub after_write-sound : (unsent : List Unsent) (rest : List Write) (next : ℕ) (w : Write) (s : State K V P S R) → AreSound unsent (w ∷ rest) next s.records s.access → AreSound unsent rest next (after_write w s).records (after_write w s).access
   after_write-sound unsent rest next (Put u) s h = after_put-sound unsent rest next u s h (record_at s.records u.number) refl
   after_write-sound unsent rest next (Removed n) s h = after_removal-sound unsent rest next n s h (record_at s.records n) refl
 
@@ -287,7 +287,7 @@ module _ {K V P S R : Type 0} where
       (after_write-sound old.unsent rest old.next_number w s whole) (λ v p. names v (was_pending old.unsent rest w v p))
 
 module _ {K V P S R : Type 0} (answers : Answers K V P R) (now : ℕ) where
-  step-sound : (old new : State K V P S R) → IsSound old → Step answers now old new → IsSound new
+  pub step-sound : (old new : State K V P S R) → IsSound old → Step answers now old new → IsSound new
   step-sound old new h (reads r rest e after) = subst (λ t. IsSound t) (sym after) (after_read-sound r (record old { reads = rest }) (record { records = h.records; named = h.named }))
   step-sound old new h (writes w rest none e after) = subst (λ t. IsSound t) (sym after) (popped-is_sound old w rest e h)
   step-sound old new h (grows words applied wants capacity is_set size after) = subst (λ t. IsSound t) (sym after) (record { records = h.records; named = h.named })
@@ -295,7 +295,7 @@ module _ {K V P S R : Type 0} (answers : Answers K V P R) (now : ℕ) where
   step-sound old new h (evicts r applied above next after) = subst (λ t. IsSound t) (sym after) (left-is_sound cause.Size r.number old h)
   step-sound old new h (ends place p applied there none after) = subst (λ t. IsSound t) (sym after) (record { records = h.records; named = h.named })
 
-  steps-sound : (stages : List (State K V P S R)) (old new : State K V P S R) → IsSound old → Steps answers now old stages new → IsSound new
+  pub steps-sound : (stages : List (State K V P S R)) (old new : State K V P S R) → IsSound old → Steps answers now old stages new → IsSound new
   steps-sound [] old new h e = subst (λ t. IsSound t) (sym e) h
   steps-sound (mid ∷ stages) old new h k = steps-sound stages mid new (step-sound old mid h k.0) k.1
 
@@ -313,7 +313,7 @@ module _ {K V : Type 0} where
     pub held : r.is_held ≡ true
     pub counts : r.counts ≡ Some r.entry.weight
 
-  counted : (r : Record K V) → IsAccounted [] [] r → IsCounted r
+  pub counted : (r : Record K V) → IsAccounted [] [] r → IsCounted r
   counted r h = elim (cases_eq r.applied r.writes) [
     | inl e ↦ (let c = h.counts e in record { settled = e; held = c.0; counts = c.1 })
     | inr other ↦ absurd (nothing_pending (h.waits other).0 (h.waits other).1)
@@ -336,7 +336,7 @@ module _ {K V : Type 0} where
   counted-weight_from [] w h = refl
   counted-weight_from (r ∷ rs) w h = rw ((h.0).counts, (h.0).held) (counted-weight_from rs (w + r.entry.weight) h.1)
 
-  counted-weight : (rs : List (Record K V)) → Each IsCounted rs → admitted_weight rs ≡ held_weight rs
+  pub counted-weight : (rs : List (Record K V)) → Each IsCounted rs → admitted_weight rs ≡ held_weight rs
   counted-weight rs h = counted-weight_from rs 0 h
 
   some_settled : (n : ℕ) (r : Record K V) (rs : List (Record K V)) (ns : List ℕ) → record_at rs n ≡ Some r → is_settled r ≡ true → IsIn n ns → settled_in rs ns ≡ [] → ⊥

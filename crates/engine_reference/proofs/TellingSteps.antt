@@ -44,7 +44,7 @@ module _ {K V : Type 0} where
   TakesAway-trans [] ys a b c h k = rw (← h) k
   TakesAway-trans (x ∷ xs) ys a b c h k = (h.0, h.1, TakesAway-trans xs ys (remove a h.0) b c h.2 k)
 
-  told_once : (tells : Bool) (why : RemovalCause) (e : Entry K V) (notices : List (Notice K V))
+  pub told_once : (tells : Bool) (why : RemovalCause) (e : Entry K V) (notices : List (Notice K V))
       → told tells why e notices ≡ notices ++ notices_of tells ((record { cause = why; entry = e }) ∷ [])
   told_once true why e notices = refl
   told_once false why e notices = sym (append-nil notices)
@@ -64,7 +64,7 @@ TakesAway-from (x ∷ gone) old new k e h there =
     slice_get-remove_from old h.0 later.0 e later.1
 
 -- an element at which the test fails makes no difference
-list_any-remove : {X : Type 0} (test : X → Bool) (xs : List X) (i : ℕ) (x : X) → slice_get xs i ≡ Some x → test x ≡ false → list_any test (remove xs i) ≡ list_any test xs
+pub list_any-remove : {X : Type 0} (test : X → Bool) (xs : List X) (i : ℕ) (x : X) → slice_get xs i ≡ Some x → test x ≡ false → list_any test (remove xs i) ≡ list_any test xs
 list_any-remove test [] i x there fails = absurd (cc)
 list_any-remove test (y ∷ xs) zero x there fails = let same : y ≡ x = cc in sym (ap (λ b. b || list_any test xs) (ap test same ∙ fails))
 list_any-remove test (y ∷ xs) (suc i) x there fails = ap (λ b. test y || b) (list_any-remove test xs i x there fails)
@@ -225,7 +225,7 @@ module _ {K V P S R : Type 0} where
   -- ---- steps
 
   -- taking the oldest operation off its queue tells nothing
-  Tells-popped : (old new : State K V P S R) (rs : List Read) (ws : List Write) (xs : List (Removal K V)) → Tells (record old { reads = rs; writes = ws }) xs new → Tells old xs new
+  pub Tells-popped : (old new : State K V P S R) (rs : List Read) (ws : List Write) (xs : List (Removal K V)) → Tells (record old { reads = rs; writes = ws }) xs new → Tells old xs new
   Tells-popped old new rs ws xs h = record { notices = h.notices; entries = h.entries }
 
   Keeps-popped : (old new : State K V P S R) (rs : List Read) (ws : List Write) → Keeps (record old { reads = rs; writes = ws }) new → Keeps old new

@@ -19,7 +19,7 @@ use Rattle.engine_rules.specs.declared.settings.EvictionPolicy.{EvictionPolicy}
 use Rattle.engine_rules.specs.declared.settings.EvictionPolicy.TheVariants.{TinyLfu, Lru}
 
 module _ {K V : Type 0} where
-  record_at-changed : (m : ℕ) (change : Record K V → Record K V) → ((x : Record K V) → (change x).number ≡ x.number) → (rs : List (Record K V)) (n : ℕ) (r : Record K V) → record_at rs n ≡ Some r
+  pub record_at-changed : (m : ℕ) (change : Record K V → Record K V) → ((x : Record K V) → (change x).number ≡ x.number) → (rs : List (Record K V)) (n : ℕ) (r : Record K V) → record_at rs n ≡ Some r
       → (record_at (changed_at m change rs) n ≡ Some r) ⊎ (record_at (changed_at m change rs) n ≡ Some (change r))
   record_at-changed m change same [] n r h = absurd (cc)
   record_at-changed m change same (x ∷ rs) n r h = go (x.number == m) (x.number == n) refl h (record_at-changed m change same rs n r)
@@ -47,7 +47,7 @@ module _ {K V : Type 0} where
   AllSettled rs [] = Unit {0}
   AllSettled rs (x ∷ xs) = (is_settled x ≡ true) × (record_at rs x.number ≡ Some x) × AllSettled rs xs
 
-  settled_in-settled : (rs : List (Record K V)) (ns : List ℕ) → AllSettled rs (settled_in rs ns)
+  pub settled_in-settled : (rs : List (Record K V)) (ns : List ℕ) → AllSettled rs (settled_in rs ns)
   settled_in-settled rs [] = tt
   settled_in-settled rs (n ∷ ns) = go (record_at rs n) refl (settled_in-settled rs ns)
     where
@@ -59,7 +59,7 @@ module _ {K V : Type 0} where
       go None e rest = rest
       go (Some x) e rest = here x e (is_settled x) refl rest
 
-  front-settled : (rs : List (Record K V)) (weight : ℕ) (xs vs : List (Record K V)) → AllSettled rs xs → shortest_front weight xs ≡ Some vs → AllSettled rs vs
+  pub front-settled : (rs : List (Record K V)) (weight : ℕ) (xs vs : List (Record K V)) → AllSettled rs xs → shortest_front weight xs ≡ Some vs → AllSettled rs vs
   front-settled rs weight [] vs h e = go (weight == 0) e
     where
       go : (b : Bool) → cond b (Some []) None ≡ Some vs → AllSettled rs vs
@@ -76,14 +76,14 @@ module _ {K V : Type 0} where
       go before false e = rest before (shortest_front (weight - weight_at x) xs) refl e
 
   -- a settled record is not one that is not settled
-  other_number : (rs : List (Record K V)) (x r : Record K V) (n : ℕ) → is_settled x ≡ true → record_at rs x.number ≡ Some x → record_at rs n ≡ Some r → is_settled r ≡ false → x.number ≡ n → ⊥
+  pub other_number : (rs : List (Record K V)) (x r : Record K V) (n : ℕ) → is_settled x ≡ true → record_at rs x.number ≡ Some x → record_at rs n ≡ Some r → is_settled r ≡ false → x.number ≡ n → ⊥
   other_number rs x r n t there h f same =
       let both : Some x ≡ Some r = sym there ∙ ap (λ k. record_at rs k) same ∙ h in
       let one : x ≡ r = cc in
       true≢false (sym t ∙ ap (λ y. is_settled y) one ∙ f)
 
 module _ {K V : Type 0} where
-  first-settled : (rs : List (Record K V)) (xs : List (Record K V)) (v : Record K V) → AllSettled rs xs → first_of xs ≡ Some v → (is_settled v ≡ true) × (record_at rs v.number ≡ Some v)
+  pub first-settled : (rs : List (Record K V)) (xs : List (Record K V)) (v : Record K V) → AllSettled rs xs → first_of xs ≡ Some v → (is_settled v ≡ true) × (record_at rs v.number ≡ Some v)
   first-settled rs [] v h e = absurd (cc)
   first-settled rs (x ∷ xs) v h e = let same : x ≡ v = cc in rw (← same) (h.0, h.1)
 

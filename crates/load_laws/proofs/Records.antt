@@ -36,7 +36,7 @@ has_no_held (task ∷ tasks) = has_no_held tasks
 
 -- ---- what is due
 
-told-due : (may : ℕ → Bool) (tasks : List Task) → told_in (due may tasks) ≡ told_in tasks
+pub told-due : (may : ℕ → Bool) (tasks : List Task) → told_in (due may tasks) ≡ told_in tasks
 told-due may [] = refl
 told-due may (Store key outcome ∷ tasks) = refl
 told-due may (Deliver conn outcome ∷ tasks) = refl
@@ -48,7 +48,7 @@ told-due may (RunLines conn ∷ tasks) = go (told-due may tasks) (may conn)
     go next true = refl
     go next false = next
 
-no-held-due : (may : ℕ → Bool) (tasks : List Task) → has_no_held tasks ≡ true → has_no_held (due may tasks) ≡ true
+pub no-held-due : (may : ℕ → Bool) (tasks : List Task) → has_no_held tasks ≡ true → has_no_held (due may tasks) ≡ true
 no-held-due may [] e = refl
 no-held-due may (Store key outcome ∷ tasks) e = e
 no-held-due may (Deliver conn outcome ∷ tasks) e = e
@@ -81,21 +81,21 @@ empty-told : (tasks : List Task) → is_empty tasks ≡ true → told_in tasks �
 empty-told [] e = refl
 empty-told (task ∷ tasks) e = let no : false ≡ true = e in cc
 
-told-left : (task : Task) (rest : List Task) → told_in (left_after (task ∷ rest)) ≡ told_in rest
+pub told-left : (task : Task) (rest : List Task) → told_in (left_after (task ∷ rest)) ≡ told_in rest
 told-left (Store key outcome) rest = refl
 told-left (Deliver conn outcome) rest = refl
 told-left (RunAgain conn) rest = refl
 told-left (RunHeld conn) rest = refl
 told-left (RunLines conn) rest = refl
 
-no-held-left : (task : Task) (rest : List Task) → has_no_held (task ∷ rest) ≡ true → has_no_held (left_after (task ∷ rest)) ≡ true
+pub no-held-left : (task : Task) (rest : List Task) → has_no_held (task ∷ rest) ≡ true → has_no_held (left_after (task ∷ rest)) ≡ true
 no-held-left (Store key outcome) rest e = e
 no-held-left (Deliver conn outcome) rest e = e
 no-held-left (RunAgain conn) rest e = e
 no-held-left (RunHeld conn) rest e = let no : false ≡ true = e in cc
 no-held-left (RunLines conn) rest e = e
 
-fit-due : (s : Situation) (tasks : List Task) (task : Task) (rest : List Task) → due (may_run_in s) tasks ≡ task ∷ rest → has_no_held (task ∷ rest) ≡ true → IsFit task s
+pub fit-due : (s : Situation) (tasks : List Task) (task : Task) (rest : List Task) → due (may_run_in s) tasks ≡ task ∷ rest → has_no_held (task ∷ rest) ≡ true → IsFit task s
 fit-due s tasks (Store key outcome) rest e none = tt
 fit-due s tasks (Deliver conn outcome) rest e none = tt
 fit-due s tasks (RunAgain conn) rest e none = tt
@@ -142,11 +142,11 @@ feed-tidy config s t conn true (step ∷ more) holds tidy e =
 
 -- ---- events
 
-told-delivers : (outcome : Outcome) (conns : List ℕ) (tasks : List Task) → told_in (map (λ conn. Deliver conn outcome) conns ++ tasks) ≡ conns ++ told_in tasks
+pub told-delivers : (outcome : Outcome) (conns : List ℕ) (tasks : List Task) → told_in (map (λ conn. Deliver conn outcome) conns ++ tasks) ≡ conns ++ told_in tasks
 told-delivers outcome [] tasks = refl
 told-delivers outcome (c ∷ cs) tasks = ap (λ ds. c ∷ ds) (told-delivers outcome cs tasks)
 
-told-lines : (conns : List ℕ) → told_in (map RunLines conns) ≡ []
+pub told-lines : (conns : List ℕ) → told_in (map RunLines conns) ≡ []
 told-lines [] = refl
 told-lines (c ∷ cs) = told-lines cs
 
@@ -158,7 +158,7 @@ no-held-lines : (conns : List ℕ) → has_no_held (map RunLines conns) ≡ true
 no-held-lines [] = refl
 no-held-lines (c ∷ cs) = no-held-lines cs
 
-told-again : (conns : List ℕ) → told_in (tasks_to_give_up conns) ≡ conns
+pub told-again : (conns : List ℕ) → told_in (tasks_to_give_up conns) ≡ conns
 told-again [] = refl
 told-again (c ∷ cs) = ap (λ ds. c ∷ ds) (told-again cs)
 

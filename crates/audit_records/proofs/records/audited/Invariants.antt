@@ -7,6 +7,6 @@ use Rattle.audit_records.proofs.records.audited.Given as goal
 
 abbrev pub invariant-loop-i : goal.invariant-loop-i
 invariant-loop-i l = record {
-  same : audited_from l.config [] (empty_situation l.made) 0 l.records ≡ audited_from l.config l.parts.items (situation_of l.s) l.i (drop l.i l.records);
+  same : audited_from l.config [] (empty_situation l.made) 0 l.records ≡ audited_from l.config l.parts (situation_of l.s) l.i (drop l.i l.records);
   tidy : is_tidy (situation_of l.s) ≡ true;
 }

@@ -9,4 +9,4 @@ returns c =
     let config = c.args.config.now in
     let transcript = c.args.transcript.now in
     c.in_ok-audited.ensures ∙ ap (audited_from config [] (empty_situation transcript.made.nanos) 0) c.as_slice.ensures
-    ∙ breaks-are config [] (empty_situation transcript.made.nanos) 0 transcript.records refl ∙ sym (c.breaks_agree.ensures config transcript)
+    ∙ breaks-are config [] [] (empty_situation transcript.made.nanos) 0 transcript.records (λ key part. refl) refl ∙ sym (c.breaks_agree.ensures config transcript)

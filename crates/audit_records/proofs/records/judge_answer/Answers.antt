@@ -17,8 +17,8 @@ copied (Some x) = refl
 pub returns-clause-reaches : goal.returns-clause-reaches
 returns-clause-reaches c =
     let config = c.args.config.now in
-    let parts = c.args.parts.now.items in
-    let more = c.store.new.parts.items in
+    let parts = c.args.parts.now in
+    let more = c.store.new.parts in
     let s = situation_of c.args.s.now in
     let s1 : Situation = without_load c.args.load c.args.moment.nanos s in
     let t = situation_of c.store.new.s in
@@ -32,7 +32,7 @@ returns-clause-reaches c =
     let judged : J s1 key true =
     subst (λ b. J s1 key b) c.if-not-branch.false
     (subst (λ k. J s1 k c.in_ok-store.field-0) key_is (subst (λ u. J u (option_map (λ k. k.now.items) c.as_ref.result) c.in_ok-store.field-0) c.settle.ensures c.in_ok-store.ensures.judged)) in
-    subst (Reaches c.in_ok-judge_steps.field-0 (situation_of c.judge_steps.new.s) c.judge_steps.new.parts.items)
+    subst (Reaches c.in_ok-judge_steps.field-0 (situation_of c.judge_steps.new.s) c.judge_steps.new.parts)
     (sym (store-on config parts more s1 t key outcome (map (λ conn. Deliver conn outcome) conns ++ map RunLines conns) own steps judged
     ∙ ap (λ ts. audited_steps config more t ts steps)
     (sym (ap (map task_of) c.as_slice-2.ensures.value ∙ c.in_ok-duties.ensures ∙ ap (λ cs. map (λ conn. Deliver conn outcome) cs ++ map RunLines cs) (c.as_slice.ensures.value ∙ c.in_ok-conns.ensures)))

@@ -5,5 +5,5 @@ use Rattle.audit_records.proofs.records.judge_event.Goals as goal
 
 pub returns-in_ok-judge_answer-in-Answer-clause-reaches : goal.returns-in_ok-judge_answer-in-Answer-clause-reaches
 returns-in_ok-judge_answer-in-Answer-clause-reaches c =
-    subst (λ e. Reaches c.in_ok-judge_answer-in-Answer.field-0 (situation_of c.judge_answer.new.s) c.judge_answer.new.parts.items (audited_event c.args.config.now c.args.parts.now.items (situation_of c.args.s.now) (record c.args.entry.now { event = e })))
+    subst (λ e. Reaches c.in_ok-judge_answer-in-Answer.field-0 (situation_of c.judge_answer.new.s) c.judge_answer.new.parts (audited_event c.args.config.now c.args.parts.now (situation_of c.args.s.now) (record c.args.entry.now { event = e })))
     (sym c.in-Answer.is) c.in_ok-judge_answer-in-Answer.ensures.reaches

@@ -7,7 +7,7 @@ use Rattle.audit_records.proofs.records.judge_steps.Given as goal
 
 abbrev pub invariant-loop-step : goal.invariant-loop-step
 invariant-loop-step l = record {
-  same : audited_steps l.config l.initial.parts.items (situation_of l.initial.s) (map task_of l.duties) l.steps ≡ audited_steps l.config l.parts.items (situation_of l.s) (map task_of (drop l.at l.duties)) (drop l.step-index l.steps);
+  same : audited_steps l.config l.initial.parts (situation_of l.initial.s) (map task_of l.duties) l.steps ≡ audited_steps l.config l.parts (situation_of l.s) (map task_of (drop l.at l.duties)) (drop l.step-index l.steps);
   tidy : is_tidy (situation_of l.s) ≡ true;
   within : l.at ≤ length l.duties;
 }

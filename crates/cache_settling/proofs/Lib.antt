@@ -1,0 +1,5 @@
+pub mod Chain
+pub mod Leading
+pub mod Placed
+pub mod Turns
+pub mod Settling

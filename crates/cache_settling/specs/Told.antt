@@ -1,0 +1,58 @@
+-- The connections of a namespace that are told of their load.
+use Rattle.std.specs.Prelude.{◌≡◌, ℕ, zero, suc, ◌-◌, ◌+◌, ◌≤◌, ◌==◌, Bool, List, [], ◌++◌, map, Some, None, if◌then◌else◌, vec_len, vec_capacity}
+use Rattle.std.specs.List.{filter, flat_map, slice_get}
+use Rattle.std.specs.Option.{option_map_or}
+use Rattle.audit_model.specs.Changes.{all_held_after}
+use Rattle.audit_model.specs.Replies.{outcome_text}
+use Rattle.audit_model.specs.Situation.{HeldValue}
+use Rattle.audit_model.specs.Steps.{Task, Deliver}
+use Rattle.audit_model.specs.declared.config.Config.{Config}
+use Rattle.audit_model.specs.declared.event.Outcome.{Outcome}
+use Rattle.audit_model.specs.declared.transcript.Step.{Step}
+use Rattle.cache_store.specs.Promises.{no_deed}
+use Rattle.cache_steps.specs.Right.{step_saying}
+use Rattle.cache_namespace.specs.Drawing.{Identifiers}
+use Rattle.cache_namespace.specs.Gathered.{reply_in}
+use Rattle.cache_namespace.specs.Making.{Making}
+use Rattle.cache_namespace.specs.Shown.{situation}
+use Rattle.cache_namespace.specs.Taken.{text_at}
+use Rattle.cache_namespace.specs.Waiting.{UnderWay}
+use Rattle.cache_namespace.specs.Whole.{held_line}
+use Rattle.cache_namespace.specs.declared.connection.Connection.{Connection}
+use Rattle.load_laws.specs.Tidy.{times_in}
+use Rattle.cache_settling.specs.Leads.{Leads}
+
+-- the values held after so many steps that do nothing to values
+abbrev pub when_idle : Config → ℕ → ℕ → List HeldValue → List HeldValue
+when_idle config now zero held = held
+when_idle config now (suc n) held = all_held_after config now (when_idle config now n held) no_deed []
+
+-- the first unread line of the connection of that number
+abbrev pub line_of : List Connection → ℕ → List ℕ
+line_of connections number = option_map_or (λ c. held_line c.unread.bytes) (slice_get connections (number - 1)) []
+
+-- the steps of those `LOAD`s, each of which is handed the outcome
+abbrev pub steps_told : Outcome → List Connection → List ℕ → List Step
+steps_told outcome connections conns = map (λ n. step_saying n (line_of connections n) (outcome_text outcome) None []) conns
+
+-- the replies of that connection's steps
+abbrev pub replies_to : ℕ → List Step → List ℕ
+replies_to number steps = flat_map reply_in (filter (λ step. step.conn == number) steps)
+
+-- to hand those connections the outcome
+abbrev pub to_tell : Outcome → List ℕ → List Task
+to_tell outcome conns = map (λ conn. Deliver conn outcome) conns
+
+-- Some of the connections that wait were handed the outcome, by these steps.
+pub record TellsThem (config : Config) (making : Making) (outcome : Outcome) (latest : ℕ) (loads : UnderWay) (dropped : Bool) (values : List HeldValue) (tasks : List Task) (drawn : Identifiers) (conns left : List ℕ) (old new : List Connection) (steps : List Step) : Type 0 where
+  pub count : ℕ
+  pub leads : Leads config making (situation latest loads old dropped values) (to_tell outcome conns ++ tasks) steps (situation latest loads new dropped (when_idle config latest count values)) (to_tell outcome left ++ tasks) drawn drawn
+
+-- each of those connections has room for so many bytes more of replies
+abbrev pub HaveRoom : List Connection → ℕ → List ℕ → Type 0
+HaveRoom connections size conns =
+    (n : ℕ) → 1 ≤ times_in n conns → (c : Connection) → slice_get connections (n - 1) ≡ Some c → vec_len c.output + size ≤ vec_capacity c.output
+
+-- the replies of these steps stand behind what was written to each connection, where no record is made
+abbrev pub WritesTo : Bool → List Step → List Connection → List Connection → Type 0
+WritesTo writes steps old new = (place : ℕ) → text_at new place ≡ text_at old place ++ (if writes then replies_to (suc place) steps else [])

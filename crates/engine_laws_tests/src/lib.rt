@@ -1,0 +1,19 @@
+//! Small runs at which the premises of the laws hold, as computed checks.
+#![tactic(auto)]
+
+ghost use Rattle.engine_laws_tests.specs.Rows.{RowsOfPoints, RowsOfFronts, RowsOfSweeping};
+
+/// Three values in a cache for two, in order, and the uncut run that evicts the first: the third write has a kept weight above the capacity.
+pub fn rows_of_points()
+    ensures { RowsOfPoints }
+{}
+
+/// Once the three writes were applied nothing is due, and the shortest front is the first record.
+pub fn rows_of_fronts()
+    ensures { RowsOfFronts }
+{}
+
+/// Two values, the first of them past its live time: a timely cache, and the uncut run that takes it and leaves the other.
+pub fn rows_of_sweeping()
+    ensures { RowsOfSweeping }
+{}
