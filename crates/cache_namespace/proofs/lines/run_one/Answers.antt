@@ -1,7 +1,6 @@
 use Rattle.std.proofs.Common.{false, refl, ◌≡◌, ◌++◌, ◌∷◌, [], Option, Some, None, ap, sym, subst, ◌∙◌}
 use Rattle.cache_namespace.proofs.Recording.{ran-kept, ran-loose}
 use Rattle.cache_steps.specs.Right.{step_saying}
-use Rattle.cache_store.specs.Handing.{ArePartByPart}
 use Rattle.cache_store.specs.Promises.{Frame}
 use Rattle.cache_namespace.specs.Drawing.{workings}
 use Rattle.cache_namespace.specs.Gathered.{IsFresh}
@@ -32,7 +31,7 @@ returns-else-ran-clause-ok g c = λ hit s e d m.
     c.in-Some.kept.steps.items c.end.new.self.steps.items c.drain.new.notes.items waiting (g.S.Store.untaken c.run_line-in-Some.new.store) (g.S.Store.untaken c.drain.new.store)
     part_of (g.S.Store.frame c.args.store.now).made (g.S.Store.stands c.run_line-in-Some.new.store) (g.S.Store.stands c.drain.new.store) (g.S.Store.frame c.run_line-in-Some.new.store).dropped (g.S.Store.frame c.drain.new.store).dropped (workings (g.S.Store.stream c.args.store.now) (g.S.Store.registered c.args.store.now) (g.S.Store.recency c.args.store.now)) (workings (g.S.Store.stream c.run_line-in-Some.new.store) (g.S.Store.registered c.run_line-in-Some.new.store) (g.S.Store.recency c.run_line-in-Some.new.store)) (workings (g.S.Store.stream c.drain.new.store) (g.S.Store.registered c.drain.new.store) (g.S.Store.recency c.drain.new.store))
     (c.in_ok-ran-in-Some.ensures.ok c.if-ran.false s e d m) c.in_ok-ran-in-Some.ensures.plain c.in_ok-ran-in-Some.ensures.says c.in_ok-ran-in-Some.ensures.parted (λ held h. subst (λ n. IsTrue (not (is_sync (action_by (reading c.args.config.now c.args.line.now))) || list_all (is_timely c.args.config.now (g.S.Store.frame c.args.store.now).made n) held)) (sym e) (c.in_ok-ran-in-Some.ensures.timely held h)) c.in_ok-ran-in-Some.ensures.draws c.in_ok-ran-in-Some.ensures.used_up c.drain.ensures.identifiers c.in_ok-ran-in-Some.ensures.order c.drain.ensures.recency (g.met.S.Store.ordered c.drain.new.store) fresh c.drain.ensures.stands (ap (λ (f : Frame). f.dropped) c.drain.ensures.frame)
-    (λ sorted. c.drain.ensures.drained (subst (λ (f : Frame). ArePartByPart f.part_of (g.S.Store.untaken c.run_line-in-Some.new.store)) (sym c.in_ok-ran-in-Some.ensures.frame.rest) sorted) ∙ ap (λ ns. ns ++ g.S.Store.untaken c.run_line-in-Some.new.store) c.in_ok-draft-in-Some.ensures.draft.1)
+    (c.drain.ensures.drained ∙ ap (λ ns. ns ++ g.S.Store.untaken c.run_line-in-Some.new.store) c.in_ok-draft-in-Some.ensures.draft.1)
     c.in_ok-draft-in-Some.ensures.draft.0
     (c.end.ensures.steps ∙ ap (λ ss. ss ++ step_saying c.args.number c.in_ok-draft-in-Some.draft.line.items c.run_line-in-Some.new.text.items ran.accepted c.drain.new.notes.items ∷ []) c.in_ok-draft-in-Some.ensures.steps) c.drain.ensures.none c.end.ensures.text))
 
