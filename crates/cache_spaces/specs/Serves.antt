@@ -15,6 +15,7 @@ use Rattle.cache_namespace.specs.Lines.{ends_quit}
 use Rattle.cache_namespace.specs.Ordered.{OrdersSteps}
 use Rattle.cache_namespace.specs.Ran.{ends_held}
 use Rattle.std.specs.Option.{option_to_list}
+use Rattle.audit_model.specs.declared.input.LoadId.{LoadId}
 use Rattle.audit_model.specs.declared.input.ServiceError.{ServiceError}
 use Rattle.audit_model.specs.declared.input.ServiceError.TheVariants as error
 use Rattle.audit_model.specs.declared.transcript.Note.{Note}
@@ -22,7 +23,7 @@ use Rattle.cache_namespace.specs.Taken.{IsOpenOrEnded, is_quit, record_of, known
 use Rattle.cache_store.specs.Recency.{KeepsRecency}
 use Rattle.cache_store.specs.Running.{is_bounded}
 use Rattle.cache_spaces.specs.Moves.{are_parted_in, are_timely_in}
-use Rattle.cache_spaces.specs.Spaces.{Stands, config_of, connections_of, identifiers_of, made_of, notices_of, output_of, closing_of, recency_of}
+use Rattle.cache_spaces.specs.Spaces.{Stands, config_of, connections_of, identifiers_of, made_of, notices_of, outgoing_of, output_of, closing_of, recency_of}
 use Rattle.cache_spaces.specs.declared.space.Space.{Space}
 
 -- The event's record follows; its replies stand behind the output of that connection, and its notes behind the notices. Each value that
@@ -99,6 +100,17 @@ pub record TakesNotice (was is : Space) (note : Option Note) : Type 0 where
   pub connections : connections_of is ≡ connections_of was
   pub config : config_of is ≡ config_of was
   pub made : made_of is ≡ made_of was
+
+-- The loads that went out are moved out, and nothing else changes.
+pub record TakesLoads (was is : Space) (loads : List (LoadId × List ℕ)) : Type 0 where
+  pub stands : (s : Situation) → Stands was s → Stands is s
+  pub recency : KeepsRecency (recency_of was) (recency_of is)
+  pub taken : loads ≡ outgoing_of was
+  pub none : outgoing_of is ≡ []
+  pub connections : connections_of is ≡ connections_of was
+  pub config : config_of is ≡ config_of was
+  pub made : made_of is ≡ made_of was
+  pub notices : notices_of is ≡ notices_of was
 
 -- the connection was never opened
 pub record IsUnknown (space : Space) (number : ℕ) (e : ServiceError) : Type 0 where

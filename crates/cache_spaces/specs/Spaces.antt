@@ -3,7 +3,9 @@ use Rattle.std.specs.Prelude.{◌≡◌, ℕ, ◌-◌, Bool, List, Option}
 use Rattle.audit_model.specs.Situation.{Situation, HeldValue}
 use Rattle.audit_model.specs.declared.command.Closing.{Closing}
 use Rattle.audit_model.specs.declared.config.Config.{Config}
+use Rattle.audit_model.specs.declared.input.LoadId.{LoadId}
 use Rattle.audit_model.specs.declared.transcript.Note.{Note}
+use Rattle.cache_loads.specs.Pending as table
 use Rattle.cache_namespace.specs.Gathered.{Gathered}
 use Rattle.cache_namespace.specs.Kept.{gathered}
 use Rattle.cache_namespace.specs.Shown.{situation}
@@ -36,6 +38,10 @@ connections_of space = space.inner.connections.items
 -- the loads under way
 abbrev pub loads_of : Space → UnderWay
 loads_of space = under_way space.inner.loads
+
+-- the loads that went out and were not taken, with their keys, in the order in which they were sent
+abbrev pub outgoing_of : Space → List (LoadId × List ℕ)
+outgoing_of space = table.outgoing_of space.inner.loads
 
 -- the notes that were told and not taken
 abbrev pub notices_of : Space → List Note

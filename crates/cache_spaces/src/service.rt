@@ -4,7 +4,7 @@ ghost use Rattle.audit_model.specs.Belongs.{refusal_of};
 ghost use Rattle.audit_model.specs.declared.event.Event.TheVariants as event;
 ghost use Rattle.cache_namespace.specs.Taken.{RefusedFor, fed, holds_at, known};
 ghost use Rattle.cache_spaces.specs.Moves.{At};
-ghost use Rattle.cache_spaces.specs.Serves.{Takes, SameSpace, TakesOutput, TakesNotice, IsUnknown};
+ghost use Rattle.cache_spaces.specs.Serves.{Takes, SameSpace, TakesOutput, TakesLoads, TakesNotice, IsUnknown};
 ghost use Rattle.cache_spaces.specs.Services.{are_taken, AreNew, spaces_of};
 ghost use Rattle.cache_spaces.specs.Spaces.{config_of, connections_of, closing_of};
 
@@ -44,12 +44,13 @@ impl Service {
     ghost use Rattle.std.specs.List.{slice_get, flat_map};
     ghost use Rattle.audit_model.specs.Belongs.{refusal_of};
     ghost use Rattle.audit_model.specs.declared.event.Event.TheVariants as event;
-    ghost use Rattle.cache_namespace.specs.Taken.{RefusedFor, fed, holds_at, known};
+    ghost use Rattle.audit_model.specs.Situation.{Situation};
+    ghost use Rattle.cache_namespace.specs.Taken.{RefusedFor, fed, holds_at, is_waiting_in, known};
     ghost use Rattle.cache_spaces.specs.Moves.{At};
-    ghost use Rattle.cache_spaces.specs.Serves.{Takes, SameSpace, TakesOutput, TakesNotice, IsUnknown};
+    ghost use Rattle.cache_spaces.specs.Serves.{Takes, SameSpace, TakesOutput, TakesLoads, TakesNotice, IsUnknown};
     ghost use Rattle.cache_spaces.specs.declared.space.Space.{Space as Seen};
     ghost use Rattle.cache_spaces.specs.Services.{AreNew, Refuses, IsSpace, spaces_of, is_held};
-    ghost use Rattle.cache_spaces.specs.Spaces.{config_of, connections_of, notices_of, output_of, closing_of};
+    ghost use Rattle.cache_spaces.specs.Spaces.{config_of, connections_of, notices_of, output_of, closing_of, Stands};
 
     /// A service of these configurations, made at that moment. Each namespace has a generator of its own, a fork of the one given.
     ///
@@ -182,44 +183,49 @@ impl Service {
         }
     }
 
-    /// Whether a `LOAD` of the connection waits: none does in this stage. Takes no memory. Refused with `NoNamespace`,
-    /// `NoConnection`.
+    /// Whether a `LOAD` of a connection waits for its load. Takes no memory. Refused with `NoNamespace`, `NoConnection`.
     pub fn waiting(&self, conn: Conn) -> Result<bool, ServiceError>
-        ensures none { IfOk result (λ waits. waits ≡ false) }
+        ensures waits { IfOk result (λ waits. (space : Seen) (s : Situation) → IsSpace (spaces_of self.now) conn.namespace space → Stands space s → waits ≡ is_waiting_in s conn.number) }
         ensures known { OnOk result ((space : Seen) → IsSpace (spaces_of self.now) conn.namespace space → (known (connections_of space)).was_opened conn.number ≡ true) }
         ensures found { OnOk result (conn.namespace < length (spaces_of self.now)) }
         ensures refused { IfErr result (λ e. ((e ≡ ServiceError.NoNamespace) × (length (spaces_of self.now) ≤ conn.namespace)) ⊎ ((space : Seen) → IsSpace (spaces_of self.now) conn.namespace space → IsUnknown space conn.number e)) }
     {
-        match self.closed(conn) {
-            Ok(_) => Ok(false),
+        let index = match self.index_of(conn.namespace) {
+            Ok(index) => index,
+            Err(error) => return Err(error),
+        };
+        let space = &self.spaces[index];
+        match space.waiting(conn.number) {
+            Ok(waits) => Ok(waits),
             Err(error) => Err(error),
         }
     }
 
-    /// How many loads of a namespace are under way: none is in this stage. Takes no memory. Refused with `NoNamespace`.
+    /// How many loads of a namespace are under way. Takes no memory. Refused with `NoNamespace`.
     pub fn loads_open(&self, namespace: u64) -> Result<u64, ServiceError>
-        ensures none { IfOk result (λ count. count ≡ 0) }
+        ensures count { IfOk result (λ count. (space : Seen) (s : Situation) → IsSpace (spaces_of self.now) namespace space → Stands space s → count ≡ length s.pending) }
         ensures known { OnOk result (namespace < length (spaces_of self.now)) }
         ensures refused { IfErr result (λ e. (e ≡ ServiceError.NoNamespace) × (length (spaces_of self.now) ≤ namespace)) }
     {
-        match self.index_of(namespace) {
-            Ok(_) => Ok(0),
-            Err(error) => Err(error),
-        }
+        let index = match self.index_of(namespace) {
+            Ok(index) => index,
+            Err(error) => return Err(error),
+        };
+        let space = &self.spaces[index];
+        Ok(space.loads_open())
     }
 
-    /// The loads of a namespace that went out and were not taken, with their keys: none does in this stage. Takes no memory.
-    /// Refused with `NoNamespace`.
+    /// The loads of a namespace that went out and were not taken, with their keys, in the order in which they were sent; moved out.
+    /// Takes no memory. Refused with `NoNamespace`.
     pub fn take_loads(&mut self, namespace: u64) -> Result<Vec<(LoadId, Bytes)>, ServiceError>
-        ensures none { IfOk result (λ loads. loads.items ≡ []) }
-        ensures known { OnOk result (namespace < length (spaces_of self.old)) }
-        ensures refused { IfErr result (λ e. (e ≡ ServiceError.NoNamespace) × (length (spaces_of self.old) ≤ namespace)) }
-        ensures unchanged { self.new ≡ self.old }
+        ensures taken { IfOk result (λ loads. At (spaces_of self.old) (spaces_of self.new) namespace (λ was is. TakesLoads was is loads.items)) }
+        ensures refused { IfErr result (λ e. Refuses (spaces_of self.old) (spaces_of self.new) namespace e (λ was. ⊥)) }
     {
-        match self.index_of(namespace) {
-            Ok(_) => Ok(Vec::new(self.alloc)),
-            Err(error) => Err(error),
-        }
+        let index = match self.index_of(namespace) {
+            Ok(index) => index,
+            Err(error) => return Err(error),
+        };
+        Ok(take_loads_in(&mut self.spaces, self.alloc, index))
     }
 
     /// Answers a load. No load goes out in this stage: refused with `NoNamespace`, then with `NoLoad`, the outcome handed back.
@@ -324,6 +330,15 @@ fn next_notice_in(spaces: &mut Vec<Space>, index: usize) -> Option<Note>
         Some(note) => Some(note),
         None => None,
     }
+}
+
+/// Moves out the loads of the namespace at a place that went out and were not taken.
+fn take_loads_in(spaces: &mut Vec<Space>, alloc: Global, index: usize) -> Vec<(LoadId, Bytes)>
+    requires { index < length spaces.old.items }
+    ensures { At spaces.old.items spaces.new.items index (λ was is. TakesLoads was is result.items) }
+{
+    let space = &mut spaces[index];
+    space.take_loads(alloc)
 }
 
 /// Takes a piece for a connection of the namespace at a place.

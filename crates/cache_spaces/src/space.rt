@@ -6,7 +6,7 @@ ghost use Rattle.plain_store.specs.Standing.{frame_of};
 ghost use Rattle.cache_spaces.specs.Served.{is_served};
 ghost use Rattle.cache_namespace.specs.Taken.{IsSound};
 
-use audit_model::{Closing, Config, Note, ServiceError};
+use audit_model::{Bytes, Closing, Config, LoadId, Note, ServiceError};
 use cache_loads::Loads;
 use cache_namespace::{Kept, Namespace};
 use cache_store::Store;
@@ -28,12 +28,12 @@ impl Space {
     ghost use Rattle.audit_model.specs.declared.event.Event.TheVariants as event;
     ghost use Rattle.cache_namespace.specs.Gathered.{Gathered, IsFresh};
     ghost use Rattle.cache_namespace.specs.Kept.{IsReadyToHold, steps_of};
-    ghost use Rattle.cache_namespace.specs.Taken.{IsOpenOrEnded, RefusedFor, fed, holds_at, is_quit, known};
+    ghost use Rattle.cache_namespace.specs.Taken.{IsOpenOrEnded, RefusedFor, fed, holds_at, is_quit, is_waiting_in, known};
     ghost use Rattle.cache_namespace.specs.declared.connection.Connection.{Connection};
     ghost use Rattle.cache_store.specs.Recency.{KeepsRecency};
     ghost use Rattle.cache_spaces.specs.Moves.{Moves};
     ghost use Rattle.cache_spaces.specs.Serves.{Serves, Takes, SameSpace};
-    ghost use Rattle.cache_spaces.specs.Spaces.{Stands, config_of, connections_of, generator_of, notices_of, output_of, closing_of, gathered_in, made_of, recency_of, workings_of};
+    ghost use Rattle.cache_spaces.specs.Spaces.{Stands, config_of, connections_of, generator_of, notices_of, outgoing_of, output_of, closing_of, gathered_in, made_of, recency_of, workings_of};
 
     /// A namespace without connections, loads and values, with a generator of its own; its place in the service.
     pub fn new(
@@ -157,6 +157,39 @@ impl Space {
         ensures error { IfErr result (λ e. e ≡ ServiceError.NoConnection) }
     {
         self.inner.closed(number)
+    }
+
+    /// Whether a `LOAD` of a connection waits.
+    pub fn waiting(&self, number: u64) -> Result<bool, ServiceError>
+        ensures waits { IfOk result (λ is_waiting. (s : Situation) → Stands self.now s → is_waiting ≡ is_waiting_in s number) }
+        ensures refused { IsErr result ↔ ((known (connections_of self.now)).was_opened number ≡ false) }
+        ensures error { IfErr result (λ e. e ≡ ServiceError.NoConnection) }
+    {
+        match self.inner.waiting(number) {
+            Ok(is_waiting) => Ok(is_waiting),
+            Err(error) => Err(error),
+        }
+    }
+
+    /// How many loads are under way.
+    pub fn loads_open(&self) -> u64
+        ensures { (s : Situation) → Stands self.now s → result ≡ length s.pending }
+    {
+        self.inner.loads.count() as u64
+    }
+
+    /// The loads that went out and were not taken, with their keys, moved out.
+    pub fn take_loads(&mut self, alloc: Global) -> Vec<(LoadId, Bytes)>
+        ensures taken { result.items ≡ outgoing_of self.old }
+        ensures none { outgoing_of self.new ≡ [] }
+        ensures stands { (s : Situation) → Stands self.old s → Stands self.new s }
+        ensures recency { KeepsRecency (recency_of self.old) (recency_of self.new) }
+        ensures connections { connections_of self.new ≡ connections_of self.old }
+        ensures config { config_of self.new ≡ config_of self.old }
+        ensures made { made_of self.new ≡ made_of self.old }
+        ensures notices { notices_of self.new ≡ notices_of self.old }
+    {
+        self.inner.loads.take(alloc)
     }
 
     /// The oldest note that was told and not taken.
