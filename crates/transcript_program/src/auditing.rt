@@ -3,7 +3,7 @@ ghost use Rattle.std.specs.Prelude.{IfOk};
 ghost use Rattle.transcript_program.specs.Judged.{IsJustOf};
 
 use audit_records::{Verdict, audit};
-use audit_text::{TextError, read_transcript};
+use text_reader::{TextError, read_transcript};
 use std::alloc::Global;
 
 /// The verdict on the transcript of a text.

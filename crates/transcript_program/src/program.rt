@@ -4,7 +4,7 @@ ghost use Rattle.std.specs.Prelude.{◌≡◌, ◌≢◌, ◌≤◌, ◌⊎◌};
 use crate::auditing::judge;
 use crate::replaying::{ReplayError, replay};
 use audit_records::Verdict;
-use audit_text::TextError;
+use text_reader::TextError;
 use itoa::Buffer;
 use std::alloc::Global;
 use std::convert::AsStr;

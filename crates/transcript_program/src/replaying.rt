@@ -1,6 +1,7 @@
 //! Inputs, played and printed.
 use audit_model::{Config, ServiceError, Transcript};
-use audit_text::{TextError, read_inputs, write_transcript};
+use audit_text::write_transcript;
+use text_reader::{TextError, read_inputs};
 use cache_spaces::play;
 use itoa::Buffer;
 use rand_core::SeedableRng;

@@ -1,7 +1,7 @@
 //! Text to transcripts.
 ghost use Rattle.std.specs.Prelude.{◌≡◌, ◌++◌, IfOk, OnOk};
-ghost use Rattle.audit_text.specs.Gathered.{gathered_text};
-ghost use Rattle.audit_text.specs.Lines.{kept, kept_line};
+ghost use Rattle.text_reader.specs.Gathered.{gathered_text};
+ghost use Rattle.text_reader.specs.Lines.{kept, kept_line};
 ghost use Rattle.audit_text.specs.Text.{transcript_text};
 
 use crate::fields::{LineFault, TextError};

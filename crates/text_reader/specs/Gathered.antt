@@ -4,9 +4,9 @@ use Rattle.std.specs.List.{flat_map}
 use Rattle.std.specs.Option.{option_map_or}
 use Rattle.audit_text.specs.Text.{config_words, made_words, event_words, own_text, note_line, record_text, step_text}
 use Rattle.audit_text.specs.Words.{line}
-use Rattle.audit_text.specs.declared.gathering.Gathered.{Gathered}
-use Rattle.audit_text.specs.declared.item.Item.{Item}
-use Rattle.audit_text.specs.declared.item.Item.TheVariants as item
+use Rattle.text_reader.specs.declared.gathering.Gathered.{Gathered}
+use Rattle.text_reader.specs.declared.item.Item.{Item}
+use Rattle.text_reader.specs.declared.item.Item.TheVariants as item
 
 -- the line of an item; a step stands without its notes
 abbrev pub item_line : Item → List ℕ

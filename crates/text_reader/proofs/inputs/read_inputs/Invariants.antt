@@ -1,5 +1,5 @@
 use Rattle.std.proofs.Common.{◌≤◌, ◌+◌, length}
-use Rattle.audit_text.proofs.inputs.read_inputs.Given as goal
+use Rattle.text_reader.proofs.inputs.read_inputs.Given as goal
 
 abbrev pub invariant-loop-rest : goal.invariant-loop-rest
 invariant-loop-rest l = l.number + length l.rest ≤ length l.text

@@ -1,6 +1,6 @@
 //! The lines of a text that say something.
 ghost use Rattle.std.specs.Prelude.{◌≡◌, ◌≢◌, ◌<◌, ◌++◌, [], length};
-ghost use Rattle.audit_text.specs.Lines.{is_skipped, kept, kept_line};
+ghost use Rattle.text_reader.specs.Lines.{is_skipped, kept, kept_line, said_line, said_lines};
 
 use memchr::memchr;
 
@@ -8,6 +8,7 @@ use memchr::memchr;
 pub fn cut_line(text: &[u8]) -> (&[u8], &[u8])
     requires { text.now ≢ [] }
     ensures kept { kept text.now ≡ kept_line result.0.now ++ kept result.1.now }
+    ensures said { said_lines text.now ≡ said_line result.0.now ++ said_lines result.1.now }
     ensures shorter { length result.1.now < length text.now }
 {
     match memchr(b'\n', text) {

@@ -1,6 +1,6 @@
 //! Items, gathered to a transcript.
 ghost use Rattle.std.specs.Prelude.{◌≡◌, ◌++◌, [], IfOk, IsTrue, OnOk, None};
-ghost use Rattle.audit_text.specs.Gathered.{gathered_text, item_line};
+ghost use Rattle.text_reader.specs.Gathered.{gathered_text, item_line};
 ghost use Rattle.audit_text.specs.Text.{record_text, step_text, transcript_text};
 
 use crate::fields::LineFault;

@@ -4,8 +4,8 @@ use Rattle.std.specs.List.{flat_map}
 use Rattle.std.specs.Option.{option_map_or}
 use Rattle.audit_text.specs.Text.{config_words, made_words, note_line, record_text, step_text}
 use Rattle.audit_text.specs.Words.{line}
-use Rattle.audit_text.proofs.Growing.{recorded}
-use Rattle.audit_text.proofs.gathering.add_own_note.Goals as goal
+use Rattle.text_reader.proofs.Growing.{recorded}
+use Rattle.text_reader.proofs.gathering.add_own_note.Goals as goal
 
 pub returns : goal.returns
 returns c =

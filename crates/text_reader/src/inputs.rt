@@ -1,5 +1,5 @@
 //! Inputs for a replay.
-use crate::fields::{LineFault, TextError, Words, read_number};
+use crate::fields::{LineFault, TextError, Words};
 use crate::item::{read_config, read_event};
 use crate::lines::{cut_line, is_skipped};
 use audit_model::{Config, Conn, Event, Input, Instant, LoadId};
@@ -83,7 +83,7 @@ fn take_input_line(alloc: Global, begun: &mut Begun, line: &[u8]) -> Result<(), 
     if kind != b"made".as_slice() || begun.configs.is_empty() {
         return Err(LineFault::Form);
     }
-    let nanos = read_number(words.next()?)?;
+    let nanos = words.number()?;
     words.end()?;
     begun.made = Some(Instant { nanos });
     Ok(())
@@ -91,7 +91,7 @@ fn take_input_line(alloc: Global, begun: &mut Begun, line: &[u8]) -> Result<(), 
 
 /// An input behind its word: a namespace, and an event; an opening has no number.
 fn read_input(alloc: Global, words: &mut Words<'_>) -> Result<Input, LineFault> {
-    let namespace = read_number(words.next()?)?;
+    let namespace = words.number()?;
     let kind = words.next()?;
     if kind == b"open".as_slice() {
         return Ok(Input::Open { namespace });

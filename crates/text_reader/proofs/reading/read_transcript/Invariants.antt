@@ -1,7 +1,7 @@
 use Rattle.std.proofs.Common.{◌≡◌, ◌++◌, ◌≤◌, ◌+◌, length}
-use Rattle.audit_text.specs.Gathered.{gathered_text}
-use Rattle.audit_text.specs.Lines.{kept}
-use Rattle.audit_text.proofs.reading.read_transcript.Given as goal
+use Rattle.text_reader.specs.Gathered.{gathered_text}
+use Rattle.text_reader.specs.Lines.{kept}
+use Rattle.text_reader.proofs.reading.read_transcript.Given as goal
 
 abbrev pub invariant-loop-rest : goal.invariant-loop-rest
 invariant-loop-rest l = record { number : l.number + length l.rest ≤ length l.text; text : gathered_text l.gathered ++ kept l.rest ≡ kept l.text }
