@@ -14,7 +14,7 @@ NoneBelow-tail : (b n x : ℕ) (xs : List ℕ) → NoneBelow b (suc n) (x ∷ xs
 NoneBelow-tail b n x xs none = λ k below. none (suc k) (omega arith)
 
 -- a piece ends here
-pieces-here : (b x : ℕ) (xs : List ℕ) → x ≡ b → pieces b (x ∷ xs) ≡ [] ∷ pieces b xs
+pub pieces-here : (b x : ℕ) (xs : List ℕ) → x ≡ b → pieces b (x ∷ xs) ≡ [] ∷ pieces b xs
 pieces-here b x xs same = rw (eq-eqb x b same, pieces)
 
 -- another byte goes to the front of the first piece

@@ -13,24 +13,34 @@ use Rattle.audit_model.specs.declared.transcript.RemovalCause.TheVariants as cau
 use Rattle.text_reader.specs.Lines.{words}
 use Rattle.text_reader.specs.declared.fields.LineFault.{LineFault}
 use Rattle.text_reader.specs.declared.fields.LineFault.TheVariants as fault
+use Rattle.text_reader.specs.declared.fields.TextError.{TextError}
+use Rattle.text_reader.specs.declared.fields.TextError.TheVariants as error
 use Rattle.text_reader.specs.declared.fields.Words.{Words}
 
 infixl 10 ◌>>=◌
 abbrev pub ◌>>=◌ : {A B : Type 0} → Option A → (A → Option B) → Option B
 o >>= f = option_and_then f o
 
+-- the fault, of the line of this number
+abbrev pub at_line : LineFault → ℕ → TextError
+at_line fault.Form number = error.Line number
+at_line fault.OutOfMemory number = error.OutOfMemory
+
+-- there is a fault of form only where the definition gives nothing; for want of memory nothing is said
+abbrev pub IsFault : {A : Type 0} → Option A → LineFault → Type 0
+IsFault said fault.Form = said ≡ None
+IsFault said fault.OutOfMemory = Unit {0}
+
 -- a result that is as the definition says: its value is the one that the definition gives, and it has a fault of form only where
 -- the definition gives none
 abbrev pub IsRead : {A : Type 0} → Option A → Result A LineFault → Type 0
 IsRead said (Ok a) = said ≡ Some a
-IsRead said (Err fault.Form) = said ≡ None
-IsRead said (Err fault.OutOfMemory) = Unit {0}
+IsRead said (Err f) = IsFault said f
 
 -- the same, of a reading that leaves words
 abbrev pub IsReadOff : {A : Type 0} → Option (A × List (List ℕ)) → Result A LineFault → List (List ℕ) → Type 0
 IsReadOff said (Ok a) left = said ≡ Some (a, left)
-IsReadOff said (Err fault.Form) left = said ≡ None
-IsReadOff said (Err fault.OutOfMemory) left = Unit {0}
+IsReadOff said (Err f) left = IsFault said f
 
 -- the words of what is left, if anything is
 abbrev pub words_of_rest : Option (Bor (List ℕ)) → List (List ℕ)
@@ -62,8 +72,7 @@ IsBehind said (Err fault.OutOfMemory) = ⊥
 -- a result that is as the definition says, of a `Vec`
 abbrev pub IsReadItems : {S : Type 0} → Option (List ℕ) → Result (Vec ℕ S) LineFault → Type 0
 IsReadItems said (Ok bytes) = said ≡ Some bytes.items
-IsReadItems said (Err fault.Form) = said ≡ None
-IsReadItems said (Err fault.OutOfMemory) = Unit {0}
+IsReadItems said (Err f) = IsFault said f
 
 -- what the next word says, and the words behind it
 abbrev pub field : {A : Type 0} → (List ℕ → Option A) → List (List ℕ) → Option (A × List (List ℕ))

@@ -1,7 +1,7 @@
 //! The words of a line, read one by one.
 ghost use Rattle.std.specs.Prelude.{◌≡◌, ◌∷◌, [], ◌<◌, IfSome};
 ghost use Rattle.audit_model.specs.Grammar.{number_in};
-ghost use Rattle.text_reader.specs.Fields.{IsRead, IsReadOff, IsNext, IsEnd, IsBehind, IsReadItems, byte_in, words_of_rest, words_left, field, option_in, part_in, flag_in, held_in, policy_in, weight_in, cause_in, behind, setting_in, digit_in, digits_in, bytes_in};
+ghost use Rattle.text_reader.specs.Fields.{at_line, IsRead, IsReadOff, IsNext, IsEnd, IsBehind, IsReadItems, byte_in, words_of_rest, words_left, field, option_in, part_in, flag_in, held_in, policy_in, weight_in, cause_in, behind, setting_in, digit_in, digits_in, bytes_in};
 ghost use Rattle.text_reader.specs.Lines.{words};
 ghost use Rattle.text_reader.specs.declared.fields.LineFault.TheVariants as fault;
 
@@ -46,7 +46,9 @@ impl<T: Drop> From<AllocFailed<T>> for LineFault {
 
 impl LineFault {
     /// The fault, of the line of this number.
-    pub fn at(self, number: u64) -> TextError {
+    pub fn at(self, number: u64) -> TextError
+        ensures { result ≡ at_line self number }
+    {
         match self {
             LineFault::Form => TextError::Line(number),
             LineFault::OutOfMemory => TextError::OutOfMemory,

@@ -1,6 +1,9 @@
 //! Items, gathered to a transcript.
-ghost use Rattle.std.specs.Prelude.{◌≡◌, ◌++◌, [], IfOk, IsTrue, OnOk, None};
+ghost use Rattle.std.specs.Prelude.{◌≡◌, ◌++◌, [], IfOk, IsTrue, OnOk, Some, None};
+ghost use Rattle.text_reader.specs.Fields.{IsRead};
 ghost use Rattle.text_reader.specs.Gathered.{gathered_text, item_line};
+ghost use Rattle.text_reader.specs.Gathering as said;
+ghost use Rattle.text_reader.specs.Gathering.{IsMade};
 ghost use Rattle.audit_text.specs.Text.{record_text, step_text, transcript_text};
 
 use crate::fields::LineFault;
@@ -20,7 +23,8 @@ pub struct Gathered {
 
 /// Nothing.
 pub fn nothing(alloc: Global) -> Gathered
-    ensures { gathered_text result ≡ [] }
+    ensures text { gathered_text result ≡ [] }
+    ensures said { result ≡ said.none_gathered }
 {
     Gathered {
         config: None,
@@ -33,7 +37,8 @@ pub fn nothing(alloc: Global) -> Gathered
 
 /// Adds an item behind the others, where it may stand there.
 pub fn add_item(alloc: Global, gathered: &mut Gathered, item: Item) -> Result<(), LineFault>
-    ensures { OnOk result (gathered_text gathered.new ≡ gathered_text gathered.old ++ item_line item) }
+    ensures text { OnOk result (gathered_text gathered.new ≡ gathered_text gathered.old ++ item_line item) }
+    ensures said { IsMade (said.add_item gathered.old item) result gathered.new }
 {
     match item {
         Item::Config(config) => add_config(gathered, config),
@@ -46,8 +51,10 @@ pub fn add_item(alloc: Global, gathered: &mut Gathered, item: Item) -> Result<()
     }
 }
 
+#[tactic(auto, unfolding(crate::specs::Gathering::add_config))]
 fn add_config(gathered: &mut Gathered, config: Config) -> Result<(), LineFault>
-    ensures { OnOk result (gathered_text gathered.new ≡ gathered_text gathered.old ++ item_line (Item.Config config)) }
+    ensures text { OnOk result (gathered_text gathered.new ≡ gathered_text gathered.old ++ item_line (Item.Config config)) }
+    ensures said { IsMade (said.add_config gathered.old config) result gathered.new }
 {
     if gathered.config.is_some() || !has_no_records(gathered) || gathered.made.is_some() {
         return Err(LineFault::Form);
@@ -56,8 +63,10 @@ fn add_config(gathered: &mut Gathered, config: Config) -> Result<(), LineFault>
     Ok(())
 }
 
+#[tactic(auto, unfolding(crate::specs::Gathering::add_made))]
 fn add_made(gathered: &mut Gathered, made: Instant) -> Result<(), LineFault>
-    ensures { OnOk result (gathered_text gathered.new ≡ gathered_text gathered.old ++ item_line (Item.Made made)) }
+    ensures text { OnOk result (gathered_text gathered.new ≡ gathered_text gathered.old ++ item_line (Item.Made made)) }
+    ensures said { IsMade (said.add_made gathered.old made) result gathered.new }
 {
     if gathered.config.is_none() || !has_no_records(gathered) || gathered.made.is_some() {
         return Err(LineFault::Form);
@@ -68,13 +77,16 @@ fn add_made(gathered: &mut Gathered, made: Instant) -> Result<(), LineFault>
 
 /// Whether no record has begun.
 fn has_no_records(gathered: &Gathered) -> bool
-    ensures { IsTrue result → ((gathered.now.records ≡ []) × (gathered.now.«record» ≡ None) × (gathered.now.step ≡ None)) }
+    ensures said { result ≡ said.has_no_records gathered.now }
+    ensures none { IsTrue result → ((gathered.now.records ≡ []) × (gathered.now.«record» ≡ None) × (gathered.now.step ≡ None)) }
 {
     gathered.records.len() == 0 && gathered.record.is_none() && gathered.step.is_none()
 }
 
+#[tactic(auto, unfolding(crate::specs::Gathering::add_event))]
 fn add_event(alloc: Global, gathered: &mut Gathered, event: Event) -> Result<(), LineFault>
-    ensures { OnOk result (gathered_text gathered.new ≡ gathered_text gathered.old ++ item_line (Item.Event event)) }
+    ensures text { OnOk result (gathered_text gathered.new ≡ gathered_text gathered.old ++ item_line (Item.Event event)) }
+    ensures said { IsMade (said.add_event gathered.old event) result gathered.new }
 {
     if gathered.made.is_none() {
         return Err(LineFault::Form);
@@ -94,6 +106,7 @@ fn add_event(alloc: Global, gathered: &mut Gathered, event: Event) -> Result<(),
 fn close_step(gathered: &mut Gathered) -> Result<(), LineFault>
     ensures text { OnOk result (gathered_text gathered.new ≡ gathered_text gathered.old) }
     ensures step { OnOk result (gathered.new.step ≡ None) }
+    ensures said { IsMade (said.closed_step gathered.old) result gathered.new }
 {
     let Some(step) = gathered.step.take() else {
         return Ok(());
@@ -109,7 +122,8 @@ fn close_step(gathered: &mut Gathered) -> Result<(), LineFault>
 /// Adds a step to a record.
 #[tactic(auto, using(crate::proofs::Growing::flat_map_push))]
 fn put_step(record: &mut Record, step: Step) -> Result<(), LineFault>
-    ensures { OnOk result (record_text «record».new ≡ record_text «record».old ++ step_text step) }
+    ensures text { OnOk result (record_text «record».new ≡ record_text «record».old ++ step_text step) }
+    ensures said { IsMade (Some (said.with_step «record».old step)) result «record».new }
 {
     record.steps.push(step)?;
     Ok(())
@@ -122,6 +136,7 @@ fn close_record(gathered: &mut Gathered) -> Result<(), LineFault>
     ensures text { OnOk result (gathered_text gathered.new ≡ gathered_text gathered.old) }
     ensures step { OnOk result (gathered.new.step ≡ None) }
     ensures closed { OnOk result (gathered.new.«record» ≡ None) }
+    ensures said { IsMade (Some (said.closed_record gathered.old)) result gathered.new }
 {
     let Some(record) = gathered.record.take() else {
         return Ok(());
@@ -130,8 +145,10 @@ fn close_record(gathered: &mut Gathered) -> Result<(), LineFault>
     Ok(())
 }
 
+#[tactic(auto, unfolding(crate::specs::Gathering::add_own))]
 fn add_own(gathered: &mut Gathered, own: Accepted) -> Result<(), LineFault>
-    ensures { OnOk result (gathered_text gathered.new ≡ gathered_text gathered.old ++ item_line (Item.Own own)) }
+    ensures text { OnOk result (gathered_text gathered.new ≡ gathered_text gathered.old ++ item_line (Item.Own own)) }
+    ensures said { IsMade (said.add_own gathered.old own) result gathered.new }
 {
     if gathered.step.is_some() {
         return Err(LineFault::Form);
@@ -146,7 +163,8 @@ fn add_own(gathered: &mut Gathered, own: Accepted) -> Result<(), LineFault>
 
 /// Says in a record which part took the answer's value.
 fn put_own(record: &mut Record, own: Accepted) -> Result<(), LineFault>
-    ensures { OnOk result (record_text «record».new ≡ record_text «record».old ++ item_line (Item.Own own)) }
+    ensures text { OnOk result (record_text «record».new ≡ record_text «record».old ++ item_line (Item.Own own)) }
+    ensures said { IsMade (said.with_own «record».old own) result «record».new }
 {
     if record.own.is_some() || record.notices.len() != 0 || record.steps.len() != 0 {
         return Err(LineFault::Form);
@@ -155,8 +173,10 @@ fn put_own(record: &mut Record, own: Accepted) -> Result<(), LineFault>
     Ok(())
 }
 
+#[tactic(auto, unfolding(crate::specs::Gathering::add_own_note))]
 fn add_own_note(gathered: &mut Gathered, note: Note) -> Result<(), LineFault>
-    ensures { OnOk result (gathered_text gathered.new ≡ gathered_text gathered.old ++ item_line (Item.OwnNote note)) }
+    ensures text { OnOk result (gathered_text gathered.new ≡ gathered_text gathered.old ++ item_line (Item.OwnNote note)) }
+    ensures said { IsMade (said.add_own_note gathered.old note) result gathered.new }
 {
     if gathered.step.is_some() {
         return Err(LineFault::Form);
@@ -172,7 +192,8 @@ fn add_own_note(gathered: &mut Gathered, note: Note) -> Result<(), LineFault>
 /// Adds a note of its event's own step to a record.
 #[tactic(auto, using(crate::proofs::Growing::flat_map_push))]
 fn put_own_note(record: &mut Record, note: Note) -> Result<(), LineFault>
-    ensures { OnOk result (record_text «record».new ≡ record_text «record».old ++ item_line (Item.OwnNote note)) }
+    ensures text { OnOk result (record_text «record».new ≡ record_text «record».old ++ item_line (Item.OwnNote note)) }
+    ensures said { IsMade (said.with_own_note «record».old note) result «record».new }
 {
     if record.steps.len() != 0 {
         return Err(LineFault::Form);
@@ -181,8 +202,10 @@ fn put_own_note(record: &mut Record, note: Note) -> Result<(), LineFault>
     Ok(())
 }
 
+#[tactic(auto, unfolding(crate::specs::Gathering::add_step))]
 fn add_step(gathered: &mut Gathered, step: Step) -> Result<(), LineFault>
-    ensures { OnOk result (gathered_text gathered.new ≡ gathered_text gathered.old ++ item_line (Item.Step step)) }
+    ensures text { OnOk result (gathered_text gathered.new ≡ gathered_text gathered.old ++ item_line (Item.Step step)) }
+    ensures said { IsMade (said.add_step gathered.old step) result gathered.new }
 {
     if gathered.record.is_none() {
         return Err(LineFault::Form);
@@ -192,8 +215,10 @@ fn add_step(gathered: &mut Gathered, step: Step) -> Result<(), LineFault>
     Ok(())
 }
 
+#[tactic(auto, unfolding(crate::specs::Gathering::add_note))]
 fn add_note(gathered: &mut Gathered, note: Note) -> Result<(), LineFault>
-    ensures { OnOk result (gathered_text gathered.new ≡ gathered_text gathered.old ++ item_line (Item.Note note)) }
+    ensures text { OnOk result (gathered_text gathered.new ≡ gathered_text gathered.old ++ item_line (Item.Note note)) }
+    ensures said { IsMade (said.add_note gathered.old note) result gathered.new }
 {
     let Some(mut step) = gathered.step.take() else {
         return Err(LineFault::Form);
@@ -206,15 +231,18 @@ fn add_note(gathered: &mut Gathered, note: Note) -> Result<(), LineFault>
 /// Adds a note to a step.
 #[tactic(auto, using(crate::proofs::Growing::flat_map_push))]
 fn put_note(step: &mut Step, note: Note) -> Result<(), LineFault>
-    ensures { OnOk result (step_text step.new ≡ step_text step.old ++ item_line (Item.Note note)) }
+    ensures text { OnOk result (step_text step.new ≡ step_text step.old ++ item_line (Item.Note note)) }
+    ensures said { IsMade (Some (said.with_note step.old note)) result step.new }
 {
     step.notices.push(note)?;
     Ok(())
 }
 
 /// The transcript with its configuration, where both lines in front were read.
+#[tactic(auto, unfolding(crate::specs::Gathering::finished))]
 pub fn finish(mut gathered: Gathered) -> Result<(Config, Transcript), LineFault>
-    ensures { IfOk result (λ r. transcript_text r.0 r.1 ≡ gathered_text gathered) }
+    ensures text { IfOk result (λ r. transcript_text r.0 r.1 ≡ gathered_text gathered) }
+    ensures said { IsRead (said.finished gathered) result }
 {
     close_step(&mut gathered)?;
     close_record(&mut gathered)?;
