@@ -9,6 +9,7 @@ use Rattle.text_reader.specs.Gathering.{IsGiven, IsReadText, reading}
 use Rattle.text_reader.specs.Lines.{kept}
 use Rattle.text_reader.specs.declared.fields.TextError.{TextError}
 use Rattle.text_reader.specs.declared.fields.TextError.TheVariants as error
+use Rattle.text_reader.proofs.Itemed.{LineOf, line-of}
 use Rattle.text_reader.proofs.Joined.{said_lines-kept, words-joined, lacks-joined, line-joined}
 
 pub reading-text : (text : List ℕ) (config : Config) (transcript : Transcript) → FitsConfig config → FitsTranscript transcript → transcript_text config transcript ≡ kept text → reading text ≡ Some (config, transcript)
