@@ -122,16 +122,31 @@ words-event (event.GiveUp load moment) fits = (word-tested (codes "giveup") refl
 
 words-config : (c : Config) → FitsConfig c → Each IsWord (config_words c)
 words-config c fits =
-    let parts : c.parts < 2 ^ 64 = (let small = fits.parts in omega arith) in
-    ( word-tested (codes "config") refl
-    , ( word-setting (codes "capacity=") _ (word-tested (codes "capacity=") refl) (word-number_or_none c.capacity fits.capacity)
-    , ( word-setting (codes "policy=") _ (word-tested (codes "policy=") refl) (word-policy c.policy)
-    , ( word-setting (codes "parts=") _ (word-tested (codes "parts=") refl) (word-decimal c.parts parts)
-    , ( word-setting (codes "weight=") _ (word-tested (codes "weight=") refl) (word-weight c.weight)
-    , ( word-setting (codes "live_ms=") _ (word-tested (codes "live_ms=") refl) (word-number_or_none c.live_ms fits.live_ms)
-    , ( word-setting (codes "idle_ms=") _ (word-tested (codes "idle_ms=") refl) (word-number_or_none c.idle_ms fits.idle_ms)
-    , ( word-setting (codes "deadlines=") _ (word-tested (codes "deadlines=") refl) (word-flag c.own_deadlines)
-    , tt ))))))))
+    let parts : c.parts < 2 ^ 64 = (let small = fits.parts in omega arith) in (
+      word-tested (codes "config") refl,
+      (
+        word-setting (codes "capacity=") _ (word-tested (codes "capacity=") refl) (word-number_or_none c.capacity fits.capacity),
+        (
+          word-setting (codes "policy=") _ (word-tested (codes "policy=") refl) (word-policy c.policy),
+          (
+            word-setting (codes "parts=") _ (word-tested (codes "parts=") refl) (word-decimal c.parts parts),
+            (
+              word-setting (codes "weight=") _ (word-tested (codes "weight=") refl) (word-weight c.weight),
+              (
+                word-setting (codes "live_ms=") _ (word-tested (codes "live_ms=") refl) (word-number_or_none c.live_ms fits.live_ms),
+                (
+                  word-setting (codes "idle_ms=") _ (word-tested (codes "idle_ms=") refl) (word-number_or_none c.idle_ms fits.idle_ms),
+                  (
+                    word-setting (codes "deadlines=") _ (word-tested (codes "deadlines=") refl) (word-flag c.own_deadlines),
+                    tt,
+                  ),
+                ),
+              ),
+            ),
+          ),
+        ),
+      ),
+    )
 
 words-item : (i : Item) → FitsItem i → Each IsWord (item_words i)
 words-item (item.Config config) fits = words-config config fits
@@ -139,15 +154,28 @@ words-item (item.Made made) fits = (word-tested (codes "made") refl, (word-decim
 words-item (item.Event event) fits = words-event event fits
 words-item (item.Own own) fits = (word-tested (codes "own") refl, (word-decimal own.part fits, tt))
 words-item (item.OwnNote note) fits = words-note (codes "ownnote") note (word-tested (codes "ownnote") refl)
-words-item (item.Step step) fits =
-    ( word-tested (codes "step") refl
-    , ( word-decimal step.conn fits.0.conn
-    , ( word-held step.held
-    , ( word-bytes step.line
-    , ( word-bytes_or_none step.reply fits.0.reply
-    , ( word-number_or_none step.load fits.0.load
-    , ( word-part_or_none step.accepted fits.0.accepted
-    , tt )))))))
+words-item (item.Step step) fits = (
+  word-tested (codes "step") refl,
+  (
+    word-decimal step.conn fits.0.conn,
+    (
+      word-held step.held,
+      (
+        word-bytes step.line,
+        (
+          word-bytes_or_none step.reply fits.0.reply,
+          (
+            word-number_or_none step.load fits.0.load,
+            (
+              word-part_or_none step.accepted fits.0.accepted,
+              tt,
+            ),
+          ),
+        ),
+      ),
+    ),
+  ),
+)
 words-item (item.Note note) fits = words-note (codes "note") note (word-tested (codes "note") refl)
 
 says-event : (e : Event) → is_skipped (joined (event_words e)) ≡ false

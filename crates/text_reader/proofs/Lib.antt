@@ -2,6 +2,7 @@ pub mod Cutting
 pub mod Gatherings
 pub mod Growing
 pub mod Itemed
+pub mod Items
 pub mod Joined
 pub mod Law
 pub mod Said

@@ -17,8 +17,8 @@ returns-in-Err-clause-said c =
     let behind = c.cut_line.result.1.now in
     subst (λ e. IsReadText (reading text) (Err e)) (sym c.at.ensures)
     (at_line-fault (add_lines g (said_line line)) (reading text) c.in-Err.fault (c.loop-rest.number + 1) c.in-Err.ensures.said (λ none.
-      ap (λ o. o >>= finished)
-      (sym c.loop-rest.invariant.said ∙ ap (add_lines g) c.cut_line.ensures.said ∙ add_lines_append g (said_line line) (said_lines behind) ∙ ap (λ o. o >>= (λ more. add_lines more (said_lines behind))) none)))
+    ap (λ o. o >>= finished)
+    (sym c.loop-rest.invariant.said ∙ ap (add_lines g) c.cut_line.ensures.said ∙ add_lines_append g (said_line line) (said_lines behind) ∙ ap (λ o. o >>= (λ more. add_lines more (said_lines behind))) none)))
 
 pub returns-in-Err-finish-clause-said : goal.returns-in-Err-finish-clause-said
 unfolding reading
@@ -29,4 +29,4 @@ returns-in-Err-finish-clause-said c =
     let over : length rest ≡ 0 = eqb-true (length rest) 0 (sym c.is_empty.ensures ∙ c.loop-rest-test.false) in
     subst (λ e. IsReadText (reading text) (Err e)) (sym c.at-in-Err-finish.ensures)
     (at_line-fault (finished g) (reading text) c.in-Err-finish.fault (c.loop-rest.number + 1) c.in-Err-finish.ensures.said (λ none.
-      ap (λ o. o >>= finished) (sym c.loop-rest.invariant.said ∙ ap (λ rest. add_lines g (said_lines rest)) (nil_from_length rest over)) ∙ none))
+    ap (λ o. o >>= finished) (sym c.loop-rest.invariant.said ∙ ap (λ rest. add_lines g (said_lines rest)) (nil_from_length rest over)) ∙ none))
