@@ -3,7 +3,7 @@ ghost use Rattle.engine_laws.specs.Fronts.{RunsEvictShortestFront};
 ghost use Rattle.engine_laws.specs.Points.{SizeHasPoint, CallsStayInOrder, RunsStayInOrder};
 ghost use Rattle.engine_laws.specs.Sweeping.{SweptRunsLeaveNoneDue, SweptRunsStayTimely, CallsStayTimely};
 
-/// Where tickets were sent in the order in which they were made, each removal for weight within a run has a capacity and a *point*: a write that was in the queue as the run began, with no write of the removed record behind it there, right after which all that was held weighed more than the capacity.
+/// Where tickets were sent in the order in which they were made, each removal for weight within a run has a capacity and a *point*: a write that was in the queue as the run began, made not before the last write of the removed record, right after which all that was held weighed more than the capacity.
 pub fn size_has_point<K, V, P, S, R>()
     ensures { SizeHasPoint K V P S R }
 {}
