@@ -1,8 +1,0 @@
-//! A cache of one part that is plain and right: it keeps lists, and its contracts are the definitions of the reference cache.
-#![tactic(auto)]
-
-mod cache;
-mod places;
-mod times;
-
-pub use cache::BaseCache;
