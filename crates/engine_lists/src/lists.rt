@@ -16,6 +16,7 @@ use crate::refusal::Refusal;
 use crate::times::is_dead;
 use engine_reference::{Entry, Notice, Read, Record, Registered, Settings, Unsent, Write};
 use engine_rules::{RemovalCause, Rules};
+use policy_base::{Instant, MAX_NANOS};
 use policy_sketch::FrequencySketch;
 use std::alloc::{AllocError, Global};
 use std::marker::Model;
@@ -51,7 +52,7 @@ pub struct Lists<K: Eq, V, S, R: Rules<K, V>> {
 }
 
 impl<K: Eq, V, S, R: Rules<K, V>> Model for Lists<K, V, S, R> {
-    ghost use Rattle.std.specs.Prelude.{ℕ, ◌+◌, ◌≤◌, ◌<◌, ◌^◌, vec_len, vec_capacity};
+    ghost use Rattle.std.specs.Prelude.{ℕ, ◌+◌, ◌-◌, ◌≤◌, ◌<◌, ◌^◌, vec_len, vec_capacity};
     ghost use Rattle.engine_reference.specs.State.{State};
     ghost use Rattle.engine_reference.specs.Soundness.{Each};
 
@@ -89,6 +90,7 @@ impl<K: Eq, V, S, R: Rules<K, V>> Model for Lists<K, V, S, R> {
       tickets : c.next_ticket + c.reserved < 2 ^ 64;
       numbers : c.next_number ≤ c.next_ticket;
       written : Each (λ r. r.writes ≤ c.next_ticket) c.records.items;
+      moments : Each (λ r. r.entry.written < 2 ^ 64 - 1) c.records.items;
     } };
 }
 
@@ -298,10 +300,28 @@ impl<K: Eq, V, S, R: Rules<K, V>> Lists<K, V, S, R> {
         Ok(())
     }
 
+    /// Which of its writes the next write of a record is.
+    pub fn next_write(&self, place: usize) -> u64
+        requires within { place < length self.now.records }
+        requires room { 0 < self.now.reserved }
+        ensures { (r : Record K V) × (slice_get self.now.records place ≡ Some r) × (result ≡ r.writes + 1) }
+    {
+        self.records[place].writes + 1
+    }
+
+    /// The moment of the last write of a record.
+    pub fn written_at(&self, place: usize) -> Instant
+        requires { place < length self.now.records }
+        ensures { (r : Record K V) × (slice_get self.now.records place ≡ Some r) × (result ≡ r.entry.written) }
+    {
+        Instant::from_nanos(self.records[place].entry.written)
+    }
+
     /// Adds the record of a new key, and its write, for which there is room.
     pub fn add(&mut self, added: Record<K, V>, write: Write)
         requires room { 0 < self.old.reserved }
         requires first { added.writes ≡ 1 }
+        requires moment { added.entry.written ≤ MAX_NANOS }
         ensures { self.new ≡ record self.old { records = self.old.records ++ added ∷ []; unsent = self.old.unsent ++ (record { ticket = self.old.next_ticket; write = write }) ∷ []; next_number = self.old.next_number + 1; next_ticket = self.old.next_ticket + 1; reserved = self.old.reserved - 1 } }
     {
         self.records.push_reserved(added);
@@ -326,6 +346,7 @@ impl<K: Eq, V, S, R: Rules<K, V>> Lists<K, V, S, R> {
         K: Drop,
         V: Drop,
         requires within { place < length self.old.records }
+        requires moment { entry.written ≤ MAX_NANOS }
         requires room { 0 < self.old.reserved }
         ensures { (r : Record K V) × (slice_get self.old.records place ≡ Some r) × (self.new ≡ record self.old { records = slice_set self.old.records place (record r { entry = entry; writes = r.writes + 1 }); notices = told self.old.settings.tells cause r.entry self.old.notices; unsent = self.old.unsent ++ (record { ticket = self.old.next_ticket; write = write }) ∷ []; next_ticket = self.old.next_ticket + 1; reserved = self.old.reserved - 1 }) }
     {

@@ -14,7 +14,7 @@ use Rattle.engine_reference.proofs.HeldRecords.{record_at-number}
 use Rattle.engine_reference.proofs.SoundSteps.{left-is_sound}
 use Rattle.engine_reference.proofs.Unapplied.{record_at-without}
 
-without-none : (n : ℕ) (ns : List ℕ) → (IsIn n ns → ⊥) → without n ns ≡ ns
+pub without-none : (n : ℕ) (ns : List ℕ) → (IsIn n ns → ⊥) → without n ns ≡ ns
 without-none n [] h = refl
 without-none n (x ∷ ns) h = go (x == n) refl (without-none n ns (λ k. h (inr k)))
   where
@@ -30,7 +30,7 @@ module _ {K V : Type 0} where
       ∙ ap (λ l. with_settled (record_at rs m) l) (settled_in-without_none n rs ns (λ k. h (inr k)))
 
   -- the first settled record is on the access list
-  first-listed : (rs : List (Record K V)) (ns : List ℕ) (r : Record K V) → first_of (settled_in rs ns) ≡ Some r → IsIn r.number ns
+  pub first-listed : (rs : List (Record K V)) (ns : List ℕ) (r : Record K V) → first_of (settled_in rs ns) ≡ Some r → IsIn r.number ns
   first-listed rs [] r e = absurd (cc)
   first-listed rs (m ∷ ns) r e = go (record_at rs m) refl e (first-listed rs ns r)
     where
@@ -43,7 +43,7 @@ module _ {K V : Type 0} where
       go (Some x) there e later = by_settled (is_settled x) x there e later
 
   -- once it goes, the others are left in their order
-  settled_in-left : (rs : List (Record K V)) (ns : List ℕ) (r : Record K V) → AreOnce ns → first_of (settled_in rs ns) ≡ Some r
+  pub settled_in-left : (rs : List (Record K V)) (ns : List ℕ) (r : Record K V) → AreOnce ns → first_of (settled_in rs ns) ≡ Some r
       → settled_in rs ns ≡ r ∷ settled_in (without_record r.number rs) (without r.number ns)
   settled_in-left rs [] r once e = absurd (cc)
   settled_in-left rs (m ∷ ns) r once e = go (record_at rs m) refl e (settled_in-left rs ns r once.1)
@@ -98,11 +98,11 @@ module _ {K V : Type 0} where
           ap (λ n. fold (λ w r. w + weight_at r) n rs) (let e : a + weight_at x ≡ weight_at x + a = omega arith in e) ∙ weight_from rs (weight_at x) a ∙ ap (λ y. weight_at y + fold (λ w r. w + weight_at r) a rs) same
       go false e later = later e
 
-  weight-without : (rs : List (Record K V)) (n : ℕ) (r : Record K V) → record_at rs n ≡ Some r → admitted_weight rs ≡ weight_at r + admitted_weight (without_record n rs)
+  pub weight-without : (rs : List (Record K V)) (n : ℕ) (r : Record K V) → record_at rs n ≡ Some r → admitted_weight rs ≡ weight_at r + admitted_weight (without_record n rs)
   weight-without rs n r there = weight-without_from rs n r 0 there
 
   -- the first settled record is found under its number
-  first-there : (rs : List (Record K V)) (ns : List ℕ) (r : Record K V) → first_of (settled_in rs ns) ≡ Some r → record_at rs r.number ≡ Some r
+  pub first-there : (rs : List (Record K V)) (ns : List ℕ) (r : Record K V) → first_of (settled_in rs ns) ≡ Some r → record_at rs r.number ≡ Some r
   first-there rs [] r e = absurd (cc)
   first-there rs (m ∷ ns) r e = go (record_at rs m) refl e (first-there rs ns r)
     where

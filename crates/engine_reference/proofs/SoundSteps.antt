@@ -277,7 +277,7 @@ module _ {K V P S R : Type 0} where
       let f = left-frame why n s in
       sound-from s.unsent s.writes s.next_number (left why n s) f.unsent f.writes f.next (left-sound s.unsent s.writes s.next_number why n s h.records) h.named
 
-  popped-is_sound : (old : State K V P S R) (w : Write) (rest : List Write) → old.writes ≡ w ∷ rest → IsSound old → IsSound (after_write w (record old { writes = rest }))
+  pub popped-is_sound : (old : State K V P S R) (w : Write) (rest : List Write) → old.writes ≡ w ∷ rest → IsSound old → IsSound (after_write w (record old { writes = rest }))
   popped-is_sound old w rest e h =
       let s = record old { writes = rest } in
       let f = after_write-frame w s in
@@ -287,7 +287,7 @@ module _ {K V P S R : Type 0} where
       (after_write-sound old.unsent rest old.next_number w s whole) (λ v p. names v (was_pending old.unsent rest w v p))
 
 module _ {K V P S R : Type 0} (answers : Answers K V P R) (now : ℕ) where
-  step-sound : (old new : State K V P S R) → IsSound old → Step answers now old new → IsSound new
+  pub step-sound : (old new : State K V P S R) → IsSound old → Step answers now old new → IsSound new
   step-sound old new h (reads r rest e after) = subst (λ t. IsSound t) (sym after) (after_read-sound r (record old { reads = rest }) (record { records = h.records; named = h.named }))
   step-sound old new h (writes w rest none e after) = subst (λ t. IsSound t) (sym after) (popped-is_sound old w rest e h)
   step-sound old new h (grows words applied wants capacity is_set size after) = subst (λ t. IsSound t) (sym after) (record { records = h.records; named = h.named })

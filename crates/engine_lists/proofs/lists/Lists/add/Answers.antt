@@ -16,4 +16,5 @@ invariant_of-self g c =
       tickets = omega arith;
       numbers = omega arith;
       written = rw c.push_reserved.ensures.items (each-push (λ r. r.writes ≤ t + 1) c.self.inside.records.items c.args.added (omega arith) (each-later t c.self.inside.records.items c.self.invariant.written));
+      moments = rw c.push_reserved.ensures.items (each-push (λ r. r.entry.written < 18446744073709551615) c.self.inside.records.items c.args.added (omega arith) c.self.invariant.moments);
     }

@@ -1,4 +1,4 @@
-use Rattle.std.proofs.Common.{◌≤◌, refl, ap, sym, ◌∙◌, arith, length}
+use Rattle.std.proofs.Common.{◌<◌, ◌≤◌, refl, ap, sym, ◌∙◌, arith, length}
 use Rattle.std.specs.Prelude.{slice_get}
 use Rattle.std.proofs.lemmas.Option.{slice_get_read}
 use Rattle.engine_lists.proofs.Tickets.{each-remove}
@@ -17,6 +17,7 @@ invariant_of-self g c =
       tickets = omega arith;
       numbers = omega arith;
       written = rw c.remove-gone.ensures.items (each-remove (λ r. r.writes ≤ t) c.self.inside.records.items c.args.place c.self.invariant.written);
+      moments = rw c.remove-gone.ensures.items (each-remove (λ r. r.entry.written < 18446744073709551615) c.self.inside.records.items c.args.place c.self.invariant.moments);
     }
 
 pub returns : goal.returns

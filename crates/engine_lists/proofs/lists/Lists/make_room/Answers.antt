@@ -12,6 +12,7 @@ invariant_of-self-in_err-reserve-3 g c = record {
   tickets = omega arith;
   numbers = omega arith;
   written = rw c.reserve.ensures.items c.self.invariant.written;
+  moments = rw c.reserve.ensures.items c.self.invariant.moments;
 }
 
 pub invariant_of-self-in_err-reserve-4 : goal.invariant_of-self-in_err-reserve-4
@@ -25,6 +26,7 @@ invariant_of-self-in_err-reserve-4 g c = record {
   tickets = omega arith;
   numbers = omega arith;
   written = rw c.reserve.ensures.items c.self.invariant.written;
+  moments = rw c.reserve.ensures.items c.self.invariant.moments;
 }
 
 pub invariant_of-self-2 : goal.invariant_of-self-2
@@ -38,4 +40,5 @@ invariant_of-self-2 g c = record {
   tickets = omega arith;
   numbers = omega arith;
   written = rw c.reserve.ensures.items c.self.invariant.written;
+  moments = rw c.reserve.ensures.items c.self.invariant.moments;
 }

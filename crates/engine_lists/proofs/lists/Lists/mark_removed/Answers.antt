@@ -21,6 +21,7 @@ invariant_of-self g c =
       tickets = omega arith;
       numbers = omega arith;
       written = each-set (λ r. r.writes ≤ t + 1) c.self.inside.records.items c.args.place _ (omega arith) (each-later t c.self.inside.records.items c.self.invariant.written);
+      moments = each-set (λ r. r.entry.written < 18446744073709551615) c.self.inside.records.items c.args.place _ (each-get (λ r. r.entry.written < 18446744073709551615) c.self.inside.records.items c.args.place e here c.self.invariant.moments) c.self.invariant.moments;
     }
 
 pub returns : goal.returns

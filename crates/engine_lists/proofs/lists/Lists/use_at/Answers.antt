@@ -1,4 +1,4 @@
-use Rattle.std.proofs.Common.{◌≤◌, refl, ap, sym, ◌∙◌, arith, length}
+use Rattle.std.proofs.Common.{◌<◌, ◌≤◌, refl, ap, sym, ◌∙◌, arith, length}
 use Rattle.std.specs.Prelude.{slice_get}
 use Rattle.std.proofs.lemmas.Option.{slice_get_read}
 use Rattle.engine_lists.proofs.Tickets.{each-set, each-get}
@@ -20,6 +20,7 @@ invariant_of-self g c =
       tickets = omega arith;
       numbers = omega arith;
       written = each-set (λ r. r.writes ≤ t) c.self.inside.records.items c.args.place _ low c.self.invariant.written;
+      moments = each-set (λ r. r.entry.written < 18446744073709551615) c.self.inside.records.items c.args.place _ (each-get (λ r. r.entry.written < 18446744073709551615) c.self.inside.records.items c.args.place e here c.self.invariant.moments) c.self.invariant.moments;
     }
 
 pub returns : goal.returns
