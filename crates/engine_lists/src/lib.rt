@@ -13,4 +13,4 @@ pub use finding::{
 };
 pub use lists::{Lists, MAX_READS, MAX_WRITES};
 pub use refusal::Refusal;
-pub use times::{kept, own_expiration, time_left};
+pub use times::{is_dead, kept, own_expiration, time_left};

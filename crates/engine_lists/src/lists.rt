@@ -275,17 +275,17 @@ impl<K: Eq, V, S, R: Rules<K, V>> Lists<K, V, S, R> {
         place_of(self.records.as_slice(), key)
     }
 
-    /// Makes room for one more write.
-    pub fn make_room(&mut self) -> Result<(), Refusal>
-        ensures ok { OnOk result (self.new ≡ record self.old { reserved = self.old.reserved + 1 }) }
+    /// Makes room for so many more writes.
+    pub fn make_room(&mut self, by: u64) -> Result<(), Refusal>
+        ensures ok { OnOk result (self.new ≡ record self.old { reserved = self.old.reserved + by }) }
         ensures err { OnErr result (self.new ≡ self.old) }
-        ensures used_up { IsErrOf result Refusal.UsedUp → 2 ^ 64 ≤ self.old.next_ticket + self.old.reserved + 1 }
+        ensures used_up { IsErrOf result Refusal.UsedUp → 2 ^ 64 ≤ self.old.next_ticket + self.old.reserved + by }
     {
-        let free = u64::MAX - self.next_ticket;
-        if free <= self.reserved {
+        let free = (u64::MAX - self.next_ticket).saturating_sub(self.reserved);
+        if free < by {
             return Err(Refusal::UsedUp);
         }
-        let more = self.reserved + 1;
+        let more = self.reserved + by;
         self.records.reserve(more as usize)?;
         self.unsent.reserve(more as usize)?;
         let told = self.records.len().saturating_add(more as usize);

@@ -16,7 +16,11 @@ ghost use Rattle.engine_lists.specs.Asking.{answers_of};
 ghost use Rattle.engine_plain.specs.Chains.{Chain, none_due, is_admitted};
 
 use crate::due::find_due;
-use crate::entries::{cause_of_write, expires_after_use, first_entry, next_entry};
+use crate::entries::{
+    beside, cause_of_removal, cause_of_write, clone_entry, expires_after_use, first_entry,
+    next_entry, rooms_of_removal, upsert,
+};
+use crate::looks::{clone_at, is_admitted, look_up};
 use engine_lists::{Lists, MAX_READS, MAX_WRITES, Refusal, place_at, place_of_ticket, weigh_held};
 use engine_reference::{Entry, Notice, Read, Record, Settings, Upsert, Write};
 use engine_rules::{RemovalCause, Rules};
@@ -95,41 +99,15 @@ impl<K: Eq, V, S, R: Rules<K, V>> BaseCache<K, V, S, R> {
         ensures err { OnErr result (self.new ≡ self.old) }
         ensures used_up { IsErrOf result Refusal.UsedUp → 2 ^ 64 ≤ self.old.next_ticket + self.old.reserved + 1 }
     {
-        self.lists.make_room()
-    }
-
-    /// Where the visible record of a key is.
-    fn look_up(&self, key: &K, now: u64) -> Option<usize>
-        ensures some { IfSome result (λ i. (r : Record K V) × (slice_get self.now.records i ≡ Some r) × (visible_record (answers_of R.weight_of R.created R.read R.updated R.covers) K.eq self.now now key.now ≡ Some r)) }
-        ensures within { IfSome result (λ i. i < length self.now.records) }
-        ensures none { IfNone result (visible_record (answers_of R.weight_of R.created R.read R.updated R.covers) K.eq self.now now key.now ≡ None) }
-    {
-        let place = self.lists.place_of(key)?;
-        if self.lists.is_dead(place, now) || self.lists.is_covered(place) {
-            return None;
-        }
-        Some(place)
+        self.lists.make_room(1)?;
+        Ok(())
     }
 
     /// Whether a key has a visible value. It is no use of it.
     pub fn contains_key_with_hash(&self, key: &K, _hash: u64, now: Instant) -> bool
         ensures { result ≡ is_some (visible_record (answers_of R.weight_of R.created R.read R.updated R.covers) K.eq self.now now key.now) }
     {
-        self.look_up(key, now.as_nanos()).is_some()
-    }
-
-    /// The number and a clone of the value of the record at a place.
-    fn clone_at(&self, place: usize) -> Result<(u64, V), AllocError>
-    where
-        V: Clone,
-        requires within { place < length self.now.records }
-        requires exact { (x y : V) → V.is_clone x y → y ≡ x }
-        ensures { IfOk result (λ found. (r : Record K V) × (slice_get self.now.records place ≡ Some r) × (found.0 ≡ r.number) × (found.1 ≡ r.entry.value)) }
-    {
-        let records = self.lists.records();
-        let found = &records[place];
-        let value = found.entry.value.clone()?;
-        Ok((found.number, value))
+        look_up(&self.lists, key, now.as_nanos()).is_some()
     }
 
     /// A clone of the visible value of a key. It is no use of it.
@@ -144,9 +122,9 @@ impl<K: Eq, V, S, R: Rules<K, V>> BaseCache<K, V, S, R> {
         requires exact { (x y : V) → V.is_clone x y → y ≡ x }
         ensures { IfOk result (λ found. found ≡ visible_value (answers_of R.weight_of R.created R.read R.updated R.covers) K.eq self.now now key.now) }
     {
-        match self.look_up(key, now.as_nanos()) {
+        match look_up(&self.lists, key, now.as_nanos()) {
             Some(place) => {
-                let found = self.clone_at(place)?;
+                let found = clone_at(&self.lists, place)?;
                 Ok(Some(found.1))
             }
             None => Ok(None),
@@ -179,20 +157,6 @@ impl<K: Eq, V, S, R: Rules<K, V>> BaseCache<K, V, S, R> {
         ticket
     }
 
-    /// The write of a record with its weight, beside what is held of other weight.
-    fn upsert(&self, number: u64, write: u64, weight: u32, hash: u64, others: u128) -> Upsert
-        requires { others < 2 ^ 96 }
-        ensures { result ≡ record { number = number; write = write; weight = weight; hash = hash; kept = others + weight } }
-    {
-        Upsert {
-            number,
-            write,
-            weight,
-            hash,
-            kept: others + u128::from(weight),
-        }
-    }
-
     /// Writes a value under a key that is new.
     fn write_first(&mut self, key: K, hash: u64, value: V, now: Instant, step: u64)
         requires room { 0 < self.old.reserved }
@@ -202,7 +166,7 @@ impl<K: Eq, V, S, R: Rules<K, V>> BaseCache<K, V, S, R> {
         let entry = first_entry(&self.lists, key, value, now, step);
         let number = self.lists.next_number();
         let held = weigh_held(self.lists.records());
-        let write = self.upsert(number, 1, entry.weight, hash, held);
+        let write = upsert(number, 1, entry.weight, hash, held);
         let added = Record {
             number,
             hash,
@@ -213,20 +177,6 @@ impl<K: Eq, V, S, R: Rules<K, V>> BaseCache<K, V, S, R> {
             counts: None,
         };
         self.lists.add(added, Write::Put(write));
-    }
-
-    /// The number of the record at a place, and the weight of all else that is held.
-    fn beside(&self, place: usize) -> (u64, u128)
-        requires { (r : Record K V) × (slice_get self.now.records place ≡ Some r) × (r.is_held ≡ true) }
-        ensures others { (r : Record K V) × (slice_get self.now.records place ≡ Some r) × (result.0 ≡ r.number) × (result.1 + r.entry.weight ≡ held_weight self.now.records) }
-        ensures fits { result.1 < 2 ^ 96 }
-    {
-        let records = self.lists.records();
-        let found = &records[place];
-        (
-            found.number,
-            weigh_held(records) - u128::from(found.entry.weight),
-        )
     }
 
     /// Writes a value over the one at a place.
@@ -240,11 +190,76 @@ impl<K: Eq, V, S, R: Rules<K, V>> BaseCache<K, V, S, R> {
     {
         let cause = cause_of_write(&self.lists, place, now.as_nanos());
         let next = self.lists.next_write(place);
-        let others = self.beside(place);
+        let others = beside(&self.lists, place);
         let entry = next_entry(&self.lists, place, key, value, now, step);
-        let write = self.upsert(others.0, next, entry.weight, hash, others.1);
+        let write = upsert(others.0, next, entry.weight, hash, others.1);
         self.lists
             .write_over(place, entry, cause, Write::Put(write));
+    }
+
+    /// Removes a key, whether its deadline has come or not, and answers its entry and the ticket of the removal.
+    /// Where removals are told, `notify_invalidate` is to tell the entry.
+    pub fn remove_entry(
+        &mut self,
+        key: &K,
+        _hash: u64,
+    ) -> Result<Option<(Entry<K, V>, u64)>, Refusal>
+    where
+        K: Clone + Drop,
+        V: Clone + Drop,
+        requires exact_key { (x y : K) → K.is_clone x y → y ≡ x }
+        requires exact { (x y : V) → V.is_clone x y → y ≡ x }
+        ensures removed { OnOk result (self.new ≡ removed_by K.eq key.now self.old) }
+        ensures entry { IfOk result (λ gone. gone ≡ option_map (λ r. (r.entry, self.old.next_ticket)) (held_at K.eq self.old.records key.now)) }
+        ensures err { OnErr result (self.new ≡ self.old) }
+    {
+        match self.lists.place_of(key) {
+            Some(place) => {
+                let entry = clone_entry(&self.lists, place)?;
+                let ticket = self.lists.next_ticket();
+                self.remove_at(place, key)?;
+                Ok(Some((entry, ticket)))
+            }
+            None => Ok(None),
+        }
+    }
+
+    /// Removes the key of the record at a place.
+    fn remove_at(&mut self, place: usize, key: &K) -> Result<(), Refusal>
+        requires { (r : Record K V) × (slice_get self.old.records place ≡ Some r) × (held_at K.eq self.old.records key.now ≡ Some r) }
+        ensures ok { OnOk result (self.new ≡ removed_by K.eq key.now self.old) }
+        ensures err { OnErr result (self.new ≡ self.old) }
+    {
+        let by = rooms_of_removal(self.lists.settings());
+        self.lists.make_room(by)?;
+        self.lists.mark_removed(place);
+        Ok(())
+    }
+
+    /// Tells an entry that was removed by its key.
+    pub fn notify_invalidate(&mut self, entry: Entry<K, V>, now: Instant)
+    where
+        K: Drop,
+        V: Drop,
+        requires room { self.old.settings.tells ≡ true → 0 < self.old.reserved }
+        ensures { self.new ≡ removal_told (answers_of R.weight_of R.created R.read R.updated R.covers) entry now self.old }
+    {
+        if self.lists.settings().tells {
+            self.tell_removed(entry, now);
+        }
+    }
+
+    /// Tells an entry that was removed by its key, where removals are told.
+    fn tell_removed(&mut self, entry: Entry<K, V>, now: Instant)
+    where
+        K: Drop,
+        V: Drop,
+        requires room { 0 < self.old.reserved }
+        requires tells { self.old.settings.tells ≡ true }
+        ensures { self.new ≡ removal_told (answers_of R.weight_of R.created R.read R.updated R.covers) entry now self.old }
+    {
+        let cause = cause_of_removal(self.lists.settings(), now.as_nanos(), &entry);
+        self.lists.tell_removed(cause, entry);
     }
 
     /// Moves the write of a ticket into the queue. An unknown ticket is refused before a full queue.
@@ -296,25 +311,6 @@ impl<K: Eq, V, S, R: Rules<K, V>> BaseCache<K, V, S, R> {
         self.lists.count_hash(hash);
     }
 
-    /// Whether the record of a number is there, and admitted.
-    fn is_admitted(&self, number: u64) -> bool
-        ensures { result ≡ is_admitted (record_at self.now.records number) }
-    {
-        match place_at(self.lists.records(), number) {
-            Some(place) => self.counts_at(place),
-            None => false,
-        }
-    }
-
-    /// Whether the record at a place is admitted.
-    fn counts_at(&self, place: usize) -> bool
-        requires { place < length self.now.records }
-        ensures { (r : Record K V) × (slice_get self.now.records place ≡ Some r) × (result ≡ is_some r.counts) }
-    {
-        let records = self.lists.records();
-        records[place].counts.is_some()
-    }
-
     /// Moves the number of an admitted record to the back of the access list.
     fn use_again(&mut self, number: u64)
         requires { is_admitted (record_at self.old.records number) ≡ true }
@@ -327,7 +323,7 @@ impl<K: Eq, V, S, R: Rules<K, V>> BaseCache<K, V, S, R> {
     fn use_found(&mut self, number: u64)
         ensures { self.new ≡ after_hit (record_at self.old.records number) self.old }
     {
-        if self.is_admitted(number) {
+        if is_admitted(&self.lists, number) {
             self.use_again(number);
         }
     }

@@ -8,15 +8,19 @@ ghost use Rattle.engine_lists.specs.Asking.{answers_of};
 ghost use Rattle.engine_plain.specs.Chains.{is_due, none_due};
 
 use engine_lists::Lists;
+use engine_reference::Record;
 use engine_rules::{RemovalCause, Rules};
 
-/// Whether the record at a place is held.
-fn is_held<K: Eq, V, S, R: Rules<K, V>>(lists: &Lists<K, V, S, R>, place: usize) -> bool
+/// The record at a place.
+pub fn record_in<K: Eq, V, S, R: Rules<K, V>>(
+    lists: &Lists<K, V, S, R>,
+    place: usize,
+) -> &Record<K, V>
     requires { place < length lists.now.records }
-    ensures { (r : Record K V) × (slice_get lists.now.records place ≡ Some r) × (result ≡ r.is_held) }
+    ensures { slice_get lists.now.records place ≡ Some result.now }
 {
     let records = lists.records();
-    records[place].is_held
+    &records[place]
 }
 
 /// Why the record at a place has to leave, where it has to.
@@ -27,9 +31,9 @@ pub fn cause_of<K: Eq, V, S, R: Rules<K, V>>(
 ) -> Option<RemovalCause>
     requires { place < length lists.now.records }
     ensures why { IfSome result (λ why. (r : Record K V) × (slice_get lists.now.records place ≡ Some r) × (r.is_held ≡ true) × (is_due_for (answers_of R.weight_of R.created R.read R.updated R.covers) lists.now now r why ≡ true)) }
-    ensures none { IfNone result ((r : Record K V) × (slice_get lists.now.records place ≡ Some r) × (is_due (answers_of R.weight_of R.created R.read R.updated R.covers) lists.now now r ≡ false)) }
+    ensures none { IfNone result ((r : Record K V) → slice_get lists.now.records place ≡ Some r → is_due (answers_of R.weight_of R.created R.read R.updated R.covers) lists.now now r ≡ false) }
 {
-    if !is_held(lists, place) {
+    if !record_in(lists, place).is_held {
         return None;
     }
     if lists.is_dead(place, now) {

@@ -4,6 +4,7 @@
 mod cache;
 mod due;
 mod entries;
+mod looks;
 
 pub use cache::BaseCache;
 pub use engine_lists::Refusal;
