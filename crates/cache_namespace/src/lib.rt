@@ -3,6 +3,7 @@
 
 mod connection;
 mod feeding;
+mod joining;
 mod kept;
 mod lines;
 mod namespace;
