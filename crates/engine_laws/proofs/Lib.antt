@@ -5,3 +5,4 @@ pub mod Pointing
 pub mod Ordering
 pub mod Ticking
 pub mod Swept
+pub mod Shown

@@ -2,8 +2,9 @@
 ghost use Rattle.engine_laws.specs.Fronts.{RunsEvictShortestFront};
 ghost use Rattle.engine_laws.specs.Points.{SizeHasPoint, CallsStayInOrder, RunsStayInOrder};
 ghost use Rattle.engine_laws.specs.Sweeping.{SweptRunsLeaveNoneDue, SweptRunsStayTimely, CallsStayTimely};
+ghost use Rattle.engine_laws.specs.Showing.{OnlyWritesShow, CallsKeepApart};
 
-/// Where tickets were sent in the order in which they were made, each removal for weight within a run has a capacity and a *point*: a write that was in the queue as the run began, with no write of the removed record behind it there, right after which all that was held weighed more than the capacity.
+/// Where tickets were sent in the order in which they were made, each removal for weight within a run has a capacity and a *point*: a write that was in the queue as the run began, made not before the last write of the removed record, right after which all that was held weighed more than the capacity.
 pub fn size_has_point<K, V, P, S, R>()
     ensures { SizeHasPoint K V P S R }
 {}
@@ -36,4 +37,14 @@ pub fn swept_runs_stay_timely<K, V, P, S, R>()
 /// An empty cache is timely, and each call at a moment and a step not before the last keeps it so, where its ticket is sent at once.
 pub fn calls_stay_timely<K, V, P, S, R>()
     ensures { CallsStayTimely K V P S R }
+{}
+
+/// Nothing becomes visible but by a write of its key: a write changes no look-up of another key, a removal and a look-up show nothing that was not visible, and room, notices and what is told change no look-up. (`engine_reference` has the same of sending, clears, predicates and runs.)
+pub fn only_writes_show<K, V, P, S, R>()
+    ensures { OnlyWritesShow K V P S R }
+{}
+
+/// No call makes two entries whose keys compare alike.
+pub fn calls_keep_apart<K, V, P, S, R>()
+    ensures { CallsKeepApart K V P S R }
 {}

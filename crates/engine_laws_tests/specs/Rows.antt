@@ -1,13 +1,14 @@
 -- The rows.
 use Rattle.std.specs.Prelude.{◌≡◌, ◌-◌, ℕ, List, [], ◌∷◌, Some, None, option_map, min, length}
 use Rattle.engine_rules.specs.declared.causes.RemovalCause.TheVariants as cause
-use Rattle.engine_rules.specs.declared.settings.EvictionPolicy.TheVariants.{Lru}
+use Rattle.engine_rules.specs.declared.settings.EvictionPolicy.TheVariants.{Lru, TinyLfu}
 use Rattle.engine_reference.specs.declared.data.Write.{Write}
 use Rattle.engine_reference.specs.declared.data.Write.TheVariants.{Put, Removed}
 use Rattle.engine_reference.specs.Admission.{shortest_front}
+use Rattle.engine_reference.specs.Calls.{sent}
 use Rattle.engine_reference.specs.Records.{admitted_number, admitted_weight, settled_in}
 use Rattle.engine_reference.specs.Runs.{RunsToEnd, IsApplied, after_write, left}
-use Rattle.engine_reference_tests.specs.Playing.{Small, small_answers, new_small, put, told_by}
+use Rattle.engine_reference_tests.specs.Playing.{Small, small_answers, new_small, put, put_unsent, run, told_by}
 use Rattle.engine_laws.specs.Fronts.{NothingIsDue}
 use Rattle.engine_laws.specs.Points.{IsInOrder}
 use Rattle.engine_laws.specs.Sweeping.{order_after, IsSwept, IsTimely, LeavesNoneDue}
@@ -47,6 +48,24 @@ pub record RowsOfPoints : Type 0 where
   pub kept : kept_weights full.writes ≡ 1 ∷ 2 ∷ 3 ∷ []
   -- and it is in order again
   pub again : IsInOrder (ended 9 evicted)
+
+-- ---- tickets that are sent in another order: key 1 with weight 10 and then 1, and key 2 with weight 5, in a cache for 10
+
+abbrev sent_unsorted : Small
+sent_unsorted = sent 1 (sent 2 (sent 0 (put_unsent 2 5 0 3 (put_unsent 1 1 0 2 (put_unsent 1 10 0 1 (new_small TinyLfu (Some 10) None None 1))))))
+
+-- in the order in which they were made
+abbrev sent_sorted : Small
+sent_sorted = sent 2 (sent 1 (sent 0 (put_unsent 2 5 0 3 (put_unsent 1 1 0 2 (put_unsent 1 10 0 1 (new_small TinyLfu (Some 10) None None 1))))))
+
+pub record RowsOfOrder : Type 0 where
+  -- the second key is refused, though never more than 10 was held
+  pub kept : kept_weights sent_unsorted.writes ≡ 10 ∷ 6 ∷ 1 ∷ []
+  pub refused : told_by (run 9 sent_unsorted) ≡ 3142
+  -- sent in order it comes in
+  pub kept_sorted : kept_weights sent_sorted.writes ≡ 10 ∷ 1 ∷ 6 ∷ []
+  pub admitted : told_by (run 9 sent_sorted) ≡ 31
+  pub weight : (run 9 sent_sorted).weight ≡ 6
 
 pub record RowsOfFronts : Type 0 where
   pub applied : IsApplied written_all
