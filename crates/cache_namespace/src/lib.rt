@@ -10,6 +10,8 @@ mod standing;
 mod waiting;
 
 pub use connection::Connection;
+pub use feeding::run_ready;
 pub use kept::Kept;
+pub use lines::Stop;
 pub use namespace::Namespace;
 pub use standing::Standing;

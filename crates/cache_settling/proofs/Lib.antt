@@ -2,4 +2,5 @@ pub mod Chain
 pub mod Leading
 pub mod Placed
 pub mod Turns
+pub mod Resumes
 pub mod Settling

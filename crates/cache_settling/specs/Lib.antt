@@ -1,3 +1,4 @@
 pub mod Leads
 pub mod Laws
+pub mod Resumed
 pub mod Told
