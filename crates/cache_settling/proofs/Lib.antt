@@ -1,5 +1,6 @@
 pub mod Chain
 pub mod Leading
+pub mod Outcomes
 pub mod Placed
 pub mod Turns
 pub mod Resumes

@@ -219,7 +219,7 @@ runs-first config making latest conns l cs dropped values Stands drawn told stan
   notes = sym (append-nil told);
 }
 
-replies-both : (number : ℕ) (xs ys : List Step) → replies_to number (xs ++ ys) ≡ replies_to number xs ++ replies_to number ys
+pub replies-both : (number : ℕ) (xs ys : List Step) → replies_to number (xs ++ ys) ≡ replies_to number xs ++ replies_to number ys
 replies-both number xs ys =
     ap (flat_map reply_in) (filter-append (λ (x : Step). x.conn == number) xs ys) ∙ flat_map-append reply_in (filter (λ (x : Step). x.conn == number) xs) (filter (λ (x : Step). x.conn == number) ys)
 

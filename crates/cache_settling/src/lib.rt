@@ -1,11 +1,13 @@
 //! Settling a load: an answer, or a give-up. Each function here does nothing: its contract is the law.
 #![tactic(auto)]
 
+mod answering;
 mod resuming;
 mod telling;
 
 ghost use Rattle.cache_settling.specs.Laws.{AbandonedLeads, AnswerSettles, AnswerTidy, AnsweredLeads, DeliveredLeads, GiveUpSettles, GiveUpTidy, HeldBackLeads, LeadsOn, LinesLead, NoLinesLead, NothingLeads, ToldWaits, WaitsAgainLeads};
 
+pub use answering::hand_out;
 pub use resuming::resume_all;
 pub use telling::tell_all;
 
