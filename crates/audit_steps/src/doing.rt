@@ -77,6 +77,7 @@ pub fn do_line<'a>(config: &Config, line: &'a [u8]) -> Doing<'a>
         },
         Request::Get { key } => Doing::Get { key },
         Request::Has { key } => Doing::Has { key },
+        Request::Load { key } => Doing::Load { key },
         Request::Del { key } => Doing::Del { key },
         Request::Add {
             key,

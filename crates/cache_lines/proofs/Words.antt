@@ -12,7 +12,7 @@ use Rattle.audit_model.specs.declared.command.Command.TheVariants as says
 use Rattle.audit_model.specs.declared.command.LineError.TheVariants as fault
 use Rattle.cache_lines.specs.Request.{IsFit, LacksKey}
 use Rattle.cache_lines.specs.declared.request.Request.{Request}
-use Rattle.cache_lines.specs.declared.request.Request.TheVariants.{Set, Get, Has, Del, Add, Clear, DropIf, Keys, Sync, Quit, Fault}
+use Rattle.cache_lines.specs.declared.request.Request.TheVariants.{Set, Get, Has, Load, Del, Add, Clear, DropIf, Keys, Sync, Quit, Fault}
 use Rattle.cache_lines.proofs.Cuts.{Cut, onto, cut_at-here, cut_at-other}
 use Rattle.cache_lines.proofs.Keys.{is_key-other_byte}
 
@@ -170,6 +170,7 @@ IsFit-within config part line (Set key deadline value) within fits =
     record { key_fits = fits.key_fits; value_fits = fits.value_fits; short = omega arith; own = fits.own }
 IsFit-within config part line (Get key) within fits = fits
 IsFit-within config part line (Has key) within fits = fits
+IsFit-within config part line (Load key) within fits = fits
 IsFit-within config part line (Del key) within fits = fits
 IsFit-within config part line (Add key deadline number) within fits = fits
 IsFit-within config part line Clear within fits = fits

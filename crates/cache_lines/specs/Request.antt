@@ -4,7 +4,7 @@ use Rattle.audit_model.specs.Grammar.{Reading, Verb, set, get, has, del, add, cl
 use Rattle.audit_model.specs.declared.config.Config.{Config}
 use Rattle.audit_model.specs.declared.command.Command.TheVariants as says
 use Rattle.cache_lines.specs.declared.request.Request.{Request}
-use Rattle.cache_lines.specs.declared.request.Request.TheVariants.{Set, Get, Has, Del, Add, Clear, DropIf, Keys, Sync, Quit, Fault}
+use Rattle.cache_lines.specs.declared.request.Request.TheVariants.{Set, Get, Has, Load, Del, Add, Clear, DropIf, Keys, Sync, Quit, Fault}
 use Rattle.cache_lines.specs.declared.request.Word.{Word}
 use Rattle.cache_lines.specs.declared.request.Word.TheVariants as word
 
@@ -13,6 +13,7 @@ abbrev pub said : Request → Reading
 said (Set key deadline value) = Ok (says.Set key.now deadline value.now)
 said (Get key) = Ok (says.Get key.now)
 said (Has key) = Ok (says.Has key.now)
+said (Load key) = Ok (says.Load key.now)
 said (Del key) = Ok (says.Del key.now)
 said (Add key deadline number) = Ok (says.Add key.now deadline number)
 said Clear = Ok says.Clear
@@ -51,6 +52,7 @@ abbrev pub IsFit : Config → List ℕ → Request → Type 0
 IsFit config line (Set key deadline value) = IsFitSet config line key.now deadline value.now
 IsFit config line (Get key) = IsTrue (is_key key.now)
 IsFit config line (Has key) = IsTrue (is_key key.now)
+IsFit config line (Load key) = IsTrue (is_key key.now)
 IsFit config line (Del key) = IsTrue (is_key key.now)
 IsFit config line (Add key deadline number) = IsTrue (is_key key.now) × IsOwn config deadline
 IsFit config line Clear = Unit {0}

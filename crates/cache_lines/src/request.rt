@@ -26,6 +26,9 @@ pub enum Request<'a> {
     Has {
         key: &'a [u8],
     },
+    Load {
+        key: &'a [u8],
+    },
     Del {
         key: &'a [u8],
     },

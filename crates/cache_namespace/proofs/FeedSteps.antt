@@ -57,7 +57,7 @@ runs-end config number making (step ∷ steps) s t runs stops =
     ∙ runs-end config number making steps _ t runs.4 stops
 
 -- one more value in its part
-cons-parted : (part_of : List ℕ → ℕ) (o : Option Value) (values : List Value) → option_map_or (is_parted part_of) o true ≡ true → list_all (is_parted part_of) values ≡ true → list_all (is_parted part_of) (cons_option o values) ≡ true
+pub cons-parted : (part_of : List ℕ → ℕ) (o : Option Value) (values : List Value) → option_map_or (is_parted part_of) o true ≡ true → list_all (is_parted part_of) values ≡ true → list_all (is_parted part_of) (cons_option o values) ≡ true
 cons-parted part_of None values one rest = rest
 cons-parted part_of (Some v) values one rest = and_from (is_parted part_of v) (list_all (is_parted part_of) values) one rest
 
@@ -131,7 +131,7 @@ runs-held config base number making s steps left rest line n there at said runs 
     (subst (λ d. is_right config (placed_by config t (Some (RunLines number)) d Holding step) ≡ true) (sym (line-due base left number rest line n there at said)) (right-held config t number line))
     refl refl
     (placed-again base left after number (ready number rest) (holding number line (behind_lines 1 rest)) (effect_in config (view_in config t) Holding step)
-    (connection_after (Some (RunLines number)) step (effect_in config (view_in config t) Holding step)) false there (line-fits number rest n at) refl refl refl
+    (connection_after (Some (RunLines number)) step (effect_in config (view_in config t) Holding step)) false there (line-fits number rest n at) refl (λ s. refl) refl
     ∙ ap (λ b. set_in (with_drops b base) after (holding number line (behind_lines 1 rest))) (or-false base.dropped))
 
 -- ---- how steps end
@@ -224,7 +224,7 @@ feeds-ready config base number making held times bytes piece quit is_held target
     record { steps = r.steps; left = r.left; stands = r.stands; after = r.after; parted = r.parted; timely = r.timely; ends = r.ends; quits = r.quits; draws = r.draws; ordered = r.ordered; gathered = r.gathered }
 
 -- a connection that holds a line back, fed a piece
-abbrev held_with : Situation → List HeldValue → ℕ → ℕ → List ℕ → List ℕ → Situation
+abbrev pub held_with : Situation → List HeldValue → ℕ → ℕ → List ℕ → List ℕ → Situation
 held_with base held number times bytes piece = set_in base held (holding_load number (held_line bytes) (behind_lines 1 bytes ++ piece) times)
 
 -- the command that is held back runs

@@ -17,33 +17,33 @@ use Rattle.cache_namespace.specs.Gathered.{Gathered}
 use Rattle.cache_namespace.specs.Lines.{IsThere}
 use Rattle.cache_namespace.specs.Shown.{situation, is_listed}
 use Rattle.cache_namespace.specs.Taken.{is_quit, FeedsConnection, Takes, fed, text_at, closing_at, ReplacedAt, RefusedFor, holds_at}
-use Rattle.cache_namespace.specs.Waiting.{UnderWay, when_left}
+use Rattle.cache_namespace.specs.Waiting.{UnderWay, loads_in, when_left}
 use Rattle.cache_namespace.specs.Whole.{holds}
 use Rattle.cache_namespace.specs.declared.connection.Connection.{Connection}
 use Rattle.cache_namespace.specs.declared.kept.Kept.{Kept}
 use Rattle.cache_namespace.proofs.Places.{closing-is, replaced-is}
 use Rattle.cache_namespace.proofs.Following.{follows-feed, found-open, listed-open, follows-close, refused-late, admitted, holds-is}
 
-pub taken-feed : (config : Config) (making : Making) (latest now m i k moment : ℕ) (l left : UnderWay) (old new : List Connection) (dropped dropping : Bool) (values : List HeldValue) (piece : List ℕ) (is_held : Bool) (Stood Stands : List HeldValue → Type 0) (drawn drawing : Workings)
+pub taken-feed : (config : Config) (making : Making) (latest now m i k moment : ℕ) (l joined left : UnderWay) (old new : List Connection) (dropped dropping : Bool) (values : List HeldValue) (piece : List ℕ) (is_held : Bool) (Stood Stands : List HeldValue → Type 0) (drawn drawing : Workings)
     (kept_old kept_new : Option Kept) (waiting_old waiting_new : List Note)
-    → left ≡ when_left (is_none (closing_at new i)) m l → m ≡ i + 1 → k ≡ m - 1 → now ≡ max moment latest → i < length old → moment < 2 ^ 63 → ((c : Connection) → slice_get old i ≡ Some c → c.closing ≡ None)
+    → left ≡ when_left (is_none (closing_at new i)) m joined → m ≡ i + 1 → k ≡ m - 1 → now ≡ max moment latest → i < length old → moment < 2 ^ 63 → ((c : Connection) → slice_get old i ≡ Some c → c.closing ≡ None)
     → (p : ReplacedAt old new i)
-    → ((base : Situation) (left : List HeldValue) → base.latest ≡ now → base.dropped ≡ dropped → IsThere m base → Stood left → FeedsConnection config base m making left p.was piece p.is is_held Stands dropping drawn drawing (gathered (text_at old i) kept_old waiting_old) (gathered (text_at new i) kept_new waiting_new))
+    → ((base : Situation) (left : List HeldValue) → base.latest ≡ now → base.dropped ≡ dropped → loads_in base ≡ l → IsThere m base → Stood left → FeedsConnection config base m making left p.was piece p.is is_held Stands dropping joined drawn drawing (gathered (text_at old i) kept_old waiting_old) (gathered (text_at new i) kept_new waiting_new))
     → Stood values
     → Takes config making (situation latest l old dropped values) (fed m piece moment) is_held (is_quit (closing_at new k)) Stands (situation now left new dropping) drawn drawing (gathered (text_at old k) kept_old waiting_old) (gathered (text_at new k) kept_new waiting_new)
-taken-feed config making latest now m i k moment l left old new dropped dropping values piece is_held Stood Stands drawn drawing kept_old kept_new waiting_old waiting_new leaves e ke at_now lt low is_open p feeds m_stood =
+taken-feed config making latest now m i k moment l joined left old new dropped dropping values piece is_held Stood Stands drawn drawing kept_old kept_new waiting_old waiting_new leaves e ke at_now lt low is_open p feeds m_stood =
     let place : get_or old i p.was ≡ p.was = get_or_from_slice_get old i p.was p.was p.at in
     let listed : is_listed m p.was ≡ true = listed-open m p.was ∙ ap is_none (is_open p.was p.at) in
     let there : IsThere m (situation (max moment latest) l old dropped values) = ap is_some (found-open m i p.was old (omega arith) lt place listed) in
-    let f = feeds (situation (max moment latest) l old dropped values) values (sym at_now) refl there m_stood in
+    let f = feeds (situation (max moment latest) l old dropped values) values (sym at_now) refl refl there m_stood in
     let i_is : i ≡ k = omega arith in
-    let t = follows-feed config making latest m i moment l p.was p.is old dropped dropping values piece is_held Stands drawn drawing (gathered (text_at old i) kept_old waiting_old) (gathered (text_at new i) kept_new waiting_new) (omega arith) lt place listed low f in
+    let t = follows-feed config making latest m i moment l joined p.was p.is old dropped dropping values piece is_held Stands drawn drawing (gathered (text_at old i) kept_old waiting_old) (gathered (text_at new i) kept_new waiting_new) (omega arith) lt place listed low f in
     subst (λ j. Takes config making (situation latest l old dropped values) (fed m piece moment) is_held (is_quit (closing_at new j)) Stands (situation now left new dropping) drawn drawing (gathered (text_at old j) kept_old waiting_old) (gathered (text_at new j) kept_new waiting_new)) i_is
     (subst (λ q. Takes config making (situation latest l old dropped values) (fed m piece moment) is_held (is_quit q) Stands (situation now left new dropping) drawn drawing (gathered (text_at old i) kept_old waiting_old) (gathered (text_at new i) kept_new waiting_new)) (sym (closing-is new i p.is (replaced-is old new i p)))
     (subst (λ n. Takes config making (situation latest l old dropped values) (fed m piece moment) is_held (is_quit p.is.closing) Stands (situation n left new dropping) drawn drawing (gathered (text_at old i) kept_old waiting_old) (gathered (text_at new i) kept_new waiting_new)) (sym at_now)
     (subst (λ cs. Takes config making (situation latest l old dropped values) (fed m piece moment) is_held (is_quit p.is.closing) Stands (situation (max moment latest) left cs dropping) drawn drawing (gathered (text_at old i) kept_old waiting_old) (gathered (text_at new i) kept_new waiting_new)) (sym p.set)
     (subst (λ u. Takes config making (situation latest l old dropped values) (fed m piece moment) is_held (is_quit p.is.closing) Stands (situation (max moment latest) u (slice_set old i p.is) dropping) drawn drawing (gathered (text_at old i) kept_old waiting_old) (gathered (text_at new i) kept_new waiting_new))
-    (sym (leaves ∙ ap (λ q. when_left (is_none q) m l) (closing-is new i p.is (replaced-is old new i p)))) t))))
+    (sym (leaves ∙ ap (λ q. when_left (is_none q) m joined) (closing-is new i p.is (replaced-is old new i p)))) t))))
 
 not-none : {X : Type 0} (xs : List X) (i : ℕ) → i < length xs → slice_get xs i ≡ None → ⊥
 not-none [] i lt e = omega arith

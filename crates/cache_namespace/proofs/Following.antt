@@ -110,11 +110,11 @@ listed-open m c = go c.closing c.standing c.unread.bytes c.short c.near
     go None now.Waiting bytes h near = ap not (not-behind (length (behind_lines 1 bytes)) near)
 
 -- a feed's record follows
-pub follows-feed : (config : Config) (making : Making) (latest m i moment : ℕ) (l : UnderWay) (old new : Connection) (cs : List Connection) (dropped dropping : Bool) (x : List HeldValue) (piece : List ℕ) (is_held : Bool) (Stands : List HeldValue → Type 0) (drawn drawing : Workings) (was is : Gathered)
+pub follows-feed : (config : Config) (making : Making) (latest m i moment : ℕ) (l joined : UnderWay) (old new : Connection) (cs : List Connection) (dropped dropping : Bool) (x : List HeldValue) (piece : List ℕ) (is_held : Bool) (Stands : List HeldValue → Type 0) (drawn drawing : Workings) (was is : Gathered)
     → m ≡ suc i → i < length cs → get_or cs i old ≡ old → is_listed m old ≡ true → moment < 2 ^ 63
-    → FeedsConnection config (situation (max moment latest) l cs dropped x) m making x old piece new is_held Stands dropping drawn drawing was is
-    → Takes config making (situation latest l cs dropped x) (fed m piece moment) is_held (is_quit new.closing) Stands (situation (max moment latest) (when_left (is_none new.closing) m l) (slice_set cs i new) dropping) drawn drawing was is
-follows-feed config making latest m i moment l old new cs dropped dropping x piece is_held Stands drawn drawing was is e lt at listed low f =
+    → FeedsConnection config (situation (max moment latest) l cs dropped x) m making x old piece new is_held Stands dropping joined drawn drawing was is
+    → Takes config making (situation latest l cs dropped x) (fed m piece moment) is_held (is_quit new.closing) Stands (situation (max moment latest) (when_left (is_none new.closing) m joined) (slice_set cs i new) dropping) drawn drawing was is
+follows-feed config making latest m i moment l joined old new cs dropped dropping x piece is_held Stands drawn drawing was is e lt at listed low f =
     let s = situation latest l cs dropped x in
     let known = known-open latest m i l old cs dropped x e lt at listed in
     let found = found-open m i old cs e lt at listed in
@@ -130,7 +130,7 @@ follows-feed config making latest m i moment l old new cs dropped dropping x pie
           ∙ ap (λ o. after_steps config (option_map_or (λ c. with_connection false (record c { unread = c.unread ++ piece }) (situation (max moment latest) l cs dropped x)) o (situation (max moment latest) l cs dropped x))
           (tasks_to_feed m (option_map_or (λ (c : model.Connection). is_holding c.standing) o false)) f.steps) found
           ∙ ap (λ b. after_steps config (set_in (situation (max moment latest) l cs dropped x) x (with_piece piece (shown m old))) (tasks_to_feed m b) f.steps) (holding-shown m old)
-          ∙ f.after ∙ ap Some (put-situation (max moment latest) m i l old new cs dropping x f.left e lt at listed ∙ ap (λ b. situation (max moment latest) (when_left b m l) (slice_set cs i new) dropping f.left) (listed-open m new));
+          ∙ f.after ∙ ap Some (put-situation (max moment latest) m i joined old new cs dropping x f.left e lt at listed ∙ ap (λ b. situation (max moment latest) (when_left b m joined) (slice_set cs i new) dropping f.left) (listed-open m new));
       parted =
           ap (λ o. list_all (is_parted making.part_of) (accepted_values (placed_steps_in config (option_map_or (λ c. with_connection false (record c { unread = c.unread ++ piece }) (situation (max moment latest) l cs dropped x)) o (situation (max moment latest) l cs dropped x))
           (tasks_to_feed m (option_map_or (λ (c : model.Connection). is_holding c.standing) o false)) f.steps))) found

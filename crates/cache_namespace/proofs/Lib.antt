@@ -5,6 +5,7 @@ pub mod FeedTaken
 pub mod Following
 pub mod Framing
 pub mod Leaving
+pub mod LoadFeeds
 pub mod LoadTurns
 pub mod Places
 pub mod Placing

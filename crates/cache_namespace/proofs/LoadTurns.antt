@@ -111,7 +111,7 @@ placed-is config s task step c line action found due does =
 pub sends : (config : Config) (s : Situation) (key : List ℕ) → live_at config s.latest s.held key ≡ None → load_sent_by (view_in config s) (Running (says.Load key)) ≡ number_to_send key s.sent s.pending
 sends config s key none = ap (λ o. if is_some o || is_some (load_in s key) then None else Some (suc s.sent)) none
 
-abbrev step_waits : ℕ → List ℕ → Option ℕ → Step
+abbrev pub step_waits : ℕ → List ℕ → Option ℕ → Step
 step_waits conn line load = step_silent conn line load None []
 
 -- what it leaves, where it is a line, a held one, or one given up

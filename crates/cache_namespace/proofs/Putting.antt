@@ -16,6 +16,7 @@ use Rattle.cache_namespace.specs.Lines.{ArePartedIn, are_timely, ended, set_in, 
 use Rattle.cache_namespace.specs.Ordered.{OrdersSteps}
 use Rattle.cache_namespace.specs.Ran.{RanFeed, standing_with, with_piece}
 use Rattle.cache_namespace.specs.Shown.{put_in, put_parts, standing_as}
+use Rattle.cache_namespace.specs.Waiting.{UnderWay, with_under_way}
 use Rattle.cache_namespace.specs.Whole.{holds, waits}
 use Rattle.cache_namespace.specs.declared.standing.Standing.{Standing}
 use Rattle.cache_namespace.specs.declared.standing.Standing.TheVariants as now
@@ -51,12 +52,12 @@ stands-as number now.Held times bytes e = refl
 stands-as number now.Waiting times bytes e = let no : true ≡ false = e in cc
 
 -- the steps of a feed, with the connection as it is then
-pub feeds-to : (config : Config) (base : Situation) (number : ℕ) (making : Making) (values : List HeldValue) (old new : Connection) (piece : List ℕ) (quit is_held : Bool) (target : List HeldValue → Situation) (Stands : List HeldValue → Type 0) (dropped : Bool) (drawn drawing : Workings) (was is : Gathered)
+pub feeds-to : (config : Config) (base : Situation) (number : ℕ) (making : Making) (values : List HeldValue) (old new : Connection) (piece : List ℕ) (quit is_held : Bool) (target : List HeldValue → Situation) (Stands : List HeldValue → Type 0) (dropped : Bool) (loads : UnderWay) (drawn drawing : Workings) (was is : Gathered)
     → waits old.standing ≡ false
     → (r : RanFeed config base number making values (holds old.standing) old.waited old.unread.bytes piece quit is_held target Stands drawn drawing was is)
-    → ((left : List HeldValue) → target left ≡ put_in (with_drops dropped base) left number new) → quit ≡ is_quit new.closing
-    → FeedsConnection config base number making values old piece new is_held Stands dropped drawn drawing was is
-feeds-to config base number making values old new piece quit is_held target Stands dropped drawn drawing was is runs r puts ends =
+    → ((left : List HeldValue) → target left ≡ put_in (with_under_way loads (with_drops dropped base)) left number new) → quit ≡ is_quit new.closing
+    → FeedsConnection config base number making values old piece new is_held Stands dropped loads drawn drawing was is
+feeds-to config base number making values old new piece quit is_held target Stands dropped loads drawn drawing was is runs r puts ends =
     let at = stands-as number old.standing old.waited old.unread.bytes runs in
     let tasks = tasks_to_feed number (holds old.standing) in
     record {

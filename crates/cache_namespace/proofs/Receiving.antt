@@ -21,6 +21,7 @@ use Rattle.cache_namespace.specs.Making.{Making}
 use Rattle.cache_namespace.specs.Ran.{with_piece}
 use Rattle.cache_namespace.specs.Shown.{put_in, put_parts, shown, standing_as}
 use Rattle.cache_namespace.specs.Taken.{FeedsConnection, is_quit}
+use Rattle.cache_namespace.specs.Waiting.{UnderWay, loads_in, with_under_way}
 use Rattle.cache_namespace.specs.Whole.{has_line, held_line, holds, is_long_line, is_near, keeps_line, waits}
 use Rattle.cache_namespace.specs.declared.connection.Connection.{Connection}
 use Rattle.cache_namespace.specs.declared.standing.Standing.{Standing}
@@ -114,6 +115,15 @@ took-near base values number closing standing times bytes piece all n is_open e 
     ∙ put-open base values number closing now.Waiting times all is_open (not-above (length (behind_lines 1 all)) (omega arith))
     ∙ ap (λ st. put_parts base values number closing st times all) (sym e)
 
+-- the connection as it begins to wait, or closes
+pub put-behind : (base : Situation) (left : List HeldValue) (number times : ℕ) (rest bytes : List ℕ) → 8192 < length (behind_lines 1 rest)
+    → set_in base left (standing_as number now.Waiting times rest) ≡ put_parts base left number (Some by.Behind) now.Ready 0 bytes
+put-behind base left number times rest bytes long = put-long base left number by.Behind now.Ready 0 bytes (standing_as number now.Waiting times rest) refl (lt-ltb 8192 (length (behind_lines 1 rest)) long)
+
+pub put-near : (base : Situation) (left : List HeldValue) (number : ℕ) (closing : Option Closing) (times : ℕ) (rest : List ℕ) → closing ≡ None → length (behind_lines 1 rest) ≤ 8192
+    → set_in base left (standing_as number now.Waiting times rest) ≡ put_parts base left number closing now.Waiting times rest
+put-near base left number closing times rest is_open near = put-open base left number closing now.Waiting times rest is_open (not-above (length (behind_lines 1 rest)) near)
+
 -- ---- its record
 
 -- the tasks that are due while lines may run or not
@@ -121,11 +131,11 @@ abbrev due_if : Bool → ℕ → List Task
 due_if may number = if may then RunLines number ∷ [] else []
 
 -- no line runs
-pub feeds-waiting : (config : Config) (base : Situation) (number : ℕ) (making : Making) (values : List HeldValue) (old new : Connection) (piece : List ℕ) (Stands : List HeldValue → Type 0) (dropped : Bool) (drawn : Workings) (was is : Gathered)
-    → IsThere number base → base.dropped ≡ dropped → old.standing ≡ now.Waiting → Stands values → is_quit new.closing ≡ false → is ≡ was
+pub feeds-waiting : (config : Config) (base : Situation) (number : ℕ) (making : Making) (values : List HeldValue) (old new : Connection) (piece : List ℕ) (Stands : List HeldValue → Type 0) (dropped : Bool) (loads : UnderWay) (drawn : Workings) (was is : Gathered)
+    → IsThere number base → base.dropped ≡ dropped → loads_in base ≡ loads → old.standing ≡ now.Waiting → Stands values → is_quit new.closing ≡ false → is ≡ was
     → ((b : Situation) (v : List HeldValue) (n : ℕ) → set_in b v (with_piece piece (shown n old)) ≡ put_in b v n new)
-    → FeedsConnection config base number making values old piece new false Stands dropped drawn drawn was is
-feeds-waiting config base number making values old new piece Stands dropped drawn was is there same e stands stays gathers took =
+    → FeedsConnection config base number making values old piece new false Stands dropped loads drawn drawn was is
+feeds-waiting config base number making values old new piece Stands dropped loads drawn was is there same under e stands stays gathers took =
     let line = held_line old.unread.bytes in
     let behind = behind_lines 1 old.unread.bytes ++ piece in
     let s = set_in base values (with_piece piece (standing_as number now.Waiting old.waited old.unread.bytes)) in
@@ -138,7 +148,8 @@ feeds-waiting config base number making values old new piece Stands dropped draw
           ∙ ap (λ b. if is_empty (due_if b number) then Some s else None) (stops-waiting base values number line behind old.waited there)
           ∙ ap (λ st. Some (set_in base values (with_piece piece (standing_as number st old.waited old.unread.bytes)))) (sym e)
           ∙ ap Some (took base values number)
-          ∙ ap (λ d. Some (put_in (with_drops d base) values number new)) same;
+          ∙ ap (λ d. Some (put_in (with_drops d base) values number new)) same
+          ∙ ap (λ u. Some (put_in (with_under_way u (with_drops dropped base)) values number new)) under;
       parted = refl;
       timely = refl;
       ends = refl;

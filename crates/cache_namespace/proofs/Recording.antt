@@ -46,7 +46,7 @@ ran-kept config s number line copy old_text new_text last_text accepted quit bef
       accepted = accepted;
       told = a.told;
       right = a.right;
-      plain = plain s (step_saying number line a.reply accepted a.told);
+      plain = plain s number a.reply accepted a.told;
       says = says;
       parted = parted s (step_saying number line a.reply accepted a.told) refl;
       left = stays _ a.left;
@@ -79,7 +79,7 @@ ran-loose config s number line old_text new_text accepted quit waiting drained p
       accepted = accepted;
       told = a.told;
       right = a.right;
-      plain = plain s (step_saying number line a.reply accepted a.told);
+      plain = plain s number a.reply accepted a.told;
       says = says;
       parted = parted s (step_saying number line a.reply accepted a.told) refl;
       left = a.left;

@@ -2,14 +2,13 @@
 use Rattle.std.proofs.Common.{◌≡◌, ℕ, Bool, true, false, ◌||◌, List, [], Option, Some, None, if◌then◌else◌, refl, ap, ◌∙◌}
 use Rattle.std.specs.Option.{option_map_or}
 use Rattle.std.proofs.lemmas.Bool.{and_from}
-use Rattle.audit_model.specs.Changes.{after_step, join_by, join_load, connection_after}
+use Rattle.audit_model.specs.Changes.{after_step, join_load, connection_after}
 use Rattle.audit_model.specs.Commands.{drops, quits}
 use Rattle.audit_model.specs.History.{Effect}
-use Rattle.audit_model.specs.Loads.{key_loaded}
 use Rattle.audit_model.specs.Situation.{Situation, Connection, HeldValue, Ready, Held, view_in, connection_in, with_connection, is_overlong}
 use Rattle.audit_model.specs.Steps.{Task, RunLines, RunHeld, action_by, effect_in, is_right, is_in_turn, is_held_rightly}
 use Rattle.audit_model.specs.Grammar.{reading}
-use Rattle.audit_model.specs.Stream.{is_waiting, behind_lines}
+use Rattle.audit_model.specs.Stream.{behind_lines}
 use Rattle.audit_model.specs.declared.config.Config.{Config}
 use Rattle.audit_model.specs.declared.transcript.Accepted.{Accepted}
 use Rattle.audit_model.specs.declared.transcript.Note.{Note}
@@ -33,7 +32,7 @@ right-in-turn config s task conn line reply accepted told r turn =
 
 -- a plain step puts its connection in its place again, or closes it
 pub placed-again : (base : Situation) (held left : List HeldValue) (n : ℕ) (c d : Connection) (effect : Effect) (after : Connection → Connection) (quit : Bool)
-    → IsThere n base → is_overlong (numbered n c) ≡ false → quits effect ≡ quit → key_loaded effect.action ≡ None → after (numbered n c) ≡ numbered n d
+    → IsThere n base → is_overlong (numbered n c) ≡ false → quits effect ≡ quit → ((s : Situation) → join_load n effect s ≡ s) → after (numbered n c) ≡ numbered n d
     → (let s = record (set_in base held (numbered n c)) { held = left; dropped = base.dropped || drops effect } in
     option_map_or (λ k. with_connection (quits effect) (after k) (join_load n effect s)) (connection_in n s) s)
     ≡ ended quit (with_drops (base.dropped || drops effect) base) left (numbered n d)
@@ -42,7 +41,7 @@ placed-again base held left n c d effect after quit there fits stays alone e =
     let s = record put { held = left; dropped = base.dropped || drops effect } in
     ap (λ o. option_map_or (λ k. with_connection (quits effect) (after k) (join_load n effect s)) o s) (found-there base held n c there fits)
     ∙ ap (λ b. with_connection b (after (numbered n c)) (join_load n effect s)) stays
-    ∙ ap (λ key. with_connection quit (after (numbered n c)) (join_by n (is_waiting effect) key effect.load s)) alone
+    ∙ ap (λ k. with_connection quit (after (numbered n c)) k) (alone s)
     ∙ ap (λ k. with_connection quit k s) e
     ∙ ended-again (with_drops (base.dropped || drops effect) base) held left n c d quit fits
 
@@ -64,7 +63,7 @@ after-line config base held n c line reply accepted told quit there fits plain =
     let s = set_in base held (numbered n c) in
     let effect = effect_saying config s n line reply accepted told in
     placed-again base held (held_when_run config s (action_by (reading config line)) (step_saying n line reply accepted told)) n c (beyond c) effect
-    (connection_after (Some (RunLines n)) (step_saying n line reply accepted told) effect) quit there fits plain.quits plain.loads
+    (connection_after (Some (RunLines n)) (step_saying n line reply accepted told) effect) quit there fits plain.quits (plain.loads n)
     (ap (λ b. record { number = n; unread = behind_lines 1 c.unread; standing = if b then Held line else Ready; waited = 0 }) plain.stays)
 
 -- what a plain step of a held command leaves of the situation
@@ -77,5 +76,5 @@ after-held config base held n c line reply accepted told quit there fits plain =
     let s = set_in base held (numbered n c) in
     let effect = effect_saying config s n line reply accepted told in
     placed-again base held (held_when_run config s (action_by (reading config line)) (step_saying n line reply accepted told)) n c (released c) effect
-    (connection_after (Some (RunHeld n)) (step_saying n line reply accepted told) effect) quit there fits plain.quits plain.loads
+    (connection_after (Some (RunHeld n)) (step_saying n line reply accepted told) effect) quit there fits plain.quits (plain.loads n)
     (ap (λ b. record { number = n; unread = c.unread; standing = if b then Held line else Ready; waited = 0 }) plain.stays)

@@ -1,4 +1,5 @@
 pub mod Drawing
+pub mod Ends
 pub mod Gathered
 pub mod Kept
 pub mod Lines

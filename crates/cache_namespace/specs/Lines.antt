@@ -6,10 +6,9 @@ use Rattle.audit_laws.specs.Leading.{is_parted}
 use Rattle.audit_laws.specs.Placing.{placed_steps_in}
 use Rattle.audit_model.specs.Commands.{quits, syncs}
 use Rattle.audit_model.specs.Follows.{placed_step_in}
-use Rattle.audit_model.specs.Changes.{after_step}
+use Rattle.audit_model.specs.Changes.{after_step, join_load}
 use Rattle.audit_model.specs.Grammar.{Reading, reading}
 use Rattle.audit_model.specs.History.{Effect}
-use Rattle.audit_model.specs.Loads.{key_loaded}
 use Rattle.audit_model.specs.Obeys.{accepted_values}
 use Rattle.audit_model.specs.Places.{due, first_due, left_after}
 use Rattle.audit_model.specs.Situation.{Situation, Connection, HeldValue, Ready, Held, connection_in, may_run_in, with_connection, without_connection}
@@ -78,11 +77,11 @@ Runs config number making s (step ∷ steps) t =
     × IsTrue (is_timely_after config making.made (placed_in config number s step) (after_step config s (Some (RunLines number)) step (placed_in config number s step)))
     × Runs config number making (after_step config s (Some (RunLines number)) step (placed_in config number s step)) steps t
 
--- a step that does nothing but to values, and may close its connection
+-- a step that does nothing but to values, and may close its connection; it joins no load
 pub record IsPlain (effect : Effect) (quit : Bool) : Type 0 where
   pub stays : is_held effect ≡ false
   pub quits : quits effect ≡ quit
-  pub loads : key_loaded effect.action ≡ None
+  pub loads : (conn : ℕ) (s : Situation) → join_load conn effect s ≡ s
 
 -- the line is a `QUIT`
 abbrev pub says_quit : Reading → Bool

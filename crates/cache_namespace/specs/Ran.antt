@@ -1,5 +1,5 @@
 -- What one line did.
-use Rattle.std.specs.Prelude.{◌≡◌, ℕ, suc, Bool, false, not, ◌||◌, List, [], ◌∷◌, ◌++◌, Option, Some, IsTrue, if◌then◌else◌}
+use Rattle.std.specs.Prelude.{◌≡◌, ℕ, suc, Bool, false, not, ◌||◌, List, [], ◌∷◌, ◌++◌, Option, Some, None, Ok, IsTrue, if◌then◌else◌}
 use Rattle.std.specs.List.{list_all}
 use Rattle.audit_model.specs.Follows.{after_steps}
 use Rattle.audit_model.specs.Places.{tasks_to_feed}
@@ -7,8 +7,9 @@ use Rattle.audit_model.specs.Stream.{behind_lines}
 use Rattle.cache_namespace.specs.Whole.{held_line}
 use Rattle.audit_model.specs.Commands.{is_sync}
 use Rattle.audit_model.specs.Grammar.{reading}
-use Rattle.audit_model.specs.Situation.{Situation, Connection, HeldValue, Ready, Held, view_in}
+use Rattle.audit_model.specs.Situation.{Situation, Connection, HeldValue, Ready, Held, live_at, view_in}
 use Rattle.audit_model.specs.Steps.{RunLines, action_by, effect_in}
+use Rattle.audit_model.specs.declared.command.Command.TheVariants as says
 use Rattle.audit_model.specs.declared.config.Config.{Config}
 use Rattle.audit_model.specs.declared.transcript.Accepted.{Accepted}
 use Rattle.audit_model.specs.declared.transcript.Note.{Note}
@@ -41,9 +42,17 @@ pub record RanOne (config : Config) (s : Situation) (number : ℕ) (making : Mak
       × HasKeys (order_by (suc places) (reading config line) order) (held_when_run config s (action_by (reading config line)) (step_saying 0 [] reply accepted told))
   pub gathered : new ≡ gather old (step_saying number line reply accepted told ∷ [])
 
--- the step does nothing but to values, and closes its connection or not, whatever is seen and told
+-- a step with a reply does nothing but to values, and closes its connection or not, whatever is seen and told
 abbrev pub IsPlainLine : Config → List ℕ → Bool → Type 0
-IsPlainLine config line quit = (s : Situation) (step : Step) → IsPlain (effect_in config (view_in config s) (action_by (reading config line)) step) quit
+IsPlainLine config line quit =
+    (s : Situation) (conn : ℕ) (reply : List ℕ) (accepted : Option Accepted) (told : List Note)
+    → IsPlain (effect_in config (view_in config s) (action_by (reading config line)) (step_saying conn line reply accepted told)) quit
+
+-- the line is a `LOAD` of a key that has no live value
+pub record Misses (config : Config) (now : ℕ) (line : List ℕ) (Stands : List HeldValue → Type 0) : Type 0 where
+  pub key : List ℕ
+  pub reads : reading config line ≡ Ok (says.Load key)
+  pub none : (held : List HeldValue) → Stands held → live_at config now held key ≡ None
 
 -- the value that the step accepts, if any, stands in its key's part, whatever is seen and told
 abbrev pub HasItsPart : Config → (List ℕ → ℕ) → List ℕ → Option Accepted → Type 0

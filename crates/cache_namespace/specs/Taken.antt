@@ -25,7 +25,7 @@ use Rattle.cache_namespace.specs.Ordered.{OrdersSteps}
 use Rattle.cache_namespace.specs.Lines.{ArePartedIn, are_timely, ends_quit, set_in, with_drops}
 use Rattle.cache_namespace.specs.Ran.{ends_held, with_piece}
 use Rattle.cache_namespace.specs.Shown.{shown, put_in, situation}
-use Rattle.cache_namespace.specs.Waiting.{UnderWay, no_loads}
+use Rattle.cache_namespace.specs.Waiting.{UnderWay, no_loads, with_under_way}
 use Rattle.cache_namespace.specs.Whole.{holds}
 use Rattle.cache_namespace.specs.declared.connection.Connection.{Connection}
 
@@ -42,11 +42,11 @@ is_quit (Some by.Quit) = true
 is_quit other = false
 
 -- The steps of a connection's feed ran, and may have closed it.
-pub record FeedsConnection (config : Config) (base : Situation) (number : ℕ) (making : Making) (values : List HeldValue) (old : Connection) (piece : List ℕ) (new : Connection) (is_held : Bool) (Stands : List HeldValue → Type 0) (dropped : Bool) (drawn drawing : Workings) (was is : Gathered) : Type 0 where
+pub record FeedsConnection (config : Config) (base : Situation) (number : ℕ) (making : Making) (values : List HeldValue) (old : Connection) (piece : List ℕ) (new : Connection) (is_held : Bool) (Stands : List HeldValue → Type 0) (dropped : Bool) (loads : UnderWay) (drawn drawing : Workings) (was is : Gathered) : Type 0 where
   pub steps : List Step
   pub left : List HeldValue
   pub stands : Stands left
-  pub after : after_steps config (set_in base values (with_piece piece (shown number old))) (tasks_to_feed number (holds old.standing)) steps ≡ Some (put_in (with_drops dropped base) left number new)
+  pub after : after_steps config (set_in base values (with_piece piece (shown number old))) (tasks_to_feed number (holds old.standing)) steps ≡ Some (put_in (with_under_way loads (with_drops dropped base)) left number new)
   pub parted : ArePartedIn config making.part_of (set_in base values (with_piece piece (shown number old))) (tasks_to_feed number (holds old.standing)) steps
   pub timely : IsTrue (are_timely config making.made (set_in base values (with_piece piece (shown number old))) (tasks_to_feed number (holds old.standing)) steps)
   pub ends : ends_held steps ≡ is_held

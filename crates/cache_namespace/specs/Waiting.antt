@@ -1,7 +1,9 @@
 -- Connections whose `LOAD` waits, and the loads under way.
-use Rattle.std.specs.Prelude.{ℕ, Bool, true, false, List, [], map}
+use Rattle.std.specs.Prelude.{◌≡◌, ℕ, Bool, true, false, List, [], map, Option, Ok}
+use Rattle.audit_model.specs.Grammar.{Reading}
+use Rattle.audit_model.specs.declared.command.Command.TheVariants as says
 use Rattle.audit_model.specs.Situation.{Situation, Connection, PendingLoad, Held, Waiting, without_waiting}
-use Rattle.cache_loads.specs.Pending.{pending_of, sent_of}
+use Rattle.cache_loads.specs.Pending.{number_to_send, pending_of, sent_of, when_joined, when_sent}
 use Rattle.cache_loads.specs.declared.loads.Loads.{Loads}
 
 -- a connection whose `LOAD` waits, with those bytes unread behind it; how often it began to wait
@@ -32,3 +34,24 @@ under_way loads = record { sent = sent_of loads; pending = pending_of loads }
 abbrev pub when_left : Bool → ℕ → UnderWay → UnderWay
 when_left true number loads = loads
 when_left false number loads = record { sent = loads.sent; pending = map (without_waiting number) loads.pending }
+
+-- those of a situation
+abbrev pub loads_in : Situation → UnderWay
+loads_in s = record { sent = s.sent; pending = s.pending }
+
+-- the situation, but with those loads under way
+abbrev pub with_under_way : UnderWay → Situation → Situation
+with_under_way loads s = with_loads loads.sent loads.pending s
+
+-- the line is a `LOAD`
+abbrev pub is_load : Reading → Bool
+is_load (Ok (says.Load key)) = true
+is_load reading = false
+
+-- the number of the load that a connection sends which begins to wait for that key: none where the key's load is under way
+abbrev pub sent_by : List ℕ → UnderWay → Option ℕ
+sent_by key loads = number_to_send key loads.sent loads.pending
+
+-- the loads when the connection waits for the key's load, which it sends where none is under way
+abbrev pub when_waiting : ℕ → List ℕ → UnderWay → UnderWay
+when_waiting conn key loads = record { sent = when_sent (sent_by key loads) loads.sent; pending = when_joined conn key (sent_by key loads) loads.pending }

@@ -1,5 +1,5 @@
 //! A piece of a connection's bytes, and the lines that it lets run.
-ghost use Rattle.std.specs.Prelude.{◌≡◌, ◌<◌, ◌≤◌, ◌^◌, ◌++◌, ◌∷◌, ◌||◌, [], true, not, Bool, List, ℕ, IfOk, OnErr, IsErrOf, IsTrue, length};
+ghost use Rattle.std.specs.Prelude.{◌≡◌, ◌<◌, ◌≤◌, ◌^◌, ◌++◌, ◌∷◌, ◌||◌, [], true, not, Bool, List, ℕ, IfOk, OnErr, IsErrOf, IsTrue, length, vec_len, vec_capacity};
 ghost use Rattle.audit_model.specs.Situation.{Situation, HeldValue};
 ghost use Rattle.audit_model.specs.declared.transcript.Note.{Note};
 ghost use Rattle.cache_store.specs.Identifiers.{DrawsAlone};
@@ -10,17 +10,37 @@ ghost use Rattle.cache_steps.specs.Right.{KeepsFrame};
 ghost use Rattle.cache_namespace.specs.Gathered.{IsFresh, gather};
 ghost use Rattle.cache_namespace.specs.Kept.{IsReadyToHold, gathered};
 ghost use Rattle.cache_namespace.specs.Making.{making_of};
-ghost use Rattle.cache_namespace.specs.Lines.{IsThere, ended, held_step, with_drops};
-ghost use Rattle.cache_namespace.specs.Ran.{RanReady, RanFeed, standing_with};
-ghost use Rattle.cache_namespace.specs.Stops.{StopsFor, holds_back, is_quit};
-ghost use Rattle.cache_namespace.specs.Whole.{has_line};
+ghost use Rattle.cache_namespace.specs.Lines.{IsThere, held_step};
+ghost use Rattle.cache_namespace.specs.Ends.{left_by};
+ghost use Rattle.cache_namespace.specs.Waiting.{loads_in, under_way};
+ghost use Rattle.cache_loads.specs.Pending.{SameLoads};
+ghost use Rattle.cache_namespace.specs.Ran.{RanReady, RanFeed};
+ghost use Rattle.cache_namespace.specs.Stops.{EndsFor, ends_by_quit, holds_back, standing_at};
+ghost use Rattle.cache_namespace.specs.Whole.{has_line, has_room, waits};
 
+use crate::joining::join_first;
 use crate::kept::Kept;
-use crate::lines::{Stop, release, run_lines};
+use crate::lines::{Done, Stop, release, run_lines};
 use audit_model::Config;
 use cache_lines::Buffer;
+use cache_loads::Loads;
 use cache_store::Store;
 use std::alloc::Global;
+
+/// How a feed ends.
+#[derive(Clone, Copy, PartialEq, Eq, Drop)]
+pub enum End {
+    /// Less than a line is left.
+    More,
+    /// The line is longer than a line may be.
+    TooLong,
+    /// The first unread line is held back.
+    Held,
+    /// The first unread line is a `LOAD` that waits, and began to do so that often.
+    Waits(u64),
+    /// A `QUIT` ran.
+    Quit,
+}
 
 /// Why a feed took nothing.
 #[derive(Clone, Copy, Debug, PartialEq, Eq, Drop)]
@@ -43,37 +63,50 @@ fn hold_back(kept: &mut Option<Kept>, alloc: Global, number: u64, line: &[u8])
     }
 }
 
-/// Takes a piece for a connection that is ready and runs its lines, and holds the line back for which memory was wanted.
+/// Takes a piece for a connection that is ready and runs its lines, and holds the line back for which memory was wanted. A `LOAD` of a
+/// key that has no live value waits.
 pub fn run_ready<S: Store>(
     store: &mut S,
     alloc: Global,
     config: &Config,
     now: u64,
     number: u64,
+    loads: &mut Loads,
     unread: &mut Buffer,
     text: &mut Vec<u8>,
+    spare: &mut Vec<u8>,
     piece: &[u8],
     kept: &mut Option<Kept>,
-) -> Stop
+) -> End
     requires config { (S.frame store.old).config ≡ config.now }
     requires in_time { (S.frame store.old).latest ≤ now }
     requires moment { now < 2 ^ 63 }
     requires fresh { IsFresh (gathered text.old.items kept.old (S.untaken store.old)) }
     requires ready { IsReadyToHold kept.old }
     requires room { length piece.now ≤ unread.old.room }
-    ensures ran { (base : Situation) (held : List HeldValue) → base.latest ≡ now → base.dropped ≡ (S.frame store.old).dropped → IsThere number base → S.stands store.old held → RanReady config.now base number (making_of (S.frame store.old)) held (unread.old.bytes ++ piece.now) (is_quit result) (holds_back result) (λ left. ended (is_quit result) (with_drops (S.frame store.new).dropped base) left (standing_with number (holds_back result) 0 unread.new.bytes)) (S.stands store.new) (workings (S.stream store.old) (S.registered store.old) (S.recency store.old)) (workings (S.stream store.new) (S.registered store.new) (S.recency store.new)) (gathered text.old.items kept.old (S.untaken store.old)) (gathered text.new.items kept.new (S.untaken store.new)) }
-    ensures stops { StopsFor result unread.new.bytes }
+    ensures ran { (base : Situation) (held : List HeldValue) → base.latest ≡ now → base.dropped ≡ (S.frame store.old).dropped → loads_in base ≡ under_way loads.old → IsThere number base → S.stands store.old held → RanReady config.now base number (making_of (S.frame store.old)) held (unread.old.bytes ++ piece.now) (ends_by_quit result) (holds_back result) (left_by number base (S.frame store.new).dropped (under_way loads.new) result unread.new.bytes) (S.stands store.new) (workings (S.stream store.old) (S.registered store.old) (S.recency store.old)) (workings (S.stream store.new) (S.registered store.new) (S.recency store.new)) (gathered text.old.items kept.old (S.untaken store.old)) (gathered text.new.items kept.new (S.untaken store.new)) }
+    ensures ends { EndsFor result unread.new.bytes }
+    ensures room { waits (standing_at result) ≡ true → IsTrue (has_room (vec_len text.new) (vec_capacity text.new) (vec_len spare.new) (vec_capacity spare.new)) }
     ensures frame { KeepsFrame (S.frame store.old) (S.frame store.new) now }
     ensures fresh { IsFresh (gathered text.new.items kept.new (S.untaken store.new)) }
 {
     unread.append(piece);
     match run_lines(store, alloc, config, now, number, unread, text, kept) {
-        Stop::More => Stop::More,
-        Stop::TooLong => Stop::TooLong,
-        Stop::Quit => Stop::Quit,
+        Stop::More => End::More,
+        Stop::TooLong => End::TooLong,
+        Stop::Quit => End::Quit,
         Stop::Held(len) => {
             hold_back(kept, alloc, number, unread.line(len));
-            Stop::Held(len)
+            End::Held
+        }
+        Stop::Misses(len) => {
+            match join_first(loads, alloc, config, number, unread, text, spare, kept) {
+                Ok(()) => End::Waits(1),
+                Err(_) => {
+                    hold_back(kept, alloc, number, unread.line(len));
+                    End::Held
+                }
+            }
         }
     }
 }
@@ -86,19 +119,24 @@ pub fn feed_lines<S: Store>(
     now: u64,
     number: u64,
     held: bool,
+    waited: u64,
+    loads: &mut Loads,
     unread: &mut Buffer,
     text: &mut Vec<u8>,
+    spare: &mut Vec<u8>,
     piece: &[u8],
     kept: &mut Option<Kept>,
-) -> Result<Stop, FeedError>
+) -> Result<End, FeedError>
     requires config { (S.frame store.old).config ≡ config.now }
     requires in_time { (S.frame store.old).latest ≤ now }
     requires moment { now < 2 ^ 63 }
     requires fresh { IsFresh (gathered text.old.items kept.old (S.untaken store.old)) }
     requires ready { IsReadyToHold kept.old }
     requires whole { IsTrue (not held || has_line unread.old.bytes) }
-    ensures ran { IfOk result (λ stop. (base : Situation) (values : List HeldValue) (times : ℕ) → base.latest ≡ now → base.dropped ≡ (S.frame store.old).dropped → IsThere number base → S.stands store.old values → RanFeed config.now base number (making_of (S.frame store.old)) values held times unread.old.bytes piece.now (is_quit stop) (holds_back stop) (λ left. ended (is_quit stop) (with_drops (S.frame store.new).dropped base) left (standing_with number (holds_back stop) 0 unread.new.bytes)) (S.stands store.new) (workings (S.stream store.old) (S.registered store.old) (S.recency store.old)) (workings (S.stream store.new) (S.registered store.new) (S.recency store.new)) (gathered text.old.items kept.old (S.untaken store.old)) (gathered text.new.items kept.new (S.untaken store.new))) }
-    ensures stops { IfOk result (λ stop. StopsFor stop unread.new.bytes) }
+    requires few { waited < 200 }
+    ensures ran { IfOk result (λ end. (base : Situation) (values : List HeldValue) → base.latest ≡ now → base.dropped ≡ (S.frame store.old).dropped → loads_in base ≡ under_way loads.old → IsThere number base → S.stands store.old values → RanFeed config.now base number (making_of (S.frame store.old)) values held waited unread.old.bytes piece.now (ends_by_quit end) (holds_back end) (left_by number base (S.frame store.new).dropped (under_way loads.new) end unread.new.bytes) (S.stands store.new) (workings (S.stream store.old) (S.registered store.old) (S.recency store.old)) (workings (S.stream store.new) (S.registered store.new) (S.recency store.new)) (gathered text.old.items kept.old (S.untaken store.old)) (gathered text.new.items kept.new (S.untaken store.new))) }
+    ensures ends { IfOk result (λ end. EndsFor end unread.new.bytes) }
+    ensures room { IfOk result (λ end. waits (standing_at end) ≡ true → IsTrue (has_room (vec_len text.new) (vec_capacity text.new) (vec_len spare.new) (vec_capacity spare.new))) }
     ensures frame { KeepsFrame (S.frame store.old) (S.frame store.new) now }
     ensures fresh { IsFresh (gathered text.new.items kept.new (S.untaken store.new)) }
     ensures unread { OnErr result (unread.new.bytes ≡ unread.old.bytes) }
@@ -106,17 +144,31 @@ pub fn feed_lines<S: Store>(
     ensures unchanged { OnErr result (IsUnchanged (S.stands store.old) (S.stands store.new) (S.frame store.old) (S.frame store.new) (S.untaken store.old) (S.untaken store.new)) }
     ensures spends { OnErr result (DrawsAlone (S.stream store.old) (S.stream store.new) (S.registered store.old) (S.registered store.new)) }
     ensures ungathered { OnErr result (gathered text.new.items kept.new (S.untaken store.new) ≡ gathered text.old.items kept.old (S.untaken store.old)) }
+    ensures same { OnErr result (SameLoads loads.old loads.new) }
     ensures again { IsErrOf result FeedError.HeldAgain → held ≡ true }
 {
     if unread.reserve(piece.len()).is_err() {
         return Err(FeedError::OutOfMemory);
     }
     if !held {
-        return Ok(run_ready(store, alloc, config, now, number, unread, text, piece, kept));
+        return Ok(run_ready(
+            store, alloc, config, now, number, loads, unread, text, spare, piece, kept,
+        ));
     }
     match release(store, alloc, config, now, number, unread, text, kept) {
-        Ok(false) => Ok(run_ready(store, alloc, config, now, number, unread, text, piece, kept)),
-        Ok(true) => Ok(Stop::Quit),
+        Ok(Done::Stays) => Ok(run_ready(
+            store, alloc, config, now, number, loads, unread, text, spare, piece, kept,
+        )),
+        Ok(Done::Quits) => Ok(End::Quit),
+        Ok(Done::Misses) => match join_first(
+            loads, alloc, config, number, unread, text, spare, kept,
+        ) {
+            Ok(()) => {
+                unread.append(piece);
+                Ok(End::Waits(waited + 1))
+            }
+            Err(_) => Err(FeedError::HeldAgain),
+        },
         Err(_) => Err(FeedError::HeldAgain),
     }
 }

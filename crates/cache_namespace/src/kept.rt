@@ -3,6 +3,7 @@ ghost use Rattle.std.specs.Prelude.{◌≡◌, ◌<◌, ◌≤◌, ◌+◌, ◌+
 ghost use Rattle.audit_model.specs.declared.transcript.Step.{Step as Ran};
 ghost use Rattle.cache_namespace.specs.Kept.{IsReady};
 ghost use Rattle.cache_namespace.specs.Lines.{held_step};
+ghost use Rattle.cache_steps.specs.Loading.{step_silent};
 ghost use Rattle.cache_steps.specs.Right.{step_saying};
 
 use audit_model::{Accepted, Note, Seq, Step};
@@ -72,6 +73,27 @@ impl Kept {
             reply: Some(Seq::from_vec(reply)),
             load: None,
             accepted,
+            notices: Seq::from_vec(notes),
+        };
+        push_within(&mut self.steps, step);
+    }
+
+    /// Adds the step of a `LOAD` that begins to wait, with the number of the load that it sent, if any.
+    pub fn end_waiting(&mut self, alloc: Global, draft: Draft, conn: u64, load: Option<u64>)
+        requires room { vec_len self.old.steps + 2 ≤ vec_capacity self.old.steps }
+        requires ready { IsReady self.old }
+        requires silent { draft.notes.items ≡ [] }
+        ensures steps { self.new.steps.items ≡ self.old.steps.items ++ step_silent conn draft.line.items load None [] ∷ [] }
+        ensures ready { IsReady self.new }
+    {
+        let Draft { line, notes } = draft;
+        let step = Step {
+            conn,
+            line: Seq::from_vec(line),
+            held: false,
+            reply: None,
+            load,
+            accepted: None,
             notices: Seq::from_vec(notes),
         };
         push_within(&mut self.steps, step);

@@ -3,6 +3,7 @@
 
 mod connection;
 mod feeding;
+mod joining;
 mod kept;
 mod lines;
 mod namespace;
@@ -10,8 +11,8 @@ mod standing;
 mod waiting;
 
 pub use connection::Connection;
-pub use feeding::run_ready;
+pub use feeding::{End, run_ready};
 pub use kept::Kept;
-pub use lines::Stop;
 pub use namespace::Namespace;
 pub use standing::Standing;
+pub use waiting::close_where_behind;

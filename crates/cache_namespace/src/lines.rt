@@ -1,5 +1,5 @@
 //! A connection's lines, run one after another.
-ghost use Rattle.std.specs.Prelude.{◌||◌, not, ◌≡◌, ◌<◌, ◌≤◌, ◌^◌, ◌+◌, ◌++◌, ◌∷◌, [], IfOk, OnOk, OnErr, IsSome, List, length, option_map, codes, true, vec_len, vec_capacity};
+ghost use Rattle.std.specs.Prelude.{◌||◌, not, ◌≡◌, ◌<◌, ◌≤◌, ◌^◌, ◌+◌, ◌++◌, ◌∷◌, [], IfOk, OnOk, OnErr, IsSome, List, length, option_map, codes, true, false, vec_len, vec_capacity};
 ghost use Rattle.std.specs.List.{list_all};
 ghost use Rattle.audit_model.specs.Commands.{is_sync};
 ghost use Rattle.audit_model.specs.Grammar.{reading};
@@ -19,8 +19,8 @@ ghost use Rattle.cache_namespace.specs.Gathered.{IsFresh};
 ghost use Rattle.cache_namespace.specs.Kept.{IsReadyToHold, gathered};
 ghost use Rattle.cache_namespace.specs.Making.{making_of};
 ghost use Rattle.cache_namespace.specs.Lines.{IsThere, says_quit};
-ghost use Rattle.cache_namespace.specs.Ran.{RanOne, RanLines, IsPlainLine, HasItsPart};
-ghost use Rattle.cache_namespace.specs.Stops.{StopsFor, is_quit};
+ghost use Rattle.cache_namespace.specs.Ran.{RanOne, RanLines, IsPlainLine, HasItsPart, Misses};
+ghost use Rattle.cache_namespace.specs.Stops.{StopsFor, is_quit, is_miss, quits_now, misses_now};
 ghost use Rattle.cache_namespace.specs.Whole.{has_line, held_line};
 ghost use Rattle.audit_model.specs.Stream.{behind_lines};
 ghost use Rattle.std.specs.Prelude.{IsTrue};
@@ -28,15 +28,17 @@ ghost use Rattle.std.specs.Prelude.{IsTrue};
 use crate::kept::Kept;
 use audit_model::{Accepted, Config, Note};
 use cache_lines::{Buffer, Next, Request, read_line};
-use cache_steps::{add, clear, del, drop_prefix, fault, get, has, keys, quit, set, sync};
+use cache_steps::{add, clear, del, drop_prefix, fault, get, has, keys, load, quit, set, sync};
 use cache_store::Store;
 use std::alloc::{AllocError, Global};
 
-/// What a line did besides its reply: which part took its value, and whether it closes its connection.
+/// What a line did besides its reply: which part took its value, and whether it closes its connection; or that it is a `LOAD` of a key
+/// that has no live value, and did nothing.
 #[derive(Clone, Copy, Drop)]
 struct Ran {
     accepted: Option<Accepted>,
     quits: bool,
+    misses: bool,
 }
 
 /// Runs a line: its reply stands behind `text`.
@@ -51,7 +53,8 @@ fn run_line<S: Store>(
     requires in_time { (S.frame store.old).latest ≤ now }
     requires moment { now < 2 ^ 63 }
     requires short { length line.now ≤ 8192 }
-    ensures ok { IfOk result (λ ran. (s : Situation) → s.latest ≡ now → s.dropped ≡ (S.frame store.old).dropped → S.stands store.old s.held → Answers config.now s (action_by (reading config.now line.now)) ran.accepted (S.stands store.new) (S.frame store.new).dropped (Hands (S.frame store.old).part_of (S.untaken store.old) (S.untaken store.new)) text.old.items text.new.items) }
+    ensures ok { IfOk result (λ ran. ran.misses ≡ false → (s : Situation) → s.latest ≡ now → s.dropped ≡ (S.frame store.old).dropped → S.stands store.old s.held → Answers config.now s (action_by (reading config.now line.now)) ran.accepted (S.stands store.new) (S.frame store.new).dropped (Hands (S.frame store.old).part_of (S.untaken store.old) (S.untaken store.new)) text.old.items text.new.items) }
+    ensures missed { IfOk result (λ ran. ran.misses ≡ true → (store.new ≡ store.old) × (text.new.items ≡ text.old.items) × Misses config.now now line.now (S.stands store.old)) }
     ensures plain { IfOk result (λ ran. IsPlainLine config.now line.now ran.quits) }
     ensures says { IfOk result (λ ran. says_quit (reading config.now line.now) ≡ ran.quits) }
     ensures parted { IfOk result (λ ran. HasItsPart config.now (S.frame store.old).part_of line.now ran.accepted) }
@@ -75,6 +78,7 @@ fn run_line<S: Store>(
             Ok(accepted) => Ok(Ran {
                 accepted,
                 quits: false,
+                misses: false,
             }),
             Err(error) => Err(error),
         },
@@ -82,6 +86,7 @@ fn run_line<S: Store>(
             Ok(()) => Ok(Ran {
                 accepted: None,
                 quits: false,
+                misses: false,
             }),
             Err(error) => Err(error),
         },
@@ -89,6 +94,20 @@ fn run_line<S: Store>(
             Ok(()) => Ok(Ran {
                 accepted: None,
                 quits: false,
+                misses: false,
+            }),
+            Err(error) => Err(error),
+        },
+        Request::Load { key } => match load(store, key, now, text) {
+            Ok(true) => Ok(Ran {
+                accepted: None,
+                quits: false,
+                misses: false,
+            }),
+            Ok(false) => Ok(Ran {
+                accepted: None,
+                quits: false,
+                misses: true,
             }),
             Err(error) => Err(error),
         },
@@ -96,6 +115,7 @@ fn run_line<S: Store>(
             Ok(()) => Ok(Ran {
                 accepted: None,
                 quits: false,
+                misses: false,
             }),
             Err(error) => Err(error),
         },
@@ -107,6 +127,7 @@ fn run_line<S: Store>(
             Ok(accepted) => Ok(Ran {
                 accepted,
                 quits: false,
+                misses: false,
             }),
             Err(error) => Err(error),
         },
@@ -114,6 +135,7 @@ fn run_line<S: Store>(
             Ok(()) => Ok(Ran {
                 accepted: None,
                 quits: false,
+                misses: false,
             }),
             Err(error) => Err(error),
         },
@@ -121,6 +143,7 @@ fn run_line<S: Store>(
             Ok(()) => Ok(Ran {
                 accepted: None,
                 quits: false,
+                misses: false,
             }),
             Err(error) => Err(error),
         },
@@ -128,6 +151,7 @@ fn run_line<S: Store>(
             Ok(()) => Ok(Ran {
                 accepted: None,
                 quits: false,
+                misses: false,
             }),
             Err(error) => Err(error),
         },
@@ -135,6 +159,7 @@ fn run_line<S: Store>(
             Ok(()) => Ok(Ran {
                 accepted: None,
                 quits: false,
+                misses: false,
             }),
             Err(error) => Err(error),
         },
@@ -142,6 +167,7 @@ fn run_line<S: Store>(
             Ok(()) => Ok(Ran {
                 accepted: None,
                 quits: true,
+                misses: false,
             }),
             Err(error) => Err(error),
         },
@@ -149,6 +175,7 @@ fn run_line<S: Store>(
             Ok(()) => Ok(Ran {
                 accepted: None,
                 quits: false,
+                misses: false,
             }),
             Err(error) => Err(error),
         },
@@ -182,8 +209,39 @@ fn push_within(notes: &mut Vec<Note>, note: Note)
     };
 }
 
-/// Runs a line, gathers its reply, its step where a record is made, and its notes, and answers whether it closes its connection.
-/// An `Err` changes nothing.
+/// What a line did.
+#[derive(Clone, Copy, PartialEq, Eq, Drop)]
+pub enum Done {
+    /// It was answered.
+    Stays,
+    /// It was answered, and closes its connection.
+    Quits,
+    /// It is a `LOAD` of a key that has no live value, and did nothing.
+    Misses,
+}
+
+/// What a line did that was answered.
+fn answered(quits: bool) -> Done
+    ensures quits { quits_now result ≡ quits }
+    ensures answered { misses_now result ≡ false }
+{
+    if quits { Done::Quits } else { Done::Stays }
+}
+
+/// What a line did.
+fn done_of(ran: Ran) -> Done
+    ensures quits { ran.misses ≡ false → quits_now result ≡ ran.quits }
+    ensures misses { misses_now result ≡ ran.misses }
+{
+    if ran.misses {
+        Done::Misses
+    } else {
+        answered(ran.quits)
+    }
+}
+
+/// Runs a line, gathers its reply, its step where a record is made, and its notes. A `LOAD` of a key that has no live value does nothing,
+/// and an `Err` changes nothing.
 fn run_one<S: Store>(
     store: &mut S,
     alloc: Global,
@@ -193,14 +251,15 @@ fn run_one<S: Store>(
     line: &[u8],
     text: &mut Vec<u8>,
     kept: &mut Option<Kept>,
-) -> Result<bool, AllocError>
+) -> Result<Done, AllocError>
     requires config { (S.frame store.old).config ≡ config.now }
     requires in_time { (S.frame store.old).latest ≤ now }
     requires moment { now < 2 ^ 63 }
     requires short { length line.now ≤ 8192 }
     requires fresh { IsFresh (gathered text.old.items kept.old (S.untaken store.old)) }
     requires ready { IsReadyToHold kept.old }
-    ensures ok { IfOk result (λ quits. (s : Situation) → s.latest ≡ now → s.dropped ≡ (S.frame store.old).dropped → S.stands store.old s.held → RanOne config.now s number (making_of (S.frame store.old)) line.now quits (S.stands store.new) (S.frame store.new).dropped (workings (S.stream store.old) (S.registered store.old) (S.recency store.old)) (workings (S.stream store.new) (S.registered store.new) (S.recency store.new)) (gathered text.old.items kept.old (S.untaken store.old)) (gathered text.new.items kept.new (S.untaken store.new))) }
+    ensures missed { IfOk result (λ done. misses_now done ≡ true → (store.new ≡ store.old) × (gathered text.new.items kept.new (S.untaken store.new) ≡ gathered text.old.items kept.old (S.untaken store.old)) × Misses config.now now line.now (S.stands store.old)) }
+    ensures ok { IfOk result (λ done. misses_now done ≡ false → (s : Situation) → s.latest ≡ now → s.dropped ≡ (S.frame store.old).dropped → S.stands store.old s.held → RanOne config.now s number (making_of (S.frame store.old)) line.now (quits_now done) (S.stands store.new) (S.frame store.new).dropped (workings (S.stream store.old) (S.registered store.old) (S.recency store.old)) (workings (S.stream store.new) (S.registered store.new) (S.recency store.new)) (gathered text.old.items kept.old (S.untaken store.old)) (gathered text.new.items kept.new (S.untaken store.new))) }
     ensures fresh { IsFresh (gathered text.new.items kept.new (S.untaken store.new)) }
     ensures ready { IsReadyToHold kept.new }
     ensures frame { OnOk result (KeepsFrame (S.frame store.old) (S.frame store.new) now) }
@@ -212,15 +271,18 @@ fn run_one<S: Store>(
     match kept {
         None => {
             let ran = run_line(store, config, now, line, text)?;
-            Ok(ran.quits)
+            Ok(done_of(ran))
         }
         Some(kept) => {
             let most = store.len() + 1;
             let mut draft = kept.begin(alloc, line, most)?;
             let ran = run_line(store, config, now, line, text)?;
+            if ran.misses {
+                return Ok(Done::Misses);
+            }
             drain(store, &mut draft.notes);
             kept.end(alloc, draft, number, ran.accepted, text);
-            Ok(ran.quits)
+            Ok(answered(ran.quits))
         }
     }
 }
@@ -234,11 +296,13 @@ pub enum Stop {
     TooLong,
     /// Memory was wanted for the line of that many bytes.
     Held(usize),
+    /// The line of that many bytes is a `LOAD` of a key that has no live value.
+    Misses(usize),
     /// A `QUIT` ran.
     Quit,
 }
 
-/// Runs the connection's lines until no whole one is left, memory is wanted for one, or a `QUIT` ran.
+/// Runs the connection's lines until no whole one is left, memory is wanted for one, a `LOAD` is to wait, or a `QUIT` ran.
 pub fn run_lines<S: Store>(
     store: &mut S,
     alloc: Global,
@@ -256,6 +320,7 @@ pub fn run_lines<S: Store>(
     requires ready { IsReadyToHold kept.old }
     ensures ran { (base : Situation) (held : List HeldValue) → base.latest ≡ now → base.dropped ≡ (S.frame store.old).dropped → IsThere number base → S.stands store.old held → RanLines config.now base number (making_of (S.frame store.old)) held unread.old.bytes (is_quit result) unread.new.bytes (S.stands store.new) (S.frame store.new).dropped (workings (S.stream store.old) (S.registered store.old) (S.recency store.old)) (workings (S.stream store.new) (S.registered store.new) (S.recency store.new)) (gathered text.old.items kept.old (S.untaken store.old)) (gathered text.new.items kept.new (S.untaken store.new)) }
     ensures stops { StopsFor result unread.new.bytes }
+    ensures missed { is_miss result ≡ true → Misses config.now now (held_line unread.new.bytes) (S.stands store.new) }
     ensures frame { KeepsFrame (S.frame store.old) (S.frame store.new) now }
     ensures fresh { IsFresh (gathered text.new.items kept.new (S.untaken store.new)) }
     ensures ready { IsReadyToHold kept.new }
@@ -267,8 +332,9 @@ pub fn run_lines<S: Store>(
             Next::Line(len) => {
                 let line = unread.line(len);
                 match run_one(store, alloc, config, now, number, line, text, kept) {
-                    Ok(false) => unread.skip(len),
-                    Ok(true) => return Stop::Quit,
+                    Ok(Done::Stays) => unread.skip(len),
+                    Ok(Done::Quits) => return Stop::Quit,
+                    Ok(Done::Misses) => return Stop::Misses(len),
                     Err(_) => return Stop::Held(len),
                 }
             }
@@ -276,7 +342,8 @@ pub fn run_lines<S: Store>(
     }
 }
 
-/// Runs the command that is held back, takes its line, and answers whether it closes its connection. An `Err` changes nothing.
+/// Runs the command that is held back, and takes its line. A `LOAD` of a key that has no live value does nothing, and stays; an `Err`
+/// changes nothing.
 pub fn release<S: Store>(
     store: &mut S,
     alloc: Global,
@@ -286,15 +353,17 @@ pub fn release<S: Store>(
     unread: &mut Buffer,
     text: &mut Vec<u8>,
     kept: &mut Option<Kept>,
-) -> Result<bool, AllocError>
+) -> Result<Done, AllocError>
     requires config { (S.frame store.old).config ≡ config.now }
     requires in_time { (S.frame store.old).latest ≤ now }
     requires moment { now < 2 ^ 63 }
     requires fresh { IsFresh (gathered text.old.items kept.old (S.untaken store.old)) }
     requires ready { IsReadyToHold kept.old }
     requires whole { IsTrue (has_line unread.old.bytes) }
-    ensures ok { IfOk result (λ quits. (s : Situation) → s.latest ≡ now → s.dropped ≡ (S.frame store.old).dropped → S.stands store.old s.held → RanOne config.now s number (making_of (S.frame store.old)) (held_line unread.old.bytes) quits (S.stands store.new) (S.frame store.new).dropped (workings (S.stream store.old) (S.registered store.old) (S.recency store.old)) (workings (S.stream store.new) (S.registered store.new) (S.recency store.new)) (gathered text.old.items kept.old (S.untaken store.old)) (gathered text.new.items kept.new (S.untaken store.new))) }
-    ensures rest { OnOk result (unread.new.bytes ≡ behind_lines 1 unread.old.bytes) }
+    ensures missed { IfOk result (λ done. misses_now done ≡ true → (store.new ≡ store.old) × (gathered text.new.items kept.new (S.untaken store.new) ≡ gathered text.old.items kept.old (S.untaken store.old)) × Misses config.now now (held_line unread.old.bytes) (S.stands store.old)) }
+    ensures ok { IfOk result (λ done. misses_now done ≡ false → (s : Situation) → s.latest ≡ now → s.dropped ≡ (S.frame store.old).dropped → S.stands store.old s.held → RanOne config.now s number (making_of (S.frame store.old)) (held_line unread.old.bytes) (quits_now done) (S.stands store.new) (S.frame store.new).dropped (workings (S.stream store.old) (S.registered store.old) (S.recency store.old)) (workings (S.stream store.new) (S.registered store.new) (S.recency store.new)) (gathered text.old.items kept.old (S.untaken store.old)) (gathered text.new.items kept.new (S.untaken store.new))) }
+    ensures rest { IfOk result (λ done. misses_now done ≡ false → unread.new.bytes ≡ behind_lines 1 unread.old.bytes) }
+    ensures stays { IfOk result (λ done. misses_now done ≡ true → unread.new ≡ unread.old) }
     ensures room { unread.new.room ≡ unread.old.room }
     ensures fresh { IsFresh (gathered text.new.items kept.new (S.untaken store.new)) }
     ensures ready { IsReadyToHold kept.new }
@@ -308,9 +377,18 @@ pub fn release<S: Store>(
     match unread.next() {
         Next::Line(len) => {
             let line = unread.line(len);
-            let quits = run_one(store, alloc, config, now, number, line, text, kept)?;
-            unread.skip(len);
-            Ok(quits)
+            match run_one(store, alloc, config, now, number, line, text, kept) {
+                Ok(Done::Stays) => {
+                    unread.skip(len);
+                    Ok(Done::Stays)
+                }
+                Ok(Done::Quits) => {
+                    unread.skip(len);
+                    Ok(Done::Quits)
+                }
+                Ok(Done::Misses) => Ok(Done::Misses),
+                Err(error) => Err(error),
+            }
         }
         Next::More => unreachable!(),
         Next::TooLong => unreachable!(),

@@ -3,6 +3,7 @@ ghost use Rattle.std.specs.Prelude.{◌-◌, ◌≡◌, ◌≢◌, ◌<◌, ◌�
 ghost use Rattle.cache_namespace.specs.declared.connection.Connection.{Connection as Open};
 ghost use Rattle.std.specs.List.{slice_get};
 ghost use Rattle.audit_model.specs.Situation.{Situation, HeldValue};
+ghost use Rattle.cache_loads.specs.Pending.{SameLoads};
 ghost use Rattle.cache_store.specs.Identifiers.{DrawsAlone};
 ghost use Rattle.cache_store.specs.Promises.{IsUnchanged};
 ghost use Rattle.cache_store.specs.Recency.{KeepsRecency};
@@ -14,18 +15,17 @@ ghost use Rattle.cache_namespace.specs.Kept.{IsReadyToHold, gathered, steps_of};
 ghost use Rattle.cache_namespace.specs.Making.{making_of};
 ghost use Rattle.cache_namespace.specs.Lines.{IsThere};
 ghost use Rattle.cache_namespace.specs.Shown.{situation};
-ghost use Rattle.cache_namespace.specs.Waiting.{UnderWay, under_way, when_left};
+ghost use Rattle.cache_namespace.specs.Waiting.{UnderWay, loads_in, under_way, when_left};
 ghost use Rattle.cache_namespace.specs.Whole.{holds, waits};
 ghost use Rattle.audit_model.specs.Belongs.{refusal_of, refusal_of_conn};
 ghost use Rattle.audit_model.specs.declared.event.Event.TheVariants as event;
 ghost use Rattle.cache_namespace.specs.Taken.{is_quit, FeedsConnection, IsOpenOrEnded, Takes, fed, known, holds_at, RefusedFor, text_at, closing_at, ReplacedAt, SameConnections, LooksSame, IsSound};
 
 use crate::connection::{Connection, new_connection};
-use crate::feeding::{FeedError, feed_lines};
+use crate::feeding::{End, FeedError, feed_lines};
 use crate::kept::Kept;
-use crate::lines::Stop;
 use crate::standing::{Standing, is_holding, is_waiting};
-use crate::waiting::{receive, take_keeping_room};
+use crate::waiting::{close_where_behind, receive, take_keeping_room};
 use audit_model::{Closing, Config, ServiceError};
 use cache_loads::Loads;
 use cache_store::Store;
@@ -42,6 +42,7 @@ fn feed_ready<S: Store>(
     config: &Config,
     now: u64,
     number: u64,
+    loads: &mut Loads,
     connection: &mut Connection,
     piece: &[u8],
     kept: &mut Option<Kept>,
@@ -53,7 +54,7 @@ fn feed_ready<S: Store>(
     requires ready { IsReadyToHold kept.old }
     requires open { connection.old.closing ≡ None }
     requires runs { waits connection.old.standing ≡ false }
-    ensures ran { IfOk result (λ is_held. (base : Situation) (values : List HeldValue) → base.latest ≡ now → base.dropped ≡ (S.frame store.old).dropped → IsThere number base → S.stands store.old values → FeedsConnection config.now base number (making_of (S.frame store.old)) values connection.old piece.now connection.new is_held (S.stands store.new) (S.frame store.new).dropped (workings (S.stream store.old) (S.registered store.old) (S.recency store.old)) (workings (S.stream store.new) (S.registered store.new) (S.recency store.new)) (gathered connection.old.output.items kept.old (S.untaken store.old)) (gathered connection.new.output.items kept.new (S.untaken store.new))) }
+    ensures ran { IfOk result (λ is_held. (base : Situation) (values : List HeldValue) → base.latest ≡ now → base.dropped ≡ (S.frame store.old).dropped → loads_in base ≡ under_way loads.old → IsThere number base → S.stands store.old values → FeedsConnection config.now base number (making_of (S.frame store.old)) values connection.old piece.now connection.new is_held (S.stands store.new) (S.frame store.new).dropped (under_way loads.new) (workings (S.stream store.old) (S.registered store.old) (S.recency store.old)) (workings (S.stream store.new) (S.registered store.new) (S.recency store.new)) (gathered connection.old.output.items kept.old (S.untaken store.old)) (gathered connection.new.output.items kept.new (S.untaken store.new))) }
     ensures frame { KeepsFrame (S.frame store.old) (S.frame store.new) now }
     ensures fresh { IsFresh (gathered connection.new.output.items kept.new (S.untaken store.new)) }
     ensures same { OnErr result (LooksSame connection.old connection.new) }
@@ -62,9 +63,11 @@ fn feed_ready<S: Store>(
     ensures spends { OnErr result (DrawsAlone (S.stream store.old) (S.stream store.new) (S.registered store.old) (S.registered store.new)) }
     ensures ungathered { OnErr result (gathered connection.new.output.items kept.new (S.untaken store.new) ≡ gathered connection.old.output.items kept.old (S.untaken store.old)) }
     ensures again { IsErrOf result FeedError.HeldAgain → holds connection.old.standing ≡ true }
+    ensures loads { OnErr result (SameLoads loads.old loads.new) }
     ensures closing { OnOk result (IsOpenOrEnded connection.new.closing) }
 {
     let held = is_holding(connection.standing);
+    let waited = connection.waited;
     match feed_lines(
         store,
         alloc,
@@ -72,34 +75,47 @@ fn feed_ready<S: Store>(
         now,
         number,
         held,
+        waited,
+        loads,
         &mut connection.unread,
         &mut connection.output,
+        &mut connection.spare,
         piece,
         kept,
     ) {
-        Ok(Stop::More) => {
+        Ok(End::More) => {
             connection.standing = Standing::Ready;
             connection.waited = 0;
             Ok(false)
         }
-        Ok(Stop::TooLong) => {
+        Ok(End::TooLong) => {
             connection.standing = Standing::Ready;
             connection.waited = 0;
             connection.closing = Some(Closing::Long);
             connection.unread.clear();
             Ok(false)
         }
-        Ok(Stop::Quit) => {
+        Ok(End::Quit) => {
             connection.standing = Standing::Ready;
             connection.waited = 0;
             connection.closing = Some(Closing::Quit);
             connection.unread.clear();
             Ok(false)
         }
-        Ok(Stop::Held(_)) => {
+        Ok(End::Held) => {
             connection.standing = Standing::Held;
             connection.waited = 0;
             Ok(true)
+        }
+        Ok(End::Waits(times)) => {
+            if close_where_behind(&mut connection.unread, &mut connection.closing) {
+                connection.standing = Standing::Ready;
+                connection.waited = 0;
+            } else {
+                connection.standing = Standing::Waiting;
+                connection.waited = times;
+            }
+            Ok(false)
         }
         Err(error) => Err(error),
     }
@@ -112,6 +128,7 @@ fn feed_connection<S: Store>(
     config: &Config,
     now: u64,
     number: u64,
+    loads: &mut Loads,
     connection: &mut Connection,
     piece: &[u8],
     kept: &mut Option<Kept>,
@@ -122,7 +139,7 @@ fn feed_connection<S: Store>(
     requires fresh { IsFresh (gathered connection.old.output.items kept.old (S.untaken store.old)) }
     requires ready { IsReadyToHold kept.old }
     requires open { connection.old.closing ≡ None }
-    ensures ran { IfOk result (λ is_held. (base : Situation) (values : List HeldValue) → base.latest ≡ now → base.dropped ≡ (S.frame store.old).dropped → IsThere number base → S.stands store.old values → FeedsConnection config.now base number (making_of (S.frame store.old)) values connection.old piece.now connection.new is_held (S.stands store.new) (S.frame store.new).dropped (workings (S.stream store.old) (S.registered store.old) (S.recency store.old)) (workings (S.stream store.new) (S.registered store.new) (S.recency store.new)) (gathered connection.old.output.items kept.old (S.untaken store.old)) (gathered connection.new.output.items kept.new (S.untaken store.new))) }
+    ensures ran { IfOk result (λ is_held. (base : Situation) (values : List HeldValue) → base.latest ≡ now → base.dropped ≡ (S.frame store.old).dropped → loads_in base ≡ under_way loads.old → IsThere number base → S.stands store.old values → FeedsConnection config.now base number (making_of (S.frame store.old)) values connection.old piece.now connection.new is_held (S.stands store.new) (S.frame store.new).dropped (under_way loads.new) (workings (S.stream store.old) (S.registered store.old) (S.recency store.old)) (workings (S.stream store.new) (S.registered store.new) (S.recency store.new)) (gathered connection.old.output.items kept.old (S.untaken store.old)) (gathered connection.new.output.items kept.new (S.untaken store.new))) }
     ensures frame { KeepsFrame (S.frame store.old) (S.frame store.new) now }
     ensures fresh { IsFresh (gathered connection.new.output.items kept.new (S.untaken store.new)) }
     ensures same { OnErr result (LooksSame connection.old connection.new) }
@@ -131,10 +148,13 @@ fn feed_connection<S: Store>(
     ensures spends { OnErr result (DrawsAlone (S.stream store.old) (S.stream store.new) (S.registered store.old) (S.registered store.new)) }
     ensures ungathered { OnErr result (gathered connection.new.output.items kept.new (S.untaken store.new) ≡ gathered connection.old.output.items kept.old (S.untaken store.old)) }
     ensures again { IsErrOf result FeedError.HeldAgain → holds connection.old.standing ≡ true }
+    ensures loads { OnErr result (SameLoads loads.old loads.new) }
     ensures closing { OnOk result (IsOpenOrEnded connection.new.closing) }
 {
     if !is_waiting(connection.standing) {
-        return feed_ready(store, alloc, config, now, number, connection, piece, kept);
+        return feed_ready(
+            store, alloc, config, now, number, loads, connection, piece, kept,
+        );
     }
     match receive(connection, piece) {
         Ok(()) => Ok(false),
@@ -149,6 +169,7 @@ fn feed_at<S: Store>(
     config: &Config,
     now: u64,
     number: u64,
+    loads: &mut Loads,
     connections: &mut Vec<Connection>,
     index: usize,
     piece: &[u8],
@@ -161,7 +182,7 @@ fn feed_at<S: Store>(
     requires ready { IsReadyToHold kept.old }
     requires inside { index < length connections.old.items }
     requires open { closing_at connections.old.items index ≡ None }
-    ensures ran { IfOk result (λ is_held. (p : ReplacedAt connections.old.items connections.new.items index) × ((base : Situation) (values : List HeldValue) → base.latest ≡ now → base.dropped ≡ (S.frame store.old).dropped → IsThere number base → S.stands store.old values → FeedsConnection config.now base number (making_of (S.frame store.old)) values p.was piece.now p.is is_held (S.stands store.new) (S.frame store.new).dropped (workings (S.stream store.old) (S.registered store.old) (S.recency store.old)) (workings (S.stream store.new) (S.registered store.new) (S.recency store.new)) (gathered (text_at connections.old.items index) kept.old (S.untaken store.old)) (gathered (text_at connections.new.items index) kept.new (S.untaken store.new)))) }
+    ensures ran { IfOk result (λ is_held. (p : ReplacedAt connections.old.items connections.new.items index) × ((base : Situation) (values : List HeldValue) → base.latest ≡ now → base.dropped ≡ (S.frame store.old).dropped → loads_in base ≡ under_way loads.old → IsThere number base → S.stands store.old values → FeedsConnection config.now base number (making_of (S.frame store.old)) values p.was piece.now p.is is_held (S.stands store.new) (S.frame store.new).dropped (under_way loads.new) (workings (S.stream store.old) (S.registered store.old) (S.recency store.old)) (workings (S.stream store.new) (S.registered store.new) (S.recency store.new)) (gathered (text_at connections.old.items index) kept.old (S.untaken store.old)) (gathered (text_at connections.new.items index) kept.new (S.untaken store.new)))) }
     ensures frame { KeepsFrame (S.frame store.old) (S.frame store.new) now }
     ensures fresh { IsFresh (gathered (text_at connections.new.items index) kept.new (S.untaken store.new)) }
     ensures same { OnErr result ((p : ReplacedAt connections.old.items connections.new.items index) × LooksSame p.was p.is) }
@@ -171,10 +192,13 @@ fn feed_at<S: Store>(
     ensures ungathered { OnErr result (gathered (text_at connections.new.items index) kept.new (S.untaken store.new) ≡ gathered (text_at connections.old.items index) kept.old (S.untaken store.old)) }
     ensures again { IsErrOf result FeedError.HeldAgain → (c : Open) → slice_get connections.old.items index ≡ Some c → holds c.standing ≡ true }
     ensures closing { OnOk result (IsOpenOrEnded (closing_at connections.new.items index)) }
+    ensures loads { OnErr result (SameLoads loads.old loads.new) }
     ensures count { length connections.new.items ≡ length connections.old.items }
 {
     let connection = &mut connections[index];
-    match feed_connection(store, alloc, config, now, number, connection, piece, kept) {
+    match feed_connection(
+        store, alloc, config, now, number, loads, connection, piece, kept,
+    ) {
         Ok(is_held) => Ok(is_held),
         Err(error) => Err(error),
     }
@@ -259,7 +283,7 @@ impl<S: Store> Namespace<S> {
         ensures spends { OnErr result (DrawsAlone (S.stream self.old.store) (S.stream self.new.store) (S.registered self.old.store) (S.registered self.new.store)) }
         ensures same { OnErr result (SameConnections self.old.connections.items self.new.connections.items) }
         ensures latest { OnErr result (self.new.latest ≡ self.old.latest) }
-        ensures loads { OnErr result (self.new.loads ≡ self.old.loads) }
+        ensures loads { OnErr result (SameLoads self.old.loads self.new.loads) }
         ensures kept { OnErr result (steps_of kept.new ≡ steps_of kept.old) }
         ensures closing { OnOk result (IsOpenOrEnded (closing_at self.new.connections.items (number - 1))) }
         ensures count { length self.new.connections.items ≡ length self.old.connections.items }
@@ -278,6 +302,7 @@ impl<S: Store> Namespace<S> {
             &self.config,
             now,
             number,
+            &mut self.loads,
             &mut self.connections,
             index,
             piece,

@@ -1,5 +1,5 @@
 //! A connection whose `LOAD` waits.
-ghost use Rattle.std.specs.Prelude.{◌≡◌, ◌++◌, ℕ, List, [], None, IsTrue, OnOk, OnErr, length, false, vec_len, vec_capacity};
+ghost use Rattle.std.specs.Prelude.{◌≡◌, ◌++◌, ℕ, List, [], None, IsTrue, OnOk, OnErr, length, false, true, Some, ◌<◌, ◌≤◌, vec_len, vec_capacity};
 ghost use Rattle.audit_model.specs.Situation.{Situation, HeldValue};
 ghost use Rattle.audit_model.specs.Stream.{behind_lines};
 ghost use Rattle.cache_namespace.specs.Lines.{set_in};
@@ -29,6 +29,24 @@ fn behind(unread: &Buffer) -> usize
         Next::More => unreachable!(),
         Next::TooLong => unreachable!(),
     }
+}
+
+/// Closes a connection whose `LOAD` waits where too many bytes stand behind it, and answers whether it did.
+pub fn close_where_behind(unread: &mut Buffer, closing: &mut Option<Closing>) -> bool
+    requires { IsTrue (has_line unread.old.bytes) }
+    ensures closed { result ≡ true → closing.new ≡ Some Closing.Behind }
+    ensures cleared { result ≡ true → unread.new.bytes ≡ [] }
+    ensures long { result ≡ true → 8192 < length (behind_lines 1 unread.old.bytes) }
+    ensures open { result ≡ false → closing.new ≡ closing.old }
+    ensures bytes { result ≡ false → unread.new.bytes ≡ unread.old.bytes }
+    ensures near { result ≡ false → length (behind_lines 1 unread.old.bytes) ≤ 8192 }
+{
+    if behind(unread) <= MAX_BEHIND {
+        return false;
+    }
+    *closing = Some(Closing::Behind);
+    unread.clear();
+    true
 }
 
 /// Adds a piece to the bytes behind a `LOAD` that waits, and closes the connection where they are too many. An `Err` changes nothing.

@@ -1,5 +1,5 @@
 //! `LOAD`, and what a load's outcome does.
-ghost use Rattle.std.specs.Prelude.{◌≡◌, ◌<◌, ◌≤◌, ◌^◌, ◌+◌, ◌++◌, IfSome, IfOk, OnOk, OnErr, None, true, false, List, length, codes, vec_len, vec_capacity};
+ghost use Rattle.std.specs.Prelude.{Ok, ◌≡◌, ◌<◌, ◌≤◌, ◌^◌, ◌+◌, ◌++◌, IfSome, IfOk, OnOk, OnErr, None, true, false, List, length, codes, vec_len, vec_capacity};
 ghost use Rattle.audit_model.specs.Belongs.{refusal_of_outcome};
 ghost use Rattle.audit_model.specs.History.{Running};
 ghost use Rattle.audit_model.specs.Replies.{outcome_text};
@@ -8,6 +8,8 @@ ghost use Rattle.audit_model.specs.declared.command.Command.TheVariants as says;
 ghost use Rattle.cache_store.specs.Handing.{Hands};
 ghost use Rattle.cache_store.specs.Identifiers.{KeepsIdentifiers};
 ghost use Rattle.cache_store.specs.Promises.{IsUnchanged};
+ghost use Rattle.cache_store.specs.Recency.{KeepsRecency};
+ghost use Rattle.cache_steps.specs.Order.{MovesOrder};
 ghost use Rattle.cache_steps.specs.Loading.{Stores};
 ghost use Rattle.cache_steps.specs.Right.{Answers, KeepsFrame};
 
@@ -31,6 +33,8 @@ pub fn load<S: Store>(
     ensures frame { OnOk result (KeepsFrame (S.frame store.old) (S.frame store.new) now) }
     ensures few { length (S.untaken store.new) ≤ length (S.untaken store.old) + S.count store.old + 1 }
     ensures identifiers { KeepsIdentifiers (S.stream store.old) (S.stream store.new) (S.registered store.old) (S.registered store.new) }
+    ensures order { OnOk result (MovesOrder (S.frame store.old).config (S.recency store.old) (S.recency store.new) (Ok (says.Load key.now))) }
+    ensures unmoved { OnErr result (KeepsRecency (S.recency store.old) (S.recency store.new)) }
     ensures same { IfOk result (λ found. found ≡ false → (store.new ≡ store.old) × (output.new.items ≡ output.old.items)) }
     ensures unchanged { OnErr result (IsUnchanged (S.stands store.old) (S.stands store.new) (S.frame store.old) (S.frame store.new) (S.untaken store.old) (S.untaken store.new)) }
     ensures unwritten { OnErr result (output.new.items ≡ output.old.items) }

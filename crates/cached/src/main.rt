@@ -2,7 +2,8 @@
 #![tactic(auto)]
 
 use cache_devices::Watched;
-use cached_program::{cached, without_words};
+use cached_program::without_words;
+use cached_server::cached;
 use std::env::Env;
 use std::process::ExitCode;
 use std::{env, io};
@@ -22,11 +23,13 @@ fn main(rt: HostRuntime) -> ExitCode {
     let mut errors = Watched::new(rt.stderr());
     match gather_words(&rt) {
         Ok(words) => ExitCode::from(cached(
+            rt,
             rt.alloc(),
             &words,
             &mut reader,
             &mut writer,
             &mut errors,
+            rt.stdout(),
         )),
         Err(error) => ExitCode::from(without_words(error.kind(), &mut errors)),
     }

@@ -1,10 +1,15 @@
-//! The program's words, and its run over standard streams.
+//! The program's words, its texts, and its run over standard streams.
 #![tactic(auto)]
 
+mod faults;
 mod gathering;
 mod notes;
 mod program;
 mod sources;
 mod words;
 
-pub use program::{cached, without_words};
+pub use faults::{Fault, fail, fail_words, fault_of, without_words};
+pub use gathering::{put, write_out};
+pub use notes::write_note;
+pub use program::run_script;
+pub use words::{Chosen, WordsError, take_words};

@@ -25,8 +25,8 @@ fn cause_word(cause: RemovalCause) -> &'static [u8]
     }
 }
 
-/// Gathers the line of a note.
-fn write_note<W: Write>(
+/// Gathers the line of a note. Takes no memory.
+pub fn write_note<W: Write>(
     note: &Note,
     gathered: &mut Vec<u8>,
     writer: &mut Watched<W>,

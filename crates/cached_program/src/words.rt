@@ -4,6 +4,15 @@ use clap::{Arg, ArgAction, Command};
 use std::alloc::{AllocError, Global};
 use std::convert::AsStr;
 
+/// What the words ask for.
+#[derive(Clone, Copy, Debug, PartialEq, Eq, Drop)]
+pub enum Chosen<'a> {
+    /// To serve standard input to standard output.
+    Script,
+    /// To serve what the configuration file at this path says.
+    Config(&'a str),
+}
+
 /// What is wrong with the words.
 #[derive(Clone, Copy, Debug, PartialEq, Eq, Drop)]
 pub enum WordsError {
@@ -29,18 +38,22 @@ impl From<clap::Error> for WordsError {
     }
 }
 
-/// Takes the one word that there is: `--script`. The first word is the program's name.
-pub fn take_words<S: AsStr>(alloc: Global, words: &[S]) -> Result<(), WordsError> {
+/// Takes the words: exactly one of `--script` and `--config FILE`. The first word is the program's name.
+pub fn take_words<'a, S: AsStr>(alloc: Global, words: &'a [S]) -> Result<Chosen<'a>, WordsError> {
     let script = Arg::new(alloc, "script")
         .long("script")
         .action(ArgAction::SetTrue);
+    let config = Arg::new(alloc, "config")
+        .long("config")
+        .action(ArgAction::Set);
     let command = Command::new(alloc, "cached")
         .disable_help_flag(true)
-        .arg(script)?;
+        .arg(script)?
+        .arg(config)?;
     let matches = command.try_get_matches_from(words)?;
-    if matches.get_flag("script") {
-        Ok(())
-    } else {
-        Err(WordsError::Usage)
+    match (matches.get_flag("script"), matches.get_str("config")) {
+        (true, None) => Ok(Chosen::Script),
+        (false, Some(path)) => Ok(Chosen::Config(path)),
+        _ => Err(WordsError::Usage),
     }
 }

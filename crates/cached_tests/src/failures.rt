@@ -1,10 +1,8 @@
 use crate::streams::{make_faulty, make_pieces, make_short};
 use cache_devices::Watched;
-use cached_program::{cached, without_words};
+use cached_program::{run_script, without_words};
 use std::io::ErrorKind;
 use std::test::Fail;
-
-const SCRIPT: &[&str] = &["cached", "--script"];
 
 const INPUT: &[&[u8]] = &[b"SET a - 1\n", b"SET a - 2\nGE", b"T a\n"];
 
@@ -21,7 +19,7 @@ fn a_read_fails(rt: HostRuntime) -> Result<(), Fail> {
         let mut reader = Watched::new(make_pieces(INPUT, index as u64 + 1));
         let mut writer = Watched::new(Vec::new(rt.alloc()));
         let mut errors = Watched::new(Vec::new(rt.alloc()));
-        let status = cached(rt.alloc(), SCRIPT, &mut reader, &mut writer, &mut errors);
+        let status = run_script(rt.alloc(), &mut reader, &mut writer, &mut errors);
         assert_eq!(rt; status, 1);
         assert_eq!(rt; writer.inner().as_slice(), wanted[index]);
         assert_eq!(rt; errors.inner().as_slice(), notes[index]);
@@ -51,7 +49,7 @@ fn a_write_or_a_flush_fails(rt: HostRuntime) -> Result<(), Fail> {
         let mut reader = Watched::new(make_pieces(INPUT, 0));
         let mut writer = Watched::new(make_faulty(rt.alloc(), index as u64 + 1));
         let mut errors = Watched::new(Vec::new(rt.alloc()));
-        let status = cached(rt.alloc(), SCRIPT, &mut reader, &mut writer, &mut errors);
+        let status = run_script(rt.alloc(), &mut reader, &mut writer, &mut errors);
         assert_eq!(rt; status, 1);
         assert_eq!(rt; writer.inner().held.as_slice(), wanted[index]);
         assert_eq!(rt; errors.inner().as_slice(), notes[index]);
@@ -64,7 +62,7 @@ fn a_write_fails_within_a_piece(rt: HostRuntime) -> Result<(), Fail> {
     let mut reader = Watched::new(b"SET a - 1\nGET a\n".as_slice());
     let mut writer = Watched::new(make_short(rt.alloc(), 4));
     let mut errors = Watched::new(Vec::new(rt.alloc()));
-    let status = cached(rt.alloc(), SCRIPT, &mut reader, &mut writer, &mut errors);
+    let status = run_script(rt.alloc(), &mut reader, &mut writer, &mut errors);
     assert_eq!(rt; status, 1);
     assert_eq!(rt; writer.inner().held.as_slice(), b"OK\nV".as_slice());
     assert_eq!(rt;
@@ -79,7 +77,7 @@ fn a_note_cannot_be_told(rt: HostRuntime) -> Result<(), Fail> {
     let mut reader = Watched::new(b"SET a - 1\nDEL a\n".as_slice());
     let mut writer = Watched::new(Vec::new(rt.alloc()));
     let mut errors = Watched::new(make_faulty(rt.alloc(), 1));
-    let status = cached(rt.alloc(), SCRIPT, &mut reader, &mut writer, &mut errors);
+    let status = run_script(rt.alloc(), &mut reader, &mut writer, &mut errors);
     assert_eq!(rt; status, 1);
     assert_eq!(rt; writer.inner().as_slice(), b"OK\nOK\n".as_slice());
     assert_eq!(rt;
@@ -106,7 +104,7 @@ fn more_notes_than_are_gathered(rt: HostRuntime) -> Result<(), Fail> {
     let mut reader = Watched::new(input.as_slice());
     let mut writer = Watched::new(Vec::new(alloc));
     let mut errors = Watched::new(Vec::new(alloc));
-    let status = cached(alloc, SCRIPT, &mut reader, &mut writer, &mut errors);
+    let status = run_script(alloc, &mut reader, &mut writer, &mut errors);
     assert_eq!(rt; status, 0);
     assert_eq!(rt; errors.inner().as_slice(), notes.as_slice());
     Ok(())

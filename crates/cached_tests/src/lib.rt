@@ -1,4 +1,4 @@
-//! Tests of the program.
+//! Tests of scripts, over readers and writers that fail.
 #![tactic(auto)]
 
 #[cfg(test)]

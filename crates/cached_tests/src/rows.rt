@@ -1,13 +1,11 @@
 use crate::streams::make_pieces;
 use cache_devices::Watched;
-use cached_program::cached;
+use cached_program::run_script;
 use std::alloc::Global;
 use std::io::Read;
 use std::test::Fail;
 
-const USAGE: &[u8] = b"usage: cached --script | --config FILE\n";
-
-/// What a run of the program wrote, and its status.
+/// What a run of a script wrote, and its status.
 #[derive(Drop)]
 struct Ran {
     output: Vec<u8>,
@@ -15,8 +13,8 @@ struct Ran {
     status: u8,
 }
 
-/// Runs the program over an input.
-fn run_over<R: Read>(alloc: Global, words: &[&str], input: R) -> Ran
+/// Runs the script that a reader gives.
+fn run_over<R: Read>(alloc: Global, input: R) -> Ran
 where
     R: Drop,
 {
@@ -25,7 +23,7 @@ where
     let mut errors = Vec::new(alloc);
     let mut writer = Watched::new(&mut output);
     let mut told = Watched::new(&mut errors);
-    let status = cached(alloc, words, &mut reader, &mut writer, &mut told);
+    let status = run_script(alloc, &mut reader, &mut writer, &mut told);
     Ran {
         output,
         errors,
@@ -35,7 +33,7 @@ where
 
 /// Runs a script.
 fn script(alloc: Global, input: &[u8]) -> Ran {
-    run_over(alloc, &["cached", "--script"], input)
+    run_over(alloc, input)
 }
 
 #[test]
@@ -88,7 +86,7 @@ fn an_empty_input(rt: HostRuntime) -> Result<(), Fail> {
 #[test]
 fn lines_cut_into_pieces(rt: HostRuntime) -> Result<(), Fail> {
     let input = make_pieces(&[b"SET a - 1\nGE", b"T a\nGET", b" b\n"], 0);
-    let ran = run_over(rt.alloc(), &["cached", "--script"], input);
+    let ran = run_over(rt.alloc(), input);
     assert_eq!(rt; ran.status, 0);
     assert_eq!(rt; ran.output.as_slice(), b"OK\nVAL 1\nNONE\n".as_slice());
     Ok(())
@@ -110,24 +108,5 @@ fn too_long_a_line(rt: HostRuntime) -> Result<(), Fail> {
     let ran = script(rt.alloc(), &input);
     assert_eq!(rt; ran.status, 0);
     assert_eq!(rt; ran.output.as_slice(), b"".as_slice());
-    Ok(())
-}
-
-#[test]
-fn bad_words(rt: HostRuntime) -> Result<(), Fail> {
-    let all: [&[&str]; 6] = [
-        &["cached"],
-        &["cached", "--script", "--config", "f"],
-        &["cached", "--config", "f"],
-        &["cached", "--help"],
-        &["cached", "--script", "x"],
-        &["cached", "--script", "--script"],
-    ];
-    for words in all {
-        let ran = run_over(rt.alloc(), words, b"SET a - 1\n".as_slice());
-        assert_eq!(rt; ran.status, 2);
-        assert_eq!(rt; ran.output.as_slice(), b"".as_slice());
-        assert_eq!(rt; ran.errors.as_slice(), USAGE);
-    }
     Ok(())
 }

@@ -80,7 +80,7 @@ in_appended v w (x ∷ ws) (inr h) = elim (in_appended v w ws h) [ inl k ↦ inl
 
 module _ {K V : Type 0} where
   -- the same writes are pending, in another place
-  accounted-same : (us us' : List Unsent) (ws ws' : List Write) → ((v : Write) → IsPending us ws v → IsPending us' ws' v) → ((v : Write) → IsPending us' ws' v → IsPending us ws v)
+  pub accounted-same : (us us' : List Unsent) (ws ws' : List Write) → ((v : Write) → IsPending us ws v → IsPending us' ws' v) → ((v : Write) → IsPending us' ws' v → IsPending us ws v)
       → (r : Record K V) → IsAccounted us ws r → IsAccounted us' ws' r
   accounted-same us us' ws ws' to from r h = record {
     applied = h.applied;
@@ -256,7 +256,7 @@ module _ {K V P S R : Type 0} where
         named = λ v p. elim (before s.unsent s.writes u v p) [ inl k ↦ h.named v k | inr same ↦ subst (λ z. number_of z < s.next_number) same low ];
       }
 
-  used-sound : (answers : Answers K V P R) (o : Option (Record K V)) (hash now : ℕ) (s : State K V P S R) → IsSound s → IsSound (with_read answers o hash now s)
+  pub used-sound : (answers : Answers K V P R) (o : Option (Record K V)) (hash now : ℕ) (s : State K V P S R) → IsSound s → IsSound (with_read answers o hash now s)
   used-sound answers None hash now s h = record { records = h.records; named = h.named }
   used-sound answers (Some r) hash now s h =
       let f = λ (x : Record K V). record x { entry = used_entry answers s now x.entry } in

@@ -1,4 +1,12 @@
-use Rattle.std.proofs.Common.{◌≡◌, true, false, refl, ap, ◌∙◌}
+use Rattle.std.proofs.Common.{◌≡◌, true, false, refl, ap, ◌∙◌, sym, subst, []}
+use Rattle.std.specs.Prelude.{unwrap_or}
+use Rattle.cache_lines.proofs.Lines.{IsLine-first_line}
+use Rattle.cache_store.specs.Recency.{KeepsRecency}
+use Rattle.cache_namespace.specs.Drawing.{Spends, identifiers_in, workings}
+use Rattle.cache_namespace.specs.Ran.{Misses}
+use Rattle.cache_namespace.specs.Stops.{misses_now, quits_now}
+use Rattle.cache_namespace.specs.Whole.{held_line}
+use Rattle.cache_namespace.proofs.Drawn.{spends-same}
 use Rattle.cache_store.specs.Promises.{Frame}
 use Rattle.cache_namespace.specs.Lines.{ready, set_in, with_drops}
 use Rattle.cache_namespace.specs.Making.{making_of}
@@ -18,22 +26,37 @@ loop-len-preserved g c = record {
   ran = λ base held e d there m.
       let r = c.loop-len.invariant.ran base held e d there m in
       let parts : making_of (g.S.Store.frame c.loop-len.store) ≡ (making_of (g.S.Store.frame c.args.store.now)) = ap (λ (f : Frame). making_of f) c.loop-len.invariant.frame.rest in
-      let one = ran-as c.args.config.now _ c.args.number _ _ c.line-line.result.now c.in-Ok-false.field-0 _ _ _ _ _ _ _ parts c.in-Ok-false.field-0-test
-      (c.in-Ok-false.ensures.ok (set_in (with_drops (g.S.Store.frame c.loop-len.store).dropped base) r.left (ready c.args.number c.loop-len.unread.bytes)) e refl r.stands) in
+      let one = ran-as c.args.config.now _ c.args.number _ _ c.line-line.result.now (quits_now c.in-Ok-Stays.field-0) _ _ _ _ _ _ _ parts (ap quits_now c.in-Ok-Stays.field-0-is)
+      (c.in-Ok-Stays.ensures.ok (ap misses_now c.in-Ok-Stays.field-0-is) (set_in (with_drops (g.S.Store.frame c.loop-len.store).dropped base) r.left (ready c.args.number c.loop-len.unread.bytes)) e refl r.stands) in
       ran-more c.args.config.now base c.args.number (making_of (g.S.Store.frame c.args.store.now)) held c.args.unread.now.bytes c.loop-len.unread.bytes c.skip.new.self.bytes c.line-line.result.now c.in-Line.len false _ _ _ _ _ _ _ _ _ _ there r c.in-Line.ensures c.line-line.ensures.line (λ stays. c.skip.ensures.bytes) one;
-  frame = record { rest = c.in-Ok-false.ensures.frame.rest ∙ ap (λ (f : Frame). record f { dropped = (g.S.Store.frame c.run_one.new.store).dropped; latest = (g.S.Store.frame c.run_one.new.store).latest }) c.loop-len.invariant.frame.rest; latest = c.in-Ok-false.ensures.frame.latest };
-  fresh = c.in-Ok-false.ensures.fresh;
-  ready = c.in-Ok-false.ensures.ready;
+  frame = record { rest = c.in-Ok-Stays.ensures.frame.rest ∙ ap (λ (f : Frame). record f { dropped = (g.S.Store.frame c.run_one.new.store).dropped; latest = (g.S.Store.frame c.run_one.new.store).latest }) c.loop-len.invariant.frame.rest; latest = c.in-Ok-Stays.ensures.frame.latest };
+  fresh = c.in-Ok-Stays.ensures.fresh;
+  ready = c.in-Ok-Stays.ensures.ready;
 }
 
 pub returns-in-Err-clause-ran : goal.returns-in-Err-clause-ran
 returns-in-Err-clause-ran g c = λ base held e d there m.
     ran-kept c.args.config.now base c.args.number (making_of (g.S.Store.frame c.args.store.now)) held c.args.unread.now.bytes c.loop-len.unread.bytes _ _ _ _ _ _ _ _ _ _ (c.loop-len.invariant.ran base held e d there m) c.in-Err.ensures.unchanged.stands (ap (λ (f : Frame). f.dropped) c.in-Err.ensures.unchanged.frame) c.in-Err.ensures.spends c.in-Err.ensures.unmoved c.in-Err.ensures.ungathered
 
-pub returns-in-Ok-true-clause-ran : goal.returns-in-Ok-true-clause-ran
-returns-in-Ok-true-clause-ran g c = λ base held e d there m.
+pub returns-in-Ok-Quits-clause-ran : goal.returns-in-Ok-Quits-clause-ran
+returns-in-Ok-Quits-clause-ran g c = λ base held e d there m.
     let r = c.loop-len.invariant.ran base held e d there m in
     let parts : making_of (g.S.Store.frame c.loop-len.store) ≡ (making_of (g.S.Store.frame c.args.store.now)) = ap (λ (f : Frame). making_of f) c.loop-len.invariant.frame.rest in
-    let one = ran-as c.args.config.now _ c.args.number _ _ c.line-line.result.now c.in-Ok-true.field-0 _ _ _ _ _ _ _ parts c.in-Ok-true.field-0-test
-    (c.in-Ok-true.ensures.ok (set_in (with_drops (g.S.Store.frame c.loop-len.store).dropped base) r.left (ready c.args.number c.loop-len.unread.bytes)) e refl r.stands) in
+    let one = ran-as c.args.config.now _ c.args.number _ _ c.line-line.result.now (quits_now c.in-Ok-Quits.field-0) _ _ _ _ _ _ _ parts (ap quits_now c.in-Ok-Quits.field-0-is)
+    (c.in-Ok-Quits.ensures.ok (ap misses_now c.in-Ok-Quits.field-0-is) (set_in (with_drops (g.S.Store.frame c.loop-len.store).dropped base) r.left (ready c.args.number c.loop-len.unread.bytes)) e refl r.stands) in
     ran-more c.args.config.now base c.args.number (making_of (g.S.Store.frame c.args.store.now)) held c.args.unread.now.bytes c.loop-len.unread.bytes c.loop-len.unread.bytes c.line-line.result.now c.in-Line.len true _ _ _ _ _ _ _ _ _ _ there r c.in-Line.ensures c.line-line.ensures.line (λ (stays : true ≡ false). cc) one
+
+pub returns-in-Ok-Misses-clause-ran : goal.returns-in-Ok-Misses-clause-ran
+returns-in-Ok-Misses-clause-ran g c = λ base held e d there m.
+    let missed = c.in-Ok-Misses.ensures.missed (ap misses_now c.in-Ok-Misses.field-0-is) in
+    ran-kept c.args.config.now base c.args.number (making_of (g.S.Store.frame c.args.store.now)) held c.args.unread.now.bytes c.loop-len.unread.bytes _ _ _ _ _ _ _ _ _ _ (c.loop-len.invariant.ran base held e d there m)
+    (λ left h. subst (λ st. g.S.Store.stands st left) (sym missed.0) h) (ap (λ st. (g.S.Store.frame st).dropped) missed.0)
+    (subst (λ st. Spends (identifiers_in (workings (g.S.Store.stream c.loop-len.store) (g.S.Store.registered c.loop-len.store) (g.S.Store.recency c.loop-len.store))) (identifiers_in (workings (g.S.Store.stream st) (g.S.Store.registered st) (g.S.Store.recency st)))) (sym missed.0) (spends-same (identifiers_in (workings (g.S.Store.stream c.loop-len.store) (g.S.Store.registered c.loop-len.store) (g.S.Store.recency c.loop-len.store)))))
+    (subst (λ st. KeepsRecency (g.S.Store.recency c.loop-len.store) (g.S.Store.recency st)) (sym missed.0) (λ b keys r. r)) missed.1
+
+pub returns-in-Ok-Misses-clause-missed : goal.returns-in-Ok-Misses-clause-missed
+returns-in-Ok-Misses-clause-missed g c = λ is.
+    let missed = c.in-Ok-Misses.ensures.missed (ap misses_now c.in-Ok-Misses.field-0-is) in
+    let line : c.line-line.result.now ≡ held_line c.loop-len.unread.bytes = c.line-line.ensures.line ∙ sym (ap (λ o. unwrap_or o []) (IsLine-first_line c.loop-len.unread.bytes c.in-Line.len c.in-Line.ensures)) in
+    subst (λ st. Misses c.args.config.now c.args.now (held_line c.loop-len.unread.bytes) (g.S.Store.stands st)) (sym missed.0)
+    (subst (λ l. Misses c.args.config.now c.args.now l (g.S.Store.stands c.loop-len.store)) line missed.2)

@@ -6,6 +6,7 @@ use Rattle.cache_namespace.specs.Kept.{gathered}
 use Rattle.cache_namespace.specs.Taken.{FeedsConnection, IsOpenOrEnded, text_at}
 use Rattle.cache_namespace.specs.declared.connection.Connection.{Connection}
 use Rattle.cache_namespace.specs.Making.{making_of}
+use Rattle.cache_namespace.specs.Waiting.{under_way}
 use Rattle.cache_namespace.specs.Whole.{holds}
 use Rattle.cache_namespace.proofs.Places.{at-place, at-replaced, text-is, closing-is}
 use Rattle.cache_namespace.proofs.namespace.feed_at.Goals as goal
@@ -18,10 +19,10 @@ returns-in-Ok-clause-ran g c =
     let at = at-place cs c.args.index c.index_mut-connection.result.now c.requires.inside c.index_mut-connection.ensures.value in
     let set = at-replaced cs c.args.index new c.requires.inside in (
       record { was = old; is = new; at = at; set = refl },
-      λ base values e d there m.
-          subst (λ b. FeedsConnection c.args.config.now base c.args.number (making_of (g.S.Store.frame c.args.store.now)) values old c.args.piece.now new c.in-Ok.is_held (g.S.Store.stands c.feed_connection.new.store) (g.S.Store.frame c.feed_connection.new.store).dropped (workings (g.S.Store.stream c.args.store.now) (g.S.Store.registered c.args.store.now) (g.S.Store.recency c.args.store.now)) (workings (g.S.Store.stream c.feed_connection.new.store) (g.S.Store.registered c.feed_connection.new.store) (g.S.Store.recency c.feed_connection.new.store)) (gathered b c.args.kept.now (g.S.Store.untaken c.args.store.now)) (gathered (text_at (slice_set cs c.args.index new) c.args.index) c.feed_connection.new.kept (g.S.Store.untaken c.feed_connection.new.store))) (sym (text-is cs c.args.index old at))
-          (subst (λ b. FeedsConnection c.args.config.now base c.args.number (making_of (g.S.Store.frame c.args.store.now)) values old c.args.piece.now new c.in-Ok.is_held (g.S.Store.stands c.feed_connection.new.store) (g.S.Store.frame c.feed_connection.new.store).dropped (workings (g.S.Store.stream c.args.store.now) (g.S.Store.registered c.args.store.now) (g.S.Store.recency c.args.store.now)) (workings (g.S.Store.stream c.feed_connection.new.store) (g.S.Store.registered c.feed_connection.new.store) (g.S.Store.recency c.feed_connection.new.store)) (gathered old.output.items c.args.kept.now (g.S.Store.untaken c.args.store.now)) (gathered b c.feed_connection.new.kept (g.S.Store.untaken c.feed_connection.new.store))) (sym (text-is (slice_set cs c.args.index new) c.args.index new set))
-          (c.in-Ok.ensures.ran base values e d there m)),
+      λ base values e d under there m.
+          subst (λ b. FeedsConnection c.args.config.now base c.args.number (making_of (g.S.Store.frame c.args.store.now)) values old c.args.piece.now new c.in-Ok.is_held (g.S.Store.stands c.feed_connection.new.store) (g.S.Store.frame c.feed_connection.new.store).dropped (under_way c.feed_connection.new.loads) (workings (g.S.Store.stream c.args.store.now) (g.S.Store.registered c.args.store.now) (g.S.Store.recency c.args.store.now)) (workings (g.S.Store.stream c.feed_connection.new.store) (g.S.Store.registered c.feed_connection.new.store) (g.S.Store.recency c.feed_connection.new.store)) (gathered b c.args.kept.now (g.S.Store.untaken c.args.store.now)) (gathered (text_at (slice_set cs c.args.index new) c.args.index) c.feed_connection.new.kept (g.S.Store.untaken c.feed_connection.new.store))) (sym (text-is cs c.args.index old at))
+          (subst (λ b. FeedsConnection c.args.config.now base c.args.number (making_of (g.S.Store.frame c.args.store.now)) values old c.args.piece.now new c.in-Ok.is_held (g.S.Store.stands c.feed_connection.new.store) (g.S.Store.frame c.feed_connection.new.store).dropped (under_way c.feed_connection.new.loads) (workings (g.S.Store.stream c.args.store.now) (g.S.Store.registered c.args.store.now) (g.S.Store.recency c.args.store.now)) (workings (g.S.Store.stream c.feed_connection.new.store) (g.S.Store.registered c.feed_connection.new.store) (g.S.Store.recency c.feed_connection.new.store)) (gathered old.output.items c.args.kept.now (g.S.Store.untaken c.args.store.now)) (gathered b c.feed_connection.new.kept (g.S.Store.untaken c.feed_connection.new.store))) (sym (text-is (slice_set cs c.args.index new) c.args.index new set))
+          (c.in-Ok.ensures.ran base values e d under there m)),
     )
 
 pub returns-in-Err-clause-same : goal.returns-in-Err-clause-same

@@ -1,0 +1,13 @@
+-- The lines that a server writes.
+use Rattle.std.specs.Prelude.{ℕ, List, [], ◌∷◌, ◌++◌, codes}
+use Rattle.std.specs.Fmt.{decimal}
+use Rattle.audit_model.specs.declared.transcript.Note.{Note}
+use Rattle.cached_program.specs.Notes.{note_text}
+
+-- a note, with the name of its namespace before it
+abbrev pub note_line : List ℕ → Note → List ℕ
+note_line name note = name ++ 32 ∷ [] ++ note_text note
+
+-- a namespace that is served, with its port
+abbrev pub listening_line : List ℕ → ℕ → List ℕ
+listening_line name port = codes "listening " ++ name ++ codes " 127.0.0.1:" ++ decimal port ++ 10 ∷ []

@@ -1,0 +1,83 @@
+//! What a server's connections are served with.
+ghost use Rattle.std.specs.Prelude.{◌≡◌, ◌≤◌, ◌⊎◌, Some, None, IfSome};
+ghost use Rattle.std.specs.Arc.{arc_value};
+ghost use Rattle.cached_server.specs.Loads.{listed_outcome};
+
+use audit_model::{Outcome, Seq};
+use cache_devices::{Clock, Loader};
+use cached_config::Listed;
+use std::alloc::Global;
+use std::sync::Arc;
+use std::time;
+use std::time::Instant;
+
+/// A clock that counts the nanoseconds from a start. No reading comes before an earlier one.
+#[derive(Drop)]
+pub struct StartClock<R: time::Clock + Copy> {
+    rt: R,
+    start: Instant,
+    latest: u64,
+}
+
+impl<R: time::Clock + Copy> StartClock<R> {
+    /// A clock from that start.
+    pub fn new(rt: R, start: Instant) -> StartClock<R> {
+        StartClock {
+            rt,
+            start,
+            latest: 0,
+        }
+    }
+}
+
+impl<R: time::Clock + Copy> Clock for StartClock<R> {
+    ghost reads = { λ c t d. (c.latest ≤ t) × (d.latest ≡ t) };
+
+    fn now(&mut self) -> u64 {
+        let passed = match self.start.elapsed(&self.rt) {
+            Ok(passed) => u64::try_from(passed.as_nanos()).unwrap_or(u64::MAX),
+            Err(_) => self.latest,
+        };
+        self.latest = passed.max(self.latest);
+        self.latest
+    }
+}
+
+/// A loader that finds what a configuration file lists for a namespace. Without memory it gives no answer.
+#[derive(Drop)]
+pub struct ListLoader {
+    pub alloc: Global,
+    pub loads: Arc<Vec<Listed>>,
+}
+
+impl Loader for ListLoader {
+    ghost loads = { λ c key answer d. (d ≡ c) × ((answer ≡ Some (listed_outcome (arc_value c.loads).items key)) ⊎ (answer ≡ None)) };
+
+    fn load(&mut self, key: &[u8]) -> Option<Outcome> {
+        find_listed(self.alloc, self.loads.as_slice(), key)
+    }
+}
+
+/// What a key is listed with. None where there is no memory for a copy.
+fn find_listed(alloc: Global, loads: &[Listed], key: &[u8]) -> Option<Outcome>
+    ensures { IfSome result (λ outcome. outcome ≡ listed_outcome loads.now key.now) }
+{
+    let mut rest = loads;
+    while let [listed, others @ ..] = rest {
+        if listed.key.as_slice() == key {
+            return copy_value(alloc, listed);
+        }
+        rest = others;
+    }
+    Some(Outcome::None)
+}
+
+/// The outcome with a copy of a value that is listed, without a deadline.
+fn copy_value(alloc: Global, listed: &Listed) -> Option<Outcome>
+    ensures { IfSome result (λ outcome. outcome ≡ Outcome.Value listed.now.value None) }
+{
+    match Vec::from_slice(alloc, listed.value.as_slice()) {
+        Ok(copy) => Some(Outcome::Value(Seq::from_vec(copy), None)),
+        Err(_) => None,
+    }
+}

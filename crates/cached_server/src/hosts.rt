@@ -1,0 +1,285 @@
+//! A thread for each namespace.
+ghost use Rattle.std.specs.Prelude.{◌≡◌, ◌⊎◌, IfOk, IfErr};
+
+use crate::announcing::{SharedLines, Site};
+use audit_model::{Config, Instant};
+use cache_live::LiveService;
+use cache_serve::host;
+use cache_shared::{Seating, SharedService};
+use cached_config::Hosted;
+use cached_program::Fault;
+use rand_core::SeedableRng;
+use rand_xoshiro::Xoshiro256PlusPlus;
+use std::alloc::Global;
+use std::io::Write;
+use std::marker::Brand;
+use std::net::TcpListener;
+use std::sync::ledger::Blank;
+use std::sync::{Arc, Condvar, Mutex, Wait};
+use std::thread::{JoinHandle, Threads};
+use std::{thread, time};
+
+/// As many connections may be open at once.
+const SEATS: u64 = 1 << 32;
+
+/// How many hosts have ended, and whether one of them could not go on.
+#[derive(Clone, Copy, Drop)]
+struct Ended {
+    count: u64,
+    failed: bool,
+}
+
+/// What says that a host has ended.
+#[derive(Drop)]
+struct Board {
+    ended: Mutex<Ended>,
+    changed: Condvar,
+}
+
+impl Board {
+    /// Says that a host has ended.
+    fn end(&self, rt: &impl Wait, failed: bool) {
+        let mut ended = self.ended.lock(rt);
+        *ended = Ended {
+            count: ended.count.saturating_add(1),
+            failed: ended.failed || failed,
+        };
+        drop(ended);
+        self.changed.notify_all();
+    }
+
+    /// Waits until so many hosts have ended, or one could not go on. Answers whether one could not.
+    fn wait(&self, rt: &impl Wait, all: u64) -> bool {
+        let ended = self.changed.wait_while(rt, self.ended.lock(rt), |ended| {
+            !ended.failed && ended.count < all
+        });
+        ended.failed
+    }
+}
+
+/// What one namespace is hosted with.
+#[derive(Drop)]
+struct Post<L: Seating, W: Write + Drop, R: time::Clock + Copy> {
+    shared: SharedService<L, LiveService>,
+    namespace: u64,
+    listener: TcpListener,
+    site: Site<W, R>,
+    limit: Option<u64>,
+    board: Arc<Board>,
+}
+
+impl<L, W, R> Post<L, W, R>
+where
+    L: Seating + Send + Sync + 'static,
+    W: Write + Drop + Send + 'static,
+    R: time::Clock + Threads + Wait + Copy + Send + Sync + 'static,
+{
+    /// Hosts the namespace, and says when that has ended.
+    fn attend(self, rt: R, alloc: Global) {
+        let Post {
+            shared,
+            namespace,
+            listener,
+            site,
+            limit,
+            board,
+        } = self;
+        let served = host(rt, alloc, &shared, namespace, &listener, &site, limit);
+        board.end(&rt, served.failed);
+    }
+}
+
+/// Starts the thread of a namespace.
+fn start<L, W, R>(
+    rt: R,
+    alloc: Global,
+    post: Post<L, W, R>,
+    threads: &mut Vec<JoinHandle<()>>,
+) -> Result<(), Fault>
+where
+    L: Seating + Send + Sync + 'static,
+    W: Write + Drop + Send + 'static,
+    R: time::Clock + Threads + Wait + Copy + Send + Sync + 'static,
+    ensures { IfErr result (λ e. e ≡ Fault.OutOfMemory) }
+{
+    if threads.reserve(1).is_err() {
+        return Err(Fault::OutOfMemory);
+    }
+    match thread::spawn(&rt, move || post.attend(rt, alloc)) {
+        Ok(thread) => {
+            threads.push_reserved(thread);
+            Ok(())
+        }
+        Err(_) => Err(Fault::OutOfMemory),
+    }
+}
+
+/// What a namespace is hosted with. None without memory.
+fn make_post<L, W, R>(
+    rt: R,
+    alloc: Global,
+    shared: &SharedService<L, LiveService>,
+    namespace: u64,
+    space: Hosted,
+    listener: TcpListener,
+    lines: &SharedLines<W>,
+    start: time::Instant,
+    limit: Option<u64>,
+    board: &Arc<Board>,
+) -> Option<Post<L, W, R>>
+where
+    L: Seating + Send + Sync + 'static,
+    W: Write + Drop + Send + 'static,
+    R: time::Clock + Threads + Wait + Copy + Send + Sync + 'static,
+{
+    let shared: Result<_, _> = shared.clone();
+    let site = Site {
+        rt,
+        start,
+        name: Arc::new(alloc, space.name).ok()?,
+        loads: Arc::new(alloc, space.loads).ok()?,
+        lines: Arc::try_clone(lines).ok()?,
+    };
+    Some(Post {
+        shared: shared.ok()?,
+        namespace,
+        listener,
+        site,
+        limit,
+        board: Arc::try_clone(board).ok()?,
+    })
+}
+
+/// Hosts each namespace on a thread of its own. It ends once one of them cannot go on, or each has served as many connections as the
+/// limit says.
+fn host_all<L, W, R>(
+    rt: R,
+    alloc: Global,
+    core: LiveService,
+    blank: Blank,
+    parts: u64,
+    spaces: Vec<Hosted>,
+    listeners: Vec<TcpListener>,
+    lines: &SharedLines<W>,
+    begun: time::Instant,
+    limit: Option<u64>,
+) -> Result<(), Fault>
+where
+    L: Seating + Send + Sync + 'static,
+    W: Write + Drop + Send + 'static,
+    R: time::Clock + Threads + Wait + Copy + Send + Sync + 'static,
+    requires empty { core.events ≡ 0 }
+    requires name { blank.name ≡ L.name }
+    requires parts { (blank.parts ≡ L.parts) × (L.all ≡ L.parts) × (parts ≡ L.parts) }
+    ensures { IfErr result (λ e. (e ≡ Fault.CannotListen) ⊎ (e ≡ Fault.OutOfMemory)) }
+{
+    let shared: SharedService<L, LiveService> = match SharedService::new(
+        alloc, core, blank, parts,
+    ) {
+        Ok(shared) => shared,
+        Err(_) => return Err(Fault::OutOfMemory),
+    };
+    let Ok(board) = Arc::new(
+        alloc,
+        Board {
+            ended: Mutex::new(Ended {
+                count: 0,
+                failed: false,
+            }),
+            changed: Condvar::new(),
+        },
+    ) else {
+        return Err(Fault::OutOfMemory);
+    };
+    let all = listeners.len() as u64;
+    let mut threads = Vec::new(alloc);
+    for (namespace, (space, listener)) in spaces.into_iter().zip(listeners).enumerate() {
+        let Some(post) = make_post(
+            rt,
+            alloc,
+            &shared,
+            namespace as u64,
+            space,
+            listener,
+            lines,
+            begun,
+            limit,
+            &board,
+        ) else {
+            return Err(Fault::OutOfMemory);
+        };
+        match start(rt, alloc, post, &mut threads) {
+            Ok(()) => {}
+            Err(fault) => return Err(fault),
+        }
+    }
+    if board.wait(&rt, all) {
+        return Err(Fault::CannotListen);
+    }
+    join_all(&rt, threads);
+    Ok(())
+}
+
+/// Joins the threads.
+fn join_all(rt: &impl Threads, threads: Vec<JoinHandle<()>>) {
+    for thread in threads {
+        thread.join(rt);
+    }
+}
+
+/// The limits of namespaces, in their order.
+fn gather_configs(alloc: Global, spaces: &[Hosted]) -> Option<Vec<Config>> {
+    let mut configs = Vec::with_capacity(alloc, spaces.len()).ok()?;
+    for space in spaces {
+        configs.push(space.config).ok()?;
+    }
+    Some(configs)
+}
+
+/// The service of these namespaces, made at moment 0.
+fn make_core(alloc: Global, spaces: &[Hosted]) -> Result<LiveService, Fault>
+    ensures none { IfOk result (λ core. core.events ≡ 0) }
+    ensures err { IfErr result (λ e. e ≡ Fault.OutOfMemory) }
+{
+    let Some(configs) = gather_configs(alloc, spaces) else {
+        return Err(Fault::OutOfMemory);
+    };
+    let generator = Xoshiro256PlusPlus::seed_from_u64(0);
+    match LiveService::new(alloc, &configs, generator, Instant { nanos: 0 }) {
+        Ok(core) => Ok(core),
+        Err(_) => Err(Fault::OutOfMemory),
+    }
+}
+
+/// Serves namespaces at their listeners.
+pub fn serve_spaces<W, R>(
+    rt: R,
+    alloc: Global,
+    spaces: Vec<Hosted>,
+    listeners: Vec<TcpListener>,
+    lines: &SharedLines<W>,
+    begun: time::Instant,
+    limit: Option<u64>,
+) -> Result<(), Fault>
+where
+    W: Write + Drop + Send + 'static,
+    R: time::Clock + Threads + Wait + Copy + Send + Sync + 'static,
+    ensures { IfErr result (λ e. (e ≡ Fault.CannotListen) ⊎ (e ≡ Fault.OutOfMemory)) }
+{
+    let core = match make_core(alloc, &spaces) {
+        Ok(core) => core,
+        Err(fault) => return Err(fault),
+    };
+    host_all::<Brand, W, R>(
+        rt,
+        alloc,
+        core,
+        Blank::new(SEATS),
+        SEATS,
+        spaces,
+        listeners,
+        lines,
+        begun,
+        limit,
+    )
+}

@@ -1,0 +1,138 @@
+//! Whole lines on one writer.
+ghost use Rattle.std.specs.Prelude.{◌≡◌, ◌≤◌, ◌++◌, ◌∷◌, [], true, codes, decimal, IsErr, IfOk, OnOk, OnErr, false};
+ghost use Rattle.std.specs.Io.KnownBytes.{Appends};
+ghost use Rattle.cache_devices.specs.Failures.{HasFailed};
+ghost use Rattle.cache_devices.specs.Watched.{device, failures};
+ghost use Rattle.cached_program.specs.Gathering.{Gathers};
+ghost use Rattle.cached_program.specs.Notes.{note_text};
+ghost use Rattle.cached_server.specs.Lines.{listening_line, note_line};
+
+use audit_model::Note;
+use cache_devices::{SendError, Watched};
+use cached_program::{put, write_note, write_out};
+use itoa::Buffer;
+use std::alloc::{AllocError, Global};
+use std::io::Write;
+
+/// So many bytes of a line are gathered before they are written. The longest line that a server tells is shorter.
+const LINE_BYTES: usize = 16384;
+
+/// A writer of whole lines. Once a line could not be written whole, nothing more is written.
+#[derive(Drop)]
+pub struct Lines<W: Write + Drop> {
+    gathered: Vec<u8>,
+    writer: Watched<W>,
+    is_cut: bool,
+}
+
+impl<W: Write + Drop> Lines<W> {
+    /// The lines of a writer, with room for one.
+    pub fn new(alloc: Global, writer: W) -> Result<Lines<W>, AllocError>
+        ensures { IfOk result (λ lines. (device lines.writer ≡ writer) × (lines.is_cut ≡ false)) }
+    {
+        let gathered = Vec::with_capacity(alloc, LINE_BYTES)?;
+        Ok(Lines {
+            gathered,
+            writer: Watched::new(writer),
+            is_cut: false,
+        })
+    }
+
+    /// Writes the line of a note of a namespace of that name, in one piece. Takes no memory.
+    pub fn tell(&mut self, name: &[u8], note: &Note) -> Result<(), SendError>
+        ensures ok { OnOk result (Appends (W.contents (device self.old.writer)) (W.contents (device self.new.writer)) (note_line name.now note.now)) }
+        ensures whole { OnOk result (self.new.is_cut ≡ self.old.is_cut) }
+        ensures cut { OnErr result (self.new.is_cut ≡ true) }
+        ensures still { self.old.is_cut ≡ true → (self.new ≡ self.old) × IsErr result }
+    {
+        if self.is_cut {
+            return Err(SendError::Write);
+        }
+        let Lines {
+            gathered,
+            writer,
+            is_cut,
+        } = self;
+        match write_note_line(name, note, gathered, writer) {
+            Ok(()) => Ok(()),
+            Err(error) => {
+                *is_cut = true;
+                Err(error)
+            }
+        }
+    }
+
+    /// Writes that a namespace of that name is served at a port, in one piece. Takes no memory.
+    pub fn show(&mut self, name: &[u8], port: u16) -> Result<(), SendError>
+        ensures ok { OnOk result (Appends (W.contents (device self.old.writer)) (W.contents (device self.new.writer)) (listening_line name.now port)) }
+        ensures whole { OnOk result (self.new.is_cut ≡ self.old.is_cut) }
+        ensures cut { OnErr result (self.new.is_cut ≡ true) }
+        ensures still { self.old.is_cut ≡ true → (self.new ≡ self.old) × IsErr result }
+    {
+        if self.is_cut {
+            return Err(SendError::Write);
+        }
+        let Lines {
+            gathered,
+            writer,
+            is_cut,
+        } = self;
+        match write_listening_line(name, port, gathered, writer) {
+            Ok(()) => Ok(()),
+            Err(error) => {
+                *is_cut = true;
+                Err(error)
+            }
+        }
+    }
+}
+
+/// Writes a note of a namespace as a line.
+fn write_note_line<W: Write>(
+    name: &[u8],
+    note: &Note,
+    gathered: &mut Vec<u8>,
+    writer: &mut Watched<W>,
+) -> Result<(), SendError>
+    ensures ok { OnOk result (Appends (W.contents (device writer.old)) (W.contents (device writer.new)) (note_line name.now note.now)) }
+    ensures cause { OnErr result (HasFailed (failures writer.old) (failures writer.new)) }
+{
+    gathered.clear();
+    put(gathered, name, writer)?;
+    put(gathered, b" ", writer)?;
+    write_note(note, gathered, writer)?;
+    write_out(gathered, writer)
+}
+
+/// Writes as a line that a namespace is served.
+fn write_listening_line<W: Write>(
+    name: &[u8],
+    port: u16,
+    gathered: &mut Vec<u8>,
+    writer: &mut Watched<W>,
+) -> Result<(), SendError>
+    ensures ok { OnOk result (Appends (W.contents (device writer.old)) (W.contents (device writer.new)) (listening_line name.now port)) }
+    ensures cause { OnErr result (HasFailed (failures writer.old) (failures writer.new)) }
+{
+    gathered.clear();
+    put(gathered, b"listening ", writer)?;
+    put(gathered, name, writer)?;
+    put(gathered, b" 127.0.0.1:", writer)?;
+    put_number(port, gathered, writer)?;
+    put(gathered, b"\n", writer)?;
+    write_out(gathered, writer)
+}
+
+/// Gathers a number.
+fn put_number<W: Write>(
+    number: u16,
+    gathered: &mut Vec<u8>,
+    writer: &mut Watched<W>,
+) -> Result<(), SendError>
+    ensures ok { OnOk result (Gathers (W.contents (device writer.old)) gathered.old.items (decimal number) (W.contents (device writer.new)) gathered.new.items) }
+    ensures cause { OnErr result (HasFailed (failures writer.old) (failures writer.new)) }
+    ensures count { failures writer.old ≤ failures writer.new }
+{
+    let mut digits = Buffer::new();
+    put(gathered, digits.format(number).as_bytes(), writer)
+}

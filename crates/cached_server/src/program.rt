@@ -1,0 +1,146 @@
+//! The program over its words and streams.
+ghost use Rattle.std.specs.Prelude.{◌≡◌, ◌≢◌, ◌≤◌, ◌⊎◌, None, IsErr, IfErr};
+ghost use Rattle.toml.specs.Parse.{parse_document};
+ghost use Rattle.cache_devices.specs.Watched.{device, failures};
+ghost use Rattle.cached_program.specs.Faults.{Tells, fault_text, usage_text};
+ghost use Rattle.cached_program.specs.Scripts.{ServesScript};
+
+use crate::hosts::serve_spaces;
+use crate::lines::Lines;
+use crate::listening::{listen, show_all};
+use crate::reading::{read_spaces, read_text};
+use cache_devices::Watched;
+use cached_program::{Chosen, Fault, fail, fail_words, run_script, take_words};
+use std::alloc::Global;
+use std::convert::AsStr;
+use std::io::{Read, Write};
+use std::net::{Net, TcpListener, TcpStream};
+use std::rt::Files;
+use std::sync::{Arc, Mutex, Wait};
+use std::thread::Threads;
+use std::time;
+use std::time::Instant;
+
+/// The program, over its words and streams. Answers its status: 0 at the end of a script, 1 after an error, 2 where the words
+/// are not served.
+///
+/// `--script`: at 0 the replies of the script's lines stand on `writer`, and its notes on `errors`. An error's text follows the notes;
+/// what cannot be written to `errors` is lost.
+///
+/// `--config FILE`: serves what the file says, until that is no longer possible. `shown` is standard output as well, as a value that threads
+/// share: there it says where each namespace is served, and then tells notes.
+pub fn cached<S: AsStr, I: Read, O: Write, E: Write, W, R>(
+    rt: R,
+    alloc: Global,
+    words: &[S],
+    reader: &mut Watched<I>,
+    writer: &mut Watched<O>,
+    errors: &mut Watched<E>,
+    shown: W,
+) -> u8
+where
+    W: Write + Drop + Send + 'static,
+    R: Net<Listener = TcpListener, Stream = TcpStream>
+        + Files
+        + AllocGlobal
+        + time::Clock
+        + Threads
+        + Wait
+        + Copy
+        + Send
+        + Sync
+        + 'static,
+    ensures status { result ≤ 2 }
+    ensures served { result ≡ 0 → ServesScript (I.remaining (device reader.old)) (I.remaining (device reader.new)) (O.contents (device writer.old)) (O.contents (device writer.new)) (E.contents (device errors.old)) (E.contents (device errors.new)) }
+    ensures usage { result ≡ 2 → Tells usage_text (E.contents (device errors.old)) (E.contents (device errors.new)) (failures errors.old) (failures errors.new) }
+    ensures unread { result ≡ 2 → reader.new ≡ reader.old }
+    ensures unwritten { result ≡ 2 → writer.new ≡ writer.old }
+{
+    match take_words(alloc, words) {
+        Ok(Chosen::Script) => run_script(alloc, reader, writer, errors),
+        Ok(Chosen::Config(path)) => serve_config(rt, alloc, path, shown, errors),
+        Err(error) => fail_words(error, errors),
+    }
+}
+
+/// Serves what the configuration file at a path says, until that is no longer possible. Then the text of what was wrong is written, and
+/// the status is 1.
+pub fn serve_config<E: Write, W, R>(
+    rt: R,
+    alloc: Global,
+    path: &str,
+    shown: W,
+    errors: &mut Watched<E>,
+) -> u8
+where
+    W: Write + Drop + Send + 'static,
+    R: Net<Listener = TcpListener, Stream = TcpStream>
+        + Files
+        + AllocGlobal
+        + time::Clock
+        + Threads
+        + Wait
+        + Copy
+        + Send
+        + Sync
+        + 'static,
+    ensures status { result ≡ 1 }
+    ensures told { (fault : Fault) × Tells (fault_text fault) (E.contents (device errors.old)) (E.contents (device errors.new)) (failures errors.old) (failures errors.new) }
+{
+    let Ok(begun) = Instant::now(&rt) else {
+        return fail(errors, Fault::CannotListen);
+    };
+    match read_text(&rt, path) {
+        Ok(text) => match serve_text(rt, alloc, text.as_str(), begun, shown, None) {
+            Ok(()) => fail(errors, Fault::UsedUp),
+            Err(fault) => fail(errors, fault),
+        },
+        Err(fault) => fail(errors, fault),
+    }
+}
+
+/// Serves what the text of a configuration file says: without end, or until each namespace has served as many connections as the limit
+/// says. `shown` says where each namespace is served, and then tells notes. The clock of each connection counts from `begun` on.
+pub fn serve_text<W, R>(
+    rt: R,
+    alloc: Global,
+    text: &str,
+    begun: Instant,
+    shown: W,
+    limit: Option<u64>,
+) -> Result<(), Fault>
+where
+    W: Write + Drop + Send + 'static,
+    R: Net<Listener = TcpListener, Stream = TcpStream>
+        + time::Clock
+        + Threads
+        + Wait
+        + Copy
+        + Send
+        + Sync
+        + 'static,
+    ensures text { parse_document text.now ≡ None → IsErr result }
+    ensures causes { parse_document text.now ≡ None → IfErr result (λ e. (e ≡ Fault.BadConfiguration) ⊎ (e ≡ Fault.OutOfMemory)) }
+    ensures faults { IfErr result (λ e. (e ≢ Fault.Read) × (e ≢ Fault.UsedUp)) }
+{
+    let spaces = match read_spaces(alloc, text) {
+        Ok(spaces) => spaces,
+        Err(fault) => return Err(fault),
+    };
+    let listeners = match listen(&rt, alloc, &spaces) {
+        Ok(listeners) => listeners,
+        Err(fault) => return Err(fault),
+    };
+    let lines = match Lines::new(alloc, shown) {
+        Ok(lines) => lines,
+        Err(_) => return Err(Fault::OutOfMemory),
+    };
+    let Ok(lines) = Arc::new(alloc, Mutex::new(lines)) else {
+        return Err(Fault::OutOfMemory);
+    };
+    match show_all(&rt, &lines, &spaces) {
+        Ok(()) => {}
+        Err(fault) => return Err(fault),
+    }
+    serve_spaces(rt, alloc, spaces, listeners, &lines, begun, limit)
+}
