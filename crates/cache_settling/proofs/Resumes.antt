@@ -20,16 +20,17 @@ use Rattle.audit_model.specs.declared.config.Config.{Config}
 use Rattle.audit_model.specs.declared.transcript.Note.{Note}
 use Rattle.audit_model.specs.declared.transcript.Step.{Step}
 use Rattle.cache_namespace.specs.Drawing.{Identifiers, StepsDraw, Workings, identifiers_in}
-use Rattle.cache_namespace.specs.Gathered.{Gathered, reply_in}
+use Rattle.cache_namespace.specs.Gathered.{Gathered, gather, reply_in}
 use Rattle.cache_namespace.specs.Kept.{gathered}
 use Rattle.cache_namespace.specs.Lines.{ArePartedIn, IsThere, are_timely, ready, set_in, with_drops}
 use Rattle.cache_namespace.specs.Making.{Making}
 use Rattle.cache_namespace.specs.Ran.{RanFeed, RanReady, with_piece}
 use Rattle.cache_namespace.specs.Shown.{is_listed, open_from, put_in, shown, situation, standing_as}
 use Rattle.cache_namespace.specs.Taken.{FeedsConnection, ReplacedAt, is_quit, text_at}
-use Rattle.cache_namespace.specs.Waiting.{UnderWay, when_left}
+use Rattle.cache_namespace.specs.Waiting.{UnderWay, when_left, with_under_way}
 use Rattle.cache_namespace.specs.Whole.{held_line, holds, keeps_line, waits}
 use Rattle.cache_namespace.specs.declared.connection.Connection.{Connection}
+use Rattle.cache_namespace.specs.declared.kept.Kept.{Kept}
 use Rattle.cache_namespace.specs.declared.standing.Standing.{Standing}
 use Rattle.cache_namespace.specs.declared.standing.Standing.TheVariants as now
 use Rattle.cache_namespace.proofs.Following.{found-open, listed-open, put-situation}
@@ -96,14 +97,29 @@ own-replies config s t m number (step ∷ more) e = may-step config s t m number
 -- ---- a connection whose lines ran
 
 -- lines of a connection that is ready, as those of a feed of nothing
-pub ready-feeds : (config : Config) (base : Situation) (number : ℕ) (making : Making) (values : List HeldValue) (old new : Connection) (quit is_held : Bool) (target : List HeldValue → Situation) (Stands : List HeldValue → Type 0) (dropped : Bool) (drawn drawing : Workings) (was is : Gathered)
+pub ready-feeds : (config : Config) (base : Situation) (number : ℕ) (making : Making) (values : List HeldValue) (old new : Connection) (quit is_held : Bool) (target : List HeldValue → Situation) (Stands : List HeldValue → Type 0) (dropped : Bool) (loads : UnderWay) (drawn drawing : Workings) (was is : Gathered)
     → old.standing ≡ now.Ready → RanReady config base number making values (old.unread.bytes ++ []) quit is_held target Stands drawn drawing was is
-    → ((left : List HeldValue) → target left ≡ put_in (with_drops dropped base) left number new) → quit ≡ is_quit new.closing
-    → FeedsConnection config base number making values old [] new is_held Stands dropped drawn drawing was is
-ready-feeds config base number making values old new quit is_held target Stands dropped drawn drawing was is e r puts ends =
-    feeds-to config base number making values old new [] quit is_held target Stands dropped drawn drawing was is (ap waits e)
+    → ((left : List HeldValue) → target left ≡ put_in (with_under_way loads (with_drops dropped base)) left number new) → quit ≡ is_quit new.closing
+    → FeedsConnection config base number making values old [] new is_held Stands dropped loads drawn drawing was is
+ready-feeds config base number making values old new quit is_held target Stands dropped loads drawn drawing was is e r puts ends =
+    feeds-to config base number making values old new [] quit is_held target Stands dropped loads drawn drawing was is (ap waits e)
     (subst (λ h. RanFeed config base number making values h old.waited old.unread.bytes [] quit is_held target Stands drawn drawing was is) (sym (ap holds e))
     (record { steps = r.steps; left = r.left; stands = r.stands; after = r.after; parted = r.parted; timely = r.timely; ends = r.ends; quits = r.quits; draws = r.draws; ordered = r.ordered; gathered = r.gathered })) puts ends
+
+-- where no record is made, none is kept
+loose : (kept : Option Kept) (text old_text : List ℕ) (told telling : List Note) (steps : List Step) → gathered text kept telling ≡ gather (gathered old_text None told) steps → gathered text None telling ≡ gather (gathered old_text None told) steps
+loose kept text old_text told telling steps e = ap (λ k. record { text = text; kept = k; waiting = telling }) (sym (ap (λ (g : Gathered). g.kept) e)) ∙ e
+
+-- lines of a connection that is ready, of which no record is made
+pub resumed : (config : Config) (base : Situation) (number : ℕ) (making : Making) (values : List HeldValue) (old new : Connection) (quit is_held : Bool) (target : List HeldValue → Situation) (Stands : List HeldValue → Type 0) (dropped : Bool) (loads : UnderWay) (drawn drawing : Workings) (kept : Option Kept) (old_text text : List ℕ) (told telling : List Note)
+    → old.standing ≡ now.Ready → RanReady config base number making values (old.unread.bytes ++ []) quit is_held target Stands drawn drawing (gathered old_text None told) (gathered text kept telling)
+    → ((left : List HeldValue) → target left ≡ put_in (with_under_way loads (with_drops dropped base)) left number new) → quit ≡ is_quit new.closing
+    → (held : Bool) × FeedsConnection config base number making values old [] new held Stands dropped loads drawn drawing (gathered old_text None told) (gathered text None telling)
+resumed config base number making values old new quit is_held target Stands dropped loads drawn drawing kept old_text text told telling e r puts ends = (
+  is_held,
+  ready-feeds config base number making values old new quit is_held target Stands dropped loads drawn drawing (gathered old_text None told) (gathered text None telling) e
+      (record { steps = r.steps; left = r.left; stands = r.stands; after = r.after; parted = r.parted; timely = r.timely; ends = r.ends; quits = r.quits; draws = r.draws; ordered = r.ordered; gathered = loose kept text old_text told telling r.steps r.gathered }) puts ends,
+)
 
 -- what is put where it stands changes nothing
 put-same : (latest m i : ℕ) (l : UnderWay) (cs : List Connection) (dropped : Bool) (values : List HeldValue) (c : Connection) → m ≡ suc i → slice_get cs i ≡ Some c → c.closing ≡ None
@@ -131,23 +147,23 @@ text-ran cs after m i place steps e p output false at =
     ∙ sym (ap (λ b. text_at cs place ++ (if b then flat_map reply_in steps else [])) at)
 
 -- what lines of a connection at its place lead to
-pub runs-placed : (config : Config) (making : Making) (latest m i : ℕ) (l : UnderWay) (cs after : List Connection) (dropped dropping is_held : Bool) (values : List HeldValue) (Stands : List HeldValue → Type 0) (drawn drawing : Workings) (told telling : List Note)
+pub runs-placed : (config : Config) (making : Making) (latest m i : ℕ) (l j : UnderWay) (cs after : List Connection) (dropped dropping is_held : Bool) (values : List HeldValue) (Stands : List HeldValue → Type 0) (drawn drawing : Workings) (told telling : List Note)
     → m ≡ suc i → (p : ReplacedAt cs after i) → p.was.standing ≡ now.Ready → p.was.closing ≡ None
-    → FeedsConnection config (situation latest l cs dropped values) m making values p.was [] p.is is_held Stands dropping drawn drawing (gathered p.was.output.items None told) (gathered p.is.output.items None telling)
-    → RunsThem config making latest values (m ∷ []) [] Stands l (when_left (is_none p.is.closing) m l) dropped dropping (identifiers_in drawn) (identifiers_in drawing) cs after told telling
-runs-placed config making latest m i l cs after dropped dropping is_held values Stands drawn drawing told telling e p was_ready was_open f =
+    → FeedsConnection config (situation latest l cs dropped values) m making values p.was [] p.is is_held Stands dropping j drawn drawing (gathered p.was.output.items None told) (gathered p.is.output.items None telling)
+    → RunsThem config making latest values (m ∷ []) [] Stands l (when_left (is_none p.is.closing) m j) dropped dropping (identifiers_in drawn) (identifiers_in drawing) cs after told telling
+runs-placed config making latest m i l j cs after dropped dropping is_held values Stands drawn drawing told telling e p was_ready was_open f =
     let s = situation latest l cs dropped values in
-    let t = situation latest (when_left (is_none p.is.closing) m l) after dropping f.left in
+    let t = situation latest (when_left (is_none p.is.closing) m j) after dropping f.left in
     let place = get_or_from_slice_get cs i p.was p.was p.at in
     let lt = slice_get_within cs i p.was p.at in
     let listed = listed-open m p.was ∙ ap is_none was_open in
     let same : set_in s values (with_piece [] (shown m p.was)) ≡ s =
     ap (λ b. set_in s values (record (shown m p.was) { unread = b })) (append-nil (shown m p.was).unread) ∙ put-same latest m i l cs dropped values p.was e p.at was_open in
     let tasks : tasks_to_feed m (holds p.was.standing) ≡ RunLines m ∷ [] = ap (λ st. tasks_to_feed m (holds st)) was_ready in
-    let target : put_in (with_drops dropping s) f.left m p.is ≡ t =
-    put-situation latest m i l p.was p.is cs dropping values f.left e lt place listed
-    ∙ ap (λ b. situation latest (when_left b m l) (slice_set cs i p.is) dropping f.left) (listed-open m p.is)
-    ∙ ap (λ ks. situation latest (when_left (is_none p.is.closing) m l) ks dropping f.left) (sym p.set) in
+    let target : put_in (with_under_way j (with_drops dropping s)) f.left m p.is ≡ t =
+    put-situation latest m i j p.was p.is cs dropping values f.left e lt place listed
+    ∙ ap (λ b. situation latest (when_left b m j) (slice_set cs i p.is) dropping f.left) (listed-open m p.is)
+    ∙ ap (λ ks. situation latest (when_left (is_none p.is.closing) m j) ks dropping f.left) (sym p.set) in
     let ran : after_steps config s (RunLines m ∷ []) f.steps ≡ Some t =
     sym (ap (λ u. after_steps config u (tasks_to_feed m (holds p.was.standing)) f.steps) same ∙ ap (λ ts. after_steps config s ts f.steps) tasks) ∙ f.after ∙ ap Some target in
     let parted = subst (λ ts. ArePartedIn config making.part_of s ts f.steps) tasks (subst (λ u. ArePartedIn config making.part_of u (tasks_to_feed m (holds p.was.standing)) f.steps) same f.parted) in
@@ -270,15 +286,15 @@ not-some None = refl
 not-some (Some x) = refl
 
 -- the lines of one connection, in all that the code knows
-pub runs-resumed : (config : Config) (making : Making) (latest m i : ℕ) (l left : UnderWay) (cs after : List Connection) (dropped dropping closed is_held : Bool) (values : List HeldValue) (Stands : List HeldValue → Type 0) (drawn drawing : Workings) (told telling : List Note)
-    → m ≡ suc i → (p : ReplacedAt cs after i) → runs_at (slice_get cs i) ≡ true → closed ≡ is_some p.is.closing → left ≡ when_left (not closed) m l
-    → FeedsConnection config (situation latest l cs dropped values) m making values p.was [] p.is is_held Stands dropping drawn drawing (gathered p.was.output.items None told) (gathered p.is.output.items None telling)
+pub runs-resumed : (config : Config) (making : Making) (latest m i : ℕ) (l j left : UnderWay) (cs after : List Connection) (dropped dropping closed is_held : Bool) (values : List HeldValue) (Stands : List HeldValue → Type 0) (drawn drawing : Workings) (told telling : List Note)
+    → m ≡ suc i → (p : ReplacedAt cs after i) → runs_at (slice_get cs i) ≡ true → closed ≡ is_some p.is.closing → left ≡ when_left (not closed) m j
+    → FeedsConnection config (situation latest l cs dropped values) m making values p.was [] p.is is_held Stands dropping j drawn drawing (gathered p.was.output.items None told) (gathered p.is.output.items None telling)
     → RunsThem config making latest values (m ∷ []) [] Stands l left dropped dropping (identifiers_in drawn) (identifiers_in drawing) cs after told telling
-runs-resumed config making latest m i l left cs after dropped dropping closed is_held values Stands drawn drawing told telling e p runs closes leaves f =
+runs-resumed config making latest m i l j left cs after dropped dropping closed is_held values Stands drawn drawing told telling e p runs closes leaves f =
     let so = runs-here cs i p.was p.at runs in
     subst (λ u. RunsThem config making latest values (m ∷ []) [] Stands l u dropped dropping (identifiers_in drawn) (identifiers_in drawing) cs after told telling)
-    (sym (leaves ∙ ap (λ b. when_left (not b) m l) closes ∙ ap (λ b. when_left b m l) (not-some p.is.closing)))
-    (runs-placed config making latest m i l cs after dropped dropping is_held values Stands drawn drawing told telling e p so.0 so.1 f)
+    (sym (leaves ∙ ap (λ b. when_left (not b) m j) closes ∙ ap (λ b. when_left b m j) (not-some p.is.closing)))
+    (runs-placed config making latest m i l j cs after dropped dropping is_held values Stands drawn drawing told telling e p so.0 so.1 f)
 
 -- it is there
 pub there-at : (latest m i : ℕ) (l : UnderWay) (cs : List Connection) (dropped : Bool) (values : List HeldValue) (c : Connection) → m ≡ suc i → slice_get cs i ≡ Some c → c.closing ≡ None → IsThere m (situation latest l cs dropped values)

@@ -8,23 +8,24 @@ ghost use Rattle.cache_namespace.specs.Kept.{gathered};
 ghost use Rattle.cache_namespace.specs.Lines.{IsThere};
 ghost use Rattle.cache_namespace.specs.Making.{making_of};
 ghost use Rattle.cache_namespace.specs.Taken.{FeedsConnection, ReplacedAt};
-ghost use Rattle.cache_namespace.specs.Waiting.{under_way, when_left};
+ghost use Rattle.cache_namespace.specs.Waiting.{loads_in, under_way, when_left};
 ghost use Rattle.cache_namespace.specs.declared.standing.Standing.TheVariants as stands;
 ghost use Rattle.cache_settling.specs.Resumed.{RunsThem, runs_at};
 
 use audit_model::{Closing, Config};
 use cache_loads::Loads;
-use cache_namespace::{Connection, Kept, Standing, Stop, run_ready};
+use cache_namespace::{Connection, End, Kept, Standing, close_where_behind, run_ready};
 use cache_store::Store;
 use std::alloc::Global;
 
-/// Runs the lines of an open connection that runs lines; no record is made.
+/// Runs the lines of an open connection that runs lines, and answers whether it closed; no record is made.
 fn resume<S: Store>(
     store: &mut S,
     alloc: Global,
     config: &Config,
     now: u64,
     number: u64,
+    loads: &mut Loads,
     connection: &mut Connection,
 ) -> bool
     requires config { (S.frame store.old).config ≡ config.now }
@@ -32,7 +33,7 @@ fn resume<S: Store>(
     requires moment { now < 2 ^ 63 }
     requires ready { connection.old.standing ≡ stands.Ready }
     requires open { connection.old.closing ≡ None }
-    ensures ran { (base : Situation) (values : List HeldValue) → base.latest ≡ now → base.dropped ≡ (S.frame store.old).dropped → IsThere number base → S.stands store.old values → (is_held : Bool) × FeedsConnection config.now base number (making_of (S.frame store.old)) values connection.old [] connection.new is_held (S.stands store.new) (S.frame store.new).dropped (workings (S.stream store.old) (S.registered store.old) (S.recency store.old)) (workings (S.stream store.new) (S.registered store.new) (S.recency store.new)) (gathered connection.old.output.items None (S.untaken store.old)) (gathered connection.new.output.items None (S.untaken store.new)) }
+    ensures ran { (base : Situation) (values : List HeldValue) → base.latest ≡ now → base.dropped ≡ (S.frame store.old).dropped → loads_in base ≡ under_way loads.old → IsThere number base → S.stands store.old values → (is_held : Bool) × FeedsConnection config.now base number (making_of (S.frame store.old)) values connection.old [] connection.new is_held (S.stands store.new) (S.frame store.new).dropped (under_way loads.new) (workings (S.stream store.old) (S.registered store.old) (S.recency store.old)) (workings (S.stream store.new) (S.registered store.new) (S.recency store.new)) (gathered connection.old.output.items None (S.untaken store.old)) (gathered connection.new.output.items None (S.untaken store.new)) }
     ensures frame { KeepsFrame (S.frame store.old) (S.frame store.new) now }
     ensures closes { result ≡ is_some connection.new.closing }
 {
@@ -43,31 +44,47 @@ fn resume<S: Store>(
         config,
         now,
         number,
+        loads,
         &mut connection.unread,
         &mut connection.output,
+        &mut connection.spare,
         &[],
         &mut kept,
     ) {
-        Stop::More => {
+        End::More => {
+            connection.standing = Standing::Ready;
             connection.waited = 0;
             false
         }
-        Stop::TooLong => {
+        End::TooLong => {
+            connection.standing = Standing::Ready;
             connection.waited = 0;
             connection.closing = Some(Closing::Long);
             connection.unread.clear();
             true
         }
-        Stop::Quit => {
+        End::Quit => {
+            connection.standing = Standing::Ready;
             connection.waited = 0;
             connection.closing = Some(Closing::Quit);
             connection.unread.clear();
             true
         }
-        Stop::Held(_) => {
+        End::Held => {
             connection.standing = Standing::Held;
             connection.waited = 0;
             false
+        }
+        End::Waits(times) => {
+            if close_where_behind(&mut connection.unread, &mut connection.closing) {
+                connection.standing = Standing::Ready;
+                connection.waited = 0;
+                true
+            } else {
+                connection.standing = Standing::Waiting;
+                connection.waited = times;
+                false
+            }
         }
     }
 }
@@ -102,6 +119,7 @@ fn resume_there<S: Store>(
     config: &Config,
     now: u64,
     number: u64,
+    loads: &mut Loads,
     connections: &mut Vec<Connection>,
     index: usize,
 ) -> bool
@@ -110,11 +128,11 @@ fn resume_there<S: Store>(
     requires moment { now < 2 ^ 63 }
     requires inside { index < length connections.old.items }
     requires runs { runs_at (slice_get connections.old.items index) ≡ true }
-    ensures ran { (p : ReplacedAt connections.old.items connections.new.items index) × (result ≡ is_some p.is.closing) × ((base : Situation) (values : List HeldValue) → base.latest ≡ now → base.dropped ≡ (S.frame store.old).dropped → IsThere number base → S.stands store.old values → (is_held : Bool) × FeedsConnection config.now base number (making_of (S.frame store.old)) values p.was [] p.is is_held (S.stands store.new) (S.frame store.new).dropped (workings (S.stream store.old) (S.registered store.old) (S.recency store.old)) (workings (S.stream store.new) (S.registered store.new) (S.recency store.new)) (gathered p.was.output.items None (S.untaken store.old)) (gathered p.is.output.items None (S.untaken store.new))) }
+    ensures ran { (p : ReplacedAt connections.old.items connections.new.items index) × (result ≡ is_some p.is.closing) × ((base : Situation) (values : List HeldValue) → base.latest ≡ now → base.dropped ≡ (S.frame store.old).dropped → loads_in base ≡ under_way loads.old → IsThere number base → S.stands store.old values → (is_held : Bool) × FeedsConnection config.now base number (making_of (S.frame store.old)) values p.was [] p.is is_held (S.stands store.new) (S.frame store.new).dropped (under_way loads.new) (workings (S.stream store.old) (S.registered store.old) (S.recency store.old)) (workings (S.stream store.new) (S.registered store.new) (S.recency store.new)) (gathered p.was.output.items None (S.untaken store.old)) (gathered p.is.output.items None (S.untaken store.new))) }
     ensures frame { KeepsFrame (S.frame store.old) (S.frame store.new) now }
 {
     let connection = &mut connections[index];
-    resume(store, alloc, config, now, number, connection)
+    resume(store, alloc, config, now, number, loads, connection)
 }
 
 /// Takes a connection that closed out of those that wait.
@@ -150,7 +168,7 @@ fn resume_at<S: Store>(
     if !runs_there(connections, index) {
         return;
     }
-    let closed = resume_there(store, alloc, config, now, number, connections, index);
+    let closed = resume_there(store, alloc, config, now, number, loads, connections, index);
     leave_where(loads, number, closed);
 }
 

@@ -39,7 +39,7 @@ returns-clause-ran g c = λ values m.
     let p = c.resume_there-closed.ensures.ran.0 in
     let so = runs-here cs (c.args.number - 1) p.was p.at runs in
     let there = there-at c.args.now c.args.number (c.args.number - 1) l cs dropped values p.was e p.at so.1 in
-    let f = c.resume_there-closed.ensures.ran.2 (situation c.args.now l cs dropped values) values refl refl there m in
-    runs-resumed c.args.config.now (making_of (g.S.Store.frame was)) c.args.now c.args.number (c.args.number - 1) l (under_way c.leave_where.new.loads) cs after dropped (g.S.Store.frame is).dropped c.resume_there-closed.result f.0 values (g.S.Store.stands is)
+    let f = c.resume_there-closed.ensures.ran.2 (situation c.args.now l cs dropped values) values refl refl refl there m in
+    runs-resumed c.args.config.now (making_of (g.S.Store.frame was)) c.args.now c.args.number (c.args.number - 1) l (under_way c.resume_there-closed.new.loads) (under_way c.leave_where.new.loads) cs after dropped (g.S.Store.frame is).dropped c.resume_there-closed.result f.0 values (g.S.Store.stands is)
     (workings (g.S.Store.stream was) (g.S.Store.registered was) (g.S.Store.recency was)) (workings (g.S.Store.stream is) (g.S.Store.registered is) (g.S.Store.recency is)) (g.S.Store.untaken was) (g.S.Store.untaken is)
     e p runs c.resume_there-closed.ensures.ran.1 c.leave_where.ensures f.1
