@@ -4,4 +4,5 @@ pub mod Outcomes
 pub mod Placed
 pub mod Turns
 pub mod Resumes
+pub mod Rooms
 pub mod Settling

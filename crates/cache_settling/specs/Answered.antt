@@ -1,9 +1,13 @@
 -- What an answer does to a namespace.
-use Rattle.std.specs.Prelude.{◌≡◌, ℕ, Bool, true, List, [], ◌++◌, map}
+use Rattle.std.specs.Prelude.{◌≡◌, ℕ, Bool, true, false, List, [], ◌++◌, map}
 use Rattle.std.specs.List.{flat_map}
+use Rattle.audit_model.specs.Belongs.{Known}
+use Rattle.audit_model.specs.Follows.{known_in}
 use Rattle.audit_model.specs.Situation.{HeldValue}
 use Rattle.audit_model.specs.Steps.{Deliver, RunLines}
 use Rattle.audit_model.specs.declared.config.Config.{Config}
+use Rattle.audit_model.specs.declared.event.Event.{Event}
+use Rattle.audit_model.specs.declared.event.Event.TheVariants as event
 use Rattle.audit_model.specs.declared.event.Outcome.{Outcome}
 use Rattle.audit_model.specs.declared.transcript.Note.{Note}
 use Rattle.audit_model.specs.declared.transcript.Step.{Step}
@@ -23,3 +27,14 @@ pub record HandsOut (config : Config) (making : Making) (outcome : Outcome) (lat
   pub leads : Leads config making (situation latest was_under old dropped values) (map (λ conn. Deliver conn outcome) waiting ++ map RunLines waiting) steps (situation latest is_under new dropping held) [] drawn drawing
   pub texts : WritesTo true steps old new
   pub notes : telling ≡ told ++ flat_map (λ step. step.notices) steps
+
+-- an answer, and a give-up
+abbrev pub answering : ℕ → Outcome → ℕ → Event
+answering load outcome moment = event.Answer load outcome (record { nanos = moment })
+
+abbrev pub giving_up : ℕ → ℕ → Event
+giving_up load moment = event.GiveUp load (record { nanos = moment })
+
+-- what is known of those loads under way
+abbrev pub knows_loads : UnderWay → Known
+knows_loads loads = known_in (situation 0 loads [] false [])
