@@ -35,13 +35,16 @@ use Rattle.cache_namespace.specs.Lines.{IsThere, Runs, ended, has_its_part, is_t
 use Rattle.cache_namespace.specs.Making.{Making}
 use Rattle.cache_namespace.specs.Ordered.{HasKeys, HaveKeys, order_after, order_behind}
 use Rattle.cache_namespace.specs.Ran.{RanFeed, RanLines, RanReady, ends_held}
-use Rattle.cache_namespace.specs.Waiting.{UnderWay, holding_load, loads_in, under_way, waiting, with_under_way}
-use Rattle.cache_namespace.specs.Whole.{held_line}
+use Rattle.cache_namespace.specs.Shown.{standing_as}
+use Rattle.cache_namespace.specs.Waiting.{UnderWay, holding_load, loads_in, sent_by, under_way, waiting, when_waiting, with_under_way}
+use Rattle.cache_namespace.specs.Whole.{has_line, held_line}
+use Rattle.cache_namespace.specs.declared.standing.Standing.TheVariants as now
 use Rattle.cache_namespace.proofs.Drawn.{draws-first, draws-more, spends-same}
 use Rattle.cache_namespace.proofs.FeedSteps.{cons-parted, held_with, runs-end, runs-parted, runs-timely}
 use Rattle.cache_namespace.proofs.Knowing.{keys-in-turn, order-behind-more, runs-keys-more}
 use Rattle.cache_namespace.proofs.LoadTurns.{after-waits, pending-put, sends, step_waits, stops-waiting, turn-right}
 use Rattle.cache_namespace.proofs.Placing.{numbered}
+use Rattle.cache_namespace.proofs.Receiving.{behind-more, held-more}
 use Rattle.cache_namespace.proofs.Running.{ends-quit-more, gather-more, line-fits, may-run, runs-more}
 
 -- ---- one step of such a `LOAD`
@@ -196,3 +199,22 @@ pub feeds-by : (config : Config) (base : Situation) (number : ℕ) (making : Mak
     → RanFeed config base number making held was_held times bytes piece quit is_held (λ left. ended quit (with_under_way loads (with_drops dropped base)) left c) Stands drawn drawing old new
 feeds-by config base number making held was_held times bytes piece quit is_held Stands dropped loads c drawn drawing old new under r =
     subst (λ u. RanFeed config base number making held was_held times bytes piece quit is_held (λ left. ended quit (with_under_way u (with_drops dropped base)) left c) Stands drawn drawing old new) under r
+
+-- a held `LOAD` waits, in the words of the feed
+pub feeds-waits-on : (config : Config) (base : Situation) (number : ℕ) (making : Making) (held : List HeldValue) (was_held : Bool) (times n : ℕ) (bytes piece all key : List ℕ) (Stands : List HeldValue → Type 0) (dropped : Bool) (loads : UnderWay) (drawn : Workings) (old new : Gathered)
+    → was_held ≡ true → n ≡ times + 1 → all ≡ bytes ++ piece → has_line bytes ≡ true → base.dropped ≡ dropped → when_waiting number key (loads_in base) ≡ loads
+    → IsThere number base → reading config (held_line bytes) ≡ Ok (says.Load key) → live_at config base.latest held key ≡ None → Stands (all_held_after config base.latest held no_deed [])
+    → new ≡ gather old (step_waits number (held_line bytes) (sent_by key (loads_in base)) ∷ [])
+    → RanFeed config base number making held was_held times bytes piece false false (λ left. ended false (with_under_way loads (with_drops dropped base)) left (standing_as number now.Waiting n all)) Stands drawn drawn old new
+feeds-waits-on config base number making held was_held times n bytes piece all key Stands dropped loads drawn old new was count is whole same joined there reads none stands gathers =
+    let Waited : Bool → Situation → List ℕ → List ℕ → ℕ → Type _ = λ h s line behind k.
+    RanFeed config base number making held h times bytes piece false false (λ left. set_in s left (waiting number line behind k)) Stands drawn drawn old new in
+    let s = with_under_way (when_waiting number key (loads_in base)) base in
+    let counts : 1 + times ≡ n = omega arith in
+    let a : Waited true s (held_line bytes) (behind_lines 1 bytes ++ piece) (1 + times) = feeds-waits config base number making held times bytes piece key (sent_by key (loads_in base)) Stands drawn old new there reads refl none stands gathers in
+    subst (λ h. Waited h (with_under_way loads (with_drops dropped base)) (held_line all) (behind_lines 1 all) n) (sym was)
+    (subst (λ u. Waited true (with_under_way u (with_drops dropped base)) (held_line all) (behind_lines 1 all) n) joined
+    (subst (λ d. Waited true (with_under_way (when_waiting number key (loads_in base)) (with_drops d base)) (held_line all) (behind_lines 1 all) n) same
+    (subst (λ l. Waited true s l (behind_lines 1 all) n) (sym (ap held_line is ∙ held-more bytes piece whole))
+    (subst (λ b. Waited true s (held_line bytes) b n) (sym (ap (behind_lines 1) is ∙ behind-more bytes piece whole))
+    (subst (λ k. Waited true s (held_line bytes) (behind_lines 1 bytes ++ piece) k) counts a)))))
