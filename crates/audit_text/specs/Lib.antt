@@ -1,4 +1,2 @@
-pub mod Gathered
-pub mod Lines
 pub mod Text
 pub mod Words

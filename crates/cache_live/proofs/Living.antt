@@ -4,9 +4,8 @@ use Rattle.std.specs.Prelude.{◌⊎◌, slice_set, map, Result, Ok, Err, OnOk, 
 use Rattle.std.specs.List.{slice_get}
 use Rattle.std.proofs.lemmas.List.{length-set}
 use Rattle.std.proofs.lemmas.Option.{slice_get_within, none-some, same_Some}
-use Rattle.audit_laws.proofs.Journals.{leads-more}
-use Rattle.audit_laws.proofs.OnePart.{one-part-obeys}
-use Rattle.audit_laws.specs.Leading.{LeadsTo}
+use Rattle.audit_laws.proofs.Journals.{leads_by-more, obeys-led}
+use Rattle.audit_laws.specs.Leading.{LeadsBy, LeadsTo}
 use Rattle.audit_model.specs.Situation.{Situation, empty_situation}
 use Rattle.audit_model.specs.declared.config.Config.{Config}
 use Rattle.audit_model.specs.declared.event.Instant.{Instant}
@@ -21,12 +20,11 @@ use Rattle.cache_namespace.proofs.Places.{at-replaced}
 use Rattle.cache_namespace.specs.Taken.{record_of}
 use Rattle.cache_shared.proofs.Counting.{count-empty, count-more}
 use Rattle.cache_shared.specs.Events.{Reached, record_count}
-use Rattle.cache_spaces.proofs.Journaling.{got, one-part}
+use Rattle.cache_spaces.proofs.Journaling.{got}
 use Rattle.cache_spaces.proofs.Noting.{same-or-not}
-use Rattle.cache_spaces.specs.Moves.{At}
+use Rattle.cache_spaces.specs.Moves.{At, part_in}
 use Rattle.cache_spaces.specs.Recorded.{AreEmpty, namespace_of}
 use Rattle.cache_spaces.specs.Serves.{IsUnknown, SameSpace, TakesNotice, TakesOutput}
-use Rattle.cache_spaces.specs.Served.{is_served}
 use Rattle.cache_spaces.specs.Services.{AreNew, Refuses}
 use Rattle.cache_spaces.specs.Spaces.{Stands, config_of}
 use Rattle.cache_spaces.specs.declared.space.Space.{Space}
@@ -77,8 +75,8 @@ lived-none configs generator moment spaces new = record {
       let e = empties-at moment spaces k journal j in
       subst (HasLived space) (sym e)
       (record {
-        served = subst (λ c. IsTrue (is_served c)) (sym n.configured) n.served;
         led = record { last = empty_situation moment.nanos; stands = n.stands; leads = refl };
+        parted = record { leads = refl; parted = refl };
       });
   records = count-empty moment (empties moment spaces) (empties-at moment spaces);
 }
@@ -117,14 +115,12 @@ lived-more i output old new n w a =
     let sv = a.fact.takes.serves h.led.last h.led.stands in
     let entry = record_of a.fact.happened sv.steps in
     let u : Transcript = record { made = t.0.made; records = t.0.records ++ entry ∷ [] } in
+    let more : LeadsBy (config_of a.was) (part_in (config_of a.was)) u sv.next =
+    leads_by-more (config_of a.was) (part_in (config_of a.was)) t.0.made t.0.records entry h.led.last sv.next h.parted sv.follows sv.parted in
     lived-set (TakesInput i output) old new k n (n + 1) w a t.0 u t.1
     (record {
-      served = subst (λ c. IsTrue (is_served c)) (sym a.fact.takes.config) h.served;
-      led = record {
-        last = sv.next;
-        stands = sv.stands;
-        leads = subst (λ c. LeadsTo c u sv.next) (sym a.fact.takes.config) (leads-more (config_of a.was) t.0.made t.0.records entry h.led.last sv.next h.led.leads sv.follows);
-      };
+      led = record { last = sv.next; stands = sv.stands; leads = subst (λ c. LeadsTo c u sv.next) (sym a.fact.takes.config) more.leads };
+      parted = subst (λ c. LeadsBy c (part_in c) u sv.next) (sym a.fact.takes.config) more;
     })
     (count-more w.journals (slice_set w.journals k u) k t.0 u t.1 refl (length-append t.0.records (entry ∷ [])) ∙ ap (λ c. c + 1) w.records)
 
@@ -136,8 +132,8 @@ lived-still F old new k n same a w =
     let e = same a.was a.is a.fact in
     lived-set F old new k n n w a t.0 t.0 t.1
     (record {
-      served = subst (λ c. IsTrue (is_served c)) (sym e.1) h.served;
       led = record { last = h.led.last; stands = e.0 h.led.last h.led.stands; leads = subst (λ c. LeadsTo c t.0 h.led.last) (sym e.1) h.led.leads };
+      parted = subst (λ c. LeadsBy c (part_in c) t.0 h.led.last) (sym e.1) h.parted;
     })
     (ap record_count (set-same w.journals k t.0 t.1) ∙ w.records)
 
@@ -166,7 +162,7 @@ reached spaces n w = record {
     count = w.count;
     each = λ k space journal s j.
         let h = w.each k space journal s j in
-        let o = one-part-obeys (config_of space) journal h.led.last (one-part (config_of space) h.served) h.led.leads in
+        let o = obeys-led (config_of space) (part_in (config_of space)) journal h.led.last h.parted in
         record { obeys = o.0; admitted = o.1; leads = h.led };
   };
   count = w.records;

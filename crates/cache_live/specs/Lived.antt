@@ -1,17 +1,18 @@
 -- What some journals, which nobody keeps, lead to.
-use Rattle.std.specs.Prelude.{◌≡◌, ℕ, List, length, Some, IsTrue}
+use Rattle.std.specs.Prelude.{◌≡◌, ℕ, List, length, Some}
 use Rattle.std.specs.List.{slice_get}
+use Rattle.audit_laws.specs.Leading.{LeadsBy}
 use Rattle.audit_model.specs.declared.transcript.Transcript.{Transcript}
 use Rattle.cache_shared.specs.Events.{record_count}
 use Rattle.cache_spaces.specs.Journals.{LeadsSo}
-use Rattle.cache_spaces.specs.Served.{is_served}
+use Rattle.cache_spaces.specs.Moves.{part_in}
 use Rattle.cache_spaces.specs.Spaces.{config_of}
 use Rattle.cache_spaces.specs.declared.space.Space.{Space}
 
 -- the journal leads to where the namespace stands
 pub record HasLived (space : Space) (journal : Transcript) : Type 0 where
-  pub served : IsTrue (is_served (config_of space))
   pub led : LeadsSo space journal
+  pub parted : LeadsBy (config_of space) (part_in (config_of space)) journal led.last
 
 -- some journals of so many records lead here
 pub record Lived (spaces : List Space) (events : ℕ) : Type 0 where

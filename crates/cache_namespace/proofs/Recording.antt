@@ -1,5 +1,5 @@
 -- A line that ran while a record is made.
-use Rattle.std.proofs.Common.{◌≡◌, ℕ, suc, Bool, true, List, [], ◌∷◌, ◌++◌, Option, Some, None, refl, sym, ap, ◌∙◌, subst}
+use Rattle.std.proofs.Common.{◌≡◌, ℕ, suc, Bool, true, List, [], ◌∷◌, ◌++◌, Option, Some, None, refl, sym, ap, ◌∙◌}
 use Rattle.std.proofs.lemmas.List.{append-nil}
 use Rattle.audit_model.specs.Grammar.{reading}
 use Rattle.audit_model.specs.Situation.{Situation, HeldValue}
@@ -8,7 +8,7 @@ use Rattle.audit_model.specs.declared.config.Config.{Config}
 use Rattle.audit_model.specs.declared.transcript.Accepted.{Accepted}
 use Rattle.audit_model.specs.declared.transcript.Note.{Note}
 use Rattle.audit_model.specs.declared.transcript.Step.{Step}
-use Rattle.cache_store.specs.Handing.{Hands, ArePartByPart}
+use Rattle.cache_store.specs.Handing.{Hands}
 use Rattle.cache_steps.specs.Right.{Answers, step_saying}
 use Rattle.std.specs.Prelude.{IsTrue, codes, not, ◌||◌}
 use Rattle.std.specs.List.{list_all}
@@ -35,12 +35,12 @@ pub ran-kept : (config : Config) (s : Situation) (number : ℕ) (line copy old_t
     → MovesOrder config drawn.recency drawing.recency (reading config line) → KeepsRecency drawing.recency left.recency
     → ((held : List HeldValue) (keys : List (List ℕ)) → Stays held → left.recency true keys → AreKeysOf held keys)
     → (old_text ≡ []) × (waiting ≡ []) → ((held : List HeldValue) → Stands held → Stays held) → dropping ≡ dropped
-    → (ArePartByPart part_of drained → notes ≡ drained) → copy ≡ line → steps ≡ before ++ step_saying number copy new_text accepted notes ∷ [] → last ≡ [] → last_text ≡ []
+    → notes ≡ drained → copy ≡ line → steps ≡ before ++ step_saying number copy new_text accepted notes ∷ [] → last ≡ [] → last_text ≡ []
     → RanOne config s number (record { part_of = part_of; made = made }) line quit Stays dropping drawn left (record { text = old_text; kept = Some before; waiting = waiting }) (record { text = last_text; kept = Some steps; waiting = last })
 ran-kept config s number line copy old_text new_text last_text accepted quit before steps notes waiting drained last part_of made Stands Stays dropped dropping drawn drawing left a plain says parted timely draws used keeps moves keeping held_keys fresh stays kept taken same pushed none empty =
     let reply : new_text ≡ a.reply = a.written ∙ ap (λ t. t ++ a.reply) fresh.0 in
     let told : drained ≡ a.told = a.handed.added ∙ ap (λ ns. ns ++ a.told) fresh.1 in
-    let noted : notes ≡ a.told = taken (subst (ArePartByPart part_of) (sym told) a.handed.by_part) ∙ told in
+    let noted : notes ≡ a.told = taken ∙ told in
     record {
       reply = a.reply;
       accepted = accepted;

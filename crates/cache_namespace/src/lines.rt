@@ -6,7 +6,7 @@ ghost use Rattle.audit_model.specs.Grammar.{reading};
 ghost use Rattle.audit_model.specs.History.{part_count};
 ghost use Rattle.audit_model.specs.Situation.{Situation, HeldValue};
 ghost use Rattle.audit_model.specs.Steps.{action_by};
-ghost use Rattle.cache_store.specs.Handing.{Hands, ArePartByPart};
+ghost use Rattle.cache_store.specs.Handing.{Hands};
 ghost use Rattle.cache_store.specs.Identifiers.{KeepsIdentifiers, DrawsAlone, AreUsedUp};
 ghost use Rattle.cache_store.specs.Running.{is_timely};
 ghost use Rattle.cache_store.specs.Promises.{IsUnchanged};
@@ -185,7 +185,7 @@ fn run_line<S: Store>(
 /// Takes all notes that the store has.
 fn drain<S: Store>(store: &mut S, notes: &mut Vec<Note>)
     requires { vec_len notes.old + length (S.untaken store.old) ≤ vec_capacity notes.old }
-    ensures drained { ArePartByPart (S.frame store.old).part_of (S.untaken store.old) → notes.new.items ≡ notes.old.items ++ S.untaken store.old }
+    ensures drained { notes.new.items ≡ notes.old.items ++ S.untaken store.old }
     ensures none { S.untaken store.new ≡ [] }
     ensures stands { (held : List HeldValue) → S.stands store.old held → S.stands store.new held }
     ensures frame { S.frame store.new ≡ S.frame store.old }

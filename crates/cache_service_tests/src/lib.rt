@@ -6,6 +6,8 @@ mod commanding;
 #[cfg(test)]
 mod limiting;
 #[cfg(test)]
+mod parting;
+#[cfg(test)]
 mod playing;
 #[cfg(test)]
 mod recording;

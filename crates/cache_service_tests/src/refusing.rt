@@ -41,7 +41,6 @@ fn refused(alloc: Global, configs: &[Config], nanos: u64) -> Option<ServiceError
 fn configurations_out_of_range(rt: HostRuntime) -> Result<(), Fail> {
     for config in [
         Config { parts: 0, ..PLAIN },
-        Config { parts: 2, ..PLAIN },
         Config {
             parts: 257,
             ..PLAIN

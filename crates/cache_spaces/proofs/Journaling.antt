@@ -6,13 +6,10 @@ use Rattle.std.specs.List.{slice_get}
 use Rattle.std.proofs.lemmas.List.{length-set, set-get_or, take_all}
 use Rattle.std.proofs.lemmas.Option.{slice_get_within, none-some, same_Some}
 use Rattle.audit_laws.proofs.Belonging.{belongs_on, belongs_step_by_step}
-use Rattle.audit_laws.proofs.OnePart.{one-part-obeys}
+use Rattle.audit_laws.proofs.Journals.{leads_by-more, obeys-led}
+use Rattle.audit_laws.specs.Leading.{LeadsBy}
 use Rattle.audit_model.specs.Belongs.{IsAdmitted, event_in}
 use Rattle.audit_model.specs.Obeys.{Obeys}
-use Rattle.audit_model.specs.History.{part_count}
-use Rattle.audit_model.specs.Configs.{is_valid}
-use Rattle.cache_spaces.specs.Served.{is_served}
-use Rattle.std.proofs.lemmas.Bool.{and_parts, eqb-true}
 use Rattle.audit_model.specs.BelongsIn.{BelongsIn}
 use Rattle.audit_model.specs.Follows.{Follows, after_event, tasks_in}
 use Rattle.audit_model.specs.Places.{steps_of}
@@ -26,7 +23,7 @@ use Rattle.audit_model.specs.declared.transcript.Transcript.{Transcript}
 use Rattle.cache_namespace.proofs.Places.{at-replaced}
 use Rattle.cache_namespace.specs.Taken.{text_at}
 use Rattle.cache_spaces.specs.Journals.{LeadsSo}
-use Rattle.cache_spaces.specs.Moves.{At, are_timely_in}
+use Rattle.cache_spaces.specs.Moves.{At, are_parted_in, are_timely_in, part_in}
 use Rattle.cache_spaces.specs.Played.{ArePlayed, HasPlayed, HavePlayed, Plays, WerePlayed}
 use Rattle.cache_spaces.specs.Recorded.{AreQuiet, AreEmpty, RecordsInput, RecordsAt, RefusedInput, namespace_of}
 use Rattle.cache_spaces.specs.Serves.{SameSpace}
@@ -94,6 +91,7 @@ played-none configs generator moment transcripts spaces new count empty = record
         served = n.served;
         last = empty_situation moment.nanos;
         stands = n.stands;
+        parted = subst (λ x. LeadsBy config (part_in config) x (empty_situation moment.nanos)) (sym e) (record { leads = refl; parted = refl });
         belongs = (ap (λ (x : Transcript). x.records) e, refl);
         made_is = n.made_is;
         agrees = λ places plain.
@@ -109,6 +107,9 @@ played-none configs generator moment transcripts spaces new count empty = record
 }
 
 -- ---- one input more
+
+pub same-transcript : (t u : Transcript) → u.made ≡ t.made → u.records ≡ t.records → u ≡ t
+same-transcript t u made records = ap (λ m. record { made = m; records = u.records }) made ∙ ap (λ r. record { made = t.made; records = r }) records
 
 pub quiet-each : (configs : List Config) (moment : Instant) (inputs : List Input) (transcripts : List Transcript) (spaces : List Space)
     → HavePlayed configs moment inputs transcripts spaces → AreQuiet spaces
@@ -126,6 +127,7 @@ left-alone config k moment inputs i transcript space h = record {
   served = h.served;
   last = h.last;
   stands = h.stands;
+  parted = h.parted;
   belongs = belongs_on.left_out config k inputs i transcript.records (empty_situation moment.nanos) h.last h.belongs;
   made_is = h.made_is;
   agrees = h.agrees;
@@ -143,6 +145,7 @@ same-kept config k moment inputs transcript was is same h = record {
   served = h.served;
   last = h.last;
   stands = same.stands h.last h.stands;
+  parted = h.parted;
   belongs = h.belongs;
   made_is = same.made ∙ h.made_is;
   agrees = λ places plain. agrees-kept (recency_of was) (recency_of is) places (order_at_end config (suc places) (Settled []) transcript.records) same.recency (h.agrees places plain);
@@ -168,6 +171,8 @@ taken-here config k moment inputs i t u was is here h made r =
       served = h.served;
       last = l.next;
       stands = l.stands;
+      parted = subst (λ x. LeadsBy config (part_in config) x l.next) (sym (same-transcript (record { made = t.made; records = t.records ++ entry ∷ [] }) u made r.records.added))
+          (leads_by-more config (part_in config) t.made t.records entry h.last l.next h.parted follows (subst (λ x. IsTrue (are_parted_in x h.last entry)) h.configured l.parted));
       belongs = subst (λ rs. BelongsIn config k (empty_situation moment.nanos) (inputs ++ i ∷ []) rs l.next) (sym r.records.added)
           (belongs_on.taken config k inputs i t.records entry (empty_situation moment.nanos) h.last l.next h.belongs e follows);
       made_is = r.records.made ∙ h.made_is;
@@ -242,24 +247,19 @@ played-left configs moment inputs i ts us old new e Cause played same refused =
 
 -- ---- the end
 
--- a configuration that is served has one part
-abbrev pub one-part : (config : Config) → IsTrue (is_served config) → part_count config ≡ 1
-one-part config served =
-    let p = eqb-true config.parts 1 (and_parts (is_valid config) _ served).1 in
-    ap (λ n. part_count (record config { parts = n })) p
-
 -- what was played, in one namespace
 abbrev pub played-one : (config : Config) (k : ℕ) (moment : Instant) (inputs : List Input) (transcript : Transcript) (space : Space)
     → HasPlayed config k moment inputs transcript space → Plays config k moment inputs transcript
 played-one config k moment inputs transcript space h =
     let b = belongs_step_by_step.belongs config k transcript.made inputs transcript.records h.last (subst (λ (m : Instant). BelongsIn config k (empty_situation m.nanos) inputs transcript.records h.last) (sym h.made) h.belongs) in
-    let o = one-part-obeys config transcript h.last (one-part config h.served) b.0 in
+    let o = obeys-led config (part_in config) transcript h.last h.parted in
     let exact : (places : ℕ) → IsPlainLru config places → HasExactKeys config places transcript = λ places plain. subst (λ (m : Instant). HaveKeysFrom config (suc places) (Settled []) (empty_situation m.nanos) transcript.records) (sym h.made) (h.exact places plain) in
     record {
       made = h.made;
       belongs = b.1;
       last = h.last;
       leads = b.0;
+      parted = h.parted;
       obeys = o.0;
       admitted = o.1;
       timely = subst (λ (m : Instant). IsTrue (are_timely_from config m.nanos transcript.records)) (sym h.made) h.timely;
@@ -279,9 +279,6 @@ played-all configs moment inputs transcripts spaces played = record {
 }
 
 -- ---- an input's place
-
-pub same-transcript : (t u : Transcript) → u.made ≡ t.made → u.records ≡ t.records → u ≡ t
-same-transcript t u made records = ap (λ m. record { made = m; records = u.records }) made ∙ ap (λ r. record { made = t.made; records = r }) records
 
 pub put-back : (ts : List Transcript) (k : ℕ) (was is : Transcript) → was ≡ get_or ts k was → is ≡ was → slice_set ts k is ≡ ts
 put-back ts k was is at same = ap (slice_set ts k) (same ∙ at) ∙ set-get_or ts k was

@@ -15,28 +15,36 @@ use Rattle.cache_namespace.specs.Drawing.{Workings}
 use Rattle.cache_namespace.specs.Making.{Making}
 use Rattle.cache_namespace.specs.Ordered.{OrdersSteps}
 use Rattle.cache_store.specs.Running.{is_bounded}
-use Rattle.std.specs.List.{slice_get}
+use Rattle.audit_model.specs.History.{part_count}
+use Rattle.plain_store.specs.Hashing.{hashed}
+use Rattle.plain_store.specs.Parting.{part_by}
+use Rattle.std.specs.List.{list_all, slice_get}
+use Rattle.audit_laws.specs.Leading.{is_parted}
+use Rattle.audit_laws.specs.Placing.{accepted_in}
 use Rattle.std.specs.Option.{option_map_or}
 use Rattle.cache_namespace.specs.Taken.{text_at, closing_at}
 use Rattle.cache_namespace.specs.declared.kept.Kept.{Kept}
-use Rattle.cache_spaces.specs.Moves.{Moves, are_timely_in}
+use Rattle.cache_spaces.specs.Moves.{Moves, are_parted_in, are_timely_in, part_in}
 use Rattle.cache_spaces.specs.Serves.{Serves}
 use Rattle.cache_spaces.specs.declared.space.Space.{Space}
 use Rattle.cache_spaces.specs.Spaces.{StandsWith, Stands, closing_of, config_of, gathered_in, workings_of, made_of, output_of, notices_of}
 
 -- an event that is taken, whatever values are held
 pub moves-from : (config : Config) (making : Making) (Holds Left : List HeldValue → Type 0) (dropped drops : Bool) (latest now : ℕ) (l left : UnderWay) (old new : List Connection) (happened : Event) (is_held quit : Bool) (drawn drawing : Workings) (was is : Gathered) (s : Situation)
-    → StandsWith Holds dropped latest l old s
+    → making.part_of ≡ part_in config → StandsWith Holds dropped latest l old s
     → ((values : List HeldValue) → Holds values → Takes config making (situation latest l old dropped values) happened is_held quit Left (situation now left new drops) drawn drawing was is)
     → ((values : List HeldValue) → Left values → IsTrue (is_bounded config values))
     → Moves config making.made s happened is_held quit (StandsWith Left drops now left new) drawn drawing was is
-moves-from config making Holds Left dropped drops latest now l left old new happened is_held quit drawn drawing was is s stands takes bounded =
+moves-from config making Holds Left dropped drops latest now l left old new happened is_held quit drawn drawing was is s same_parts stands takes bounded =
     let t = takes stands.values stands.held in
     record {
       steps = t.steps;
       next = situation now left new drops t.left;
       stands = record { values = t.left; held = t.stands; same = refl };
       follows = subst (λ x. Follows config x (record_of happened t.steps) (situation now left new drops t.left)) (sym stands.same) t.follows;
+      parted =
+          subst (λ x. IsTrue (are_parted_in config x (record_of happened t.steps))) (sym stands.same)
+          (subst (λ part_of. IsTrue (list_all (is_parted part_of) (accepted_in config (situation latest l old dropped stands.values) (record_of happened t.steps)))) same_parts t.parted);
       timely = subst (λ x. IsTrue (are_timely_in config making.made x (record_of happened t.steps))) (sym stands.same) t.timely;
       bounded = bounded t.left t.stands;
       ends = t.ends;
@@ -61,6 +69,7 @@ serves-from was is number s happened is_held kept m = record {
   next = m.next;
   stands = m.stands;
   follows = m.follows;
+  parted = m.parted;
   timely = m.timely;
   bounded = m.bounded;
   ends = m.ends;
@@ -81,6 +90,7 @@ serves-still was is number s happened is_held m none output notices = record {
   next = m.next;
   stands = m.stands;
   follows = m.follows;
+  parted = m.parted;
   timely = m.timely;
   bounded = m.bounded;
   ends = m.ends;
@@ -120,3 +130,7 @@ opened-closing cs is c place e added =
 pub opened-text : (cs is : List Connection) (c : Connection) (place : ℕ) → place ≡ length cs → is ≡ cs ++ c ∷ [] → text_at is place ≡ c.output.items
 opened-text cs is c place e added =
     ap (λ ks. text_at ks place) added ∙ ap (text_at (cs ++ c ∷ [])) e ∙ ap (λ o. option_map_or (λ (k : Connection). k.output.items) o []) (opened-at cs c)
+
+-- the parts of a namespace's store
+pub same-parts : (parts : ℕ) (stored config : Config) → parts ≡ part_count stored → stored ≡ config → part_by parts (hashed 0) ≡ part_in config
+same-parts parts stored config counted same = ap (λ n. part_by n (hashed 0)) (counted ∙ ap part_count same)

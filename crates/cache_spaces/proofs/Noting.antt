@@ -20,7 +20,7 @@ use Rattle.cache_namespace.specs.Ordered.{OrdersSteps}
 use Rattle.cache_namespace.specs.Taken.{record_of}
 use Rattle.cache_namespace.specs.declared.connection.Connection.{Connection}
 use Rattle.cache_namespace.specs.declared.kept.Kept.{Kept}
-use Rattle.cache_spaces.specs.Moves.{Moves, are_timely_in}
+use Rattle.cache_spaces.specs.Moves.{Moves, are_parted_in, are_timely_in}
 use Rattle.cache_spaces.specs.Recorded.{IsQuiet, Records, RecordsInput, Refused, RefusedInput, namespace_of}
 use Rattle.cache_spaces.specs.Spaces.{Stands, config_of, connections_of, workings_of, made_of, notices_of, output_of, recency_of, gathered_in}
 use Rattle.cache_spaces.specs.declared.space.Space.{Space}
@@ -59,6 +59,7 @@ recorded-still was is happened before after quiet outputs notices config made mo
         next = m.next;
         stands = m.stands;
         follows = subst (λ x. Follows (config_of was) s (record_of happened x) m.next) none m.follows;
+        parted = subst (λ x. IsTrue (are_parted_in (config_of was) s (record_of happened x))) none m.parted;
         timely = subst (λ x. IsTrue (are_timely_in (config_of was) (made_of was) s (record_of happened x))) none m.timely;
         bounded = m.bounded;
         ordered = subst (λ x. OrdersSteps (config_of was) (recency_of was) (recency_of is) (after_event happened s) (tasks_in s happened) (places.steps_of (record_of happened x))) none m.ordered;
@@ -90,6 +91,7 @@ recorded-fed was is conn happened is_held quit before after old new quiet starte
         next = m.next;
         stands = m.stands;
         follows = subst (λ x. Follows (config_of was) s (record_of happened x) m.next) (sym (ap (λ o. unwrap_or o []) kept)) m.follows;
+        parted = subst (λ x. IsTrue (are_parted_in (config_of was) s (record_of happened x))) (sym (ap (λ o. unwrap_or o []) kept)) m.parted;
         timely = subst (λ x. IsTrue (are_timely_in (config_of was) (made_of was) s (record_of happened x))) (sym (ap (λ o. unwrap_or o []) kept)) m.timely;
         bounded = m.bounded;
         ordered = subst (λ x. OrdersSteps (config_of was) (recency_of was) (recency_of is) (after_event happened s) (tasks_in s happened) (places.steps_of (record_of happened x))) (sym (ap (λ o. unwrap_or o []) kept)) m.ordered;

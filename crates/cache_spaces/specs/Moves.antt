@@ -1,6 +1,9 @@
 -- What an event does to one namespace, and to one of many.
 use Rattle.std.specs.Prelude.{◌≡◌, ℕ, Bool, List, Some, IsTrue, slice_set}
-use Rattle.std.specs.List.{slice_get}
+use Rattle.std.specs.List.{list_all, slice_get}
+use Rattle.audit_laws.specs.Leading.{is_parted}
+use Rattle.audit_laws.specs.Placing.{accepted_in}
+use Rattle.audit_model.specs.History.{part_count}
 use Rattle.audit_model.specs.Follows.{Follows, after_event, tasks_in}
 use Rattle.audit_model.specs.Places.{steps_of}
 use Rattle.audit_model.specs.Situation.{Situation}
@@ -15,18 +18,29 @@ use Rattle.cache_namespace.specs.Ordered.{OrdersSteps}
 use Rattle.cache_namespace.specs.Ran.{ends_held}
 use Rattle.cache_namespace.specs.Taken.{record_of}
 use Rattle.cache_store.specs.Running.{is_bounded}
+use Rattle.plain_store.specs.Hashing.{hashed}
+use Rattle.plain_store.specs.Parting.{part_by}
 
 -- each `SYNC` of the record leaves no value that is covered or long dead
 abbrev pub are_timely_in : Config → ℕ → Situation → Record → Bool
 are_timely_in config made s entry = are_timely config made (after_event entry.event s) (tasks_in s entry.event) (steps_of entry)
 
--- The event's record follows, with these steps, of which the last one may be held or a `QUIT`; each `SYNC` left timely values; each part
--- is within its bound; identifiers were drawn as the steps say; their replies, steps and notes were gathered.
+-- the part of a key in a namespace of that configuration: by one hasher, which no call changes
+abbrev pub part_in : Config → List ℕ → ℕ
+part_in config = part_by (part_count config) (hashed 0)
+
+-- each value that the record accepts stands in its key's part
+abbrev pub are_parted_in : Config → Situation → Record → Bool
+are_parted_in config s entry = list_all (is_parted (part_in config)) (accepted_in config s entry)
+
+-- The event's record follows, with these steps, of which the last one may be held or a `QUIT`; each value that they accept stands in its key's part;
+-- each `SYNC` left timely values; each part is within its bound; identifiers were drawn as the steps say; their replies, steps and notes were gathered.
 pub record Moves (config : Config) (made : ℕ) (s : Situation) (happened : Event) (is_held quit : Bool) (Stands : Situation → Type 0) (drawn drawing : Workings) (old new : Gathered) : Type 0 where
   pub steps : List Step
   pub next : Situation
   pub stands : Stands next
   pub follows : Follows config s (record_of happened steps) next
+  pub parted : IsTrue (are_parted_in config s (record_of happened steps))
   pub timely : IsTrue (are_timely_in config made s (record_of happened steps))
   pub bounded : IsTrue (is_bounded config next.held)
   pub ends : ends_held steps ≡ is_held

@@ -1,7 +1,8 @@
 -- What is played.
 use Rattle.std.specs.Prelude.{◌≡◌, ℕ, suc, List, [], length, Some, IsTrue}
 use Rattle.std.specs.List.{slice_get}
-use Rattle.audit_laws.specs.Leading.{LeadsTo}
+use Rattle.audit_laws.specs.Leading.{LeadsBy, LeadsTo}
+use Rattle.cache_spaces.specs.Moves.{part_in}
 use Rattle.audit_model.specs.Belongs.{Belongs, IsAdmitted}
 use Rattle.audit_model.specs.BelongsIn.{BelongsIn}
 use Rattle.audit_model.specs.Obeys.{Obeys}
@@ -27,6 +28,8 @@ pub record Plays (config : Config) (namespace : ℕ) (moment : Instant) (inputs 
   pub belongs : Belongs config namespace transcript inputs
   pub last : Situation
   pub leads : LeadsTo config transcript last
+  -- each value stands in its key's part, by one hasher
+  pub parted : LeadsBy config (part_in config) transcript last
   pub obeys : Obeys config transcript
   pub admitted : IsAdmitted config transcript
   pub timely : IsTrue (is_timely_throughout config transcript)
@@ -47,6 +50,7 @@ pub record HasPlayed (config : Config) (namespace : ℕ) (moment : Instant) (inp
   pub served : IsTrue (is_served config)
   pub last : Situation
   pub stands : Stands space last
+  pub parted : LeadsBy config (part_in config) transcript last
   pub belongs : BelongsIn config namespace (empty_situation moment.nanos) inputs transcript.records last
   pub made_is : made_of space ≡ moment.nanos
   pub timely : IsTrue (are_timely_from config moment.nanos transcript.records)

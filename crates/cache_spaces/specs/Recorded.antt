@@ -13,7 +13,7 @@ use Rattle.audit_model.specs.declared.transcript.Record.{Record}
 use Rattle.audit_model.specs.declared.transcript.Transcript.{Transcript}
 use Rattle.audit_model.specs.declared.event.Instant.{Instant}
 use Rattle.std.specs.List.{slice_get}
-use Rattle.cache_spaces.specs.Moves.{At, are_timely_in}
+use Rattle.cache_spaces.specs.Moves.{At, are_parted_in, are_timely_in}
 use Rattle.cache_namespace.specs.Ordered.{OrdersSteps}
 use Rattle.cache_namespace.specs.Taken.{known}
 use Rattle.cache_store.specs.Running.{is_bounded}
@@ -26,12 +26,13 @@ pub record IsQuiet (space : Space) : Type 0 where
   pub outputs : (number : ℕ) → output_of space number ≡ []
   pub notices : notices_of space ≡ []
 
--- The record leads on from that situation, and holds its replies and notes. Each of its `SYNC`s leaves timely values, and each part weighs
+-- The record leads on from that situation, and holds its replies and notes. Each value that it accepts stands in its key's part. Each of its `SYNC`s leaves timely values, and each part weighs
 -- at most its share and 64 values of 8192 bytes where a capacity is set.
 pub record LeadsOnIn (was is : Space) (s : Situation) (entry : Record) : Type 0 where
   pub next : Situation
   pub stands : Stands is next
   pub follows : Follows (config_of was) s entry next
+  pub parted : IsTrue (are_parted_in (config_of was) s entry)
   pub timely : IsTrue (are_timely_in (config_of was) (made_of was) s entry)
   pub bounded : IsTrue (is_bounded (config_of was) next.held)
   -- under LRU over one part of weight one without times: the order of use is what these steps make of it, and so are the keys held

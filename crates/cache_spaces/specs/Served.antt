@@ -1,8 +1,8 @@
 -- Which configurations a service has namespaces of.
-use Rattle.std.specs.Prelude.{Bool, ◌&&◌, ◌==◌}
+use Rattle.std.specs.Prelude.{Bool}
 use Rattle.audit_model.specs.Configs.{is_valid}
 use Rattle.audit_model.specs.declared.config.Config.{Config}
 
--- a configuration in range, of one part
+-- a configuration in range
 abbrev pub is_served : Config → Bool
-is_served config = is_valid config && config.parts == 1
+is_served config = is_valid config

@@ -21,17 +21,19 @@ use Rattle.audit_model.specs.declared.transcript.Note.{Note}
 use Rattle.cache_namespace.specs.Taken.{IsOpenOrEnded, is_quit, record_of, known}
 use Rattle.cache_store.specs.Recency.{KeepsRecency}
 use Rattle.cache_store.specs.Running.{is_bounded}
-use Rattle.cache_spaces.specs.Moves.{are_timely_in}
+use Rattle.cache_spaces.specs.Moves.{are_parted_in, are_timely_in}
 use Rattle.cache_spaces.specs.Spaces.{Stands, config_of, connections_of, identifiers_of, made_of, notices_of, output_of, closing_of, recency_of}
 use Rattle.cache_spaces.specs.declared.space.Space.{Space}
 
--- The event's record follows; its replies stand behind the output of that connection, and its notes behind the notices. Each `SYNC`
+-- The event's record follows; its replies stand behind the output of that connection, and its notes behind the notices. Each value that
+-- it accepts stands in its key's part, by a hasher that no call changes. Each `SYNC`
 -- leaves timely values, each part weighs at most its share and 64 values of 8192 bytes where a capacity is set, a `QUIT` closes the connection, and identifiers were drawn as its steps say: `ERR id` only where a thousand were, each of which was registered.
 pub record Serves (was is : Space) (number : ℕ) (s : Situation) (happened : Event) (is_held : Bool) : Type 0 where
   pub steps : List Step
   pub next : Situation
   pub stands : Stands is next
   pub follows : Follows (config_of was) s (record_of happened steps) next
+  pub parted : IsTrue (are_parted_in (config_of was) s (record_of happened steps))
   pub timely : IsTrue (are_timely_in (config_of was) (made_of was) s (record_of happened steps))
   pub bounded : IsTrue (is_bounded (config_of was) next.held)
   pub ends : ends_held steps ≡ is_held

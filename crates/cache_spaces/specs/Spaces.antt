@@ -12,7 +12,7 @@ use Rattle.cache_namespace.specs.Waiting.{UnderWay, under_way}
 use Rattle.cache_namespace.specs.declared.connection.Connection.{Connection}
 use Rattle.cache_namespace.specs.declared.kept.Kept.{Kept}
 use Rattle.cache_namespace.specs.Drawing.{Identifiers, Workings, identifiers, workings}
-use Rattle.plain_store.specs.Drawing.{is_among}
+use Rattle.plain_store.specs.Drawing.{is_registered}
 use Rattle.plain_store.specs.Standing as plain
 use Rattle.rand_core.specs.Steps.{stream_of, steps_u64_high}
 use Rattle.rand_xoshiro.specs.Xoshiro256.{plus_plus}
@@ -54,7 +54,7 @@ gathered_in space number kept = gathered (output_of space number) kept (notices_
 
 -- what its generator will give for identifiers, and which are registered
 abbrev pub identifiers_of : Space → Identifiers
-identifiers_of space = identifiers (stream_of (steps_u64_high plus_plus) (generator_of space)) (λ part. is_among space.inner.store.register.items)
+identifiers_of space = identifiers (stream_of (steps_u64_high plus_plus) (generator_of space)) (is_registered space.inner.store.register.items)
 
 -- the keys that it holds, the last used first: after a `SYNC`, or at most one call later
 abbrev pub recency_of : Space → Bool → List (List ℕ) → Type 0

@@ -24,23 +24,16 @@ pub fn are_taken(configs: &[Config]) -> bool
     are_served(configs)
 }
 
-/// Whether each of the configurations is served.
+/// Whether each of the configurations is in range.
 fn are_served(configs: &[Config]) -> bool
     ensures { result ≡ list_all is_served configs.now }
 {
     for config in configs {
-        if !is_served(config) {
+        if !is_valid(config) {
             return false;
         }
     }
     true
-}
-
-/// Whether a configuration is served: it is in range, and of one part.
-fn is_served(config: &Config) -> bool
-    ensures { result ≡ is_served config.now }
-{
-    is_valid(config) && config.parts == 1
 }
 
 /// Whether a configuration is in range: 1 to 256 parts, times of 1 to 999,999,999,999 milliseconds, and no live time beside own

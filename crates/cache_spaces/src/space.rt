@@ -1,5 +1,7 @@
 //! One namespace of a service.
 ghost use Rattle.std.specs.Prelude.{◌-◌, ◌≡◌, ◌≢◌, ◌≤◌, ◌<◌, ◌^◌, ◌+◌, ◌++◌, ◌∷◌, [], None, Some, ℕ, Bool, true, false, IfOk, IfErr, OnOk, OnErr, IsErr, IfNone, IfSome, IsTrue, length, ◌↔◌};
+ghost use Rattle.plain_store.specs.Hashing.{hashed};
+ghost use Rattle.plain_store.specs.Parting.{part_by};
 ghost use Rattle.plain_store.specs.Standing.{frame_of};
 ghost use Rattle.cache_spaces.specs.Served.{is_served};
 ghost use Rattle.cache_namespace.specs.Taken.{IsSound};
@@ -8,15 +10,15 @@ use audit_model::{Closing, Config, Note, ServiceError};
 use cache_loads::Loads;
 use cache_namespace::{Kept, Namespace};
 use cache_store::Store;
-use plain_store::PlainStore;
+use plain_store::{FixedHasher, PlainStore};
 use rand_xoshiro::Xoshiro256PlusPlus;
 use std::alloc::{AllocError, Global};
 
 /// A namespace: its connections over its values.
 #[derive(Drop)]
 pub struct Space {
-    inner: Namespace<PlainStore<Xoshiro256PlusPlus>>,
-    ghost sound: { IsSound inner.config (frame_of inner.store.config inner.store.made inner.store.dropped inner.store.latest) inner.latest },
+    inner: Namespace<PlainStore<Xoshiro256PlusPlus, FixedHasher>>,
+    ghost sound: { IsSound inner.config (frame_of inner.store.config (part_by inner.store.parts (hashed 0)) inner.store.made inner.store.dropped inner.store.latest) inner.latest },
 }
 
 impl Space {
@@ -51,7 +53,7 @@ impl Space {
         ensures made { IfOk result (λ space. made_of space ≡ made) }
         ensures recency { IfOk result (λ space. recency_of space true []) }
     {
-        let store = PlainStore::new(alloc, config, made, generator)?;
+        let store = PlainStore::new(alloc, config, made, generator, FixedHasher)?;
         let inner = Namespace {
             store,
             config,

@@ -161,7 +161,7 @@ answers-off config s key bytes ms old new part_of untaken Stands dropped a w m k
       };
       left = m;
       dropped_is = undropped s dropped kept;
-      handed = record { added = sym (append-nil untaken); by_part = tt };
+      handed = record { added = sym (append-nil untaken) };
     }
 
 -- ---- a `SYNC`
@@ -227,7 +227,7 @@ answers-fault config s error old new part_of untaken Stands dropped w m kept =
       right = record { replies = said (fault_text error) (fault_text error) _ refl; loads = refl; accepts = refl; tells = none_succeeded (map (candidate_at config s.latest) s.held ++ []); silent = refl; within = refl };
       left = m;
       dropped_is = undropped s dropped kept;
-      handed = record { added = sym (append-nil untaken); by_part = tt };
+      handed = record { added = sym (append-nil untaken) };
     }
 
 -- ---- commands that ask
@@ -244,7 +244,7 @@ answers-has config s key reply old new part_of untaken Stands dropped w r m kept
       right = record { replies = said reply (yes_or_no (live_at config s.latest s.held key)) _ r; loads = refl; accepts = refl; tells = none_succeeded (map (candidate_at config s.latest) s.held ++ []); silent = refl; within = refl };
       left = m;
       dropped_is = undropped s dropped kept;
-      handed = record { added = sym (append-nil untaken); by_part = tt };
+      handed = record { added = sym (append-nil untaken) };
     }
 
 -- a `KEYS`
@@ -259,7 +259,7 @@ answers-keys config s reply old new part_of untaken Stands dropped w r m kept =
       right = record { replies = said reply (keys_listed (live_keys_at config s.latest s.held)) _ r; loads = refl; accepts = refl; tells = none_succeeded (map (candidate_at config s.latest) s.held ++ []); silent = refl; within = refl };
       left = m;
       dropped_is = undropped s dropped kept;
-      handed = record { added = sym (append-nil untaken); by_part = tt };
+      handed = record { added = sym (append-nil untaken) };
     }
 
 -- a `QUIT`
@@ -274,7 +274,7 @@ answers-quit config s old new part_of untaken Stands dropped w m kept =
       right = record { replies = refl; loads = refl; accepts = refl; tells = none_succeeded (map (candidate_at config s.latest) s.held ++ []); silent = refl; within = refl };
       left = m;
       dropped_is = undropped s dropped kept;
-      handed = record { added = sym (append-nil untaken); by_part = tt };
+      handed = record { added = sym (append-nil untaken) };
     }
 
 -- what a look-up without a use found, as an answer of yes or no
@@ -314,7 +314,7 @@ answers-refused config s prefix old new part_of waited untaken Stands dropped be
       right = record { replies = ap (λ b. b && true) before; loads = refl; accepts = refl; tells = none_succeeded (map (candidate_at config s.latest) s.held ++ []); silent = refl; within = refl };
       left = m;
       dropped_is = undropped s dropped kept;
-      handed = record { added = same ∙ sym (append-nil waited); by_part = tt };
+      handed = record { added = same ∙ sym (append-nil waited) };
     }
 
 -- ---- sums

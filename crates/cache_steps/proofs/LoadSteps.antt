@@ -140,7 +140,7 @@ stores-none config s key outcome part_of untaken Stands none stands = record {
   right = record { replies = refl; loads = refl; accepts = ap (λ o. not (is_some o)) none; tells = none_succeeded (map (candidate_at config s.latest) s.held ++ []); silent = refl; within = refl };
   left = stands;
   undropped = or-false s.dropped;
-  handed = record { added = sym (append-nil untaken); by_part = tt };
+  handed = record { added = sym (append-nil untaken) };
 }
 
 -- at capacity 0

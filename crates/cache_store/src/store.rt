@@ -198,9 +198,9 @@ pub trait Store: Drop {
         // no identifier stays registered
         ensures released { (part : ℕ) (id : List ℕ) → registered self.new part id ≡ false };
 
-    /// Takes the first note of the first part that has one.
+    /// Takes the note that was told first.
     fn next_notice(&mut self) -> Option<Note>
-        ensures taken { Takes (frame self.old).part_of (untaken self.old) (untaken self.new) result }
+        ensures taken { Takes (untaken self.old) (untaken self.new) result }
         ensures stands { (held : List HeldValue) → stands self.old held → stands self.new held }
         ensures frame { frame self.new ≡ frame self.old }
         ensures recency { KeepsRecency (recency self.old) (recency self.new) }

@@ -3,3 +3,6 @@ pub mod Fewer
 pub mod Rising
 pub mod Pointing
 pub mod Ordering
+pub mod Ticking
+pub mod Swept
+pub mod Shown

@@ -1,5 +1,5 @@
 -- Calls and uncut runs keep a state in order.
-use Rattle.std.proofs.Common.{◌≡◌, refl, ap, sym, ◌∙◌, subst, ℕ, ◌+◌, ◌<◌, ◌≤◌, arith, Bool, true, false, true≢false, cond, List, [], ◌∷◌, ◌++◌, Option, Some, None, map, append_assoc, inl, inr, ◌⊎◌, eqb, ◌==◌}
+use Rattle.std.proofs.Common.{◌≡◌, refl, ap, sym, ◌∙◌, subst, ℕ, ◌+◌, ◌<◌, ◌≤◌, arith, Bool, true, false, true≢false, cond, List, [], ◌∷◌, ◌++◌, Option, Some, None, map, append_assoc, inl, inr, eqb, ◌==◌}
 use Rattle.std.specs.Prelude.{nat_lt, unwrap_or, sum_by}
 use Rattle.std.proofs.lemmas.Bool.{eqb-true, eq-eqb, ne_eqb, ltb-true}
 use Rattle.std.proofs.lemmas.List.{map-append}
@@ -23,7 +23,7 @@ use Rattle.engine_reference.proofs.TellingSteps.{run_tells}
 use Rattle.engine_laws.specs.Points.{AreRising, with_write, IsKeptBy, AreKept, pending_of, IsInOrder, CallsStayInOrder, RunsStayInOrder}
 use Rattle.engine_laws.proofs.Fewer.{Fewer, fewer-refl, fewer-weight, fewer-changed, without-none_of, kept-fewer, weight-cons}
 use Rattle.engine_laws.proofs.Fronting.{each-at}
-use Rattle.engine_laws.proofs.Pointing.{above-more, in_right}
+use Rattle.engine_laws.proofs.Pointing.{above-more, in_right, in_either}
 use Rattle.engine_laws.proofs.Rising.{rising-own, rising-other}
 
 -- ---- one more write is pending
@@ -47,11 +47,6 @@ rising-fresh n a v (Put u ∷ ws) others less =
     let other = others (Put u) (inl refl) in
     ((λ e. absurd (other e)), subst (λ k. AreRising n k (ws ++ Put v ∷ [])) (sym (ap (λ b. cond b u.write a) (ne_eqb u.number n other))) (rising-fresh n a v ws (λ w i. others w (inr i)) less))
 rising-fresh n a v (Removed k ∷ ws) others less = rising-fresh n a v ws (λ w i. others w (inr i)) less
-
-in_either : {X : Type 0} (x : X) (xs ys : List X) → IsIn x (xs ++ ys) → IsIn x xs ⊎ IsIn x ys
-in_either x [] ys h = inr h
-in_either x (y ∷ xs) ys (inl e) = inl (inl e)
-in_either x (y ∷ xs) ys (inr h) = elim (in_either x xs ys h) [ inl k ↦ inl (inr k) | inr k ↦ inr k ]
 
 in_left : {X : Type 0} (x : X) (xs ys : List X) → IsIn x xs → IsIn x (xs ++ ys)
 in_left x [] ys h = elim h [ ]

@@ -1,5 +1,5 @@
 -- A removal for weight has a point.
-use Rattle.std.proofs.Common.{◌≡◌, refl, ap, sym, ◌∙◌, subst, ℕ, ◌+◌, ◌<◌, ◌≤◌, ◌||◌, arith, Bool, true, false, true≢false, not, cond, List, [], ◌∷◌, ◌++◌, Option, Some, None, map, is_some, append_assoc, append-nil, inl, inr}
+use Rattle.std.proofs.Common.{◌≡◌, refl, ap, sym, ◌∙◌, subst, ℕ, ◌+◌, ◌<◌, ◌≤◌, ◌||◌, arith, Bool, true, false, true≢false, not, cond, List, [], ◌∷◌, ◌++◌, Option, Some, None, map, is_some, append_assoc, append-nil, inl, inr, ◌⊎◌}
 use Rattle.std.specs.Prelude.{nat_lt}
 use Rattle.std.proofs.lemmas.Bool.{eqb-true, ltb-true, ltb-false, lt-ltb}
 use Rattle.policy_sketch.specs.Counts.{incremented, frequency_of}
@@ -25,7 +25,7 @@ use Rattle.engine_reference.proofs.Accounts.{each-map, each-both, each-changed, 
 use Rattle.engine_reference.proofs.HeldRecords.{record_at-number, held-changed, held-without, held-without_other}
 use Rattle.engine_reference.proofs.SoundSteps.{left-each, step-sound, left-frame, after_write-frame}
 use Rattle.engine_reference.proofs.TellingSteps.{told_once, Tells-nothing, Tells-trans, Tells-after, Tells-popped}
-use Rattle.engine_reference.proofs.Unapplied.{AllSettled, settled_in-settled, front-settled}
+use Rattle.engine_reference.proofs.Unapplied.{AllSettled, settled_in-settled, front-settled, first-settled}
 use Rattle.engine_laws.specs.Points.{AreRising, NoneOf, with_write, IsKeptBy, AreKept, pending_of, HasPoint, EachForSize, IsPointed, SizeHasPoint}
 use Rattle.engine_laws.proofs.Fewer.{Fewer, fewer-refl, fewer-weight, fewer-without, fewer-put, fewer-refused, fewer-put_off, changed-none, without-none_of, kept-fewer, numbered-write, weight-put}
 use Rattle.engine_laws.proofs.Fronting.{each-at}
@@ -314,6 +314,15 @@ pub in_right : {X : Type 0} (x : X) (xs ys : List X) → IsIn x ys → IsIn x (x
 in_right x [] ys h = h
 in_right x (y ∷ xs) ys h = inr (in_right x xs ys h)
 
+pub in_either : {X : Type 0} (x : X) (xs ys : List X) → IsIn x (xs ++ ys) → IsIn x xs ⊎ IsIn x ys
+in_either x [] ys h = inr h
+in_either x (y ∷ xs) ys (inl e) = inl (inl e)
+in_either x (y ∷ xs) ys (inr h) = elim (in_either x xs ys h) [ inl k ↦ inl (inr k) | inr k ↦ inr k ]
+
+none_append : (n : ℕ) (xs ys : List Write) → NoneOf n xs → NoneOf n ys → NoneOf n (xs ++ ys)
+none_append n [] ys h k = k
+none_append n (x ∷ xs) ys h k = (h.0, none_append n xs ys h.1 k)
+
 module _ {K V : Type 0} where
   -- a held record is none of those that were removed
   none_removed : (r : Record K V) (ws : List Write) → ((w : Write) → IsIn w ws → Fits w r) → r.is_held ≡ true → AllRemovals ws → NoneOf r.number ws
@@ -322,34 +331,36 @@ module _ {K V : Type 0} where
   none_removed r (Removed n ∷ ws) fits held h =
       ((λ same. true≢false (sym held ∙ fits (Removed n) (inl refl) same)), none_removed r ws (λ w i. fits w (inr i)) held h)
 
-module _ {K V P S R : Type 0} (old : State K V P S R) (us : List Write) where
+module _ {K V P S R : Type 0} (old : State K V P S R) (us : List Write) (us_are : map (λ u. u.write) old.unsent ≡ us) where
   pub record Going (done : List Write) (s : State K V P S R) : Type 0 where
     pub sound : IsSound s
     pub pending : old.writes ≡ done ++ s.writes
     pub each : Each (Next old.records s.writes us) s.records
     pub kept : AreKept (s.writes ++ us) s.records
     pub settings : s.settings ≡ old.settings
+    pub unsent : s.unsent ≡ old.unsent
     pub peak : is_above old.settings.capacity (admitted_weight s.records) ≡ true → Peak old.settings.capacity done
 
   -- less counts, and nothing was taken off the queue
-  going-fewer : (done : List Write) (s t : State K V P S R) → Going done s → IsSound t → t.writes ≡ s.writes → t.settings ≡ s.settings → Fewer t.records s.records → Each (Next old.records s.writes us) t.records → Going done t
-  going-fewer done s t g sound queued settings fewer each = record {
+  going-fewer : (done : List Write) (s t : State K V P S R) → Going done s → IsSound t → t.writes ≡ s.writes → t.settings ≡ s.settings → t.unsent ≡ s.unsent → Fewer t.records s.records → Each (Next old.records s.writes us) t.records → Going done t
+  going-fewer done s t g sound queued settings unsent fewer each = record {
     sound = sound;
     pending = g.pending ∙ ap (λ ws. done ++ ws) (sym queued);
     each = subst (λ ws. Each (Next old.records ws us) t.records) (sym queued) each;
     kept = subst (λ ws. AreKept (ws ++ us) t.records) (sym queued) (kept-fewer (s.writes ++ us) t.records s.records g.sound.records.numbered fewer g.kept);
     settings = settings ∙ g.settings;
+    unsent = unsent ∙ g.unsent;
     peak = λ above. g.peak (above-more old.settings.capacity (admitted_weight t.records) (admitted_weight s.records) (fewer-weight t.records s.records fewer) above);
   }
 
-  going-same : (done : List Write) (s t : State K V P S R) → Going done s → IsSound t → t.writes ≡ s.writes → t.settings ≡ s.settings → t.records ≡ s.records → Going done t
-  going-same done s t g sound queued settings same =
-      going-fewer done s t g sound queued settings (subst (λ rs. Fewer rs s.records) (sym same) (fewer-refl s.records)) (subst (λ rs. Each (Next old.records s.writes us) rs) (sym same) g.each)
+  going-same : (done : List Write) (s t : State K V P S R) → Going done s → IsSound t → t.writes ≡ s.writes → t.settings ≡ s.settings → t.unsent ≡ s.unsent → t.records ≡ s.records → Going done t
+  going-same done s t g sound queued settings unsent same =
+      going-fewer done s t g sound queued settings unsent (subst (λ rs. Fewer rs s.records) (sym same) (fewer-refl s.records)) (subst (λ rs. Each (Next old.records s.writes us) rs) (sym same) g.each)
 
   -- the oldest write was taken off
-  going-write : (done : List Write) (w : Write) (rest : List Write) (s t : State K V P S R) → Going done s → s.writes ≡ w ∷ rest → IsSound t → t.writes ≡ rest → t.settings ≡ s.settings
+  going-write : (done : List Write) (w : Write) (rest : List Write) (s t : State K V P S R) → Going done s → s.writes ≡ w ∷ rest → IsSound t → t.writes ≡ rest → t.settings ≡ s.settings → t.unsent ≡ s.unsent
       → Fewer t.records (with_write w s.records) → Each (Next old.records rest us) t.records → Going (done ++ w ∷ []) t
-  going-write done w rest s t g some sound queued settings fewer each =
+  going-write done w rest s t g some sound queued settings unsent fewer each =
       let kept : AreKept (w ∷ (rest ++ us)) s.records = subst (λ ws. AreKept (ws ++ us) s.records) some g.kept in
       let numbered = g.sound.records.numbered in
       record {
@@ -358,6 +369,7 @@ module _ {K V P S R : Type 0} (old : State K V P S R) (us : List Write) where
         each = subst (λ ws. Each (Next old.records ws us) t.records) (sym queued) each;
         kept = subst (λ ws. AreKept (ws ++ us) t.records) (sym queued) (kept-fewer (rest ++ us) t.records (with_write w s.records) (numbered-write w s.records numbered) fewer kept.1);
         settings = settings ∙ g.settings;
+        unsent = unsent ∙ g.unsent;
         peak = λ above. by_kind w kept.0 (above-more old.settings.capacity (admitted_weight t.records) (admitted_weight (with_write w s.records)) (fewer-weight t.records (with_write w s.records) fewer) above);
       }
     where
@@ -383,8 +395,15 @@ module _ {K V P S R : Type 0} (old : State K V P S R) (us : List Write) where
       by_kind (Removed n) kept above = longer n (g.peak (above-more old.settings.capacity (admitted_weight (without_record n s.records)) (admitted_weight s.records)
           (fewer-weight (without_record n s.records) s.records (fewer-without n s.records s.records (fewer-refl s.records))) above))
 
+  -- what is pending fits the records
+  fits-pending : (done : List Write) (s : State K V P S R) (x : Record K V) (n : ℕ) → Going done s → record_at s.records n ≡ Some x → (w : Write) → IsIn w (s.writes ++ us) → Fits w x
+  fits-pending done s x n g there w i =
+      let accounted = each-at (IsAccounted s.unsent s.writes) s.records n x g.sound.records.accounted there in
+      let same : us ≡ map (λ w. w.write) s.unsent = sym us_are ∙ ap (λ l. map (λ w. w.write) l) (sym g.unsent) in
+      elim (in_either w s.writes us i) [ inl k ↦ accounted.fits w (inr k) | inr k ↦ accounted.fits w (inl (subst (λ l. IsIn w l) same k)) ]
+
   -- a record that is found now is the same as one that was there as the run began
-  pointed : (done : List Write) (s : State K V P S R) (x : Record K V) (n : ℕ) → Going done s → record_at s.records n ≡ Some x → x.is_held ≡ true → HasPoint old.settings.capacity old.writes x.number → IsPointed old x.entry
+  pointed : (done : List Write) (s : State K V P S R) (x : Record K V) (n : ℕ) → Going done s → record_at s.records n ≡ Some x → x.is_held ≡ true → HasPoint old.settings.capacity old.writes (map (λ w. w.write) old.unsent) x.number → IsPointed old x.entry
   pointed done s x n g there held point =
       let from = (each-at (Next old.records s.writes us) s.records n x g.each there).1 in
       record {
@@ -392,28 +411,31 @@ module _ {K V P S R : Type 0} (old : State K V P S R) (us : List Write) where
         there = from.there;
         held = from.held ∙ held;
         entry = from.entry;
-        point = subst (λ m. HasPoint old.settings.capacity old.writes m) (sym from.number) point;
+        point = subst (λ m. HasPoint old.settings.capacity old.writes (map (λ w. w.write) old.unsent) m) (sym from.number) point;
       }
 
   -- the point of what a write takes
-  point-write : (done : List Write) (s : State K V P S R) (u : Upsert) (rest : List Write) (x : Record K V) → Going done s → s.writes ≡ Put u ∷ rest → is_above s.settings.capacity u.kept ≡ true → NoneOf x.number rest
-      → HasPoint old.settings.capacity old.writes x.number
+  point-write : (done : List Write) (s : State K V P S R) (u : Upsert) (rest : List Write) (x : Record K V) → Going done s → s.writes ≡ Put u ∷ rest → is_above s.settings.capacity u.kept ≡ true → NoneOf x.number (rest ++ us)
+      → HasPoint old.settings.capacity old.writes (map (λ w. w.write) old.unsent) x.number
   point-write done s u rest x g some above none = record {
     before = done;
     peak = u;
     after = rest;
     stands = g.pending ∙ ap (λ ws. done ++ ws) some;
     above = sym (ap (λ c. is_above c.capacity u.kept) g.settings) ∙ above;
-    last = none;
+    last = subst (λ ws. NoneOf x.number (rest ++ ws)) (sym us_are) none;
   }
 
   -- the point of an eviction
   point-excess : IsSound old → (done : List Write) (s : State K V P S R) (x : Record K V) (n : ℕ) → Going done s → s.writes ≡ [] → is_above s.settings.capacity (admitted_weight s.records) ≡ true
-      → record_at s.records n ≡ Some x → x.is_held ≡ true → IsPointed old x.entry
-  point-excess sound done s x n g none above there held =
+      → record_at s.records n ≡ Some x → x.is_held ≡ true → is_settled x ≡ true → IsPointed old x.entry
+  point-excess sound done s x n g none above there held settled =
       let from = (each-at (Next old.records s.writes us) s.records n x g.each there).1 in
       let p = g.peak (sym (ap (λ c. is_above c.capacity (admitted_weight s.records)) g.settings) ∙ above) in
       let whole : old.writes ≡ p.before ++ Put p.peak ∷ p.after = g.pending ∙ ap (λ ws. done ++ ws) none ∙ append-nil done ∙ p.stands in
+      let rising : AreRising x.number x.applied us = subst (λ ws. AreRising x.number x.applied (ws ++ us)) none (each-at (Next old.records s.writes us) s.records n x g.each there).0 in
+      let last = sym (eqb-true x.writes x.applied settled) in
+      let unsent_none : NoneOf x.number us = none_later x x.applied us rising (λ w i. fits-pending done s x n g there w (in_right w s.writes us i)) (omega (arith, last)) held in
       let accounted : IsAccounted old.unsent old.writes from.owner = each-at (IsAccounted old.unsent old.writes) old.records from.owner.number from.owner sound.records.accounted from.there in
       record {
         owner = from.owner;
@@ -426,7 +448,9 @@ module _ {K V P S R : Type 0} (old : State K V P S R) (us : List Write) where
           after = p.after;
           stands = whole;
           above = p.above;
-          last = none_removed from.owner p.after (λ w i. accounted.fits w (inr (subst (λ ws. IsIn w ws) (sym whole) (in_right w p.before (Put p.peak ∷ p.after) (inr i))))) (from.held ∙ held) p.last;
+          last = none_append from.owner.number p.after (map (λ w. w.write) old.unsent)
+              (none_removed from.owner p.after (λ w i. accounted.fits w (inr (subst (λ ws. IsIn w ws) (sym whole) (in_right w p.before (Put p.peak ∷ p.after) (inr i))))) (from.held ∙ held) p.last)
+              (subst (λ ws. NoneOf from.owner.number ws) (sym us_are) (subst (λ m. NoneOf m us) (sym from.number) unsent_none));
         };
       }
 
@@ -436,26 +460,26 @@ module _ {K V P S R : Type 0} (old : State K V P S R) (us : List Write) where
       pub goes : Going done t
       pub takes : Takes (IsPointed old) s t
 
-    read-kept : (r : Read) (s : State K V P S R) → ((after_read r s).records ≡ s.records) × ((after_read r s).writes ≡ s.writes) × ((after_read r s).settings ≡ s.settings) × ((after_read r s).notices ≡ s.notices)
-    read-kept (Miss hash) s = (refl, refl, refl, refl)
+    read-kept : (r : Read) (s : State K V P S R) → ((after_read r s).records ≡ s.records) × ((after_read r s).writes ≡ s.writes) × ((after_read r s).settings ≡ s.settings) × ((after_read r s).notices ≡ s.notices) × ((after_read r s).unsent ≡ s.unsent)
+    read-kept (Miss hash) s = (refl, refl, refl, refl, refl)
     read-kept (Hit n hash) s = by_record (record_at s.records n)
       where
         t : State K V P S R
         t = record s { sketch = incremented s.sketch hash }
 
         by_counts : (m : ℕ) (b : Bool) → ((cond b (record t { access = moved_to_back m t.access }) t).records ≡ s.records) × ((cond b (record t { access = moved_to_back m t.access }) t).writes ≡ s.writes)
-            × ((cond b (record t { access = moved_to_back m t.access }) t).settings ≡ s.settings) × ((cond b (record t { access = moved_to_back m t.access }) t).notices ≡ s.notices)
-        by_counts m true = (refl, refl, refl, refl)
-        by_counts m false = (refl, refl, refl, refl)
+            × ((cond b (record t { access = moved_to_back m t.access }) t).settings ≡ s.settings) × ((cond b (record t { access = moved_to_back m t.access }) t).notices ≡ s.notices) × ((cond b (record t { access = moved_to_back m t.access }) t).unsent ≡ s.unsent)
+        by_counts m true = (refl, refl, refl, refl, refl)
+        by_counts m false = (refl, refl, refl, refl, refl)
 
-        by_record : (o : Option (Record K V)) → ((after_hit o t).records ≡ s.records) × ((after_hit o t).writes ≡ s.writes) × ((after_hit o t).settings ≡ s.settings) × ((after_hit o t).notices ≡ s.notices)
-        by_record None = (refl, refl, refl, refl)
+        by_record : (o : Option (Record K V)) → ((after_hit o t).records ≡ s.records) × ((after_hit o t).writes ≡ s.writes) × ((after_hit o t).settings ≡ s.settings) × ((after_hit o t).notices ≡ s.notices) × ((after_hit o t).unsent ≡ s.unsent)
+        by_record None = (refl, refl, refl, refl, refl)
         by_record (Some r) = by_counts r.number (is_some r.counts)
 
-    same-goes : (done : List Write) (s t : State K V P S R) → Going done s → IsSound t → t.records ≡ s.records → t.writes ≡ s.writes → t.settings ≡ s.settings → t.notices ≡ s.notices → StepGoes s t
-    same-goes done s t g sound records queued settings notices = record {
+    same-goes : (done : List Write) (s t : State K V P S R) → Going done s → IsSound t → t.records ≡ s.records → t.writes ≡ s.writes → t.settings ≡ s.settings → t.notices ≡ s.notices → t.unsent ≡ s.unsent → StepGoes s t
+    same-goes done s t g sound records queued settings notices unsent = record {
       done = done;
-      goes = going-same done s t g sound queued settings records;
+      goes = going-same done s t g sound queued settings unsent records;
       takes = takes-nothing (IsPointed old) s t settings notices (ap (λ rs. held_entries rs) records);
     }
 
@@ -467,7 +491,7 @@ module _ {K V P S R : Type 0} (old : State K V P S R) (us : List Write) where
         let t = takes-left (IsPointed old) why s n (record_at s.records n) refl just in
         record {
           done = done;
-          goes = going-fewer done s (left why n s) g sound f.writes t.settings (fewer (record_at s.records n)) each;
+          goes = going-fewer done s (left why n s) g sound f.writes t.settings f.unsent (fewer (record_at s.records n)) each;
           takes = t;
         }
       where
@@ -482,7 +506,7 @@ module _ {K V P S R : Type 0} (old : State K V P S R) (us : List Write) where
         let f = after_write-frame w p in
         record {
           done = done ++ w ∷ [];
-          goes = going-write done w rest s t g some sound (ap (λ x. x.writes) after ∙ f.writes) (ap (λ x. x.settings) after ∙ k.takes.settings)
+          goes = going-write done w rest s t g some sound (ap (λ x. x.writes) after ∙ f.writes) (ap (λ x. x.settings) after ∙ k.takes.settings) (ap (λ x. x.unsent) after ∙ f.unsent)
               (subst (λ x. Fewer x.records (with_write w s.records)) (sym after) k.fewer) (subst (λ x. Each (Next old.records rest us) x.records) (sym after) k.each);
           takes = subst (λ x. Takes (IsPointed old) s x) (sym after) (record {
             removals = k.takes.removals;
@@ -497,8 +521,8 @@ module _ {K V P S R : Type 0} (old : State K V P S R) (us : List Write) where
         let p = record s { writes = rest } in
         let each : Each (Now old.records rest us (Put u)) s.records = subst (λ ws. Each (Next old.records ws us) s.records) some g.each in
         let kept : AreKept (Put u ∷ (rest ++ us)) s.records = subst (λ ws. AreKept (ws ++ us) s.records) some g.kept in
-        let fits : ((x : Record K V) (n : ℕ) → record_at s.records n ≡ Some x → (w : Write) → IsIn w (Put u ∷ rest) → Fits w x) =
-        λ x n there w i. (each-at (IsAccounted s.unsent s.writes) s.records n x g.sound.records.accounted there).fits w (inr (subst (λ ws. IsIn w ws) (sym some) i)) in
+        let fits : ((x : Record K V) (n : ℕ) → record_at s.records n ≡ Some x → (w : Write) → IsIn w (Put u ∷ (rest ++ us)) → Fits w x) =
+        λ x n there w i. fits-pending done s x n g there w (subst (λ ws. IsIn w (ws ++ us)) (sym some) i) in
         popped-goes done s t (Put u) rest g sound some after
         (put-goes old.records rest us (IsPointed old) u p g.sound.records.numbered each (record_at s.records u.number) refl
         (λ x here uncounted above.
@@ -507,13 +531,13 @@ module _ {K V P S R : Type 0} (old : State K V P S R) (us : List Write) where
           (λ y settled there held.
               let rising = (each-at (Now old.records rest us (Put u)) s.records y.number y each there).0 in
               let last = sym (eqb-true y.writes y.applied settled) in
-              let none = none_later y y.applied (Put u ∷ rest) us rising (fits y y.number there) (omega (arith, last)) held in
+              let none = none_later y y.applied (Put u ∷ (rest ++ us)) rising (fits y y.number there) (omega (arith, last)) held in
               pointed done s y y.number g there held (point-write done s u rest y g some over none.1)),
           (λ held newest.
               let number = record_at-number s.records u.number x here in
               let rising = (each-at (Now old.records rest us (Put u)) s.records u.number x each here).0 in
               let parts = last_write (not x.is_held) (nat_lt u.write x.writes) newest in
-              let none = none_later x u.write rest us (rising-own x.number x.applied u (rest ++ us) rising (sym number)) (λ w i. fits x u.number here w (inr i)) (ltb-false u.write x.writes parts) held in
+              let none = none_later x u.write (rest ++ us) (rising-own x.number x.applied u (rest ++ us) rising (sym number)) (λ w i. fits x u.number here w (inr i)) (ltb-false u.write x.writes parts) held in
               pointed done s x u.number g here held (point-write done s u rest x g some over none)),
         )))
       where
@@ -534,16 +558,20 @@ module _ {K V P S R : Type 0} (old : State K V P S R) (us : List Write) where
         go : Step answers now s t → IsSound t → StepGoes s t
         go (reads r rest e after) sound =
             let k = read-kept r (record s { reads = rest }) in
-            same-goes done s t g sound (ap (λ x. x.records) after ∙ k.0) (ap (λ x. x.writes) after ∙ k.1) (ap (λ x. x.settings) after ∙ k.2) (ap (λ x. x.notices) after ∙ k.3)
+            same-goes done s t g sound (ap (λ x. x.records) after ∙ k.0) (ap (λ x. x.writes) after ∙ k.1) (ap (λ x. x.settings) after ∙ k.2) (ap (λ x. x.notices) after ∙ k.3) (ap (λ x. x.unsent) after ∙ k.4)
         go (writes w rest none e after) sound = write-goes done s t w rest g sound e after
-        go (grows words applied wants capacity is_set size after) sound = same-goes done s t g sound (ap (λ x. x.records) after) (ap (λ x. x.writes) after) (ap (λ x. x.settings) after) (ap (λ x. x.notices) after)
+        go (grows words applied wants capacity is_set size after) sound = same-goes done s t g sound (ap (λ x. x.records) after) (ap (λ x. x.writes) after) (ap (λ x. x.settings) after) (ap (λ x. x.notices) after) (ap (λ x. x.unsent) after)
         go (leaves r why applied there held due after) sound =
             subst (λ x. StepGoes s x) (sym after) (left-goes done s why r.number g (subst (λ x. IsSound x) after sound)
             (λ x here held size. absurd (true≢false (sym due ∙ ap (λ c. is_due_for answers s now r c) size))))
         go (evicts r applied above next after) sound =
             subst (λ x. StepGoes s x) (sym after) (left-goes done s cause.Size r.number g (subst (λ x. IsSound x) after sound)
-            (λ x here held size. point-excess old_sound done s x r.number g applied.writes above here held))
-        go (ends place p applied there none after) sound = same-goes done s t g sound (ap (λ x. x.records) after) (ap (λ x. x.writes) after) (ap (λ x. x.settings) after) (ap (λ x. x.notices) after)
+            (λ x here held size.
+            let k = first-settled s.records (settled_in s.records s.access) r (settled_in-settled s.records s.access) next in
+            let both : Some r ≡ Some x = sym k.1 ∙ here in
+            let same : r ≡ x = cc in
+            point-excess old_sound done s x r.number g applied.writes above here held (subst (λ z. is_settled z ≡ true) same k.0)))
+        go (ends place p applied there none after) sound = same-goes done s t g sound (ap (λ x. x.records) after) (ap (λ x. x.writes) after) (ap (λ x. x.settings) after) (ap (λ x. x.notices) after) (ap (λ x. x.unsent) after)
 
     steps-take : (stages : List (State K V P S R)) (done : List Write) (s t : State K V P S R) → Going done s → Steps answers now s stages t → Takes (IsPointed old) s t
     steps-take [] done s t g e = subst (λ x. Takes (IsPointed old) s x) (sym e) (takes-nothing (IsPointed old) s s refl refl refl)
@@ -555,7 +583,7 @@ module _ (K V P S R : Type 0) where
   pub size_has_point : SizeHasPoint K V P S R
   size_has_point answers now old new order run =
       let us = map (λ u. u.write) old.unsent in
-      let start : Going old us [] old = record {
+      let start : Going old us refl [] old = record {
         sound = order.sound;
         pending = refl;
         each = each-map (λ r. AreRising r.number r.applied (pending_of old) × (record_at old.records r.number ≡ Some r)) (Next old.records old.writes us)
@@ -563,8 +591,9 @@ module _ (K V P S R : Type 0) where
             (each-both (λ r. AreRising r.number r.applied (pending_of old)) (λ r. record_at old.records r.number ≡ Some r) old.records order.rising (each-own old.records order.sound.records.numbered));
         kept = order.kept;
         settings = refl;
+        unsent = refl;
         peak = λ above. absurd (true≢false (sym above ∙ order.within));
       } in
-      let h = steps-take old us answers now order.sound run.stages [] old run.last start run.steps in
+      let h = steps-take old us refl answers now order.sound run.stages [] old run.last start run.steps in
       let k = takes-after (IsPointed old) old run.last new h (ap (λ t. t.settings) run.after) (ap (λ t. t.notices) run.after) (ap (λ t. held_entries t.records) run.after) in
       record { removals = k.removals; tells = k.tells; points = k.each }

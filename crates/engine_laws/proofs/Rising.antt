@@ -1,5 +1,5 @@
 -- The order of what is pending, and where records come from.
-use Rattle.std.proofs.Common.{◌≡◌, refl, ap, sym, ◌∙◌, subst, ℕ, ◌≤◌, arith, true, true≢false, cond, List, [], ◌∷◌, ◌++◌, Some, inl, inr}
+use Rattle.std.proofs.Common.{◌≡◌, refl, ap, sym, ◌∙◌, subst, ℕ, ◌≤◌, arith, true, true≢false, cond, List, [], ◌∷◌, Some, inl, inr}
 use Rattle.std.proofs.lemmas.Bool.{eq-eqb, ne_eqb}
 use Rattle.engine_reference.specs.declared.data.Record.{Record}
 use Rattle.engine_reference.specs.declared.data.Upsert.{Upsert}
@@ -18,13 +18,13 @@ rising-other n a u ws h other = subst (λ k. AreRising n k ws) (ap (λ b. cond b
 
 module _ {K V : Type 0} where
   -- where every write of a held record up to its last was applied, none of its writes is pending
-  pub none_later : (x : Record K V) (a : ℕ) (ws us : List Write) → AreRising x.number a (ws ++ us) → ((w : Write) → IsIn w ws → Fits w x) → x.writes ≤ a → x.is_held ≡ true → NoneOf x.number ws
-  none_later x a [] us rising fits last held = tt
-  none_later x a (Put u ∷ ws) us rising fits last held =
+  pub none_later : (x : Record K V) (a : ℕ) (ws : List Write) → AreRising x.number a ws → ((w : Write) → IsIn w ws → Fits w x) → x.writes ≤ a → x.is_held ≡ true → NoneOf x.number ws
+  none_later x a [] rising fits last held = tt
+  none_later x a (Put u ∷ ws) rising fits last held =
       let other : (u.number ≡ x.number → ⊥) = λ same. (let newer = rising.0 same in let within = (fits (Put u) (inl refl) same).earlier in omega arith) in
-      (other, none_later x a ws us (rising-other x.number a u (ws ++ us) rising other) (λ w i. fits w (inr i)) last held)
-  none_later x a (Removed n ∷ ws) us rising fits last held =
-      ((λ same. true≢false (sym held ∙ fits (Removed n) (inl refl) same)), none_later x a ws us rising (λ w i. fits w (inr i)) last held)
+      (other, none_later x a ws (rising-other x.number a u ws rising other) (λ w i. fits w (inr i)) last held)
+  none_later x a (Removed n ∷ ws) rising fits last held =
+      ((λ same. true≢false (sym held ∙ fits (Removed n) (inl refl) same)), none_later x a ws rising (λ w i. fits w (inr i)) last held)
 
   -- every record is found under its number
   pub each-own : (rs : List (Record K V)) → AreNumbered rs → Each (λ x. record_at rs x.number ≡ Some x) rs

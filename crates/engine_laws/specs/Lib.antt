@@ -1,2 +1,4 @@
 pub mod Fronts
 pub mod Points
+pub mod Sweeping
+pub mod Showing

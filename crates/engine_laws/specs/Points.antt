@@ -59,14 +59,14 @@ module _ {K V P S R : Type 0} where
 
 -- ---- the point of a removal
 
--- one of these writes has a kept weight above the capacity, and no later one is of this record
-pub record HasPoint (capacity : Option ℕ) (pending : List Write) (number : ℕ) : Type 0 where
+-- one of the writes in the queue has a kept weight above the capacity, and none that was made after it, whether sent or not, is of this record
+pub record HasPoint (capacity : Option ℕ) (queue unsent : List Write) (number : ℕ) : Type 0 where
   pub before : List Write
   pub peak : Upsert
   pub after : List Write
-  pub stands : pending ≡ before ++ Put peak ∷ after
+  pub stands : queue ≡ before ++ Put peak ∷ after
   pub above : is_above capacity peak.kept ≡ true
-  pub last : NoneOf number after
+  pub last : NoneOf number (after ++ unsent)
 
 module _ {K V : Type 0} where
   -- of what is removed for weight
@@ -75,13 +75,13 @@ module _ {K V : Type 0} where
   EachForSize Q (gone ∷ removals) = (gone.cause ≡ cause.Size → Q gone.entry) × EachForSize Q removals
 
 module _ {K V P S R : Type 0} where
-  -- the entry was held as the run began, and a write that was in the queue then is its point
+  -- the entry was held as the run began, and a write that was in the queue then, made not before the entry's last one, is its point
   pub record IsPointed (old : State K V P S R) (e : Entry K V) : Type 0 where
     pub owner : Record K V
     pub there : record_at old.records owner.number ≡ Some owner
     pub held : owner.is_held ≡ true
     pub entry : owner.entry ≡ e
-    pub point : HasPoint old.settings.capacity old.writes owner.number
+    pub point : HasPoint old.settings.capacity old.writes (map (λ u. u.write) old.unsent) owner.number
 
   pub record RunPoints (old new : State K V P S R) : Type 0 where
     pub removals : List (Removal K V)

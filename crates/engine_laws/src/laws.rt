@@ -1,8 +1,10 @@
 //! Laws of the reference cache over whole runs. Each function does nothing: its contract is the law.
 ghost use Rattle.engine_laws.specs.Fronts.{RunsEvictShortestFront};
 ghost use Rattle.engine_laws.specs.Points.{SizeHasPoint, CallsStayInOrder, RunsStayInOrder};
+ghost use Rattle.engine_laws.specs.Sweeping.{SweptRunsLeaveNoneDue, SweptRunsStayTimely, CallsStayTimely};
+ghost use Rattle.engine_laws.specs.Showing.{OnlyWritesShow, CallsKeepApart};
 
-/// Where tickets were sent in the order in which they were made, each removal for weight within a run has a capacity and a *point*: a write that was in the queue as the run began, with no write of the removed record behind it there, right after which all that was held weighed more than the capacity.
+/// Where tickets were sent in the order in which they were made, each removal for weight within a run has a capacity and a *point*: a write that was in the queue as the run began, made not before the last write of the removed record, right after which all that was held weighed more than the capacity.
 pub fn size_has_point<K, V, P, S, R>()
     ensures { SizeHasPoint K V P S R }
 {}
@@ -20,4 +22,29 @@ pub fn runs_stay_in_order<K, V, P, S, R>()
 /// From wherever in a run all that was pending is applied and nothing that is held is dead or covered, what the rest of the run takes is the shortest front of the settled records of the access list that reaches the excess; it is told `Size`, in this order, and nothing else is told.
 pub fn runs_evict_shortest_front<K, V, P, S, R>()
     ensures { RunsEvictShortestFront K V P S R }
+{}
+
+/// After an uncut run that looked at the front of the write list and of the access list, and at own expirations once a tick, none is at or past its write plus the live time, none is covered by a clear, and none has an own expiration in an earlier tick; nor is any 300 milliseconds or more past its last use plus the idle time, where the access list has none that was used so long before one in front of it. Moments never fell or passed 2^63 - 1, and each ticket was sent before the next write or run.
+pub fn swept_runs_leave_none_due<K, V, P, S, R>()
+    ensures { SweptRunsLeaveNoneDue K V P S R }
+{}
+
+/// Such a run keeps a cache timely.
+pub fn swept_runs_stay_timely<K, V, P, S, R>()
+    ensures { SweptRunsStayTimely K V P S R }
+{}
+
+/// An empty cache is timely, and each call at a moment and a step not before the last keeps it so, where its ticket is sent at once.
+pub fn calls_stay_timely<K, V, P, S, R>()
+    ensures { CallsStayTimely K V P S R }
+{}
+
+/// Nothing becomes visible but by a write of its key: a write changes no look-up of another key, a removal and a look-up show nothing that was not visible, and room, notices and what is told change no look-up. (`engine_reference` has the same of sending, clears, predicates and runs.)
+pub fn only_writes_show<K, V, P, S, R>()
+    ensures { OnlyWritesShow K V P S R }
+{}
+
+/// No call makes two entries whose keys compare alike.
+pub fn calls_keep_apart<K, V, P, S, R>()
+    ensures { CallsKeepApart K V P S R }
 {}

@@ -46,7 +46,7 @@ IsIn-moved n m ns h = elim (cases_eq m n) [
 
 -- ---- no number twice
 
-IsIn-without_from : (n m : ℕ) (ns : List ℕ) → IsIn m (without n ns) → IsIn m ns
+pub IsIn-without_from : (n m : ℕ) (ns : List ℕ) → IsIn m (without n ns) → IsIn m ns
 IsIn-without_from n m [] h = h
 IsIn-without_from n m (x ∷ ns) h = go (x == n) h (IsIn-without_from n m ns)
   where
@@ -55,7 +55,7 @@ IsIn-without_from n m (x ∷ ns) h = go (x == n) h (IsIn-without_from n m ns)
     go false (inl e) later = inl e
     go false (inr k) later = inr (later k)
 
-not_in-without : (n : ℕ) (ns : List ℕ) → IsIn n (without n ns) → ⊥
+pub not_in-without : (n : ℕ) (ns : List ℕ) → IsIn n (without n ns) → ⊥
 not_in-without n [] h = h
 not_in-without n (x ∷ ns) h = go (x == n) refl h (not_in-without n ns)
   where
@@ -72,7 +72,7 @@ once-without n (x ∷ ns) h = go (x == n) (once-without n ns h.1)
     go true later = later
     go false later = ((λ k. h.0 (IsIn-without_from n x ns k)), later)
 
-in_pushed : (n m : ℕ) (ns : List ℕ) → IsIn m (ns ++ n ∷ []) → IsIn m ns ⊎ (n ≡ m)
+pub in_pushed : (n m : ℕ) (ns : List ℕ) → IsIn m (ns ++ n ∷ []) → IsIn m ns ⊎ (n ≡ m)
 in_pushed n m [] (inl e) = inr e
 in_pushed n m [] (inr h) = elim h [ ]
 in_pushed n m (x ∷ ns) (inl e) = inl (inl e)

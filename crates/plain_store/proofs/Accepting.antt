@@ -2,13 +2,13 @@
 use Rattle.std.proofs.Common.{◌≡◌, ℕ, ◌≤◌, Bool, cond, true, false, not, ◌&&◌, ◌||◌, List, [], ◌∷◌, ◌++◌, map, length, Option, option_map, Some, None, is_none, IsSome, IsTrue, if◌then◌else◌, refl, sym, ap, ◌∙◌, subst, arith}
 use Rattle.std.specs.List.{list_all, find}
 use Rattle.std.specs.Option.{option_or}
-use Rattle.std.proofs.lemmas.Bool.{and_from, and_parts, not-true, eq-eqb}
+use Rattle.std.proofs.lemmas.Bool.{and_from, and_parts, not-true, eqb-true, eq-eqb}
 use Rattle.std.proofs.lemmas.List.{append-nil, map-append}
 use Rattle.std.proofs.lemmas.List.Folds.{find-append}
 use Rattle.std.proofs.lemmas.Option.{none-some}
 use Rattle.audit_model.specs.Bytewise.{same}
 use Rattle.audit_model.specs.Changes.{newly_held, use_after, all_held_after}
-use Rattle.audit_model.specs.History.{Value, share, weight_of}
+use Rattle.audit_model.specs.History.{Value, weight_of}
 use Rattle.audit_model.specs.Notes.{newcomer, just_accepted, overfills, is_over, is_succeeded, same_cause, first_cause, is_true_cause, is_true_note, are_true_notes, first_of}
 use Rattle.audit_model.specs.Situation.{HeldValue, candidate_at, is_dead_at, is_live_at}
 use Rattle.audit_model.specs.Values.{without_key, deadline, has_come, own_deadline_from}
@@ -32,9 +32,8 @@ use Rattle.plain_sweep.proofs.Sweeping.{Tells, left, left-append}
 use Rattle.plain_sweep.proofs.Truth.{Says, says_from, tell_truly, first_of-map, without-map, replaced_truly}
 use Rattle.plain_sweep.proofs.Weights.{over_is, exceeds-more}
 use Rattle.plain_store.specs.Putting.{replaced_note}
-use Rattle.plain_store.specs.Standing.{is_proper, Stands}
+use Rattle.plain_store.specs.Standing.{limit_of, is_proper, Stands}
 use Rattle.plain_store.specs.Doing.{stands_after}
-use Rattle.plain_store.proofs.Calls.{one_part, hands_all}
 
 without_key-append : {A : Type 0} (of : A → List ℕ) (key : List ℕ) (xs ys : List A) (x : A) → find (λ y. same key (of y)) xs ≡ Some x
     → without_key of key (xs ++ ys) ≡ without_key of key xs ++ ys
@@ -131,7 +130,7 @@ module _ (config : Config) (now : ℕ) (used : Option (List ℕ)) (value : Value
       ∙ ap (λ vs. vs ++ value ∷ []) (values_without held)
       ∙ sym (map-append (λ (h : HeldValue). h.value) (without value.key held) (newly_held value ∷ []))
 
-  module _ (limit_is : option_map (share config) config.capacity ≡ config.capacity) (items held : List HeldValue) (apart_items : are_apart items ≡ true) (c : Corresponds items held) where
+  module _ (items held : List HeldValue) (apart_items : are_apart items ≡ true) (c : Corresponds items held) where
     -- the items once the value is put
     abbrev put : List HeldValue
     put = plain (newly_held value) ∷ without value.key items
@@ -151,16 +150,15 @@ module _ (config : Config) (now : ℕ) (used : Option (List ℕ)) (value : Value
         (none_from_absent value.key (without value.key items) (absent-without value.key items apart_items)) refl
 
     -- the part is over its share just after the acceptance
-    overfills_from : (w part : ℕ) → w ≤ weight_in 0 put → part ≡ 0 → exceeds config.capacity w ≡ true → overfills config before (accepting used value) part ≡ true
+    overfills_from : (w part : ℕ) → w ≤ weight_in value.part put → part ≡ value.part → exceeds (limit_of config) w ≡ true → overfills config before (accepting used value) part ≡ true
     overfills_from w part le is over =
         ap (λ p. is_over config p (just_accepted (map (λ c. c.value) before) (Some value))) is
-        ∙ ap (is_over config 0) (just_accepted_are held)
-        ∙ over_is config 0 put (rest held) apart_put corresponds_put
-        ∙ ap (λ l. exceeds l (weight_in 0 put)) limit_is
-        ∙ exceeds-more config.capacity w (weight_in 0 put) le over
+        ∙ ap (is_over config value.part) (just_accepted_are held)
+        ∙ over_is config value.part put (rest held) apart_put corresponds_put
+        ∙ exceeds-more (limit_of config) w (weight_in value.part put) le over
 
-    cause_is_true : (h : HeldValue) (cause : RemovalCause) (w : ℕ) → w ≤ weight_in 0 put → h.value.part ≡ 0
-        → Says (is_dead_at config now h) h.covered (exceeds config.capacity w) cause → is_true_cause config before (accepting used value) (cand h) cause ≡ true
+    cause_is_true : (h : HeldValue) (cause : RemovalCause) (w : ℕ) → w ≤ weight_in value.part put → h.value.part ≡ value.part
+        → Says (is_dead_at config now h) h.covered (exceeds (limit_of config) w) cause → is_true_cause config before (accepting used value) (cand h) cause ≡ true
     cause_is_true h Expired w le part says = says
     cause_is_true h Explicit w le part says = ap (λ b. b || false) says
     cause_is_true h Replaced w le part says = absurd says
@@ -170,27 +168,27 @@ module _ (config : Config) (now : ℕ) (used : Option (List ℕ)) (value : Value
         or_true true = refl
         or_true false = refl
 
-    evicted_truly : (h : HeldValue) (cause : RemovalCause) (w : ℕ) → true ≡ true → w ≤ weight_in 0 put → cause_at config now 0 (exceeds config.capacity w) h ≡ Some cause
+    evicted_truly : (h : HeldValue) (cause : RemovalCause) (w : ℕ) → true ≡ true → w ≤ weight_in value.part put → cause_at config now (Some value.part) (exceeds (limit_of config) w) h ≡ Some cause
         → is_true_note config before (accepting used value) (note_of cause h) (Some (cand h)) ≡ true
     evicted_truly h cause w p le e =
-        let s = says_from config now 0 (exceeds config.capacity w) h cause e in
+        let s = says_from config now (Some value.part) (exceeds (limit_of config) w) h cause e in
         and_from _ _ (same-refl h.value.bytes)
         (ap (λ b. if b && is_none used
         then same_cause cause (first_cause config before (accepting used value) (cand h))
         else is_true_cause config before (accepting used value) (cand h) cause) (not_succeeded h)
-        ∙ cause_is_true h cause w le s.0 s.1)
+        ∙ cause_is_true h cause w le (eqb-true h.value.part value.part s.0) s.1)
 
     all_always : (xs : List HeldValue) → list_all (λ (h : HeldValue). true) xs ≡ true
     all_always [] = refl
     all_always (h ∷ xs) = all_always xs
 
     -- what is evicted is told truly, once the older value is gone
-    told_truly : (notes : List Note) → Tells config now 0 config.capacity (weight_in 0 put) put notes
+    told_truly : (notes : List Note) → Tells config now (Some value.part) (limit_of config) (weight_in value.part put) put notes
         → are_true_notes config before (accepting used value) (map (candidate_at config now) (without value.key held) ++ newcomer config value ∷ []) notes ≡ true
     told_truly notes t =
         ap (λ cs. are_true_notes config before (accepting used value) cs notes) (sym (cands_are held absent_rest))
         ∙ ap (are_true_notes config before (accepting used value) (map cand (rest held))) (sym (append-nil notes))
-        ∙ tell_truly cand (λ h. refl) config now 0 config.capacity (weight_in 0 put) (accepting used value) before (λ h. true) evicted_truly
+        ∙ tell_truly cand (λ h. refl) config now (Some value.part) (limit_of config) (weight_in value.part put) (accepting used value) before (λ h. true) evicted_truly
         notes [] put (rest held) apart_put corresponds_put (all_always (rest held)) t (none_succeeded (left notes (rest held)))
 
     -- a key's value, where some have left, is what it was
@@ -203,21 +201,21 @@ module _ (config : Config) (now : ℕ) (used : Option (List ℕ)) (value : Value
         go true f = absurd (none-some h f)
         go false f = f
 
-    stays : (first notes : List Note) (table : List HeldValue) → left first (held ++ newly_held value ∷ []) ≡ rest held → left notes put ≡ table
+    stays : (first notes : List Note) (table : List HeldValue) → left first (held ++ newly_held value ∷ []) ≡ rest held → ((xs : List HeldValue) → Corresponds (left notes put) xs → Corresponds table xs)
         → Stands config table (all_held_after config now held (accepting used value) (first ++ notes))
     stays first notes table is left_is =
         let lefts : left (first ++ notes) (held ++ newly_held value ∷ []) ≡ left notes (rest held) = left-append first notes (held ++ newly_held value ∷ []) ∙ ap (left notes) is in
         stands_after config now held (accepting used value) (first ++ notes) table refl
         (λ q g f. unused (without value.key held) absent_rest q g (found_before notes q g (rest held) corresponds_put.apart (ap (λ xs. value_at xs q) (sym lefts) ∙ f)))
-        (subst (λ xs. Corresponds xs (left (first ++ notes) (held ++ newly_held value ∷ []))) left_is
+        (left_is (left (first ++ notes) (held ++ newly_held value ∷ []))
         (subst (Corresponds (left notes put)) (sym lefts) (corresponds-left notes put (rest held) apart_put corresponds_put)))
 
-    pub accept_does : (old new told : List Note) (table : List HeldValue) → new ≡ old ++ (replaced_note config now (value_at items value.key) ++ told)
-        → Tells config now 0 config.capacity (weight_in 0 put) put told → left told put ≡ table
-        → Done config now (accepting used value) held (Stands config table) (Hands one_part old new)
-    accept_does old new told table same_notes t left_is = go (value_at held value.key) refl
+    pub accept_does : (part_of : List ℕ → ℕ) (old new told : List Note) (table : List HeldValue) → new ≡ old ++ (replaced_note config now (value_at items value.key) ++ told)
+        → Tells config now (Some value.part) (limit_of config) (weight_in value.part put) put told → ((xs : List HeldValue) → Corresponds (left told put) xs → Corresponds table xs)
+        → Done config now (accepting used value) held (Stands config table) (Hands part_of old new)
+    accept_does part_of old new told table same_notes t left_is = go (value_at held value.key) refl
       where
-        go : (o : Option HeldValue) → value_at held value.key ≡ o → Done config now (accepting used value) held (Stands config table) (Hands one_part old new)
+        go : (o : Option HeldValue) → value_at held value.key ≡ o → Done config now (accepting used value) held (Stands config table) (Hands part_of old new)
         go None e =
             let absent : is_absent value.key held ≡ true = absent_from_none value.key held e in
             let none_there : value_at items value.key ≡ None = sym (c.found value.key) ∙ ap (option_map plain) e in
@@ -228,7 +226,7 @@ module _ (config : Config) (now : ℕ) (used : Option (List ℕ)) (value : Value
                   ap (λ xs. are_true_notes config before (accepting used value) (map (candidate_at config now) xs ++ newcomer config value ∷ []) told) (sym (without-absent value.key held absent))
                   ∙ told_truly told t;
               left = stays [] told table whole left_is;
-              handed = hands_all old new told (same_notes ∙ ap (λ o. old ++ (replaced_note config now o ++ told)) none_there);
+              handed = record { added = same_notes ∙ ap (λ o. old ++ (replaced_note config now o ++ told)) none_there };
             }
         go (Some h) e =
             let there : value_at items value.key ≡ Some (plain h) = sym (c.found value.key) ∙ ap (option_map plain) e in
@@ -252,7 +250,7 @@ module _ (config : Config) (now : ℕ) (used : Option (List ℕ)) (value : Value
                   ∙ ap (λ cs. cs ++ newcomer config value ∷ []) (without-map (candidate_at config now) (λ g. refl) value.key held))
                   ∙ told_truly told t);
               left = stays (m ∷ []) told table gone left_is;
-              handed = hands_all old new (m ∷ told) (same_notes ∙ ap (λ o. old ++ (replaced_note config now o ++ told)) there);
+              handed = record { added = same_notes ∙ ap (λ o. old ++ (replaced_note config now o ++ told)) there };
             }
 
 -- the key that was looked up is the one that is written
@@ -261,22 +259,23 @@ used_so key true k e = cc
 used_so key false k e = absurd (none-some k e)
 
 -- the item of a value that is accepted
-abbrev pub new_item : ℕ → List ℕ → List ℕ → ℕ → Option ℕ → HeldValue
-new_item now key bytes weight own = record { value = record { key = key; bytes = bytes; part = 0; weight = weight; accepted_at = now; own_deadline = own }; last_use = now; covered = false; evictable = false }
+abbrev pub new_item : ℕ → List ℕ → List ℕ → ℕ → ℕ → Option ℕ → HeldValue
+new_item now key bytes part weight own = record { value = record { key = key; bytes = bytes; part = part; weight = weight; accepted_at = now; own_deadline = own }; last_use = now; covered = false; evictable = false }
 
 -- it was put first
-pub put_is : (now : ℕ) (key key' bytes bytes' : List ℕ) (weight weight' : ℕ) (own own' : Option ℕ) (items table : List HeldValue)
-    → table ≡ new_item now key bytes weight own ∷ without key items → key ≡ key' → bytes ≡ bytes' → weight ≡ weight' → own ≡ own'
-    → table ≡ new_item now key' bytes' weight' own' ∷ without key' items
-put_is now key key' bytes bytes' weight weight' own own' items table is a b c d =
-    is ∙ ap (λ x. new_item now x bytes weight own ∷ without x items) a ∙ ap (λ x. new_item now key' x weight own ∷ without key' items) b
-    ∙ ap (λ x. new_item now key' bytes' x own ∷ without key' items) c ∙ ap (λ x. new_item now key' bytes' weight' x ∷ without key' items) d
+pub put_is : (now : ℕ) (key key' bytes bytes' : List ℕ) (part part' weight weight' : ℕ) (own own' : Option ℕ) (items table : List HeldValue)
+    → table ≡ new_item now key bytes part weight own ∷ without key items → key ≡ key' → bytes ≡ bytes' → part ≡ part' → weight ≡ weight' → own ≡ own'
+    → table ≡ new_item now key' bytes' part' weight' own' ∷ without key' items
+put_is now key key' bytes bytes' part part' weight weight' own own' items table is a b p c d =
+    is ∙ ap (λ x. new_item now x bytes part weight own ∷ without x items) a ∙ ap (λ x. new_item now key' x part weight own ∷ without key' items) b
+    ∙ ap (λ x. new_item now key' bytes' x weight own ∷ without key' items) p
+    ∙ ap (λ x. new_item now key' bytes' part' x own ∷ without key' items) c ∙ ap (λ x. new_item now key' bytes' part' weight' x ∷ without key' items) d
 
 -- it is proper, if it has an own deadline only where such are taken
-pub new_proper : (config : Config) (now : ℕ) (key bytes : List ℕ) (ms : Option ℕ) → (IsSome ms → IsTrue config.own_deadlines)
-    → is_proper config (new_item now key bytes (weight_of config.weight bytes) (own_deadline_from now ms)) ≡ true
-new_proper config now key bytes ms timed =
-    and_from _ _ (and_from _ _ refl (eq-eqb (weight_of config.weight bytes) (weight_of config.weight bytes) refl)) (go ms timed)
+pub new_proper : (config : Config) (part_of : List ℕ → ℕ) (now : ℕ) (key bytes : List ℕ) (ms : Option ℕ) → (IsSome ms → IsTrue config.own_deadlines)
+    → is_proper config part_of (new_item now key bytes (part_of key) (weight_of config.weight bytes) (own_deadline_from now ms)) ≡ true
+new_proper config part_of now key bytes ms timed =
+    and_from _ _ (and_from _ _ (eq-eqb (part_of key) (part_of key) refl) (eq-eqb (weight_of config.weight bytes) (weight_of config.weight bytes) refl)) (go ms timed)
   where
     go : (m : Option ℕ) → (IsSome m → IsTrue config.own_deadlines) → (config.own_deadlines || is_none (own_deadline_from now m)) ≡ true
     go None t = or_true config.own_deadlines

@@ -1,5 +1,5 @@
 -- What the calls of a plain store do.
-use Rattle.std.proofs.Common.{◌≡◌, ℕ, suc, ◌≤◌, Bool, cond, true, false, not, ◌&&◌, ◌||◌, List, [], ◌∷◌, ◌++◌, map, drop, length, Option, option_map, Some, None, All, if◌then◌else◌, nat_eq, refl, sym, ap, ◌∙◌, subst, arith}
+use Rattle.std.proofs.Common.{◌≡◌, ℕ, suc, Bool, cond, true, false, not, ◌&&◌, ◌||◌, List, [], ◌∷◌, ◌++◌, map, drop, length, Option, option_map, Some, None, if◌then◌else◌, nat_eq, refl, sym, ap, ◌∙◌, subst, arith}
 use Rattle.std.specs.List.{list_all, find, starts_with}
 use Rattle.std.specs.Option.{option_map_or, option_to_list}
 use Rattle.std.proofs.lemmas.Bool.{and_from, and_parts, not-true}
@@ -15,7 +15,7 @@ use Rattle.audit_model.specs.declared.config.Config.{Config}
 use Rattle.audit_model.specs.declared.transcript.Note.{Note}
 use Rattle.audit_model.specs.declared.transcript.RemovalCause.{RemovalCause}
 use Rattle.audit_model.specs.declared.transcript.RemovalCause.TheVariants.{Expired, Explicit, Replaced, Size}
-use Rattle.cache_store.specs.Handing.{Hands, Takes, TellsNone, ArePartByPart}
+use Rattle.cache_store.specs.Handing.{Hands, Takes, TellsNone}
 use Rattle.cache_store.specs.Promises.{Done, Finds, using, deleting, syncing, covering}
 use Rattle.plain_table.specs.Items.{value_at, without, is_absent, are_apart, used_at}
 use Rattle.plain_table.proofs.Keys.{same-refl, same-flip_false, equal_from_same, same_from_equal}
@@ -29,22 +29,8 @@ use Rattle.plain_store.specs.Putting.{if_live, live_in, Writes, deleted_note}
 use Rattle.plain_store.specs.Standing.{Stands}
 use Rattle.plain_store.specs.Doing.{or_no, after_plain, corresponds-as, evictable_after, stands_after, none_succeeded, right_to_tell_none}
 
-abbrev pub one_part : List ℕ → ℕ
-one_part key = 0
-
--- all notes are of the one part
-pub by_part : (notes : List Note) → ArePartByPart one_part notes
-by_part [] = tt
-by_part (n ∷ notes) = (none_before notes, by_part notes)
-  where
-    none_before : (notes : List Note) → All (λ later. one_part n.key ≤ one_part later.key) notes
-    none_before notes = λ k d h. omega arith
-
-pub hands_all : (old new told : List Note) → new ≡ old ++ told → Hands one_part old new told
-hands_all old new told e = record { added = e; by_part = by_part told }
-
-pub hands_none : (old new : List Note) → new ≡ old → Hands one_part old new []
-hands_none old new e = record { added = e ∙ sym (append-nil old); by_part = tt }
+pub hands_none : (part_of : List ℕ → ℕ) (old new : List Note) → new ≡ old → Hands part_of old new []
+hands_none part_of old new e = record { added = e ∙ sym (append-nil old) }
 
 -- ---- look-ups
 
@@ -178,9 +164,9 @@ module _ (config : Config) (now : ℕ) (key : List ℕ) (items held : List HeldV
       }
 
 -- a look-up uses the key's live value
-pub look_up_does : (config : Config) (now : ℕ) (key : List ℕ) (items held : List HeldValue) (old new : List Note) → are_apart items ≡ true → new ≡ old → Stands config items held
-    → Done config now (using key) held (Stands config (looked_up config now key items)) (Hands one_part old new)
-look_up_does config now key items held old new a same_notes s = record {
+pub look_up_does : (config : Config) (part_of : List ℕ → ℕ) (now : ℕ) (key : List ℕ) (items held : List HeldValue) (old new : List Note) → are_apart items ≡ true → new ≡ old → Stands config items held
+    → Done config now (using key) held (Stands config (looked_up config now key items)) (Hands part_of old new)
+look_up_does config part_of now key items held old new a same_notes s = record {
   told = [];
   right = right_to_tell_none config now (Some key) Nothing false held;
   left = record {
@@ -190,7 +176,7 @@ look_up_does config now key items held old new a same_notes s = record {
         (corresponds_used config now key items held a s.same (map (λ (h : HeldValue). h.value) xs) (live_in config now items key) refl);
     evictable = evictable_after config now held (using key) [];
   };
-  handed = hands_none old new same_notes;
+  handed = hands_none part_of old new same_notes;
 }
 
 -- ---- coverage
@@ -230,25 +216,25 @@ all_always [] = refl
 all_always (h ∷ held) = all_always held
 
 -- a run tells what is dead or covered
-pub run_does : (config : Config) (now weight : ℕ) (items held : List HeldValue) (old new : List Note) → are_apart items ≡ true → new ≡ old ++ (swept config now 0 None weight items).told → Stands config items held
-    → Done config now syncing held (Stands config (swept config now 0 None weight items).kept) (Hands one_part old new)
-run_does config now weight items held old new a same_notes s =
-    let told = (swept config now 0 None weight items).told in
+pub run_does : (config : Config) (part_of : List ℕ → ℕ) (now : ℕ) (items held : List HeldValue) (old new : List Note) → are_apart items ≡ true → new ≡ old ++ (swept config now None None 0 items).told → Stands config items held
+    → Done config now syncing held (Stands config (swept config now None None 0 items).kept) (Hands part_of old new)
+run_does config part_of now items held old new a same_notes s =
+    let told = (swept config now None None 0 items).told in
     let cand = candidate_at config now in
     record {
       told = told;
       right =
           ap (λ cs. are_true_notes config (map cand held) syncing cs told) (append-nil (map cand held))
           ∙ ap (are_true_notes config (map cand held) syncing (map cand held)) (sym (append-nil told))
-          ∙ tell_truly cand (λ h. refl) config now 0 None weight syncing (map cand held) (λ h. true)
-          (λ h cause w p le e. judged_truly config now held h cause (says_from config now 0 false h cause e).1)
-          told [] items held a s.same (all_always held) (swept_tells config now 0 None weight items a)
+          ∙ tell_truly cand (λ h. refl) config now None None 0 syncing (map cand held) (λ h. true)
+          (λ h cause w p le e. judged_truly config now held h cause (says_from config now None false h cause e).1)
+          told [] items held a s.same (all_always held) (swept_tells config now None None 0 items a)
           (none_succeeded config now None Nothing true (left told held));
       left =
-          stands_after config now held syncing told (swept config now 0 None weight items).kept refl (λ q h e. refl)
-          (subst (λ ys. Corresponds (swept config now 0 None weight items).kept (left told ys)) (sym (append-nil held))
-          (subst (λ xs. Corresponds xs (left told held)) (kept_is config now 0 None weight items a) (corresponds-left told items held a s.same)));
-      handed = hands_all old new told same_notes;
+          stands_after config now held syncing told (swept config now None None 0 items).kept refl (λ q h e. refl)
+          (subst (λ ys. Corresponds (swept config now None None 0 items).kept (left told ys)) (sym (append-nil held))
+          (subst (λ xs. Corresponds xs (left told held)) (kept_is config now None None 0 items a) (corresponds-left told items held a s.same)));
+      handed = record { added = same_notes };
     }
 
 -- ---- a key is deleted
@@ -257,15 +243,15 @@ deleted_none : (config : Config) (now : ℕ) (key : List ℕ) (held : List HeldV
 deleted_none config now key [] absent = refl
 deleted_none config now key (h ∷ held) absent = let parts = and_parts (not (same key h.value.key)) (is_absent key held) absent in and_from _ _ parts.0 (deleted_none config now key held parts.1)
 
-pub remove_does : (config : Config) (now : ℕ) (key : List ℕ) (items held : List HeldValue) (old new : List Note) → are_apart items ≡ true
+pub remove_does : (config : Config) (part_of : List ℕ → ℕ) (now : ℕ) (key : List ℕ) (items held : List HeldValue) (old new : List Note) → are_apart items ≡ true
     → new ≡ old ++ deleted_note config now (value_at items key) → Stands config items held
-    → Done config now (deleting key) held (Stands config (without key items)) (Hands one_part old new)
-remove_does config now key items held old new a same_notes s = go (value_at held key) refl
+    → Done config now (deleting key) held (Stands config (without key items)) (Hands part_of old new)
+remove_does config part_of now key items held old new a same_notes s = go (value_at held key) refl
   where
     absent_left : is_absent key (without key held) ≡ true
     absent_left = absent-without key held s.same.apart
 
-    go : (o : Option HeldValue) → value_at held key ≡ o → Done config now (deleting key) held (Stands config (without key items)) (Hands one_part old new)
+    go : (o : Option HeldValue) → value_at held key ≡ o → Done config now (deleting key) held (Stands config (without key items)) (Hands part_of old new)
     go None e =
         let absent = absent_from_none key held e in
         let none_there : value_at items key ≡ None = sym (s.same.found key) ∙ ap (option_map plain) e in
@@ -275,7 +261,7 @@ remove_does config now key items held old new a same_notes s = go (value_at held
           left =
               stands_after config now held (deleting key) [] (without key items) refl (λ q h f. refl)
               (subst (λ ys. Corresponds (without key items) ys) (without-absent key held absent ∙ sym (append-nil held)) (corresponds-without key items held a s.same));
-          handed = hands_all old new [] (same_notes ∙ ap (λ o. old ++ deleted_note config now o) none_there);
+          handed = record { added = same_notes ∙ ap (λ o. old ++ deleted_note config now o) none_there };
         }
     go (Some h) e =
         let there : value_at items key ≡ Some (plain h) = sym (s.same.found key) ∙ ap (option_map plain) e in
@@ -295,7 +281,7 @@ remove_does config now key items held old new a same_notes s = go (value_at held
               stands_after config now held (deleting key) (n ∷ []) (without key items) refl (λ q g f. refl)
               (subst (λ ys. Corresponds (without key items) (without h.value.key ys)) (sym (append-nil held))
               (subst (λ k. Corresponds (without key items) (without k held)) (sym is_key) (corresponds-without key items held a s.same)));
-          handed = hands_all old new (n ∷ []) (same_notes ∙ ap (λ o. old ++ deleted_note config now o) there);
+          handed = record { added = same_notes ∙ ap (λ o. old ++ deleted_note config now o) there };
         }
 
 starts_with_none : (key : List ℕ) → true ≡ starts_with nat_eq key []
@@ -316,6 +302,6 @@ none_left [] new e d = refl
 none_left (n ∷ old) new e d = absurd (longer n old (e ∙ d))
 
 -- the first note is taken
-pub takes_first : (old new : List Note) (r : Option Note) → old ≡ option_to_list r ++ new → new ≡ drop 1 old → Takes one_part old new r
+pub takes_first : (old new : List Note) (r : Option Note) → old ≡ option_to_list r ++ new → new ≡ drop 1 old → Takes old new r
 takes_first old new None e d = let none = none_left old new e d in (none, sym e ∙ none)
-takes_first old new (Some n) e d = record { before = []; behind = new; was = e; is = refl; first = λ k x h. absurd (omega arith) }
+takes_first old new (Some n) e d = e

@@ -49,27 +49,23 @@ timely_from config made now h covered dead =
 
 -- ---- what a sweep keeps
 
-abbrev pub is_clear : Config → ℕ → ℕ → HeldValue → Bool
-is_clear config now part h = not (h.value.part == part) || (not h.covered && not (is_dead_at config now h))
+abbrev pub is_clear : Config → ℕ → HeldValue → Bool
+is_clear config now h = not h.covered && not (is_dead_at config now h)
 
-clear-visit : (config : Config) (now part : ℕ) (over here dead covered : Bool) (h : HeldValue) (kept : List HeldValue) → list_all (is_clear config now part) kept ≡ true
-    → (h.value.part == part) ≡ here → is_dead_at config now h ≡ dead → h.covered ≡ covered
-    → (c : Option RemovalCause) → c ≡ (if here then (if dead then Some Expired else (if covered then Some Explicit else (if over then Some Size else None))) else None)
-    → list_all (is_clear config now part) (left_by c h kept) ≡ true
-clear-visit config now part over here dead covered h kept all p d k (Some cause) e = all
-clear-visit config now part over false dead covered h kept all p d k None e = and_from _ _ (ap (λ b. not b || (not h.covered && not (is_dead_at config now h))) p) all
-clear-visit config now part over true true covered h kept all p d k None e = cc
-clear-visit config now part over true false true h kept all p d k None e = cc
-clear-visit config now part over true false false h kept all p d k None e =
-    and_from _ _
-    (ap (λ b. not b || (not h.covered && not (is_dead_at config now h))) p ∙ ap (λ b. not b && not (is_dead_at config now h)) k ∙ ap not d)
-    all
+clear-visit : (config : Config) (now : ℕ) (dead covered : Bool) (h : HeldValue) (kept : List HeldValue) → list_all (is_clear config now) kept ≡ true
+    → is_dead_at config now h ≡ dead → h.covered ≡ covered
+    → (c : Option RemovalCause) → c ≡ (if dead then Some Expired else (if covered then Some Explicit else None))
+    → list_all (is_clear config now) (left_by c h kept) ≡ true
+clear-visit config now dead covered h kept all d k (Some cause) e = all
+clear-visit config now true covered h kept all d k None e = cc
+clear-visit config now false true h kept all d k None e = cc
+clear-visit config now false false h kept all d k None e =
+    and_from _ _ (ap (λ b. not b && not (is_dead_at config now h)) k ∙ ap not d) all
 
--- what it keeps of the part is neither covered nor dead
-pub swept_clear : (config : Config) (now part : ℕ) (limit : Option ℕ) (weight : ℕ) (items : List HeldValue)
-    → list_all (is_clear config now part) (swept config now part limit weight items).kept ≡ true
-swept_clear config now part limit weight [] = refl
-swept_clear config now part limit weight (h ∷ items) =
-    let s = swept config now part limit weight items in
-    clear-visit config now part (exceeds limit s.weight) (h.value.part == part) (is_dead_at config now h) h.covered h s.kept (swept_clear config now part limit weight items) refl refl refl
-    (cause_at config now part (exceeds limit s.weight) h) refl
+-- what it keeps is neither covered nor dead
+pub swept_clear : (config : Config) (now weight : ℕ) (items : List HeldValue) → list_all (is_clear config now) (swept config now None None weight items).kept ≡ true
+swept_clear config now weight [] = refl
+swept_clear config now weight (h ∷ items) =
+    let s = swept config now None None weight items in
+    clear-visit config now (is_dead_at config now h) h.covered h s.kept (swept_clear config now weight items) refl refl
+    (cause_at config now None (exceeds None s.weight) h) refl

@@ -1,3 +1,5 @@
+pub mod Parting
+pub mod Hashing
 pub mod Drawing
 pub mod Putting
 pub mod Standing

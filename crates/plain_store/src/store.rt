@@ -3,68 +3,80 @@ ghost use Rattle.std.specs.Prelude.{◌≡◌, ℕ, ◌<◌, ◌≤◌, ◌+◌,
 ghost use Rattle.std.specs.VecDeque.{deque_len, deque_capacity};
 ghost use Rattle.audit_model.specs.History.{weight_of, part_count};
 ghost use Rattle.audit_model.specs.Values.{own_deadline_from};
-ghost use Rattle.cache_store.specs.Running.{weight_in};
-ghost use Rattle.plain_store.specs.Drawing.{is_among};
-ghost use Rattle.plain_store.specs.Standing.{frame_of, Stands, AreKept, AreInOrder};
+ghost use Rattle.plain_store.specs.Drawing.{is_registered};
+ghost use Rattle.plain_store.specs.Parting.{part_by};
+ghost use Rattle.plain_store.specs.Standing.{frame_of, limit_of, Stands, AreKept, AreInOrder, WeighEach};
 
-use crate::drawing::register_new;
+use crate::drawing::register_all;
+use crate::hashing::{KeyHasher, count_parts, part_of};
 use crate::listing::write_keys;
 use crate::putting::{live_bytes, put, take, use_found, write_found};
 use crate::valuing::{own_deadline, weight_of};
+use crate::weights::{no_weights, set_weight, share_of, weigh_parts, weight_at};
 use audit_model::{Config, Note};
 use cache_store::{Counts, Store, StoreError};
-use plain_sweep::{count_live, cover, evict, sweep, weigh_part};
+use plain_sweep::{count_live, cover, evict, sweep, weigh_all};
 use plain_table::{Kept, Table};
 use rand_core::Rng;
 use std::alloc::{AllocError, Global};
 use std::collections::VecDeque;
 use uuid::Uuid;
 
-/// The values of a namespace of one part.
+/// The values of a namespace, those of all its parts in one table.
 #[derive(Drop)]
-pub struct PlainStore<R: Rng + Drop> {
+pub struct PlainStore<R: Rng + Drop, H: KeyHasher> {
     alloc: Global,
     config: Config,
     made: u64,
     latest: u64,
     dropped: bool,
+    hasher: H,
+    // how many parts there are
+    parts: u64,
+    // the most that a part may weigh, where a capacity is set
+    share: Option<u64>,
     table: Table,
-    // what the values weigh
-    weight: u64,
+    // what the values of each part weigh
+    weights: Vec<u64>,
     notes: VecDeque<Note>,
     generator: R,
-    register: Vec<Uuid>,
-    ghost kept: { AreKept config table },
-    ghost weighed: { weight ≡ weight_in 0 table },
+    // each identifier that is registered, with its part
+    register: Vec<(u64, Uuid)>,
+    ghost kept: { AreKept config (part_by parts (H.number_of hasher)) table },
+    ghost counted: { parts ≡ part_count config },
+    ghost shared: { share ≡ limit_of config },
+    ghost weighed: { WeighEach parts weights.items table },
     ghost room: { deque_len notes + length table ≤ deque_capacity notes },
     ghost unused: { dropped ≡ false → register.items ≡ [] },
 }
 
-impl<R: Rng + Drop> PlainStore<R> {
-    ghost use Rattle.plain_store.specs.Standing.{IsServed};
-
-    /// Nothing is held, and nothing was told. The configuration has one part.
+impl<R: Rng + Drop, H: KeyHasher> PlainStore<R, H> {
+    /// Nothing is held, and nothing was told. The hasher says in which part a key is.
     pub fn new(
         alloc: Global,
         config: Config,
         made: u64,
         generator: R,
-    ) -> Result<PlainStore<R>, AllocError>
-        requires { IsServed config }
-        ensures frame { IfOk result (λ s. frame_of s.config s.made s.dropped s.latest ≡ frame_of config made false made) }
+        hasher: H,
+    ) -> Result<PlainStore<R, H>, AllocError>
+        ensures frame { IfOk result (λ s. frame_of s.config (part_by s.parts (H.number_of s.hasher)) s.made s.dropped s.latest ≡ frame_of config (part_by (part_count config) (H.number_of hasher)) made false made) }
         ensures nothing_held { IfOk result (λ s. Stands s.config s.table []) }
         ensures nothing_told { IfOk result (λ s. s.notes.items ≡ []) }
         ensures recency { IfOk result (λ s. AreInOrder s.config s.table true []) }
         ensures generator { IfOk result (λ s. s.generator ≡ generator) }
     {
+        let parts = count_parts(&config);
         Ok(PlainStore {
             alloc,
             config,
             made,
             latest: made,
             dropped: false,
+            hasher,
+            parts,
+            share: share_of(&config, parts),
             table: Table::new(alloc)?,
-            weight: 0,
+            weights: no_weights(alloc, parts)?,
             notes: VecDeque::new(alloc),
             generator,
             register: Vec::new(alloc),
@@ -72,8 +84,8 @@ impl<R: Rng + Drop> PlainStore<R> {
     }
 }
 
-impl<R: Rng + Drop> Store for PlainStore<R> {
-    ghost frame = { λ s. frame_of s.config s.made s.dropped s.latest };
+impl<R: Rng + Drop, H: KeyHasher> Store for PlainStore<R, H> {
+    ghost frame = { λ s. frame_of s.config (part_by s.parts (H.number_of s.hasher)) s.made s.dropped s.latest };
 
     ghost stands = { λ s. Stands s.config s.table };
 
@@ -85,7 +97,7 @@ impl<R: Rng + Drop> Store for PlainStore<R> {
 
     ghost stream = { λ s. R.stream s.generator };
 
-    ghost registered = { λ s part. is_among s.register.items };
+    ghost registered = { λ s. is_registered s.register.items };
 
     fn len(&self) -> usize {
         self.table.len()
@@ -118,13 +130,14 @@ impl<R: Rng + Drop> Store for PlainStore<R> {
         looked_up: bool,
         now: u64,
     ) -> Result<u64, AllocError> {
+        let part = part_of(&self.hasher, self.parts, key);
         let weight = weight_of(self.config.weight, bytes);
         let own_deadline = own_deadline(now, milliseconds);
         let key = Vec::from_slice(self.alloc, key)?;
         let bytes = Vec::from_slice(self.alloc, bytes)?;
         let kept = Kept {
             bytes,
-            part: 0,
+            part,
             weight,
             accepted_at: now,
             own_deadline,
@@ -140,21 +153,26 @@ impl<R: Rng + Drop> Store for PlainStore<R> {
             kept,
             now,
         )?;
-        self.weight = evict(
+        let start = weight_at(&self.weights, part) - older + weight;
+        let left = evict(
             &mut self.table,
             &mut self.notes,
             &self.config,
-            self.config.capacity,
-            0,
+            self.share,
+            part,
             now,
-            self.weight - older + weight,
+            start,
         );
+        set_weight(&mut self.weights, part, left);
         self.latest = now;
-        Ok(0)
+        Ok(part)
     }
 
     fn remove(&mut self, key: &[u8], now: u64) -> Result<(), AllocError> {
-        self.weight -= take(&mut self.table, &mut self.notes, &self.config, key, now);
+        let part = part_of(&self.hasher, self.parts, key);
+        let gone = take(&mut self.table, &mut self.notes, &self.config, key, now);
+        let left = weight_at(&self.weights, part) - gone;
+        set_weight(&mut self.weights, part, left);
         self.latest = now;
         Ok(())
     }
@@ -165,7 +183,7 @@ impl<R: Rng + Drop> Store for PlainStore<R> {
     }
 
     fn drop_prefix(&mut self, prefix: &[u8], now: u64) -> Result<(), StoreError> {
-        match register_new(&mut self.generator, &mut self.register) {
+        match register_all(&mut self.generator, &mut self.register, self.parts) {
             Ok(()) => {
                 cover(&mut self.table, prefix);
                 self.dropped = true;
@@ -177,13 +195,13 @@ impl<R: Rng + Drop> Store for PlainStore<R> {
     }
 
     fn run_all(&mut self, now: u64) -> Counts {
-        sweep(&mut self.table, &mut self.notes, &self.config, None, 0, now);
-        self.weight = weigh_part(&self.table, 0);
+        sweep(&mut self.table, &mut self.notes, &self.config, now);
+        weigh_parts(&self.table, &mut self.weights, self.parts);
         self.register.clear();
         self.latest = now;
         Counts {
             number: self.table.len() as u64,
-            weight: self.weight,
+            weight: weigh_all(&self.table),
         }
     }
 
@@ -191,15 +209,15 @@ impl<R: Rng + Drop> Store for PlainStore<R> {
         self.notes.pop_front()
     }
 
-    ghost use Rattle.plain_store.specs.Laws.{has_a_part, stands_idle, bounded_from, ordered_from};
+    ghost use Rattle.plain_store.specs.Laws.{stands_idle, bounded_from, ordered_from};
 
     ghost counted = { λ s held h. h.same.number };
 
-    ghost parted = { λ s key. has_a_part s.config s.kept.served };
+    ghost parted = { λ s key. s.kept.served key };
 
     ghost idle = { λ s held now h. stands_idle s.config now s.table held h };
 
-    ghost bounded = { λ s held h. bounded_from s.config s.table s.kept held h };
+    ghost bounded = { λ s held h. bounded_from s.config (part_by s.parts (H.number_of s.hasher)) s.table s.kept held h };
 
     ghost ordered = { λ s held keys h o. ordered_from s.config s.table held keys s.kept.apart h o };
 }

@@ -2,6 +2,12 @@
 #![tactic(auto)]
 
 #[cfg(test)]
+mod lengths;
+#[cfg(test)]
+mod parts;
+#[cfg(test)]
 mod repeating;
 #[cfg(test)]
 mod tests;
+#[cfg(test)]
+mod turning;

@@ -4,7 +4,7 @@ ghost use Rattle.std.specs.Prelude.{◌≡◌};
 use crate::repeating::Repeating;
 use audit_model::{Config, EvictionPolicy, Note, RemovalCause, Weight};
 use cache_store::{Store, StoreError};
-use plain_store::PlainStore;
+use plain_store::{FixedHasher, PlainStore};
 use rand_core::SeedableRng;
 use rand_xoshiro::SplitMix64;
 use std::test::Fail;
@@ -36,7 +36,13 @@ fn tells(note: Option<Note>, cause: RemovalCause, key: &[u8], bytes: &[u8]) -> b
 
 #[test]
 fn gives_back_what_it_accepted(rt: HostRuntime) -> Result<(), Fail> {
-    let mut store = PlainStore::new(rt.alloc(), PLAIN, 5, SplitMix64::seed_from_u64(1))?;
+    let mut store = PlainStore::new(
+        rt.alloc(),
+        PLAIN,
+        5,
+        SplitMix64::seed_from_u64(1),
+        FixedHasher,
+    )?;
     assert_eq!(rt; store.accept(b"key", b"one", None, false, 5)?, 0);
     assert_eq!(rt; store.accept(b"", b"", None, false, 6)?, 0);
     let mut found = b"VAL ".to_vec(rt.alloc())?;
@@ -53,7 +59,13 @@ fn gives_back_what_it_accepted(rt: HostRuntime) -> Result<(), Fail> {
 
 #[test]
 fn tells_replaced_and_removed_values(rt: HostRuntime) -> Result<(), Fail> {
-    let mut store = PlainStore::new(rt.alloc(), PLAIN, 5, SplitMix64::seed_from_u64(1))?;
+    let mut store = PlainStore::new(
+        rt.alloc(),
+        PLAIN,
+        5,
+        SplitMix64::seed_from_u64(1),
+        FixedHasher,
+    )?;
     store.accept(b"key", b"one", None, false, 5)?;
     store.accept(b"key", b"two", None, true, 6)?;
     store.remove(b"other", 7)?;
@@ -68,7 +80,13 @@ fn tells_replaced_and_removed_values(rt: HostRuntime) -> Result<(), Fail> {
 // `SET ab - 1`, `SET b - 2`, `DROPIF a`, `SET ac - 3`, `KEYS` lists ac and b
 #[test]
 fn a_prefix_covers_what_came_before_it(rt: HostRuntime) -> Result<(), Fail> {
-    let mut store = PlainStore::new(rt.alloc(), PLAIN, 5, SplitMix64::seed_from_u64(1))?;
+    let mut store = PlainStore::new(
+        rt.alloc(),
+        PLAIN,
+        5,
+        SplitMix64::seed_from_u64(1),
+        FixedHasher,
+    )?;
     store.accept(b"ab", b"1", None, false, 5)?;
     store.accept(b"b", b"2", None, false, 5)?;
     if store.drop_prefix(b"a", 5).is_err() {
@@ -89,7 +107,13 @@ fn a_prefix_covers_what_came_before_it(rt: HostRuntime) -> Result<(), Fail> {
 
 #[test]
 fn a_clear_covers_all(rt: HostRuntime) -> Result<(), Fail> {
-    let mut store = PlainStore::new(rt.alloc(), PLAIN, 5, SplitMix64::seed_from_u64(1))?;
+    let mut store = PlainStore::new(
+        rt.alloc(),
+        PLAIN,
+        5,
+        SplitMix64::seed_from_u64(1),
+        FixedHasher,
+    )?;
     store.accept(b"a", b"1", None, false, 5)?;
     store.clear(5);
     assert!(rt; store.find(b"a", 5).is_none());
@@ -102,7 +126,13 @@ fn a_clear_covers_all(rt: HostRuntime) -> Result<(), Fail> {
 
 #[test]
 fn an_own_deadline_ends_a_value(rt: HostRuntime) -> Result<(), Fail> {
-    let mut store = PlainStore::new(rt.alloc(), PLAIN, 0, SplitMix64::seed_from_u64(1))?;
+    let mut store = PlainStore::new(
+        rt.alloc(),
+        PLAIN,
+        0,
+        SplitMix64::seed_from_u64(1),
+        FixedHasher,
+    )?;
     store.accept(b"a", b"1", Some(1), false, 0)?;
     assert!(rt; store.find(b"a", 999_423).is_some());
     assert!(rt; store.find(b"a", 999_424).is_none());
@@ -114,7 +144,13 @@ fn an_own_deadline_ends_a_value(rt: HostRuntime) -> Result<(), Fail> {
 
 #[test]
 fn the_one_used_longest_ago_leaves(rt: HostRuntime) -> Result<(), Fail> {
-    let mut store = PlainStore::new(rt.alloc(), TWO, 0, SplitMix64::seed_from_u64(1))?;
+    let mut store = PlainStore::new(
+        rt.alloc(),
+        TWO,
+        0,
+        SplitMix64::seed_from_u64(1),
+        FixedHasher,
+    )?;
     let mut found = Vec::new(rt.alloc());
     store.accept(b"a", b"1", None, false, 0)?;
     store.accept(b"b", b"2", None, false, 0)?;
@@ -136,7 +172,13 @@ fn weights_are_bytes(rt: HostRuntime) -> Result<(), Fail> {
         capacity: Some(6),
         ..PLAIN
     };
-    let mut store = PlainStore::new(rt.alloc(), six, 0, SplitMix64::seed_from_u64(1))?;
+    let mut store = PlainStore::new(
+        rt.alloc(),
+        six,
+        0,
+        SplitMix64::seed_from_u64(1),
+        FixedHasher,
+    )?;
     store.accept(b"a", b"one", None, false, 0)?;
     store.accept(b"b", b"two", None, false, 0)?;
     assert!(rt; store.next_notice().is_none());
@@ -160,7 +202,13 @@ fn a_value_heavier_than_all_leaves(rt: HostRuntime) -> Result<(), Fail> {
         capacity: Some(3),
         ..PLAIN
     };
-    let mut store = PlainStore::new(rt.alloc(), three, 0, SplitMix64::seed_from_u64(1))?;
+    let mut store = PlainStore::new(
+        rt.alloc(),
+        three,
+        0,
+        SplitMix64::seed_from_u64(1),
+        FixedHasher,
+    )?;
     store.accept(b"a", b"four", None, false, 0)?;
     assert_eq!(rt; store.len(), 0);
     assert!(rt; store.find(b"a", 0).is_none());
@@ -172,7 +220,13 @@ fn a_value_heavier_than_all_leaves(rt: HostRuntime) -> Result<(), Fail> {
 // those that are covered or dead make room, and are told as such
 #[test]
 fn covered_and_dead_values_make_room(rt: HostRuntime) -> Result<(), Fail> {
-    let mut store = PlainStore::new(rt.alloc(), TWO, 0, SplitMix64::seed_from_u64(1))?;
+    let mut store = PlainStore::new(
+        rt.alloc(),
+        TWO,
+        0,
+        SplitMix64::seed_from_u64(1),
+        FixedHasher,
+    )?;
     store.accept(b"a", b"1", None, false, 0)?;
     store.clear(0);
     store.accept(b"b", b"2", Some(1), false, 0)?;
@@ -191,7 +245,13 @@ fn nothing_is_found_at_capacity_0(rt: HostRuntime) -> Result<(), Fail> {
         capacity: Some(0),
         ..PLAIN
     };
-    let mut store = PlainStore::new(rt.alloc(), none, 0, SplitMix64::seed_from_u64(1))?;
+    let mut store = PlainStore::new(
+        rt.alloc(),
+        none,
+        0,
+        SplitMix64::seed_from_u64(1),
+        FixedHasher,
+    )?;
     let mut found = Vec::new(rt.alloc());
     assert!(rt; !store.look_up(b"a", 0, &mut found)?);
     store.remove(b"a", 0)?;
@@ -203,7 +263,7 @@ fn nothing_is_found_at_capacity_0(rt: HostRuntime) -> Result<(), Fail> {
 // a generator whose words are all 0
 #[test]
 fn a_second_drop_finds_no_identifier(rt: HostRuntime) -> Result<(), Fail> {
-    let mut store = PlainStore::new(rt.alloc(), PLAIN, 0, Repeating(0))?;
+    let mut store = PlainStore::new(rt.alloc(), PLAIN, 0, Repeating(0), FixedHasher)?;
     store.accept(b"ab", b"1", None, false, 0)?;
     store.accept(b"b", b"2", None, false, 0)?;
     assert!(rt; store.drop_prefix(b"a", 0).is_ok());
@@ -220,7 +280,13 @@ fn a_second_drop_finds_no_identifier(rt: HostRuntime) -> Result<(), Fail> {
 // these three are for `tools/refuse_allocations.py`: the call that may be refused is tried again; where an earlier allocation is refused, they fail
 #[test]
 fn a_refused_call_changes_nothing(rt: HostRuntime) -> Result<(), Fail> {
-    let mut store = PlainStore::new(rt.alloc(), PLAIN, 5, SplitMix64::seed_from_u64(1))?;
+    let mut store = PlainStore::new(
+        rt.alloc(),
+        PLAIN,
+        5,
+        SplitMix64::seed_from_u64(1),
+        FixedHasher,
+    )?;
     if store.accept(b"key", b"one", None, false, 5).is_err() {
         assert_eq!(rt; store.len(), 0);
         store.accept(b"key", b"one", None, false, 5)?;
@@ -231,7 +297,13 @@ fn a_refused_call_changes_nothing(rt: HostRuntime) -> Result<(), Fail> {
 
 #[test]
 fn a_refused_call_keeps_the_older_value(rt: HostRuntime) -> Result<(), Fail> {
-    let mut store = PlainStore::new(rt.alloc(), PLAIN, 5, SplitMix64::seed_from_u64(1))?;
+    let mut store = PlainStore::new(
+        rt.alloc(),
+        PLAIN,
+        5,
+        SplitMix64::seed_from_u64(1),
+        FixedHasher,
+    )?;
     store.accept(b"key", b"one", None, false, 5)?;
     if store.accept(b"key", b"two", None, false, 5).is_err() {
         assert!(rt; store.find(b"key", 5) == Some(b"one".as_slice()));
@@ -244,7 +316,13 @@ fn a_refused_call_keeps_the_older_value(rt: HostRuntime) -> Result<(), Fail> {
 
 #[test]
 fn a_refused_call_tells_nothing(rt: HostRuntime) -> Result<(), Fail> {
-    let mut store = PlainStore::new(rt.alloc(), PLAIN, 5, SplitMix64::seed_from_u64(1))?;
+    let mut store = PlainStore::new(
+        rt.alloc(),
+        PLAIN,
+        5,
+        SplitMix64::seed_from_u64(1),
+        FixedHasher,
+    )?;
     store.accept(b"key", b"one", None, false, 5)?;
     if store.accept(b"key", b"two", None, false, 5).is_err() {
         assert!(rt; store.next_notice().is_none());

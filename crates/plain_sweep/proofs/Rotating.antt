@@ -61,7 +61,7 @@ turned_end change all table place beyond t =
 
 -- ---- a sweep
 
-module _ (config : Config) (now part : ℕ) (limit : Option ℕ) (start : ℕ) (all : List HeldValue) (old : List Note) where
+module _ (config : Config) (now : ℕ) (part limit : Option ℕ) (start : ℕ) (all : List HeldValue) (old : List Note) where
   abbrev sw : List HeldValue → Swept
   sw items = swept config now part limit start items
 
@@ -168,6 +168,35 @@ weighing_skip part weight h rest all e w =
 
 pub weighing_end : (part weight : ℕ) (all : List HeldValue) → Weighing part weight [] all → weight ≡ weight_in part all
 weighing_end part weight all w = let s = w.sum in omega arith
+
+-- ---- what all weigh
+
+abbrev weights_of : List HeldValue → ℕ
+weights_of items = sum_by (λ (h : HeldValue). h.value.weight) items
+
+pub record Summing (weight : ℕ) (rest all : List HeldValue) : Type 0 where
+  pub sum : weight + weights_of rest ≡ weights_of all
+  pub small : weight + 8192 * length rest ≤ 9223372036854775808
+  pub light : are_light rest ≡ true
+
+pub summing_start : (room : ℕ) (all : List HeldValue) → AreSound room all → Summing 0 all all
+summing_start room all s = record { sum = omega arith; small = let few = s.few in omega arith; light = s.light }
+
+pub summing_fits : (weight : ℕ) (h : HeldValue) (rest all : List HeldValue) → Summing weight (h ∷ rest) all → weight + h.value.weight < 18446744073709551616
+summing_fits weight h rest all w = let l = (light_first h rest w.light).0 in let s = w.small in omega arith
+
+pub summing_more : (weight : ℕ) (h : HeldValue) (rest all : List HeldValue) → Summing weight (h ∷ rest) all → Summing (weight + h.value.weight) rest all
+summing_more weight h rest all w =
+    let l = light_first h rest w.light in
+    let le = l.0 in
+    record {
+      sum = let c = sum_by-cons (λ (g : HeldValue). g.value.weight) h rest in let s = w.sum in omega arith;
+      small = let s = w.small in omega arith;
+      light = l.1;
+    }
+
+pub summing_end : (weight : ℕ) (all : List HeldValue) → Summing weight [] all → weight ≡ weights_of all
+summing_end weight all w = let z : weights_of [] ≡ 0 = refl in let s = w.sum in omega arith
 
 -- ---- how many pass a test
 

@@ -1,7 +1,7 @@
 -- What a sweep tells and leaves.
 use Rattle.std.proofs.Common.{◌≡◌, ℕ, suc, ◌+◌, ◌≤◌, Bool, cond, true, false, not, ◌||◌, List, [], ◌∷◌, ◌++◌, length, Option, Some, None, if◌then◌else◌, refl, sym, ap, ◌∙◌, subst, arith}
 use Rattle.std.specs.List.{list_all}
-use Rattle.std.proofs.lemmas.Bool.{not-true, and_parts, and_from, eq-eqb}
+use Rattle.std.proofs.lemmas.Bool.{not-true, and_parts, and_from}
 use Rattle.std.proofs.lemmas.List.{append-nil, length-append}
 use Rattle.std.proofs.lemmas.List.Folds.{list_all-append}
 use Rattle.audit_model.specs.Bytewise.{same}
@@ -14,7 +14,7 @@ use Rattle.audit_model.specs.declared.transcript.RemovalCause.{RemovalCause}
 use Rattle.plain_table.specs.Items.{value_at, without, is_absent, are_apart, covered_if}
 use Rattle.plain_table.proofs.Keys.{same-refl, same-flip_false}
 use Rattle.plain_table.proofs.Held.{key_of}
-use Rattle.plain_sweep.specs.Swept.{note_of, exceeds, cause_at, left_by, told_by, weight_by, swept, Swept}
+use Rattle.plain_sweep.specs.Swept.{note_of, exceeds, is_in, cause_at, left_by, told_by, weight_by, swept, Swept}
 
 -- none of the notes tells the key
 abbrev pub tells_not : List ℕ → List Note → Bool
@@ -38,7 +38,7 @@ left-cons (n ∷ notes) h items e =
 
 -- ---- notes that are just
 
-module _ (config : Config) (now part : ℕ) (limit : Option ℕ) (weight : ℕ) where
+module _ (config : Config) (now : ℕ) (part limit : Option ℕ) (weight : ℕ) where
   abbrev sw : List HeldValue → Swept
   sw items = swept config now part limit weight items
 
@@ -155,10 +155,10 @@ module _ (config : Config) (now part : ℕ) (limit : Option ℕ) (weight : ℕ) 
       kept-visit p (cause_at config now part (exceeds limit (sw items).weight) h) h (sw items).kept parts.0 (kept_all p items parts.1)
 
 -- why a value of the part leaves
-pub causes : (config : Config) (now part : ℕ) (over dead covered : Bool) (h : HeldValue) → h.value.part ≡ part → is_dead_at config now h ≡ dead → h.covered ≡ covered
+pub causes : (config : Config) (now : ℕ) (part : Option ℕ) (over dead covered : Bool) (h : HeldValue) → is_in part h.value.part ≡ true → is_dead_at config now h ≡ dead → h.covered ≡ covered
     → cause_at config now part over h ≡ (if dead then Some Expired else (if covered then Some Explicit else (if over then Some Size else None)))
 causes config now part over dead covered h e d c =
-    ap (λ b. if b then (if is_dead_at config now h then Some Expired else (if h.covered then Some Explicit else (if over then Some Size else None))) else None) (eq-eqb h.value.part part e)
+    ap (λ b. if b then (if is_dead_at config now h then Some Expired else (if h.covered then Some Explicit else (if over then Some Size else None))) else None) e
     ∙ ap (λ b. if b then Some Expired else (if h.covered then Some Explicit else (if over then Some Size else None))) d
     ∙ ap (λ b. if dead then Some Expired else (if b then Some Explicit else (if over then Some Size else None))) c
 
@@ -173,3 +173,8 @@ uncovered h = ap (λ b. record h { covered = b }) (or_no h.covered)
 pub no_last : (front : List HeldValue) (h : HeldValue) → [] ≡ front ++ h ∷ [] → ⊥
 no_last [] h e = cc
 no_last (g ∷ front) h e = cc
+
+-- a value of another part stays
+pub stays_elsewhere : (config : Config) (now : ℕ) (part : Option ℕ) (over : Bool) (h : HeldValue) → is_in part h.value.part ≡ false → cause_at config now part over h ≡ None
+stays_elsewhere config now part over h e =
+    ap (λ b. if b then (if is_dead_at config now h then Some Expired else (if h.covered then Some Explicit else (if over then Some Size else None))) else None) e

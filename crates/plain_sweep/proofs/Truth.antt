@@ -1,7 +1,7 @@
 -- What a call tells is told truly.
 use Rattle.std.proofs.Common.{◌≡◌, ℕ, ◌≤◌, ◌==◌, Bool, cond, true, false, not, ◌&&◌, ◌||◌, List, [], ◌∷◌, ◌++◌, map, Option, option_map, Some, None, is_none, if◌then◌else◌, refl, sym, ap, ◌∙◌, subst}
 use Rattle.std.specs.List.{list_all}
-use Rattle.std.proofs.lemmas.Bool.{and_from, eqb-true}
+use Rattle.std.proofs.lemmas.Bool.{and_from}
 use Rattle.std.proofs.lemmas.Option.{none-some}
 use Rattle.audit_model.specs.Bytewise.{same}
 use Rattle.audit_model.specs.Commands.{Deed}
@@ -19,7 +19,7 @@ use Rattle.plain_table.specs.Items.{value_at, without, are_apart}
 use Rattle.plain_table.proofs.Keys.{same-refl, same_from_equal, equal_from_same}
 use Rattle.plain_table.proofs.Held.{key_of, all_found, all-without_key, apart-without}
 use Rattle.plain_sweep.specs.Holding.{plain, Corresponds}
-use Rattle.plain_sweep.specs.Swept.{note_of, exceeds, cause_at, cause_of_replaced, cause_of_deleted}
+use Rattle.plain_sweep.specs.Swept.{note_of, exceeds, is_in, cause_at, cause_of_replaced, cause_of_deleted}
 use Rattle.plain_sweep.proofs.Sweeping.{Just, Tells, left}
 use Rattle.plain_sweep.proofs.Corresponding.{corresponds-without}
 
@@ -50,11 +50,9 @@ judged true false false true Size e = (refl, refl)
 judged true false false false cause e = cc
 judged false dead covered over cause e = cc
 
-pub says_from : (config : Config) (now part : ℕ) (over : Bool) (h : HeldValue) (cause : RemovalCause) → cause_at config now part over h ≡ Some cause
-    → (h.value.part ≡ part) × Says (is_dead_at config now h) h.covered over cause
-says_from config now part over h cause e =
-    let j = judged (h.value.part == part) (is_dead_at config now h) h.covered over cause e in
-    (eqb-true h.value.part part j.0, j.1)
+pub says_from : (config : Config) (now : ℕ) (part : Option ℕ) (over : Bool) (h : HeldValue) (cause : RemovalCause) → cause_at config now part over h ≡ Some cause
+    → (is_in part h.value.part ≡ true) × Says (is_dead_at config now h) h.covered over cause
+says_from config now part over h cause e = judged (is_in part h.value.part) (is_dead_at config now h) h.covered over cause e
 
 -- ---- candidates
 
@@ -95,7 +93,7 @@ module _ (cand : HeldValue → Candidate) (same_value : (h : HeldValue) → (can
       go None f = absurd (none-some item (ap (option_map plain) (sym f) ∙ c.found key ∙ e))
       go (Some h) f = let both : Some (plain h) ≡ Some item = ap (option_map plain) (sym f) ∙ c.found key ∙ e in record { value = h; found = f; is = cc }
 
-  module _ (config : Config) (now part : ℕ) (limit : Option ℕ) (weight : ℕ) (deed : Deed) (before : List Candidate) (p : HeldValue → Bool)
+  module _ (config : Config) (now : ℕ) (part limit : Option ℕ) (weight : ℕ) (deed : Deed) (before : List Candidate) (p : HeldValue → Bool)
       (ok : (h : HeldValue) (cause : RemovalCause) (w : ℕ) → p h ≡ true → w ≤ weight → cause_at config now part (exceeds limit w) h ≡ Some cause
       → is_true_note config before deed (note_of cause h) (Some (cand h)) ≡ true) where
     true_note : (items held : List HeldValue) (n : Note) → Corresponds items held → list_all p held ≡ true → Just config now part limit weight items n

@@ -71,7 +71,7 @@ exceeds-more (Some limit) a b le e = lt-ltb limit b (let l = ltb-true limit a e 
 
 module _ (config : Config) (now part : ℕ) (limit : Option ℕ) (start : ℕ) where
   abbrev sw : List HeldValue → Swept
-  sw items = swept config now part limit start items
+  sw items = swept config now (Some part) limit start items
 
   weigh-visit : (c : Option RemovalCause) (here : Bool) (h : HeldValue) (s : Swept) (items : ℕ) → (h.value.part == part) ≡ here → (here ≡ false → c ≡ None)
       → items + cond here h.value.weight 0 ≤ start → s.weight + items ≡ start + weight_in part s.kept
@@ -81,7 +81,7 @@ module _ (config : Config) (now part : ℕ) (limit : Option ℕ) (start : ℕ) w
   weigh-visit (Some cause) true h s items is none le e = omega arith
   weigh-visit (Some cause) false h s items is none le e = let n : Some cause ≡ None = none refl in cc
 
-  elsewhere : (here : Bool) (over : Bool) (h : HeldValue) → (h.value.part == part) ≡ here → here ≡ false → cause_at config now part over h ≡ None
+  elsewhere : (here : Bool) (over : Bool) (h : HeldValue) → (h.value.part == part) ≡ here → here ≡ false → cause_at config now (Some part) over h ≡ None
   elsewhere here over h is away = ap (λ b. if b then (if is_dead_at config now h then Some Expired else (if h.covered then Some Explicit else (if over then Some Size else None))) else None) (is ∙ away)
 
   -- what was told and what is kept weigh together what the items did
@@ -90,7 +90,7 @@ module _ (config : Config) (now part : ℕ) (limit : Option ℕ) (start : ℕ) w
   weigh_swept (h ∷ items) le =
       let s = sw items in
       let w = weight_in-cons part h items in
-      let c = cause_at config now part (exceeds limit s.weight) h in
+      let c = cause_at config now (Some part) (exceeds limit s.weight) h in
       ap (λ n. weight_by c h s.weight + n) w
       ∙ weigh-visit c (h.value.part == part) h s (weight_in part items) refl (elsewhere (h.value.part == part) (exceeds limit s.weight) h refl) (omega arith) (weigh_swept items (omega arith))
 
@@ -111,7 +111,7 @@ module _ (config : Config) (now part : ℕ) (limit : Option ℕ) (start : ℕ) w
   nothing_kept [] x = refl
   nothing_kept (h ∷ items) x =
       let s = sw items in
-      nothing-visit (h.value.part == part) (exceeds limit s.weight) (is_dead_at config now h) h.covered h s refl (nothing_kept items) refl (cause_at config now part (exceeds limit s.weight) h) refl x
+      nothing-visit (h.value.part == part) (exceeds limit s.weight) (is_dead_at config now h) h.covered h s refl (nothing_kept items) refl (cause_at config now (Some part) (exceeds limit s.weight) h) refl x
 
   -- so the part is within the limit
   pub swept_within : (items : List HeldValue) → weight_in part items ≡ start → exceeds limit (weight_in part (sw items).kept) ≡ false

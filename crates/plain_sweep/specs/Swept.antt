@@ -1,5 +1,5 @@
--- What maintenance of one part leaves and tells.
-use Rattle.std.specs.Prelude.{ℕ, ◌-◌, ◌==◌, Bool, false, nat_lt, nat_eq, List, [], ◌∷◌, ◌++◌, Option, Some, None, if◌then◌else◌}
+-- What maintenance of a part, or of all, leaves and tells.
+use Rattle.std.specs.Prelude.{ℕ, ◌-◌, ◌==◌, Bool, true, false, nat_lt, nat_eq, List, [], ◌∷◌, ◌++◌, Option, Some, None, if◌then◌else◌}
 use Rattle.std.specs.List.{starts_with}
 use Rattle.audit_model.specs.Situation.{HeldValue, is_dead_at}
 use Rattle.audit_model.specs.declared.config.Config.{Config}
@@ -21,10 +21,15 @@ abbrev pub exceeds : Option ℕ → ℕ → Bool
 exceeds None weight = false
 exceeds (Some limit) weight = nat_lt limit weight
 
+-- that is the part; any is, where none is named
+abbrev pub is_in : Option ℕ → ℕ → Bool
+is_in None of = true
+is_in (Some part) of = of == part
+
 -- why a value leaves the part, if it does; `over`: the part weighs more than its share
-abbrev pub cause_at : Config → ℕ → ℕ → Bool → HeldValue → Option RemovalCause
+abbrev pub cause_at : Config → ℕ → Option ℕ → Bool → HeldValue → Option RemovalCause
 cause_at config now part over h =
-    if h.value.part == part
+    if is_in part h.value.part
     then (if is_dead_at config now h then Some Expired else (if h.covered then Some Explicit else (if over then Some Size else None)))
     else None
 
@@ -53,8 +58,8 @@ pub record Swept : Type 0 where
 abbrev pub visited : Option RemovalCause → HeldValue → Swept → Swept
 visited cause h s = record { kept = left_by cause h s.kept; told = s.told ++ told_by cause h; weight = weight_by cause h s.weight }
 
--- maintenance of one part, from the least recently used value on
-abbrev pub swept : Config → ℕ → ℕ → Option ℕ → ℕ → List HeldValue → Swept
+-- maintenance of a part, or of all, from the least recently used value on
+abbrev pub swept : Config → ℕ → Option ℕ → Option ℕ → ℕ → List HeldValue → Swept
 swept config now part limit weight [] = record { kept = []; told = []; weight = weight }
 swept config now part limit weight (h ∷ items) =
     let s = swept config now part limit weight items in

@@ -1,6 +1,5 @@
 //! What leaves a part that weighs more than its share.
-ghost use Rattle.std.specs.Prelude.{◌≡◌, ◌≤◌, ◌+◌, ◌==◌, true, false, length};
-ghost use Rattle.std.specs.List.{list_all};
+ghost use Rattle.std.specs.Prelude.{◌≡◌, ◌≤◌, ◌+◌, false, length};
 ghost use Rattle.std.specs.VecDeque.{deque_len, deque_capacity};
 ghost use Rattle.cache_store.specs.Running.{weight_in};
 ghost use Rattle.plain_sweep.specs.Evicted.{Evicts};
@@ -11,8 +10,8 @@ use audit_model::{Config, Note};
 use plain_table::Table;
 use std::collections::VecDeque;
 
-/// Lets the least recently used values go, one after another, while the part weighs more than the limit, and answers what the others
-/// weigh. All values are of that part. Each that goes is told, for which there is room.
+/// Lets the least recently used values of a part go, one after another, while it weighs more than the limit, and answers what the
+/// others of it weigh. Values of other parts that stand behind them go first instead. Each that goes is told, for which there is room.
 pub fn evict(
     table: &mut Table,
     notes: &mut VecDeque<Note>,
@@ -23,7 +22,6 @@ pub fn evict(
     weight: u64,
 ) -> u64
     requires room { deque_len notes.old + length table.old ≤ deque_capacity notes.old }
-    requires parted { list_all (λ h. h.value.part == part) table.old ≡ true }
     requires weight { weight ≡ weight_in part table.old }
     // only the least recently used go, and only while the part is over its limit
     ensures evicts { Evicts config.now now part limit weight table.old notes.old.items table.new notes.new.items result }
@@ -39,7 +37,7 @@ pub fn evict(
         if !exceeds(limit, weight) {
             return weight;
         }
-        weight = visit(table, notes, config, limit, part, now, weight);
+        weight = visit(table, notes, config, limit, Some(part), now, weight);
     }
     weight
 }

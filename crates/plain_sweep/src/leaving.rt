@@ -1,45 +1,35 @@
 //! What leaves a part.
-ghost use Rattle.std.specs.Prelude.{◌≡◌, ◌≤◌, ◌<◌, ◌+◌, ◌++◌, ◌∷◌, [], List, ℕ, length, ◌-◌};
+ghost use Rattle.std.specs.Prelude.{◌≡◌, ◌≤◌, ◌<◌, ◌+◌, ◌++◌, ◌∷◌, [], List, ℕ, length, ◌-◌, None};
 ghost use Rattle.std.specs.VecDeque.{deque_len, deque_capacity};
 ghost use Rattle.audit_model.specs.Situation.{HeldValue};
-ghost use Rattle.cache_store.specs.Running.{weight_in};
 ghost use Rattle.plain_table.specs.Items.{held_of};
-ghost use Rattle.plain_sweep.specs.Swept.{cause_at, exceeds, note_of, left_by, told_by, weight_by, swept};
+ghost use Rattle.plain_sweep.specs.Swept.{cause_at, exceeds, is_in, note_of, left_by, told_by, weight_by, swept};
 
 use crate::deadlines::is_dead;
-use crate::weighing::weigh_part;
 use audit_model::{Config, Note, RemovalCause, Seq};
 use plain_table::{Kept, Table};
 use std::collections::VecDeque;
 
-/// Lets each value of a part go that is dead or covered, and then the least recently used ones while the part weighs more than the
-/// limit. Each is told, for which there is room.
-pub fn sweep(
-    table: &mut Table,
-    notes: &mut VecDeque<Note>,
-    config: &Config,
-    limit: Option<u64>,
-    part: u64,
-    now: u64,
-)
+/// Lets each value go that is dead or covered, of whichever part. Each is told, for which there is room.
+pub fn sweep(table: &mut Table, notes: &mut VecDeque<Note>, config: &Config, now: u64)
     requires { deque_len notes.old + length table.old ≤ deque_capacity notes.old }
-    ensures kept { table.new ≡ (swept config.now now part limit (weight_in part table.old) table.old).kept }
-    ensures told { notes.new.items ≡ notes.old.items ++ (swept config.now now part limit (weight_in part table.old) table.old).told }
+    ensures kept { table.new ≡ (swept config.now now None None 0 table.old).kept }
+    ensures told { notes.new.items ≡ notes.old.items ++ (swept config.now now None None 0 table.old).told }
     ensures room { deque_len notes.new + length table.new ≤ deque_capacity notes.new }
 {
-    let mut weight = weigh_part(table, part);
+    let mut weight = 0;
     for _place in 0..table.len() {
-        weight = visit(table, notes, config, limit, part, now, weight);
+        weight = visit(table, notes, config, None, None, now, weight);
     }
 }
 
-/// Lets the last value go, or makes it the first, and answers what the part weighs then.
+/// Lets the last value go, or makes it the first, and answers what the part weighs then. Where no part is named, any is meant.
 pub fn visit(
     table: &mut Table,
     notes: &mut VecDeque<Note>,
     config: &Config,
     limit: Option<u64>,
-    part: u64,
+    part: Option<u64>,
     now: u64,
     weight: u64,
 ) -> u64
@@ -62,7 +52,7 @@ pub fn visit(
 fn judge_last(
     table: &Table,
     config: &Config,
-    part: u64,
+    part: Option<u64>,
     over: bool,
     now: u64,
 ) -> Option<RemovalCause>
@@ -124,10 +114,16 @@ pub fn exceeds(limit: Option<u64>, weight: u64) -> bool
 }
 
 /// Why a value leaves the part, if it does. `over` says whether the part weighs more than its share.
-fn cause_of(config: &Config, kept: &Kept, part: u64, over: bool, now: u64) -> Option<RemovalCause>
+fn cause_of(
+    config: &Config,
+    kept: &Kept,
+    part: Option<u64>,
+    over: bool,
+    now: u64,
+) -> Option<RemovalCause>
     ensures { (key : List ℕ) → result ≡ cause_at config.now now part over (held_of key kept.now) }
 {
-    if kept.part != part {
+    if !is_in(part, kept.part) {
         return None;
     }
     if is_dead(config, kept, now) {
@@ -140,4 +136,14 @@ fn cause_of(config: &Config, kept: &Kept, part: u64, over: bool, now: u64) -> Op
         return Some(RemovalCause::Size);
     }
     None
+}
+
+/// Whether that is the part; any is, where none is named.
+fn is_in(part: Option<u64>, of: u64) -> bool
+    ensures { result ≡ is_in part of }
+{
+    match part {
+        Some(part) => of == part,
+        None => true,
+    }
 }

@@ -11,4 +11,4 @@ pub use covering::cover;
 pub use deadlines::{is_dead, is_live};
 pub use evicting::evict;
 pub use leaving::{sweep, tell};
-pub use weighing::{count_live, weigh_part};
+pub use weighing::{count_live, weigh_all, weigh_part};

@@ -1,5 +1,6 @@
 //! What values weigh, and how many are live.
 ghost use Rattle.std.specs.Prelude.{◌≡◌, filter, length};
+ghost use Rattle.std.specs.List.{sum_by};
 ghost use Rattle.audit_model.specs.Situation.{is_live_at};
 ghost use Rattle.cache_store.specs.Running.{weight_in};
 
@@ -16,6 +17,17 @@ pub fn weigh_part(table: &Table, part: u64) -> u64
         if kept.part == part {
             weight += kept.weight;
         }
+    }
+    weight
+}
+
+/// What all values weigh.
+pub fn weigh_all(table: &Table) -> u64
+    ensures { result ≡ sum_by (λ h. h.value.weight) table.now }
+{
+    let mut weight = 0;
+    for (_key, kept) in table.iter() {
+        weight += kept.weight;
     }
     weight
 }

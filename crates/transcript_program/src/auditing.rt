@@ -3,8 +3,8 @@ ghost use Rattle.std.specs.Prelude.{IfOk};
 ghost use Rattle.transcript_program.specs.Judged.{IsJustOf};
 
 use audit_records::{Verdict, audit};
-use audit_text::{TextError, read_transcript};
 use std::alloc::Global;
+use text_reader::{TextError, read_transcript};
 
 /// The verdict on the transcript of a text.
 pub fn judge(alloc: Global, text: &[u8]) -> Result<Verdict, TextError>

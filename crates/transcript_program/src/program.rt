@@ -4,11 +4,11 @@ ghost use Rattle.std.specs.Prelude.{◌≡◌, ◌≢◌, ◌≤◌, ◌⊎◌};
 use crate::auditing::judge;
 use crate::replaying::{ReplayError, replay};
 use audit_records::Verdict;
-use audit_text::TextError;
 use itoa::Buffer;
 use std::alloc::Global;
 use std::convert::AsStr;
 use std::io::{ErrorKind, Read, Write};
+use text_reader::TextError;
 
 const USAGE: &[u8] = b"usage: transcript audit | transcript replay\n";
 

@@ -1,11 +1,12 @@
 //! Inputs, played and printed.
 use audit_model::{Config, ServiceError, Transcript};
-use audit_text::{TextError, read_inputs, write_transcript};
+use audit_text::write_transcript;
 use cache_spaces::play;
 use itoa::Buffer;
 use rand_core::SeedableRng;
 use rand_xoshiro::Xoshiro256PlusPlus;
 use std::alloc::{AllocError, Global};
+use text_reader::{TextError, read_inputs};
 
 /// A replay's generator is seeded by this number, so that it prints the same each time.
 const SEED: u64 = 0;

@@ -1,7 +1,6 @@
 use Rattle.std.proofs.Common.{◌≡◌, ◌+◌, ◌≤◌, ◌++◌, List, length, vec_len}
 use Rattle.std.specs.Prelude.{vec_capacity}
 use Rattle.audit_model.specs.Situation.{HeldValue}
-use Rattle.cache_store.specs.Handing.{ArePartByPart}
 use Rattle.cache_store.specs.Identifiers.{KeepsIdentifiers}
 use Rattle.cache_store.specs.Recency.{KeepsRecency}
 use Rattle.cache_namespace.proofs.lines.drain.Given as goal
@@ -9,7 +8,7 @@ use Rattle.cache_namespace.proofs.lines.drain.Given as goal
 abbrev pub invariant-loop-note : goal.invariant-loop-note
 invariant-loop-note g l = record {
   room : vec_len l.notes + length (g.S.Store.untaken l.store) ≤ vec_capacity l.notes;
-  order : ArePartByPart (g.S.Store.frame l.fn.store).part_of (g.S.Store.untaken l.fn.store) → (l.notes.items ++ g.S.Store.untaken l.store ≡ l.fn.notes.items ++ g.S.Store.untaken l.fn.store) × ArePartByPart (g.S.Store.frame l.fn.store).part_of (g.S.Store.untaken l.store);
+  order : l.notes.items ++ g.S.Store.untaken l.store ≡ l.fn.notes.items ++ g.S.Store.untaken l.fn.store;
   stands : (held : List HeldValue) → g.S.Store.stands l.fn.store held → g.S.Store.stands l.store held;
   frame : g.S.Store.frame l.store ≡ g.S.Store.frame l.fn.store;
   recency : KeepsRecency (g.S.Store.recency l.fn.store) (g.S.Store.recency l.store);

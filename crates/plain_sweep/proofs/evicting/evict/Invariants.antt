@@ -5,6 +5,5 @@ use Rattle.plain_sweep.proofs.evicting.evict.Given as goal
 
 abbrev pub invariant-loop-place : goal.invariant-loop-place
 invariant-loop-place l =
-    Evicts l.config l.now l.part l.limit l.fn.weight l.fn.table l.fn.notes.items l.table l.notes.items l.weight
-    × (l._place + length l.table ≡ length l.fn.table)
+    ((v : Evicts l.config l.now l.part l.limit l.fn.weight l.fn.table l.fn.notes.items l.table l.notes.items l.weight) × (l._place ≡ length v.visited))
     × (deque_len l.notes + length l.table ≤ deque_capacity l.notes)

@@ -1,22 +1,16 @@
-use Rattle.std.proofs.Common.{arith, subst, sym}
-use Rattle.cache_store.specs.Running.{weight_in}
-use Rattle.plain_sweep.proofs.Rotating.{Visited, visited_start, visited_more, visited_end}
+use Rattle.std.proofs.Common.{None, arith}
+use Rattle.plain_sweep.proofs.Rotating.{visited_start, visited_more, visited_end}
 use Rattle.plain_sweep.proofs.leaving.sweep.Goals as goal
 
 pub loop-place-init : goal.loop-place-init
-loop-place-init c =
-    let t = c.args.table.now in (
-      subst (λ w. Visited c.args.config.now c.args.now c.args.part c.args.limit (weight_in c.args.part t) t c.args.notes.now.items t c.args.notes.now.items w 0) (sym c.weigh_part-weight.ensures)
-          (visited_start c.args.config.now c.args.now c.args.part c.args.limit (weight_in c.args.part t) t c.args.notes.now.items),
-      c.requires,
-    )
+loop-place-init c = (visited_start c.args.config.now c.args.now None None 0 c.args.table.now c.args.notes.now.items, c.requires)
 
 pub loop-place-preserved : goal.loop-place-preserved
 loop-place-preserved c =
     let n = c.len-place-end.ensures.number in
     let t = c.loop-place-test.true in
     let i = c.loop-place.invariant in (
-      visited_more c.args.config.now c.args.now c.args.part c.args.limit (weight_in c.args.part c.args.table.now) c.args.table.now c.args.notes.now.items
+      visited_more c.args.config.now c.args.now None None 0 c.args.table.now c.args.notes.now.items
           c.loop-place.table c.visit-weight.new.table c.loop-place.notes.items c.visit-weight.new.notes.items c.loop-place.weight c.visit-weight.result c.loop-place._place (omega arith) i.0
           c.visit-weight.ensures.left c.visit-weight.ensures.told c.visit-weight.ensures.weight,
       c.visit-weight.ensures.room,
@@ -26,14 +20,14 @@ pub returns-clause-kept : goal.returns-clause-kept
 returns-clause-kept c =
     let n = c.len-place-end.ensures.number in
     let t = c.loop-place-test.false in
-    (visited_end c.args.config.now c.args.now c.args.part c.args.limit (weight_in c.args.part c.args.table.now) c.args.table.now c.args.notes.now.items
+    (visited_end c.args.config.now c.args.now None None 0 c.args.table.now c.args.notes.now.items
     c.loop-place.table c.loop-place.notes.items c.loop-place.weight c.loop-place._place (omega arith) c.loop-place.invariant.0).0
 
 pub returns-clause-told : goal.returns-clause-told
 returns-clause-told c =
     let n = c.len-place-end.ensures.number in
     let t = c.loop-place-test.false in
-    (visited_end c.args.config.now c.args.now c.args.part c.args.limit (weight_in c.args.part c.args.table.now) c.args.table.now c.args.notes.now.items
+    (visited_end c.args.config.now c.args.now None None 0 c.args.table.now c.args.notes.now.items
     c.loop-place.table c.loop-place.notes.items c.loop-place.weight c.loop-place._place (omega arith) c.loop-place.invariant.0).1
 
 pub returns-clause-room : goal.returns-clause-room

@@ -1,0 +1,186 @@
+#!/usr/bin/env python3
+"""Drives the proved server `cached --config` over loopback by clients of its own, and ends by itself.
+
+    python3 benches/connections.py          requests a second, and the server's processor time a request, by connections and depth
+    python3 benches/connections.py soak     a million requests over 200 connections, with the server's memory on the way
+
+Build the server first: in crates/cached, `rt run` leaves the program at out/cached. Half of the requests are SET, half GET, with
+keys of 16 bytes and values of 32. Each connection has keys of its own, so a GET answers what the same connection stored last, or
+NONE where that was evicted: each reply is compared, a stale value ends the run with an error.
+"""
+import multiprocessing
+import pathlib
+import random
+import selectors
+import socket
+import subprocess
+import sys
+import tempfile
+import threading
+import time
+
+PROGRAM = pathlib.Path(__file__).resolve().parent.parent / "crates/cached/out/cached"
+HOST = "127.0.0.1"
+KEYS = 10_000
+CAPACITY = 1_000
+CONNECTIONS = (1, 16, 64)
+DEPTHS = {1: 60_000, 32: 600_000}
+SOAK_CONNECTIONS, SOAK_REQUESTS, SOAK_DEPTH = 200, 1_000_000, 8
+CLIENT_PROCESSES = 3
+ANSWER_SECONDS = 30
+
+
+def free_port():
+    """A port that nobody listens on now."""
+    with socket.socket() as probe:
+        probe.bind((HOST, 0))
+        return probe.getsockname()[1]
+
+
+class Server:
+    """The program, serving one namespace of that capacity until it is stopped; what it prints is read and dropped."""
+
+    def __init__(self, capacity):
+        self.port = free_port()
+        self.folder = tempfile.TemporaryDirectory()
+        file = pathlib.Path(self.folder.name, "cached.toml")
+        file.write_text(f'[[namespace]]\nname = "main"\nport = {self.port}\ncapacity = {capacity}\npolicy = "lru"\n')
+        self.process = subprocess.Popen([PROGRAM, "--config", file], stdout=subprocess.PIPE, stdin=subprocess.DEVNULL)
+        if not self.process.stdout.readline().startswith(b"listening main "):
+            sys.exit("the server does not listen")
+        threading.Thread(target=self.drop_output, daemon=True).start()
+
+    def drop_output(self):
+        while self.process.stdout.read1(65536):
+            pass
+
+    def processor_seconds(self):
+        """What the server used of the processors until now."""
+        fields = pathlib.Path(f"/proc/{self.process.pid}/stat").read_text().rsplit(")", 1)[1].split()
+        return (int(fields[11]) + int(fields[12])) / 100
+
+    def resident_kibibytes(self):
+        """The memory that it holds now."""
+        lines = pathlib.Path(f"/proc/{self.process.pid}/status").read_text().splitlines()
+        return next(int(line.split()[1]) for line in lines if line.startswith("VmRSS:"))
+
+    def stop(self):
+        self.process.kill()
+        self.process.wait()
+        self.folder.cleanup()
+
+
+class Client:
+    """One connection: it sends so many requests at a time, and the next ones when each was answered."""
+
+    def __init__(self, port, number, keys, depth, batches):
+        self.socket = socket.create_connection((HOST, port), timeout=ANSWER_SECONDS)
+        self.socket.setsockopt(socket.IPPROTO_TCP, socket.TCP_NODELAY, 1)
+        self.draw = random.Random(number)
+        self.number, self.keys, self.depth, self.batches = number, keys, depth, batches
+        self.stored, self.wanted, self.received, self.count = {}, [], bytearray(), 0
+
+    def send(self):
+        """Sends the next requests, and notes which replies each may have."""
+        lines = []
+        for _ in range(self.depth):
+            key = b"%04d-%011d" % (self.number, self.draw.randrange(self.keys))
+            if self.count % 2 == 0:
+                self.stored[key] = b"value-%026d" % self.count
+                lines.append(b"SET " + key + b" - " + self.stored[key])
+                self.wanted.append((b"OK",))
+            else:
+                lines.append(b"GET " + key)
+                self.wanted.append((b"VAL " + self.stored[key], b"NONE") if key in self.stored else (b"NONE",))
+            self.count += 1
+        self.batches -= 1
+        self.socket.sendall(b"\n".join(lines) + b"\n")
+
+    def receive(self):
+        """Takes what came, and answers whether all that was sent is answered."""
+        piece = self.socket.recv(65536)
+        if not piece:
+            sys.exit("the server closed a connection")
+        self.received += piece
+        if self.received.count(b"\n") < self.depth:
+            return False
+        for reply, allowed in zip(self.received.split(b"\n"), self.wanted):
+            if reply not in allowed:
+                sys.exit(f"a wrong reply: {reply!r}, not {allowed!r}")
+        self.received.clear()
+        self.wanted.clear()
+        return True
+
+
+def drive(port, numbers, keys, depth, batches, started):
+    """Drives these connections until each has sent its batches."""
+    poll = selectors.DefaultSelector()
+    clients = [Client(port, number, keys, depth, batches) for number in numbers]
+    started.wait()
+    for client in clients:
+        poll.register(client.socket, selectors.EVENT_READ, client)
+        client.send()
+    running = len(clients)
+    while running:
+        ready = poll.select(ANSWER_SECONDS)
+        if not ready:
+            sys.exit(f"no answer in {ANSWER_SECONDS} seconds")
+        for key, _ in ready:
+            if key.data.receive():
+                if key.data.batches:
+                    key.data.send()
+                else:
+                    poll.unregister(key.fileobj)
+                    key.fileobj.close()
+                    running -= 1
+
+
+def run(server, connections, depth, requests, watch=None):
+    """The seconds that so many requests take, and the server's processor seconds for them."""
+    batches = max(1, requests // (connections * depth))
+    processes = min(CLIENT_PROCESSES, connections)
+    started = multiprocessing.Event()
+    keys = max(1, KEYS // connections)
+    drivers = [
+        multiprocessing.Process(target=drive, args=(server.port, range(first, connections, processes), keys, depth, batches, started))
+        for first in range(processes)
+    ]
+    for driver in drivers:
+        driver.start()
+    time.sleep(1)
+    used, begun = server.processor_seconds(), time.perf_counter()
+    started.set()
+    while any(driver.is_alive() for driver in drivers):
+        if watch:
+            watch()
+        time.sleep(0.05 if watch else 0.005)
+    seconds, used = time.perf_counter() - begun, server.processor_seconds() - used
+    if any(driver.exitcode for driver in drivers):
+        server.stop()
+        sys.exit(1)
+    return connections * depth * batches, seconds, used
+
+
+def bench():
+    print("connections  depth  requests a second  processor microseconds a request")
+    for connections in CONNECTIONS:
+        for depth, requests in DEPTHS.items():
+            server = Server(KEYS)
+            done, seconds, used = run(server, connections, depth, requests)
+            server.stop()
+            print(f"{connections:11} {depth:6} {done / seconds:18.0f} {used / done * 1e6:33.2f}", flush=True)
+
+
+def soak():
+    """The cache is full after a few thousand requests; from a quarter of the run on memory has to stay as it is."""
+    server = Server(CAPACITY)
+    memory = []
+    done, seconds, _ = run(server, SOAK_CONNECTIONS, SOAK_DEPTH, SOAK_REQUESTS, lambda: memory.append(server.resident_kibibytes()))
+    server.stop()
+    quarter, last = max(memory[: len(memory) // 4 + 1]), max(memory[len(memory) * 3 // 4 :])
+    print(f"{done} requests over {SOAK_CONNECTIONS} connections in {seconds:.1f} s; at most {quarter} KiB in the first quarter, {last} KiB in the last")
+    sys.exit(last > quarter * 1.1)
+
+
+if __name__ == "__main__":
+    soak() if sys.argv[1:] == ["soak"] else bench()

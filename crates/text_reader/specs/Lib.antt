@@ -1,0 +1,6 @@
+pub mod Fields
+pub mod Fits
+pub mod Gathered
+pub mod Gathering
+pub mod Items
+pub mod Lines

@@ -1,0 +1,263 @@
+//! Items, gathered to a transcript.
+ghost use Rattle.std.specs.Prelude.{◌≡◌, ◌++◌, [], IfOk, IsTrue, OnOk, Some, None};
+ghost use Rattle.text_reader.specs.Fields.{IsRead};
+ghost use Rattle.text_reader.specs.Gathered.{gathered_text, item_line};
+ghost use Rattle.text_reader.specs.Gathering as said;
+ghost use Rattle.text_reader.specs.Gathering.{IsMade};
+ghost use Rattle.audit_text.specs.Text.{record_text, step_text, transcript_text};
+
+use crate::fields::LineFault;
+use crate::item::Item;
+use audit_model::{Accepted, Config, Event, Instant, Note, Record, Seq, Step, Transcript};
+use std::alloc::Global;
+
+/// What was gathered: the records that are whole, and the last record and the last step, which may go on.
+#[derive(Drop)]
+pub struct Gathered {
+    pub config: Option<Config>,
+    pub made: Option<Instant>,
+    pub records: Seq<Record>,
+    pub record: Option<Record>,
+    pub step: Option<Step>,
+}
+
+/// Nothing.
+pub fn nothing(alloc: Global) -> Gathered
+    ensures text { gathered_text result ≡ [] }
+    ensures said { result ≡ said.none_gathered }
+{
+    Gathered {
+        config: None,
+        made: None,
+        records: Seq::new(alloc),
+        record: None,
+        step: None,
+    }
+}
+
+/// Adds an item behind the others, where it may stand there.
+pub fn add_item(alloc: Global, gathered: &mut Gathered, item: Item) -> Result<(), LineFault>
+    ensures text { OnOk result (gathered_text gathered.new ≡ gathered_text gathered.old ++ item_line item) }
+    ensures said { IsMade (said.add_item gathered.old item) result gathered.new }
+{
+    match item {
+        Item::Config(config) => add_config(gathered, config),
+        Item::Made(made) => add_made(gathered, made),
+        Item::Event(event) => add_event(alloc, gathered, event),
+        Item::Own(own) => add_own(gathered, own),
+        Item::OwnNote(note) => add_own_note(gathered, note),
+        Item::Step(step) => add_step(gathered, step),
+        Item::Note(note) => add_note(gathered, note),
+    }
+}
+
+#[tactic(auto, unfolding(crate::specs::Gathering::add_config))]
+fn add_config(gathered: &mut Gathered, config: Config) -> Result<(), LineFault>
+    ensures text { OnOk result (gathered_text gathered.new ≡ gathered_text gathered.old ++ item_line (Item.Config config)) }
+    ensures said { IsMade (said.add_config gathered.old config) result gathered.new }
+{
+    if gathered.config.is_some() || !has_no_records(gathered) || gathered.made.is_some() {
+        return Err(LineFault::Form);
+    }
+    gathered.config = Some(config);
+    Ok(())
+}
+
+#[tactic(auto, unfolding(crate::specs::Gathering::add_made))]
+fn add_made(gathered: &mut Gathered, made: Instant) -> Result<(), LineFault>
+    ensures text { OnOk result (gathered_text gathered.new ≡ gathered_text gathered.old ++ item_line (Item.Made made)) }
+    ensures said { IsMade (said.add_made gathered.old made) result gathered.new }
+{
+    if gathered.config.is_none() || !has_no_records(gathered) || gathered.made.is_some() {
+        return Err(LineFault::Form);
+    }
+    gathered.made = Some(made);
+    Ok(())
+}
+
+/// Whether no record has begun.
+fn has_no_records(gathered: &Gathered) -> bool
+    ensures said { result ≡ said.has_no_records gathered.now }
+    ensures none { IsTrue result → ((gathered.now.records ≡ []) × (gathered.now.«record» ≡ None) × (gathered.now.step ≡ None)) }
+{
+    gathered.records.len() == 0 && gathered.record.is_none() && gathered.step.is_none()
+}
+
+#[tactic(auto, unfolding(crate::specs::Gathering::add_event))]
+fn add_event(alloc: Global, gathered: &mut Gathered, event: Event) -> Result<(), LineFault>
+    ensures text { OnOk result (gathered_text gathered.new ≡ gathered_text gathered.old ++ item_line (Item.Event event)) }
+    ensures said { IsMade (said.add_event gathered.old event) result gathered.new }
+{
+    if gathered.made.is_none() {
+        return Err(LineFault::Form);
+    }
+    close_step(gathered)?;
+    close_record(gathered)?;
+    gathered.record = Some(Record {
+        event,
+        own: None,
+        notices: Seq::new(alloc),
+        steps: Seq::new(alloc),
+    });
+    Ok(())
+}
+
+/// Puts the last step to its record.
+fn close_step(gathered: &mut Gathered) -> Result<(), LineFault>
+    ensures text { OnOk result (gathered_text gathered.new ≡ gathered_text gathered.old) }
+    ensures step { OnOk result (gathered.new.step ≡ None) }
+    ensures said { IsMade (said.closed_step gathered.old) result gathered.new }
+{
+    let Some(step) = gathered.step.take() else {
+        return Ok(());
+    };
+    let Some(mut record) = gathered.record.take() else {
+        return Err(LineFault::Form);
+    };
+    put_step(&mut record, step)?;
+    gathered.record = Some(record);
+    Ok(())
+}
+
+/// Adds a step to a record.
+#[tactic(auto, using(crate::proofs::Growing::flat_map_push))]
+fn put_step(record: &mut Record, step: Step) -> Result<(), LineFault>
+    ensures text { OnOk result (record_text «record».new ≡ record_text «record».old ++ step_text step) }
+    ensures said { IsMade (Some (said.with_step «record».old step)) result «record».new }
+{
+    record.steps.push(step)?;
+    Ok(())
+}
+
+/// Puts the last record to the others.
+#[tactic(auto, using(crate::proofs::Growing::flat_map_push))]
+fn close_record(gathered: &mut Gathered) -> Result<(), LineFault>
+    requires { gathered.old.step ≡ None }
+    ensures text { OnOk result (gathered_text gathered.new ≡ gathered_text gathered.old) }
+    ensures step { OnOk result (gathered.new.step ≡ None) }
+    ensures closed { OnOk result (gathered.new.«record» ≡ None) }
+    ensures said { IsMade (Some (said.closed_record gathered.old)) result gathered.new }
+{
+    let Some(record) = gathered.record.take() else {
+        return Ok(());
+    };
+    gathered.records.push(record)?;
+    Ok(())
+}
+
+#[tactic(auto, unfolding(crate::specs::Gathering::add_own))]
+fn add_own(gathered: &mut Gathered, own: Accepted) -> Result<(), LineFault>
+    ensures text { OnOk result (gathered_text gathered.new ≡ gathered_text gathered.old ++ item_line (Item.Own own)) }
+    ensures said { IsMade (said.add_own gathered.old own) result gathered.new }
+{
+    if gathered.step.is_some() {
+        return Err(LineFault::Form);
+    }
+    let Some(mut record) = gathered.record.take() else {
+        return Err(LineFault::Form);
+    };
+    put_own(&mut record, own)?;
+    gathered.record = Some(record);
+    Ok(())
+}
+
+/// Says in a record which part took the answer's value.
+fn put_own(record: &mut Record, own: Accepted) -> Result<(), LineFault>
+    ensures text { OnOk result (record_text «record».new ≡ record_text «record».old ++ item_line (Item.Own own)) }
+    ensures said { IsMade (said.with_own «record».old own) result «record».new }
+{
+    if record.own.is_some() || record.notices.len() != 0 || record.steps.len() != 0 {
+        return Err(LineFault::Form);
+    }
+    record.own = Some(own);
+    Ok(())
+}
+
+#[tactic(auto, unfolding(crate::specs::Gathering::add_own_note))]
+fn add_own_note(gathered: &mut Gathered, note: Note) -> Result<(), LineFault>
+    ensures text { OnOk result (gathered_text gathered.new ≡ gathered_text gathered.old ++ item_line (Item.OwnNote note)) }
+    ensures said { IsMade (said.add_own_note gathered.old note) result gathered.new }
+{
+    if gathered.step.is_some() {
+        return Err(LineFault::Form);
+    }
+    let Some(mut record) = gathered.record.take() else {
+        return Err(LineFault::Form);
+    };
+    put_own_note(&mut record, note)?;
+    gathered.record = Some(record);
+    Ok(())
+}
+
+/// Adds a note of its event's own step to a record.
+#[tactic(auto, using(crate::proofs::Growing::flat_map_push))]
+fn put_own_note(record: &mut Record, note: Note) -> Result<(), LineFault>
+    ensures text { OnOk result (record_text «record».new ≡ record_text «record».old ++ item_line (Item.OwnNote note)) }
+    ensures said { IsMade (said.with_own_note «record».old note) result «record».new }
+{
+    if record.steps.len() != 0 {
+        return Err(LineFault::Form);
+    }
+    record.notices.push(note)?;
+    Ok(())
+}
+
+#[tactic(auto, unfolding(crate::specs::Gathering::add_step))]
+fn add_step(gathered: &mut Gathered, step: Step) -> Result<(), LineFault>
+    ensures text { OnOk result (gathered_text gathered.new ≡ gathered_text gathered.old ++ item_line (Item.Step step)) }
+    ensures said { IsMade (said.add_step gathered.old step) result gathered.new }
+{
+    if gathered.record.is_none() {
+        return Err(LineFault::Form);
+    }
+    close_step(gathered)?;
+    gathered.step = Some(step);
+    Ok(())
+}
+
+#[tactic(auto, unfolding(crate::specs::Gathering::add_note))]
+fn add_note(gathered: &mut Gathered, note: Note) -> Result<(), LineFault>
+    ensures text { OnOk result (gathered_text gathered.new ≡ gathered_text gathered.old ++ item_line (Item.Note note)) }
+    ensures said { IsMade (said.add_note gathered.old note) result gathered.new }
+{
+    let Some(mut step) = gathered.step.take() else {
+        return Err(LineFault::Form);
+    };
+    put_note(&mut step, note)?;
+    gathered.step = Some(step);
+    Ok(())
+}
+
+/// Adds a note to a step.
+#[tactic(auto, using(crate::proofs::Growing::flat_map_push))]
+fn put_note(step: &mut Step, note: Note) -> Result<(), LineFault>
+    ensures text { OnOk result (step_text step.new ≡ step_text step.old ++ item_line (Item.Note note)) }
+    ensures said { IsMade (Some (said.with_note step.old note)) result step.new }
+{
+    step.notices.push(note)?;
+    Ok(())
+}
+
+/// The transcript with its configuration, where both lines in front were read.
+#[tactic(auto, unfolding(crate::specs::Gathering::finished))]
+pub fn finish(mut gathered: Gathered) -> Result<(Config, Transcript), LineFault>
+    ensures text { IfOk result (λ r. transcript_text r.0 r.1 ≡ gathered_text gathered) }
+    ensures said { IsRead (said.finished gathered) result }
+{
+    close_step(&mut gathered)?;
+    close_record(&mut gathered)?;
+    let Some(config) = gathered.config else {
+        return Err(LineFault::Form);
+    };
+    let Some(made) = gathered.made else {
+        return Err(LineFault::Form);
+    };
+    let Gathered {
+        config: _,
+        made: _,
+        records,
+        record: _,
+        step: _,
+    } = gathered;
+    Ok((config, Transcript { made, records }))
+}

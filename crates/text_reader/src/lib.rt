@@ -1,0 +1,13 @@
+//! The reader of the text form of transcripts, and of the inputs of a replay.
+#![tactic(auto)]
+
+mod fields;
+mod gathering;
+mod inputs;
+mod item;
+mod lines;
+mod reading;
+
+pub use fields::TextError;
+pub use inputs::{Replay, read_inputs};
+pub use reading::read_transcript;
