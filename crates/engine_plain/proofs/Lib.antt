@@ -1,2 +1,5 @@
-pub mod Dropped
-pub mod Looks
+pub mod Places
+pub mod Sums
+pub mod Keeping
+pub mod Steps
+pub mod Writing

@@ -1,79 +1,48 @@
 //! The cache.
-ghost use Rattle.std.specs.Prelude.{◌≡◌, ℕ, ◌+◌, ◌-◌, ◌<◌, ◌≤◌, ◌^◌, ◌↔◌, Bool, true, false, [], ◌∷◌, ◌++◌, length, vec_len, vec_capacity, slice_get, is_some, IsTrue, Some, None, IfSome, IfNone, IfOk, OnOk, OnErr, MatchOption};
-ghost use Rattle.engine_reference.specs.Calls.{IsNew, cleared_by, without_notice, with_room};
-ghost use Rattle.engine_reference.specs.Visible.{visible_record, visible_value, is_visible, is_covered};
-ghost use Rattle.engine_reference.specs.Records.{held_at};
-ghost use Rattle.engine_reference.specs.Times.{has_come};
+ghost use Rattle.std.specs.Prelude.{◌≡◌, ℕ, ◌+◌, ◌-◌, ◌<◌, ◌≤◌, ◌^◌, Bool, true, false, [], ◌∷◌, ◌⊎◌, ◌++◌, length, drop, min, remove, slice_get, slice_set, is_some, Some, None, IfSome, IfNone, IfOk, OnOk, OnErr, if◌then◌else◌, option_map};
+ghost use Rattle.std.specs.Result.{IsErrOf};
+ghost use Rattle.engine_reference.specs.Admission.{Verdict, admit, displace, refuse, verdict, is_above, shortest_front, wants_table};
+ghost use Rattle.engine_reference.specs.Calls.{without_ticket, IsNew, written, with_written, sent, unsent_at, is_full, removed_by, removal_told, LooksUp, MaintainsIfDue, with_read, cleared_by, without_notice, with_room, used_entry};
+ghost use Rattle.engine_reference.specs.Records.{moved_to_back, held_at, record_at, held_weight, settled_in, admitted_weight, is_settled};
+ghost use Rattle.engine_reference.specs.Runs.{Step, RunsToEnd, after_read, after_hit, after_write, after_put, IsApplied, next_to_evict, left, all_left, is_overtaken, is_due};
+ghost use Rattle.engine_reference.specs.Visible.{visible_record, visible_value, cause_of_write};
+ghost use Rattle.policy_sketch.specs.Counts.{incremented};
 ghost use Rattle.engine_reference.specs.declared.data.Record.{Record};
-ghost use Rattle.engine_plain.specs.Asking.{answers_of};
+ghost use Rattle.engine_reference.specs.declared.data.Unsent.{Unsent};
+ghost use Rattle.engine_reference.specs.declared.data.Upsert.{Upsert};
+ghost use Rattle.engine_reference.specs.declared.data.Write.{Write};
+ghost use Rattle.engine_reference.specs.declared.data.Write.TheVariants.{Put, Removed};
+ghost use Rattle.engine_lists.specs.Asking.{answers_of};
+ghost use Rattle.engine_plain.specs.Chains.{Chain, none_due, is_admitted};
 
-use crate::places::{is_any_over, place_of};
-use crate::times::is_dead;
-use engine_reference::{Notice, Read, Record, Registered, Settings, Unsent, Write};
-use engine_rules::Rules;
+use crate::due::find_due;
+use crate::entries::{
+    beside, cause_of_removal, cause_of_write, clone_entry, expires_after_use, first_entry,
+    next_entry, rooms_of_removal, upsert,
+};
+use crate::looks::{clone_at, is_admitted, look_up};
+use engine_lists::{Lists, MAX_READS, MAX_WRITES, Refusal, place_at, place_of_ticket, weigh_held};
+use engine_reference::{Entry, Notice, Read, Record, Settings, Upsert, Write};
+use engine_rules::{RemovalCause, Rules};
 use policy_base::Instant;
-use policy_sketch::FrequencySketch;
 use std::alloc::{AllocError, Global};
 use std::marker::Model;
 
 /// A cache of one part. Steps rise from call to call; moments may be any.
 #[derive(Drop)]
 pub struct BaseCache<K: Eq, V, S, R: Rules<K, V>> {
-    records: Vec<Record<K, V>>,
-    access: Vec<u64>,
-    cleared: u64,
-    predicates: Vec<Registered<R::Predicate>>,
-    unsent: Vec<Unsent>,
-    reads: Vec<Read>,
-    writes: Vec<Write>,
-    notices: Vec<Notice<K, V>>,
-    sketch: FrequencySketch,
-    number: u64,
-    weight: u64,
-    ran: u64,
-    next_number: u64,
-    next_ticket: u64,
-    reserved: usize,
-    settings: Settings,
-    hasher: S,
-    rules: R,
+    lists: Lists<K, V, S, R>,
 }
 
 impl<K: Eq, V, S, R: Rules<K, V>> Model for BaseCache<K, V, S, R> {
-    ghost use Rattle.std.specs.Prelude.{ℕ, ◌+◌, ◌≤◌, ◌<◌, vec_len, vec_capacity};
     ghost use Rattle.engine_reference.specs.State.{State};
-    ghost use Rattle.engine_reference.specs.Soundness.{AreNumbered, Each};
+    ghost use Rattle.engine_reference.specs.Soundness.{IsSound};
 
     ghost Value = { State K V R.Predicate S R };
 
-    ghost view = { λ c. record {
-      records = c.records.items;
-      access = c.access.items;
-      cleared = c.cleared;
-      predicates = c.predicates.items;
-      unsent = c.unsent.items;
-      reads = c.reads.items;
-      writes = c.writes.items;
-      notices = c.notices.items;
-      sketch = c.sketch;
-      number = c.number;
-      weight = c.weight;
-      ran = c.ran;
-      next_number = c.next_number;
-      next_ticket = c.next_ticket;
-      reserved = c.reserved;
-      settings = c.settings;
-      hasher = c.hasher;
-      rules = c.rules;
-    } };
+    ghost view = { λ c. c.lists };
 
-    ghost invariant = { λ c. record {
-      numbered : AreNumbered c.records.items;
-      below : Each (λ r. r.number < c.next_number) c.records.items;
-      records : vec_len c.records + c.reserved ≤ vec_capacity c.records;
-      unsent : vec_len c.unsent + c.reserved ≤ vec_capacity c.unsent;
-      notices : vec_len c.notices + c.reserved ≤ vec_capacity c.notices;
-    } };
+    ghost invariant = { λ c. ∥ IsSound c.lists ∥₁ };
 }
 
 impl<K: Eq, V, S, R: Rules<K, V>> BaseCache<K, V, S, R> {
@@ -84,56 +53,36 @@ impl<K: Eq, V, S, R: Rules<K, V>> BaseCache<K, V, S, R> {
         R: Drop,
         ensures { IfOk result (λ made. IsNew settings hasher rules made) }
     {
-        let reads = Vec::with_capacity(alloc, 64)?;
-        let writes = Vec::with_capacity(alloc, 128)?;
-        Ok(BaseCache {
-            records: Vec::new(alloc),
-            access: Vec::new(alloc),
-            cleared: 0,
-            predicates: Vec::new(alloc),
-            unsent: Vec::new(alloc),
-            reads,
-            writes,
-            notices: Vec::new(alloc),
-            sketch: FrequencySketch::default(alloc),
-            number: 0,
-            weight: 0,
-            ran: settings.made,
-            next_number: 0,
-            next_ticket: 0,
-            reserved: 0,
-            settings,
-            hasher,
-            rules,
-        })
+        let lists = Lists::new(alloc, settings, hasher, rules)?;
+        Ok(BaseCache { lists })
     }
 
     /// How many records were admitted at the end of the last run.
     pub fn entry_count(&self) -> u64
         ensures { result ≡ self.now.number }
     {
-        self.number
+        self.lists.number()
     }
 
     /// What they weighed.
     pub fn weighted_size(&self) -> u64
         ensures { result ≡ self.now.weight }
     {
-        self.weight
+        self.lists.weight()
     }
 
     /// Whether removals are told.
     pub fn is_removal_notifier_enabled(&self) -> bool
         ensures { result ≡ self.now.settings.tells }
     {
-        self.settings.tells
+        self.lists.settings().tells
     }
 
     /// Covers every value that was written at an earlier step.
     pub fn invalidate_all(&mut self, step: u64)
         ensures { self.new ≡ cleared_by step self.old }
     {
-        self.cleared = self.cleared.max(step);
+        self.lists.clear(step);
     }
 
     /// The oldest notice that was not taken.
@@ -141,85 +90,264 @@ impl<K: Eq, V, S, R: Rules<K, V>> BaseCache<K, V, S, R> {
         ensures notice { result ≡ slice_get self.old.notices 0 }
         ensures taken { self.new ≡ without_notice self.old }
     {
-        if self.notices.as_slice().is_empty() {
-            return None;
-        }
-        Some(self.notices.remove(0))
+        self.lists.next_notice()
     }
 
-    /// Whether a later clear or predicate stands over an entry.
-    fn is_covered(&self, place: usize) -> bool
-        requires { place < length self.now.records }
-        ensures { (r : Record K V) → slice_get self.now.records place ≡ Some r → result ≡ is_covered (answers_of R.weight_of R.created R.read R.updated R.covers) self.now r.entry }
+    /// Makes room for one more write.
+    pub fn reserve_write(&mut self) -> Result<(), Refusal>
+        ensures ok { OnOk result (self.new ≡ with_room self.old) }
+        ensures err { OnErr result (self.new ≡ self.old) }
+        ensures used_up { IsErrOf result Refusal.UsedUp → 2 ^ 64 ≤ self.old.next_ticket + self.old.reserved + 1 }
     {
-        let entry = &self.records[place].entry;
-        entry.step < self.cleared || is_any_over(&self.rules, self.predicates.as_slice(), entry)
-    }
-
-    /// Whether the deadline of an entry has come.
-    fn is_dead(&self, place: usize, now: u64) -> bool
-        requires { place < length self.now.records }
-        ensures { (r : Record K V) → slice_get self.now.records place ≡ Some r → result ≡ has_come self.now.settings now r.entry }
-    {
-        is_dead(self.settings, now, &self.records[place].entry)
-    }
-
-    /// Where the record of a key is.
-    fn place_of(&self, key: &K) -> Option<usize>
-        ensures found { IfSome result (λ i. (r : Record K V) × (slice_get self.now.records i ≡ Some r) × (held_at K.eq self.now.records key.now ≡ Some r)) }
-        ensures within { IfSome result (λ i. i < length self.now.records) }
-        ensures none { IfNone result (held_at K.eq self.now.records key.now ≡ None) }
-    {
-        place_of(self.records.as_slice(), key)
-    }
-
-    /// Where the visible record of a key is.
-    fn look_up(&self, key: &K, now: u64) -> Option<usize>
-        ensures some { IfSome result (λ i. (r : Record K V) × (slice_get self.now.records i ≡ Some r) × (visible_record (answers_of R.weight_of R.created R.read R.updated R.covers) K.eq self.now now key.now ≡ Some r)) }
-        ensures within { IfSome result (λ i. i < length self.now.records) }
-        ensures none { IfNone result (visible_record (answers_of R.weight_of R.created R.read R.updated R.covers) K.eq self.now now key.now ≡ None) }
-    {
-        let place = self.place_of(key)?;
-        if self.is_dead(place, now) || self.is_covered(place) {
-            return None;
-        }
-        Some(place)
+        self.lists.make_room(1)?;
+        Ok(())
     }
 
     /// Whether a key has a visible value. It is no use of it.
-    pub fn contains_key(&self, key: &K, now: Instant) -> bool
+    pub fn contains_key_with_hash(&self, key: &K, _hash: u64, now: Instant) -> bool
         ensures { result ≡ is_some (visible_record (answers_of R.weight_of R.created R.read R.updated R.covers) K.eq self.now now key.now) }
     {
-        self.look_up(key, now.as_nanos()).is_some()
+        look_up(&self.lists, key, now.as_nanos()).is_some()
     }
 
     /// A clone of the visible value of a key. It is no use of it.
-    pub fn get_without_recording(&self, key: &K, now: Instant) -> Result<Option<V>, AllocError>
+    pub fn get_with_hash_without_recording(
+        &self,
+        key: &K,
+        _hash: u64,
+        now: Instant,
+    ) -> Result<Option<V>, AllocError>
     where
         V: Clone,
         requires exact { (x y : V) → V.is_clone x y → y ≡ x }
         ensures { IfOk result (λ found. found ≡ visible_value (answers_of R.weight_of R.created R.read R.updated R.covers) K.eq self.now now key.now) }
     {
-        match self.look_up(key, now.as_nanos()) {
+        match look_up(&self.lists, key, now.as_nanos()) {
             Some(place) => {
-                let value = self.records[place].entry.value.clone()?;
-                Ok(Some(value))
+                let found = clone_at(&self.lists, place)?;
+                Ok(Some(found.1))
             }
             None => Ok(None),
         }
     }
 
-    /// Makes room for one more write.
-    pub fn reserve_write(&mut self) -> Result<(), AllocError>
-        requires { self.old.reserved + 1 < 2 ^ 63 }
-        ensures ok { OnOk result (self.new ≡ with_room self.old) }
+    // ---- writing
+
+    /// Writes a value under its key, for which room was reserved, and answers the ticket of the write. What it replaces is told.
+    pub fn do_insert_with_hash(
+        &mut self,
+        key: K,
+        hash: u64,
+        value: V,
+        now: Instant,
+        step: u64,
+    ) -> u64
+    where
+        K: Drop,
+        V: Drop,
+        requires room { 0 < self.old.reserved }
+        ensures ticket { result ≡ self.old.next_ticket }
+        ensures written { self.new ≡ written (answers_of R.weight_of R.created R.read R.updated R.covers) K.eq self.old key hash value now step }
+    {
+        let ticket = self.lists.next_ticket();
+        match self.lists.place_of(&key) {
+            Some(place) => self.write_over(place, key, hash, value, now, step),
+            None => self.write_first(key, hash, value, now, step),
+        }
+        ticket
+    }
+
+    /// Writes a value under a key that is new.
+    fn write_first(&mut self, key: K, hash: u64, value: V, now: Instant, step: u64)
+        requires room { 0 < self.old.reserved }
+        requires absent { held_at K.eq self.old.records key ≡ None }
+        ensures { self.new ≡ with_written (answers_of R.weight_of R.created R.read R.updated R.covers) None self.old key hash value now step }
+    {
+        let entry = first_entry(&self.lists, key, value, now, step);
+        let number = self.lists.next_number();
+        let held = weigh_held(self.lists.records());
+        let write = upsert(number, 1, entry.weight, hash, held);
+        let added = Record {
+            number,
+            hash,
+            entry,
+            is_held: true,
+            writes: 1,
+            applied: 0,
+            counts: None,
+        };
+        self.lists.add(added, Write::Put(write));
+    }
+
+    /// Writes a value over the one at a place.
+    fn write_over(&mut self, place: usize, key: K, hash: u64, value: V, now: Instant, step: u64)
+    where
+        K: Drop,
+        V: Drop,
+        requires room { 0 < self.old.reserved }
+        requires held { (r : Record K V) × (slice_get self.old.records place ≡ Some r) × (held_at K.eq self.old.records key ≡ Some r) }
+        ensures { self.new ≡ written (answers_of R.weight_of R.created R.read R.updated R.covers) K.eq self.old key hash value now step }
+    {
+        let cause = cause_of_write(&self.lists, place, now.as_nanos());
+        let next = self.lists.next_write(place);
+        let others = beside(&self.lists, place);
+        let entry = next_entry(&self.lists, place, key, value, now, step);
+        let write = upsert(others.0, next, entry.weight, hash, others.1);
+        self.lists
+            .write_over(place, entry, cause, Write::Put(write));
+    }
+
+    /// Removes a key, whether its deadline has come or not, and answers its entry and the ticket of the removal.
+    /// Where removals are told, `notify_invalidate` is to tell the entry.
+    pub fn remove_entry(
+        &mut self,
+        key: &K,
+        _hash: u64,
+    ) -> Result<Option<(Entry<K, V>, u64)>, Refusal>
+    where
+        K: Clone + Drop,
+        V: Clone + Drop,
+        requires exact_key { (x y : K) → K.is_clone x y → y ≡ x }
+        requires exact { (x y : V) → V.is_clone x y → y ≡ x }
+        ensures removed { OnOk result (self.new ≡ removed_by K.eq key.now self.old) }
+        ensures entry { IfOk result (λ gone. gone ≡ option_map (λ r. (r.entry, self.old.next_ticket)) (held_at K.eq self.old.records key.now)) }
         ensures err { OnErr result (self.new ≡ self.old) }
     {
-        let more = self.reserved + 1;
-        self.records.reserve(more)?;
-        self.unsent.reserve(more)?;
-        self.notices.reserve(more)?;
-        self.reserved = more;
+        match self.lists.place_of(key) {
+            Some(place) => {
+                let entry = clone_entry(&self.lists, place)?;
+                let ticket = self.lists.next_ticket();
+                self.remove_at(place, key)?;
+                Ok(Some((entry, ticket)))
+            }
+            None => Ok(None),
+        }
+    }
+
+    /// Removes the key of the record at a place.
+    fn remove_at(&mut self, place: usize, key: &K) -> Result<(), Refusal>
+        requires { (r : Record K V) × (slice_get self.old.records place ≡ Some r) × (held_at K.eq self.old.records key.now ≡ Some r) }
+        ensures ok { OnOk result (self.new ≡ removed_by K.eq key.now self.old) }
+        ensures err { OnErr result (self.new ≡ self.old) }
+    {
+        let by = rooms_of_removal(self.lists.settings());
+        self.lists.make_room(by)?;
+        self.lists.mark_removed(place);
         Ok(())
+    }
+
+    /// Tells an entry that was removed by its key.
+    pub fn notify_invalidate(&mut self, entry: Entry<K, V>, now: Instant)
+    where
+        K: Drop,
+        V: Drop,
+        requires room { self.old.settings.tells ≡ true → 0 < self.old.reserved }
+        ensures { self.new ≡ removal_told (answers_of R.weight_of R.created R.read R.updated R.covers) entry now self.old }
+    {
+        if self.lists.settings().tells {
+            self.tell_removed(entry, now);
+        }
+    }
+
+    /// Tells an entry that was removed by its key, where removals are told.
+    fn tell_removed(&mut self, entry: Entry<K, V>, now: Instant)
+    where
+        K: Drop,
+        V: Drop,
+        requires room { 0 < self.old.reserved }
+        requires tells { self.old.settings.tells ≡ true }
+        ensures { self.new ≡ removal_told (answers_of R.weight_of R.created R.read R.updated R.covers) entry now self.old }
+    {
+        let cause = cause_of_removal(self.lists.settings(), now.as_nanos(), &entry);
+        self.lists.tell_removed(cause, entry);
+    }
+
+    /// Moves the write of a ticket into the queue. An unknown ticket is refused before a full queue.
+    pub fn send(&mut self, ticket: u64) -> Result<(), Refusal>
+        ensures ok { OnOk result (self.new ≡ sent ticket self.old) }
+        ensures known { OnOk result (is_some (unsent_at self.old.unsent ticket) ≡ true) }
+        ensures err { OnErr result (self.new ≡ self.old) }
+        ensures unknown { IsErrOf result Refusal.UnknownTicket → unsent_at self.old.unsent ticket ≡ None }
+        ensures full { IsErrOf result Refusal.QueueFull → (is_some (unsent_at self.old.unsent ticket) ≡ true) × (is_full self.old ≡ true) }
+        ensures only { OnErr result ((IsErrOf result Refusal.UnknownTicket) ⊎ (IsErrOf result Refusal.QueueFull)) }
+    {
+        match place_of_ticket(self.lists.unsent(), ticket) {
+            Some(place) => {
+                if self.lists.writes().len() >= MAX_WRITES {
+                    return Err(Refusal::QueueFull);
+                }
+                self.send_at(place, ticket);
+                Ok(())
+            }
+            None => Err(Refusal::UnknownTicket),
+        }
+    }
+
+    /// Moves the write at a place of those that were not sent into the queue.
+    fn send_at(&mut self, place: usize, ticket: u64)
+        requires within { place < length self.old.unsent }
+        requires room { length self.old.writes < 128 }
+        requires found { (u : Unsent) × (slice_get self.old.unsent place ≡ Some u) × (unsent_at self.old.unsent ticket ≡ Some u.write) × (without_ticket ticket self.old.unsent ≡ remove self.old.unsent place) }
+        ensures { self.new ≡ sent ticket self.old }
+    {
+        self.lists.send_at(place);
+    }
+
+    // ---- reads
+
+    /// Takes off the oldest read.
+    fn pop_read(&mut self) -> Read
+        requires { 0 < length self.old.reads }
+        ensures first { slice_get self.old.reads 0 ≡ Some result }
+        ensures rest { self.new ≡ record self.old { reads = drop 1 self.old.reads } }
+    {
+        self.lists.pop_read()
+    }
+
+    /// Counts a hash as asked for.
+    fn count_hash(&mut self, hash: u64)
+        ensures { self.new ≡ record self.old { sketch = incremented self.old.sketch hash } }
+    {
+        self.lists.count_hash(hash);
+    }
+
+    /// Moves the number of an admitted record to the back of the access list.
+    fn use_again(&mut self, number: u64)
+        requires { is_admitted (record_at self.old.records number) ≡ true }
+        ensures { self.new ≡ record self.old { access = moved_to_back number self.old.access } }
+    {
+        self.lists.use_again(number);
+    }
+
+    /// Uses the record of a number, where it is there and admitted.
+    fn use_found(&mut self, number: u64)
+        ensures { self.new ≡ after_hit (record_at self.old.records number) self.old }
+    {
+        if is_admitted(&self.lists, number) {
+            self.use_again(number);
+        }
+    }
+
+    /// Counts a read.
+    fn count_read(&mut self, read: Read)
+        ensures { self.new ≡ after_read read self.old }
+    {
+        match read {
+            Read::Hit(number, hash) => {
+                self.count_hash(hash);
+                self.use_found(number);
+            }
+            Read::Miss(hash) => self.count_hash(hash),
+        }
+    }
+
+    /// Counts the oldest read.
+    fn apply_read(&mut self, _now: u64)
+        requires { 0 < length self.old.reads }
+        ensures step { Step (answers_of R.weight_of R.created R.read R.updated R.covers) _now self.old self.new }
+        ensures fewer { length self.new.reads < length self.old.reads }
+    {
+        let read = self.pop_read();
+        self.count_read(read);
     }
 }

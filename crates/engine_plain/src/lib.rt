@@ -2,7 +2,9 @@
 #![tactic(auto)]
 
 mod cache;
-mod places;
-mod times;
+mod due;
+mod entries;
+mod looks;
 
 pub use cache::BaseCache;
+pub use engine_lists::Refusal;

@@ -14,7 +14,7 @@ use Rattle.engine_reference.proofs.HeldRecords.{record_at-number}
 use Rattle.engine_reference.proofs.SoundSteps.{left-is_sound}
 use Rattle.engine_reference.proofs.Unapplied.{record_at-without}
 
-without-none : (n : ℕ) (ns : List ℕ) → (IsIn n ns → ⊥) → without n ns ≡ ns
+pub without-none : (n : ℕ) (ns : List ℕ) → (IsIn n ns → ⊥) → without n ns ≡ ns
 without-none n [] h = refl
 without-none n (x ∷ ns) h = go (x == n) refl (without-none n ns (λ k. h (inr k)))
   where

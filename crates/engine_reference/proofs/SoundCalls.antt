@@ -6,7 +6,7 @@ use Rattle.engine_reference.specs.declared.data.Record.{Record}
 use Rattle.engine_reference.specs.declared.data.Unsent.{Unsent}
 use Rattle.engine_reference.specs.declared.data.Write.{Write}
 use Rattle.engine_reference.specs.declared.data.Write.TheVariants.{Put, Removed}
-use Rattle.engine_reference.specs.Calls.{with_written, first_entry, next_entry, with_sent, unsent_at, without_ticket, with_removed, with_removal_told, MaintainsIfDue, with_read, used_entry}
+use Rattle.engine_reference.specs.Calls.{with_written, first_entry, next_entry, with_sent, unsent_at, without_ticket, with_removed, MaintainsIfDue, with_read, used_entry}
 use Rattle.engine_reference.specs.Laws.{CallsStaySound}
 use Rattle.engine_reference.specs.Records.{record_at, held_at, changed_at, held_weight}
 use Rattle.engine_reference.specs.Runs.{Runs, is_due}
@@ -318,10 +318,6 @@ module _ {K V P S R : Type 0} where
         named = λ v p. elim (before s.unsent s.writes u v p) [ inl k ↦ h.named v k | inr same ↦ subst (λ z. number_of z < s.next_number) same found.0 ];
       }
 
-  told-sound : (answers : Answers K V P R) (o : Option (Record K V)) (now : ℕ) (s : State K V P S R) → IsSound s → IsSound (with_removal_told answers o now s)
-  told-sound answers None now s h = h
-  told-sound answers (Some r) now s h = record { records = h.records; named = h.named }
-
 module _ (K V P S R : Type 0) where
   pub calls_stay_sound : CallsStaySound K V P S R
   calls_stay_sound = record {
@@ -332,7 +328,7 @@ module _ (K V P S R : Type 0) where
     written = λ eq answers s key hash value now step h. written-sound eq answers s key hash value now step (held_at eq s.records key) refl h;
     sent = λ ticket s h. sent-sound ticket s (unsent_at s.unsent ticket) refl h;
     removed = λ eq key s h. removed-sound eq key s (held_at eq s.records key) refl h;
-    removal_told = λ answers number now s h. told-sound answers (record_at s.records number) now s h;
+    removal_told = λ answers e now s h. record { records = h.records; named = h.named };
     looks_up = λ answers eq key hash now old new h k.
         subst (λ t. IsSound t) (sym k.reads) (used-sound answers (visible_record answers eq old now key) hash now k.mid (maintained-sound answers now old k.mid h k.maintains));
     cleared = λ step s h. record { records = h.records; named = h.named };

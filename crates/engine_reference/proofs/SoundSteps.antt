@@ -277,7 +277,7 @@ module _ {K V P S R : Type 0} where
       let f = left-frame why n s in
       sound-from s.unsent s.writes s.next_number (left why n s) f.unsent f.writes f.next (left-sound s.unsent s.writes s.next_number why n s h.records) h.named
 
-  popped-is_sound : (old : State K V P S R) (w : Write) (rest : List Write) → old.writes ≡ w ∷ rest → IsSound old → IsSound (after_write w (record old { writes = rest }))
+  pub popped-is_sound : (old : State K V P S R) (w : Write) (rest : List Write) → old.writes ≡ w ∷ rest → IsSound old → IsSound (after_write w (record old { writes = rest }))
   popped-is_sound old w rest e h =
       let s = record old { writes = rest } in
       let f = after_write-frame w s in

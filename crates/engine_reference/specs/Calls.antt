@@ -46,9 +46,10 @@ module _ {K V P S R : Type 0} where
     records = changed_at r.number (λ x. record x { is_held = false; writes = x.writes + 1 }) s.records;
     unsent = s.unsent ++ (record { ticket = s.next_ticket; write = Removed r.number }) ∷ [];
     next_ticket = s.next_ticket + 1;
+    reserved = if s.settings.tells then s.reserved + 1 else s.reserved;
   }
 
-  -- the key's record is no longer held, whether its deadline has come or not, and its removal waits to be sent
+  -- the key's record is no longer held, whether its deadline has come or not, and its removal waits to be sent. Where removals are told there is room then to tell it
   abbrev pub removed_by : (K → K → Bool) → K → State K V P S R → State K V P S R
   removed_by eq key s = with_removed (held_at eq s.records key) s
 
@@ -155,12 +156,12 @@ module _ {K V P S R : Type 0} (answers : Answers K V P R) where
 
   -- ---- what a removal by key tells
 
-  abbrev pub with_removal_told : Option (Record K V) → ℕ → State K V P S R → State K V P S R
-  with_removal_told None now s = s
-  with_removal_told (Some r) now s = record s { notices = told s.settings.tells (cause_of_removal answers s now r.entry) r.entry s.notices }
-
-  abbrev pub removal_told : ℕ → ℕ → State K V P S R → State K V P S R
-  removal_told number now s = with_removal_told (record_at s.records number) now s
+  -- the entry that was removed is told, in the room that its removal made
+  abbrev pub removal_told : Entry K V → ℕ → State K V P S R → State K V P S R
+  removal_told e now s = record s {
+    notices = told s.settings.tells (cause_of_removal answers s now e) e s.notices;
+    reserved = if s.settings.tells then s.reserved - 1 else s.reserved;
+  }
 
 -- ---- making
 

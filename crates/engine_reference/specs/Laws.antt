@@ -3,6 +3,7 @@ use Rattle.std.specs.Prelude.{◌-◌, ◌<◌, ◌≤◌, [], length, min, slic
 use Rattle.policy_sketch.specs.Counts.{incremented}
 use Rattle.engine_rules.specs.declared.causes.RemovalCause.{RemovalCause}
 use Rattle.engine_rules.specs.declared.causes.RemovalCause.TheVariants as cause
+use Rattle.engine_reference.specs.declared.data.Entry.{Entry}
 use Rattle.engine_reference.specs.declared.data.Record.{Record}
 use Rattle.engine_reference.specs.declared.data.Registered.{Registered}
 use Rattle.engine_reference.specs.declared.data.Upsert.{Upsert}
@@ -140,7 +141,7 @@ module _ (K V P S R : Type 0) where
     pub written : (eq : K → K → Bool) (answers : Answers K V P R) (s : State K V P S R) (key : K) (hash : ℕ) (value : V) (now step : ℕ) → IsSound s → IsSound (written answers eq s key hash value now step)
     pub sent : (ticket : ℕ) (s : State K V P S R) → IsSound s → IsSound (sent ticket s)
     pub removed : (eq : K → K → Bool) (key : K) (s : State K V P S R) → IsSound s → IsSound (removed_by eq key s)
-    pub removal_told : (answers : Answers K V P R) (number now : ℕ) (s : State K V P S R) → IsSound s → IsSound (removal_told answers number now s)
+    pub removal_told : (answers : Answers K V P R) (e : Entry K V) (now : ℕ) (s : State K V P S R) → IsSound s → IsSound (removal_told answers e now s)
     pub looks_up : (answers : Answers K V P R) (eq : K → K → Bool) (key : K) (hash now : ℕ) (old new : State K V P S R) → IsSound old → LooksUp answers eq key hash now old new → IsSound new
     pub cleared : (step : ℕ) (s : State K V P S R) → IsSound s → IsSound (cleared_by step s)
     pub covered : (p : Registered P) (s : State K V P S R) → IsSound s → IsSound (with_predicate p s)

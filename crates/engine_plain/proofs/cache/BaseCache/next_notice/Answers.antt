@@ -1,16 +1,7 @@
-use Rattle.std.proofs.Common.{◌≡◌, ap, sym, ◌∙◌, length}
-use Rattle.std.proofs.lemmas.Bool.{eqb-true}
-use Rattle.engine_plain.proofs.Dropped.{first_none, drop_none}
+use Rattle.std.proofs.Common.{sym, subst}
+use Rattle.std.proofs.Math.Logic.{∥∥₁_map}
+use Rattle.engine_reference.specs.Soundness.{IsSound}
 use Rattle.engine_plain.proofs.cache.BaseCache.next_notice.Goals as goal
 
-pub returns-then-is_empty-clause-notice : goal.returns-then-is_empty-clause-notice
-returns-then-is_empty-clause-notice g c =
-    let e = eqb-true (length c.as_slice.result.now) 0 (sym c.is_empty.ensures ∙ c.if-is_empty.true) in
-    let n : length c.args.self.now.notices ≡ 0 = sym (ap (λ v. length v.notices) c.self.view_is) ∙ sym (ap (λ ns. length ns) c.as_slice.ensures.value) ∙ e in
-    first_none c.args.self.now.notices n
-
-pub returns-then-is_empty-clause-taken : goal.returns-then-is_empty-clause-taken
-returns-then-is_empty-clause-taken g c =
-    let e = eqb-true (length c.as_slice.result.now) 0 (sym c.is_empty.ensures ∙ c.if-is_empty.true) in
-    let n : length c.args.self.now.notices ≡ 0 = sym (ap (λ v. length v.notices) c.self.view_is) ∙ sym (ap (λ ns. length ns) c.as_slice.ensures.value) ∙ e in
-    ap (λ ns. record c.args.self.now { notices = ns }) (sym (drop_none c.args.self.now.notices n))
+pub invariant_of-self : goal.invariant_of-self
+invariant_of-self g c = ∥∥₁_map c.self.invariant (λ h. subst (λ s. IsSound s) (sym c.next_notice.ensures.taken) (record { records = h.records; named = h.named }))

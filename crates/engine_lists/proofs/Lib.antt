@@ -1,0 +1,4 @@
+pub mod Dropped
+pub mod Looks
+pub mod Tickets
+pub mod Found

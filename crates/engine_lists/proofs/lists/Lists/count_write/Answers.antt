@@ -1,0 +1,39 @@
+use Rattle.std.proofs.Common.{◌≤◌, ◌<◌, refl, ap, sym, ◌∙◌, arith, length}
+use Rattle.std.specs.Prelude.{slice_get}
+use Rattle.std.proofs.lemmas.Option.{slice_get_read}
+use Rattle.engine_lists.proofs.Tickets.{each-set, each-get, length-without}
+use Rattle.engine_lists.proofs.lists.Lists.count_write.Goals as goal
+
+pub move_to_back-requires : goal.move_to_back-requires
+move_to_back-requires g c =
+    let some : 0 < length c.self.inside.writes.items = omega (arith, ap (λ v. length v.writes) c.self.view_is) in
+    let less = length-without c.index_mut-found.result.now.number c.self.inside.access.items in
+    omega arith
+
+pub invariant_of-self : goal.invariant_of-self
+invariant_of-self g c =
+    let e = c.index_mut-found.result.now in
+    let here = slice_get_read c.self.inside.records.items _ c.args.place e refl (omega (arith, ap (λ v. length v.records) c.self.view_is)) c.index_mut-found.ensures.value in
+    let t = c.self.inside.next_ticket in
+    let some : 0 < length c.self.inside.writes.items = omega (arith, ap (λ v. length v.writes) c.self.view_is) in
+    let low = each-get (λ r. r.writes ≤ t) c.self.inside.records.items c.args.place e here c.self.invariant.written in
+    let shorter = length-without e.number c.self.inside.access.items in
+    let longer = c.move_to_back.ensures.len in
+    record {
+      records = omega arith;
+      unsent = omega arith;
+      notices = omega arith;
+      access = omega arith;
+      reads = omega arith;
+      writes = omega arith;
+      tickets = omega arith;
+      numbers = omega arith;
+      written = each-set (λ r. r.writes ≤ t) c.self.inside.records.items c.args.place _ low c.self.invariant.written;
+      moments = each-set (λ r. r.entry.written < 18446744073709551615) c.self.inside.records.items c.args.place _ (each-get (λ r. r.entry.written < 18446744073709551615) c.self.inside.records.items c.args.place e here c.self.invariant.moments) c.self.invariant.moments;
+    }
+
+pub returns : goal.returns
+returns g c =
+    let e = c.index_mut-found.result.now in
+    let here = slice_get_read c.self.inside.records.items _ c.args.place e refl (omega (arith, ap (λ v. length v.records) c.self.view_is)) c.index_mut-found.ensures.value in
+    (e, sym (ap (λ v. slice_get v.records c.args.place) c.self.view_is) ∙ here, rw (c.remove.ensures.items, c.move_to_back.ensures.items, ← c.self.view_is) refl)

@@ -1,0 +1,44 @@
+use Rattle.std.proofs.Common.{arith}
+use Rattle.engine_lists.proofs.lists.Lists.make_room.Goals as goal
+
+pub invariant_of-self-in_err-reserve-3 : goal.invariant_of-self-in_err-reserve-3
+invariant_of-self-in_err-reserve-3 g c = record {
+  records = omega arith;
+  unsent = omega arith;
+  notices = omega arith;
+  access = omega arith;
+  reads = omega arith;
+  writes = omega arith;
+  tickets = omega arith;
+  numbers = omega arith;
+  written = rw c.reserve.ensures.items c.self.invariant.written;
+  moments = rw c.reserve.ensures.items c.self.invariant.moments;
+}
+
+pub invariant_of-self-in_err-reserve-4 : goal.invariant_of-self-in_err-reserve-4
+invariant_of-self-in_err-reserve-4 g c = record {
+  records = omega arith;
+  unsent = omega arith;
+  notices = omega arith;
+  access = omega arith;
+  reads = omega arith;
+  writes = omega arith;
+  tickets = omega arith;
+  numbers = omega arith;
+  written = rw c.reserve.ensures.items c.self.invariant.written;
+  moments = rw c.reserve.ensures.items c.self.invariant.moments;
+}
+
+pub invariant_of-self-2 : goal.invariant_of-self-2
+invariant_of-self-2 g c = record {
+  records = omega (arith, c.in_ok-reserve.ensures.ok);
+  unsent = omega (arith, c.in_ok-reserve-2.ensures.ok);
+  notices = omega (arith, c.in_ok-reserve-3.ensures.ok);
+  access = omega (arith, c.in_ok-reserve-4.ensures.ok);
+  reads = omega arith;
+  writes = omega arith;
+  tickets = omega arith;
+  numbers = omega arith;
+  written = rw c.reserve.ensures.items c.self.invariant.written;
+  moments = rw c.reserve.ensures.items c.self.invariant.moments;
+}
