@@ -5,6 +5,7 @@ use Rattle.cache_namespace.specs.Waiting.{under_way}
 use Rattle.plain_store.specs.Hashing.{hashed}
 use Rattle.plain_store.specs.Parting.{part_by}
 use Rattle.plain_store.specs.Standing as plain
+use Rattle.cache_namespace.proofs.LoadFeeds.{same-under}
 use Rattle.cache_spaces.proofs.Moving.{moves-from, same-parts, stands-on}
 use Rattle.cache_spaces.proofs.space.Space.feed.Goals as goal
 
@@ -20,6 +21,6 @@ returns-in-Err-clause-stands c = λ s stands.
     let new = c.feed.new.self in
     stands-on (plain.Stands old.store.config old.store.table) (plain.Stands new.store.config new.store.table) old.store.dropped new.store.dropped old.latest new.latest (under_way old.loads) (under_way new.loads) old.connections.items new.connections.items s stands c.in-Err.ensures.unchanged.stands
     (λ values.
-    ap (λ n. situation n (under_way new.loads) new.connections.items new.store.dropped values) c.in-Err.ensures.latest ∙ ap (λ l. situation old.latest (under_way l) new.connections.items new.store.dropped values) c.in-Err.ensures.loads
+    ap (λ n. situation n (under_way new.loads) new.connections.items new.store.dropped values) c.in-Err.ensures.latest ∙ ap (λ l. situation old.latest l new.connections.items new.store.dropped values) (same-under old.loads new.loads c.in-Err.ensures.loads)
     ∙ c.in-Err.ensures.same.situation old.latest (under_way old.loads) new.store.dropped values
     ∙ ap (λ d. situation old.latest (under_way old.loads) old.connections.items d values) (ap (λ (f : Frame). f.dropped) c.in-Err.ensures.unchanged.frame))
