@@ -1,5 +1,5 @@
 -- Lines of connections that were told of their load, where a namespace keeps them.
-use Rattle.std.proofs.Common.{◌≡◌, ℕ, zero, suc, ◌+◌, ◌-◌, ◌<◌, ◌≤◌, Bool, true, false, not, ◌&&◌, ◌||◌, ◌==◌, cond, List, [], ◌∷◌, ◌++◌, length, map, Option, Some, None, if◌then◌else◌, refl, sym, ap, ◌∙◌, subst, arith, get_or, inl, inr}
+use Rattle.std.proofs.Common.{◌≡◌, ℕ, suc, ◌+◌, ◌<◌, Bool, true, false, not, ◌&&◌, ◌==◌, cond, List, [], ◌∷◌, ◌++◌, length, map, Option, Some, None, if◌then◌else◌, refl, sym, ap, ◌∙◌, subst, arith, inl, inr}
 use Rattle.std.specs.Prelude.{is_none, is_some, slice_set, ◌⊎◌}
 use Rattle.std.specs.List.{filter, flat_map, slice_get}
 use Rattle.std.specs.Option.{option_map_or}
@@ -7,28 +7,28 @@ use Rattle.std.proofs.lemmas.Bool.{and_parts, eq-eqb, eqb-true}
 use Rattle.std.proofs.lemmas.Grind.{flat_map-append}
 use Rattle.std.proofs.lemmas.List.{append-nil, append_assoc, set-get_or}
 use Rattle.std.proofs.lemmas.List.Elements.{filter-append}
-use Rattle.std.proofs.lemmas.Option.{get_or_from_slice_get, same_Some, slice_get_within}
+use Rattle.std.proofs.lemmas.Option.{get_or_from_slice_get, slice_get_within}
 use Rattle.audit_model.specs.Changes.{after_step}
 use Rattle.audit_model.specs.Follows.{after_steps, placed_step_in}
-use Rattle.audit_model.specs.Places.{due, first_due, left_after, tasks_to_feed}
+use Rattle.audit_model.specs.Places.{first_due, left_after, tasks_to_feed}
 use Rattle.audit_model.specs.Situation as model
 use Rattle.audit_model.specs.Situation.{Situation, HeldValue, connection_in, is_overlong, is_ready, may_run_in, without_connection}
 use Rattle.audit_model.specs.Steps.{Task, RunLines, is_right}
-use Rattle.audit_model.specs.Stream.{behind_lines, first_line}
+use Rattle.audit_model.specs.Stream.{first_line}
 use Rattle.audit_model.specs.declared.command.Closing.{Closing}
 use Rattle.audit_model.specs.declared.config.Config.{Config}
 use Rattle.audit_model.specs.declared.transcript.Note.{Note}
 use Rattle.audit_model.specs.declared.transcript.Step.{Step}
-use Rattle.cache_namespace.specs.Drawing.{Identifiers, StepsDraw, Workings, identifiers_in}
+use Rattle.cache_namespace.specs.Drawing.{Identifiers, Workings, identifiers_in}
 use Rattle.cache_namespace.specs.Gathered.{Gathered, gather, reply_in}
 use Rattle.cache_namespace.specs.Kept.{gathered}
-use Rattle.cache_namespace.specs.Lines.{ArePartedIn, IsThere, are_timely, ready, set_in, with_drops}
+use Rattle.cache_namespace.specs.Lines.{ArePartedIn, IsThere, are_timely, set_in, with_drops}
 use Rattle.cache_namespace.specs.Making.{Making}
 use Rattle.cache_namespace.specs.Ran.{RanFeed, RanReady, with_piece}
-use Rattle.cache_namespace.specs.Shown.{is_listed, open_from, put_in, shown, situation, standing_as}
+use Rattle.cache_namespace.specs.Shown.{put_in, shown, situation, standing_as}
 use Rattle.cache_namespace.specs.Taken.{FeedsConnection, ReplacedAt, is_quit, text_at}
 use Rattle.cache_namespace.specs.Waiting.{UnderWay, when_left, with_under_way}
-use Rattle.cache_namespace.specs.Whole.{held_line, holds, keeps_line, waits}
+use Rattle.cache_namespace.specs.Whole.{holds, waits}
 use Rattle.cache_namespace.specs.declared.connection.Connection.{Connection}
 use Rattle.cache_namespace.specs.declared.kept.Kept.{Kept}
 use Rattle.cache_namespace.specs.declared.standing.Standing.{Standing}
@@ -36,12 +36,11 @@ use Rattle.cache_namespace.specs.declared.standing.Standing.TheVariants as now
 use Rattle.cache_namespace.proofs.Following.{found-open, listed-open, put-situation}
 use Rattle.cache_namespace.proofs.Places.{replaced-is, replaced-others, text-is}
 use Rattle.cache_namespace.proofs.Putting.{feeds-to}
-use Rattle.cache_settling.specs.Leads.{Leads}
 use Rattle.cache_settling.specs.Resumed.{RunsThem, runs_at, runs_with}
-use Rattle.cache_settling.specs.Told.{WritesTo, replies_to}
+use Rattle.cache_settling.specs.Told.{replies_to}
 use Rattle.cache_settling.proofs.Chain.{same-place}
 use Rattle.cache_settling.proofs.Leading.{lines, no-lines, nothing, on}
-use Rattle.cache_settling.proofs.Placed.{FoundAt, found-back, open-so}
+use Rattle.cache_settling.proofs.Placed.{found-back, open-so}
 
 -- ---- whose steps they are
 

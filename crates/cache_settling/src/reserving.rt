@@ -31,11 +31,7 @@ fn reserve_there(
 }
 
 /// Makes room for so many more bytes of replies of a connection, if it is there. An `Err` changes nothing.
-fn reserve_at(
-    connections: &mut Vec<Connection>,
-    number: u64,
-    size: usize,
-) -> Result<(), AllocError>
+fn reserve_at(connections: &mut Vec<Connection>, number: u64, size: usize) -> Result<(), AllocError>
     ensures same { SameConnections connections.old.items connections.new.items }
     ensures others { (place : ℕ) → place ≢ number - 1 → slice_get connections.new.items place ≡ slice_get connections.old.items place }
     ensures room { OnOk result ((c : Waiter) → slice_get connections.new.items (number - 1) ≡ Some c → vec_len c.output + size ≤ vec_capacity c.output) }

@@ -1,6 +1,5 @@
-use Rattle.std.proofs.Common.{◌≡◌, ◌++◌, [], List, map, ap, subst}
+use Rattle.std.proofs.Common.{◌++◌, [], map, subst}
 use Rattle.audit_model.specs.Changes.{all_held_after}
-use Rattle.audit_model.specs.Situation.{HeldValue}
 use Rattle.audit_model.specs.Steps.{RunLines}
 use Rattle.audit_model.specs.declared.config.Config.{Config}
 use Rattle.cache_store.specs.Promises.{no_deed}

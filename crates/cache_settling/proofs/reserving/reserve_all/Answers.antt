@@ -1,4 +1,4 @@
-use Rattle.std.proofs.Common.{◌≡◌, ◌++◌, ◌∷◌, [], sym, subst, take, get_or}
+use Rattle.std.proofs.Common.{sym, subst, take, get_or}
 use Rattle.cache_settling.specs.Told.{HaveRoom}
 use Rattle.cache_settling.proofs.Chain.{front-more}
 use Rattle.cache_settling.proofs.Rooms.{room-more, same-on}

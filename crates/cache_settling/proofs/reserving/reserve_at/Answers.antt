@@ -1,4 +1,4 @@
-use Rattle.std.proofs.Common.{◌≡◌, ◌-◌, ◌∙◌, sym}
+use Rattle.std.proofs.Common.{◌∙◌}
 use Rattle.cache_namespace.proofs.Places.{replaced-others, same-connections}
 use Rattle.cache_settling.proofs.reserving.reserve_at.Goals as goal
 

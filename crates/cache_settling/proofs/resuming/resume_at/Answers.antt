@@ -1,12 +1,11 @@
-use Rattle.std.proofs.Common.{◌≡◌, ◌<◌, ◌-◌, ◌+◌, suc, ℕ, Bool, List, refl, sym, ap, ◌∙◌, subst, arith, inl, inr, length, not, true, false}
+use Rattle.std.proofs.Common.{◌≡◌, ◌<◌, ◌-◌, suc, refl, sym, ap, ◌∙◌, arith, inl, inr, length, true, false}
 use Rattle.std.specs.Prelude.{◌⊎◌}
 use Rattle.std.specs.List.{slice_get}
-use Rattle.audit_model.specs.Situation.{HeldValue}
 use Rattle.cache_namespace.specs.Drawing.{identifiers, workings}
 use Rattle.cache_namespace.specs.Making.{making_of}
 use Rattle.cache_namespace.specs.Shown.{situation}
 use Rattle.cache_namespace.specs.Waiting.{under_way}
-use Rattle.cache_settling.specs.Resumed.{RunsThem, runs_at}
+use Rattle.cache_settling.specs.Resumed.{runs_at}
 use Rattle.cache_settling.proofs.Resumes.{none-here, none-there, runs-here, runs-none, runs-resumed, there-at}
 use Rattle.cache_settling.proofs.resuming.resume_at.Goals as goal
 use Rattle.cache_settling.proofs.resuming.resume_at.Goals.{then-number-eq0-via-then-number-eq0, then-number-eq0-via-else-number-eq0+then-number-len}
