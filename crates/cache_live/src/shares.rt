@@ -35,6 +35,10 @@ impl Core for LiveService {
 }
 
 impl Takings for LiveService {
+    ghost use Rattle.cache_live.specs.Live.{service_of, untaken_of};
+
+    ghost untaken = { untaken_of };
+
     fn take_output(&mut self, conn: Conn) -> Result<Vec<u8>, ServiceError> {
         LiveService::take_output(self, conn)
     }

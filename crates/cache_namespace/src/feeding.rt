@@ -65,7 +65,7 @@ fn hold_back(kept: &mut Option<Kept>, alloc: Global, number: u64, line: &[u8])
 
 /// Takes a piece for a connection that is ready and runs its lines, and holds the line back for which memory was wanted. A `LOAD` of a
 /// key that has no live value waits.
-fn run_ready<S: Store>(
+pub fn run_ready<S: Store>(
     store: &mut S,
     alloc: Global,
     config: &Config,

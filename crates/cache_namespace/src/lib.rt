@@ -11,6 +11,8 @@ mod standing;
 mod waiting;
 
 pub use connection::Connection;
+pub use feeding::{End, run_ready};
 pub use kept::Kept;
 pub use namespace::Namespace;
 pub use standing::Standing;
+pub use waiting::close_where_behind;

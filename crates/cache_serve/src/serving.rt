@@ -1,8 +1,10 @@
 //! One connection of a shared service, from its opening to its closing.
-ghost use Rattle.std.specs.Prelude.{◌≡◌, ◌≢◌, ◌≤◌, IfErr, IsErrOf};
+ghost use Rattle.std.specs.Prelude.{◌≡◌, ◌≢◌, ◌≤◌, ◌+◌, List, ℕ, [], IfErr, OnOk, OnErr, IsErrOf};
 ghost use Rattle.cache_devices.specs.Failures.{HasFailed};
-ghost use Rattle.cache_devices.specs.Watched.{failures};
+ghost use Rattle.cache_devices.specs.Watched.{device, failures};
 ghost use Rattle.cache_run.specs.Turns.{HasToldLate};
+ghost use Rattle.cache_serve.specs.Written.{Answers, Breaks, Serves};
+ghost use Rattle.cache_shared.specs.Untaken.{WereUntaken};
 
 use crate::devices::{Teller, Untold};
 use crate::errors::error_of_refusal;
@@ -26,6 +28,8 @@ fn open_connection<L: Seating, C: Takings>(
     seat: &mut Seat<L>,
     namespace: u64,
 ) -> Result<Conn, RunError>
+    ensures opened { OnOk result (seat.new.count ≡ seat.old.count + 1) }
+    ensures closed { OnErr result (seat.new.count ≤ seat.old.count + 1) }
     ensures count { seat.old.count ≤ seat.new.count }
     ensures causes { IfErr result (λ e. (e ≢ RunError.Read) × (e ≢ RunError.Write) × (e ≢ RunError.Moment)) }
 {
@@ -48,7 +52,8 @@ fn close_if_open<L: Seating, C: Takings>(
     seat: &mut Seat<L>,
     conn: Conn,
 )
-    ensures { seat.old.count ≤ seat.new.count }
+    ensures one { seat.new.count ≤ seat.old.count + 1 }
+    ensures count { seat.old.count ≤ seat.new.count }
 {
     for _try in 0..u64::MAX {
         match shared.step(rt, seat, Input::Close { conn }) {
@@ -76,6 +81,8 @@ fn converse<L: Seating, C: Takings, I: Read, O: Write, K: Clock, T: Teller, R: W
     clock: &mut K,
     teller: &mut T,
 ) -> Result<(), RunError>
+    ensures ok { OnOk result (Answers (λ text. ∥ WereUntaken C.service C.events C.untaken conn text ∥₁) seat.old.count seat.new.count (O.contents (device writer.old)) (O.contents (device writer.new))) }
+    ensures err { OnErr result (Breaks (λ text. ∥ WereUntaken C.service C.events C.untaken conn text ∥₁) seat.old.count seat.new.count (O.contents (device writer.old)) (O.contents (device writer.new))) }
     ensures count { seat.old.count ≤ seat.new.count }
     ensures read { IsErrOf result RunError.Read → HasFailed (failures reader.old) (failures reader.new) }
     ensures write { IsErrOf result RunError.Write → HasFailed (failures writer.old) (failures writer.new) }
@@ -108,6 +115,8 @@ pub fn serve<L: Seating, C: Takings, I: Read, O: Write, K: Clock, D: Loader, R: 
     clock: &mut K,
     loader: &mut D,
 ) -> Result<(), RunError>
+    ensures wrote { OnOk result (Serves C.service C.events C.untaken seat.old.count seat.new.count (O.contents (device writer.old)) (O.contents (device writer.new)) []) }
+    ensures broke { OnErr result ((rest : List ℕ) × Serves C.service C.events C.untaken seat.old.count seat.new.count (O.contents (device writer.old)) (O.contents (device writer.new)) rest) }
     ensures count { seat.old.count ≤ seat.new.count }
     ensures read { IsErrOf result RunError.Read → HasFailed (failures reader.old) (failures reader.new) }
     ensures write { IsErrOf result RunError.Write → HasFailed (failures writer.old) (failures writer.new) }
@@ -153,6 +162,8 @@ pub fn serve_and_tell<
     loader: &mut D,
     teller: &mut T,
 ) -> Result<(), RunError>
+    ensures wrote { OnOk result (Serves C.service C.events C.untaken seat.old.count seat.new.count (O.contents (device writer.old)) (O.contents (device writer.new)) []) }
+    ensures broke { OnErr result ((rest : List ℕ) × Serves C.service C.events C.untaken seat.old.count seat.new.count (O.contents (device writer.old)) (O.contents (device writer.new)) rest) }
     ensures count { seat.old.count ≤ seat.new.count }
     ensures read { IsErrOf result RunError.Read → HasFailed (failures reader.old) (failures reader.new) }
     ensures write { IsErrOf result RunError.Write → HasFailed (failures writer.old) (failures writer.new) }

@@ -1,8 +1,11 @@
 //! One turn of a connection.
-ghost use Rattle.std.specs.Prelude.{◌≡◌, ◌≢◌, ◌≤◌, ◌^◌, IfErr, IsErrOf};
+ghost use Rattle.std.specs.Prelude.{◌≡◌, ◌≢◌, ◌≤◌, ◌+◌, ◌^◌, ℕ, List, [], Ok, IfOk, IfErr, OnOk, OnErr, IsErrOf};
 ghost use Rattle.cache_devices.specs.Failures.{HasFailed};
-ghost use Rattle.cache_devices.specs.Watched.{failures};
+ghost use Rattle.cache_devices.specs.Sent.{SentBut};
+ghost use Rattle.cache_devices.specs.Watched.{device, failures};
 ghost use Rattle.cache_run.specs.Turns.{HasToldLate};
+ghost use Rattle.cache_serve.specs.Written.{Answers, Breaks, Writes};
+ghost use Rattle.cache_shared.specs.Untaken.{WereUntaken};
 
 use crate::devices::Teller;
 use crate::errors::{error_of_refusal, error_of_send};
@@ -34,6 +37,9 @@ fn feed_piece<L: Seating, C: Takings>(
     piece: &[u8],
     moment: u64,
 ) -> Result<Progress, RunError>
+    ensures more { result ≡ Ok Progress.More → seat.new.count ≡ seat.old.count + 1 }
+    ensures over { result ≡ Ok Progress.Over → seat.new.count ≡ seat.old.count }
+    ensures err { OnErr result (seat.new.count ≤ seat.old.count + 1) }
     ensures count { seat.old.count ≤ seat.new.count }
     ensures moment { IsErrOf result RunError.Moment → 2 ^ 63 ≤ moment }
     ensures causes { IfErr result (λ e. (e ≢ RunError.Read) × (e ≢ RunError.Write)) }
@@ -59,13 +65,15 @@ fn feed_piece<L: Seating, C: Takings>(
     }
 }
 
-/// Sends the replies that wait.
+/// Takes the replies that wait, and sends them.
 fn deliver<L: Seating, C: Takings, W: Write>(
     rt: &impl Wait,
     shared: &SharedService<L, C>,
     conn: Conn,
     writer: &mut Watched<W>,
 ) -> Result<(), RunError>
+    ensures ok { OnOk result (Writes (λ text. ∥ WereUntaken C.service C.events C.untaken conn text ∥₁) 1 (W.contents (device writer.old)) (W.contents (device writer.new)) []) }
+    ensures err { OnErr result ((count : ℕ) × (rest : List ℕ) × Writes (λ text. ∥ WereUntaken C.service C.events C.untaken conn text ∥₁) count (W.contents (device writer.old)) (W.contents (device writer.new)) rest) }
     ensures write { IsErrOf result RunError.Write → HasFailed (failures writer.old) (failures writer.new) }
     ensures used_up { IsErrOf result RunError.UsedUp → HasFailed (failures writer.old) (failures writer.new) }
     ensures causes { IfErr result (λ e. (e ≢ RunError.Read) × (e ≢ RunError.Moment)) }
@@ -74,10 +82,24 @@ fn deliver<L: Seating, C: Takings, W: Write>(
     let Ok(replies) = shared.take_output(rt, conn) else {
         return Err(RunError::OutOfMemory);
     };
-    if replies.is_empty() {
+    match send_whole(replies.as_slice(), writer) {
+        Ok(()) => Ok(()),
+        Err(error) => Err(error),
+    }
+}
+
+/// Sends all of a text, and has the writer hand it on.
+fn send_whole<W: Write>(text: &[u8], writer: &mut Watched<W>) -> Result<(), RunError>
+    ensures ok { OnOk result (SentBut [] text.now (W.contents (device writer.old)) (W.contents (device writer.new))) }
+    ensures err { OnErr result ((rest : List ℕ) × SentBut rest text.now (W.contents (device writer.old)) (W.contents (device writer.new))) }
+    ensures cause { OnErr result (HasFailed (failures writer.old) (failures writer.new)) }
+    ensures causes { IfErr result (λ e. (e ≢ RunError.Read) × (e ≢ RunError.Moment)) }
+    ensures count { failures writer.old ≤ failures writer.new }
+{
+    if text.is_empty() {
         return Ok(());
     }
-    match send(&replies, writer) {
+    match send(text, writer) {
         Ok(()) => {}
         Err(error) => return Err(error_of_send(error)),
     }
@@ -130,6 +152,8 @@ pub fn take_turn<L: Seating, C: Takings, I: Read, O: Write, K: Clock, T: Teller,
     clock: &mut K,
     teller: &mut T,
 ) -> Result<Progress, RunError>
+    ensures ok { OnOk result (Answers (λ text. ∥ WereUntaken C.service C.events C.untaken conn text ∥₁) seat.old.count seat.new.count (O.contents (device writer.old)) (O.contents (device writer.new))) }
+    ensures err { OnErr result (Breaks (λ text. ∥ WereUntaken C.service C.events C.untaken conn text ∥₁) seat.old.count seat.new.count (O.contents (device writer.old)) (O.contents (device writer.new))) }
     ensures count { seat.old.count ≤ seat.new.count }
     ensures read { IsErrOf result RunError.Read → HasFailed (failures reader.old) (failures reader.new) }
     ensures write { IsErrOf result RunError.Write → HasFailed (failures writer.old) (failures writer.new) }

@@ -155,7 +155,7 @@ text-told outcome writes mid new i place told false at =
     let differs : (place ≡ i) → ⊥ = λ same. no-truth (sym at ∙ eq-eqb i place (sym same)) in
     ap (λ o. option_map_or (λ (c : Connection). c.output.items) o []) (replaced-others mid new i told.replaced place differs) ∙ sym (append-nil (text_at mid place))
 
-same-place : (n i place : ℕ) → n ≡ suc i → (n == suc place) ≡ (i == place)
+pub same-place : (n i place : ℕ) → n ≡ suc i → (n == suc place) ≡ (i == place)
 same-place n i place e = go (i == place) refl
   where
     go : (b : Bool) → (i == place) ≡ b → (n == suc place) ≡ (i == place)

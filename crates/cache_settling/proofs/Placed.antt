@@ -117,7 +117,7 @@ waits-so now.Ready line e = let no : false ≡ true = e in cc
 waits-so now.Held line e = let no : false ≡ true = e in cc
 waits-so now.Waiting line e = refl
 
-open-so : (closing : Option Closing) → is_none closing ≡ true → closing ≡ None
+pub open-so : (closing : Option Closing) → is_none closing ≡ true → closing ≡ None
 open-so None e = refl
 open-so (Some by) e = let no : false ≡ true = e in cc
 

@@ -1,10 +1,18 @@
 //! Settling a load: an answer, or a give-up. Each function here does nothing: its contract is the law.
 #![tactic(auto)]
 
+mod answering;
+mod refusing;
+mod reserving;
+mod resuming;
 mod telling;
 
 ghost use Rattle.cache_settling.specs.Laws.{AbandonedLeads, AnswerSettles, AnswerTidy, AnsweredLeads, DeliveredLeads, GiveUpSettles, GiveUpTidy, HeldBackLeads, LeadsOn, LinesLead, NoLinesLead, NothingLeads, ToldWaits, WaitsAgainLeads};
 
+pub use answering::hand_out;
+pub use refusing::{refuse_answer, refuse_load};
+pub use reserving::reserve_all;
+pub use resuming::resume_all;
 pub use telling::tell_all;
 
 /// No step leads nowhere else, and steps lead on from where others led.

@@ -1,3 +1,4 @@
 pub mod Events
 pub mod Marks
 pub mod Seats
+pub mod Untaken

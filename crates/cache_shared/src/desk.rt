@@ -8,6 +8,7 @@ ghost use Rattle.cache_spaces.specs.Recorded.{namespace_of};
 ghost use Rattle.cache_spaces.specs.Services.{spaces_of};
 
 use crate::judging::agree;
+use crate::replies::{Replies, take_replies};
 use crate::seat::{Seat, Seating, make_lists, namespace_of};
 use crate::under::{Core, Takings};
 use audit_model::{Closing, Conn, Input, Note, ServiceError};
@@ -323,11 +324,12 @@ impl<L: Seating, C: Core> Desk<L, C> {
 
 impl<L: Seating, C: Takings> Desk<L, C> {
     /// The reply bytes of a connection since the last taking, moved out.
-    pub fn take_output(&mut self, conn: Conn) -> Result<Vec<u8>, ServiceError>
-        ensures { C.events self.new.core ≡ C.events self.old.core }
+    pub fn take_output(&mut self, conn: Conn) -> Result<Replies<C>, ServiceError>
+        ensures conn { IfOk result (λ replies. replies.conn ≡ conn) }
+        ensures events { C.events self.new.core ≡ C.events self.old.core }
     {
         let Desk { core, .. } = self;
-        core.take_output(conn)
+        take_replies(core, conn)
     }
 
     /// The oldest note of a namespace that was told and not taken.

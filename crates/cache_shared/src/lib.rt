@@ -4,11 +4,13 @@
 mod desk;
 mod judging;
 mod recorded;
+mod replies;
 mod seat;
 mod shared;
 mod under;
 
 pub use desk::{Desk, Finished};
+pub use replies::Replies;
 pub use seat::{Seat, Seating};
 pub use shared::SharedService;
 pub use under::{Core, Takings};

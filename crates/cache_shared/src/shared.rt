@@ -6,6 +6,7 @@ ghost use Rattle.cache_spaces.specs.Recorded.{namespace_of};
 ghost use Rattle.cache_spaces.specs.Services.{spaces_of};
 
 use crate::desk::{Desk, Finished};
+use crate::replies::Replies;
 use crate::seat::{Seat, Seating};
 use crate::under::{Core, Takings};
 use audit_model::{Closing, Conn, Input, Note, ServiceError};
@@ -144,7 +145,9 @@ impl<L: Seating, C: Core> SharedService<L, C> {
 
 impl<L: Seating, C: Takings> SharedService<L, C> {
     /// The reply bytes of a connection since the last taking, moved out, in one hold of the lock. It is no event, and leaves no receipt.
-    pub fn take_output(&self, rt: &impl Wait, conn: Conn) -> Result<Vec<u8>, ServiceError> {
+    pub fn take_output(&self, rt: &impl Wait, conn: Conn) -> Result<Replies<C>, ServiceError>
+        ensures conn { IfOk result (λ replies. replies.conn ≡ conn) }
+    {
         let mut guard = self.inner.desk.lock(rt);
         match &mut *guard {
             Some(desk) => desk.take_output(conn),

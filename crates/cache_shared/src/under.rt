@@ -1,6 +1,7 @@
 //! What a shared service needs of the service under its lock.
-ghost use Rattle.std.specs.Prelude.{◌≡◌, ℕ, ◌+◌, ◌≤◌, Bool, true, List, Some, length, IfOk, IfErr, OnOk, OnErr};
+ghost use Rattle.std.specs.Prelude.{◌≡◌, ℕ, ◌+◌, ◌≤◌, Bool, true, List, [], Some, length, IfOk, IfErr, OnOk, OnErr};
 ghost use Rattle.std.specs.List.{slice_get};
+ghost use Rattle.audit_model.specs.declared.input.Conn.{Conn};
 ghost use Rattle.audit_model.specs.declared.input.Input.{Input};
 ghost use Rattle.audit_model.specs.declared.transcript.Transcript.{Transcript};
 ghost use Rattle.audit_receipts.specs.declared.output.Output.{Output};
@@ -56,8 +57,13 @@ pub trait Core: Drop {
 
 /// A core whose replies and notes are taken. A taking is no event.
 pub trait Takings: Core {
+    /// The reply bytes of a connection that were not taken.
+    ghost untaken: { Self → Conn → List ℕ };
+
     /// The reply bytes of a connection since the last taking, moved out.
     fn take_output(&mut self, conn: Conn) -> Result<Vec<u8>, ServiceError>
+        ensures taken { IfOk result (λ text. text.items ≡ untaken self.old conn) }
+        ensures none { OnOk result (untaken self.new conn ≡ []) }
         ensures events { Self.events self.new ≡ Self.events self.old };
 
     /// The oldest note of a namespace that was told and not taken.

@@ -31,7 +31,7 @@ list_any-remove_false test (x ∷ xs) i h = go i (test x) refl h (λ j k. list_a
     go zero false t h later = h
     go (suc i) false t h later = ap (λ b. b || list_any test (remove xs i)) t ∙ later i h
 
-or_right : (a b : Bool) → (a || b) ≡ false → (a ≡ false) × (b ≡ false)
+pub or_right : (a b : Bool) → (a || b) ≡ false → (a ≡ false) × (b ≡ false)
 or_right true b h = absurd (true≢false h)
 or_right false b h = (refl, h)
 

@@ -4,6 +4,8 @@ use Rattle.std.specs.Prelude.{nat_lt}
 use Rattle.std.proofs.lemmas.Bool.{eqb-true, eqb-false, eq-eqb, ne_eqb, ltb-false}
 use Rattle.policy_sketch.specs.Counts.{incremented}
 use Rattle.engine_rules.specs.declared.causes.RemovalCause.TheVariants as cause
+use Rattle.std.specs.List.{list_any}
+use Rattle.engine_reference.specs.Visible.{is_covered_by}
 use Rattle.engine_reference.specs.declared.data.Entry.{Entry}
 use Rattle.engine_reference.specs.declared.data.Record.{Record}
 use Rattle.engine_reference.specs.declared.data.Read.{Read}
@@ -18,16 +20,16 @@ use Rattle.engine_reference.specs.Records.{record_at, held_at, without_record, c
 use Rattle.engine_reference.specs.Runs.{Step, reads, writes, grows, leaves, evicts, ends, Steps, Runs, left, all_left, after_read, after_hit, after_write, after_put, after_removal, counting, put_off, judged, is_overtaken, first_of}
 use Rattle.engine_reference.specs.Soundness.{IsIn, Each, AreNumbered, IsAccounted, IsSound}
 use Rattle.engine_reference.specs.State.{State, Answers}
-use Rattle.engine_reference.specs.Times.{tick_of, end_of, is_reached}
+use Rattle.engine_reference.specs.Times.{tick_of, end_of, is_reached, earlier_of}
 use Rattle.engine_reference.proofs.Accounts.{IsIn-moved, IsIn-append_right, in_pushed, not_in-without, IsIn-without_from, each-map, each-changed, each-without}
 use Rattle.engine_reference.proofs.HeldRecords.{record_at-number}
 use Rattle.engine_reference.proofs.SoundCalls.{calls_stay_sound, held_at-only, each-push, used-sound}
 use Rattle.engine_reference.proofs.SoundSteps.{IsCounted, counted, step-sound, run-sound, left-each, all_left-sound}
 use Rattle.engine_reference.proofs.TellingSteps.{run_tells}
-use Rattle.engine_laws.specs.Sweeping.{order_after, with_admitted, admitted_in, InOrderBy, IsWrittenBefore, IsUsedBefore, IsSwept, LeavesNoneDue, IsTimely, SweptRunsLeaveNoneDue, SweptRunsStayTimely, CallsStayTimely}
-use Rattle.engine_laws.proofs.Fronting.{each-at}
+use Rattle.engine_laws.specs.Sweeping.{order_after, with_admitted, admitted_in, InOrderBy, IsWrittenBefore, IsUsedBefore, IsSwept, LeavesNoneDue, IsTimely, SweptRunsLeaveNoneDue, SweptRunsStayTimely, CallsStayTimely, LookingAtAllSweeps}
+use Rattle.engine_laws.proofs.Fronting.{each-at, or_right}
 use Rattle.engine_laws.proofs.Rising.{each-own, ComesFrom}
-use Rattle.engine_laws.proofs.Ticking.{own-tick, changed-tick, end-later, end-after, tick-not_reached, lt-false-up}
+use Rattle.engine_laws.proofs.Ticking.{own-tick, changed-tick, end-later, end-after, tick-not_reached, lt-false-up, earlier-not_reached}
 
 -- ---- what maintenance does not touch
 
@@ -159,6 +161,19 @@ module _ {K V : Type 0} where
       go None here (inl e) later = absurd (let both : None ≡ Some x = sym here ∙ ap (λ z. record_at rs z) e ∙ there in cc)
       go None here (inr j) later = later j
       go (Some y) here i later = (y, ap (λ b. first_of (cond b (y ∷ admitted_in rs ns) (admitted_in rs ns))) (each-at (λ r. is_some r.counts ≡ true) rs n y all here), rel y here i)
+
+  -- what is first on a list is found under its number
+  first-found : (rs : List (Record K V)) (ns : List ℕ) (r : Record K V) → first_of (admitted_in rs ns) ≡ Some r → record_at rs r.number ≡ Some r
+  first-found rs [] r e = absurd (cc)
+  first-found rs (n ∷ ns) r e = go (record_at rs n) refl e (first-found rs ns r)
+    where
+      by_counts : (b : Bool) (x : Record K V) → record_at rs n ≡ Some x → first_of (cond b (x ∷ admitted_in rs ns) (admitted_in rs ns)) ≡ Some r → (first_of (admitted_in rs ns) ≡ Some r → record_at rs r.number ≡ Some r) → record_at rs r.number ≡ Some r
+      by_counts true x there e later = let same : x ≡ r = cc in ap (λ y. record_at rs y.number) (sym same) ∙ ap (λ k. record_at rs k) (record_at-number rs n x there) ∙ there ∙ ap Some same
+      by_counts false x there e later = later e
+
+      go : (o : Option (Record K V)) → record_at rs n ≡ o → first_of (with_admitted o (admitted_in rs ns)) ≡ Some r → (first_of (admitted_in rs ns) ≡ Some r → record_at rs r.number ≡ Some r) → record_at rs r.number ≡ Some r
+      go None there e later = later e
+      go (Some x) there e later = by_counts (is_some x.counts) x there e later
 
   -- ---- records by number
 
@@ -532,3 +547,26 @@ module _ (K V P S R : Type 0) where
         room = λ moment step order s h. timely-same moment step order s _ (sound.room s h.sound) refl refl refl refl refl h;
         taken = λ moment step order s h. timely-same moment step order s _ (sound.taken s h.sound) refl refl refl refl refl h;
       }
+
+  pub looking_at_all_sweeps : LookingAtAllSweeps K V P S R
+  looking_at_all_sweeps answers now order old new sound sent run quiet =
+      let k = run-leaves answers now old new sound sent run in
+      record {
+        live = λ r first. (dead r (first-found new.records order r first) k.counted).1;
+        clear = λ r first. clear r (first-found new.records order r first) k.counted;
+        idle = λ r first. (dead r (first-found new.records new.access r first) k.counted).2;
+        own = λ later r there. (dead r there k.counted).0;
+      }
+    where
+      dead : (r : Record K V) → record_at new.records r.number ≡ Some r → Each IsCounted new.records
+          → (is_reached r.entry.expires now ≡ false) × (is_reached (end_of r.entry.written new.settings.live) now ≡ false) × (is_reached (end_of r.entry.used new.settings.idle) now ≡ false)
+      dead r there counted =
+          let held = (each-at IsCounted new.records r.number r counted there).held in
+          let one = earlier-not_reached r.entry.expires (earlier_of (end_of r.entry.written new.settings.live) (end_of r.entry.used new.settings.idle)) now (quiet.alive r there held) in
+          let two = earlier-not_reached (end_of r.entry.written new.settings.live) (end_of r.entry.used new.settings.idle) now one.1 in
+          (one.0, two.0, two.1)
+
+      clear : (r : Record K V) → record_at new.records r.number ≡ Some r → Each IsCounted new.records → nat_lt r.entry.step new.cleared ≡ false
+      clear r there counted =
+          let held = (each-at IsCounted new.records r.number r counted there).held in
+          (or_right (nat_lt r.entry.step new.cleared) (list_any (λ p. is_covered_by answers new.rules p r.entry) new.predicates) (quiet.uncovered r there held)).0

@@ -1,11 +1,11 @@
 -- Ticks and own expirations.
 use Rattle.std.proofs.Common.{◌≡◌, refl, ap, sym, ◌∙◌, subst, ℕ, ◌+◌, ◌-◌, ◌*◌, ◌/◌, ◌<◌, ◌≤◌, arith, false, Option, Some, None}
-use Rattle.std.specs.Prelude.{nat_le, nat_lt}
+use Rattle.std.specs.Prelude.{min, nat_le, nat_lt}
 use Rattle.std.proofs.Math.Nat.{min-le_left, min-le_right, le-min}
 use Rattle.std.proofs.lemmas.Bool.{ltb-false, le-ltb, leb-false, lt-leb}
 use Rattle.policy_base.specs.Info.{kept_time}
 use Rattle.engine_reference.specs.declared.data.Settings.{Settings}
-use Rattle.engine_reference.specs.Times.{later, end_of, is_reached, own_expiration, changed_expiration, tick_of}
+use Rattle.engine_reference.specs.Times.{earlier_of, later, end_of, is_reached, own_expiration, changed_expiration, tick_of}
 
 pub tick-rise : (settings : Settings) (a b : ℕ) → a ≤ b → tick_of settings a ≤ tick_of settings b
 tick-rise settings a b less = omega arith
@@ -61,3 +61,13 @@ tick-not_reached settings expires e now h same =
 
 pub lt-false-up : (a b c : ℕ) → a ≤ b → nat_lt a c ≡ false → nat_lt b c ≡ false
 lt-false-up a b c less h = let low = ltb-false a c h in le-ltb b c (omega arith)
+
+-- the earlier of two moments is not reached: neither is
+pub earlier-not_reached : (a b : Option ℕ) (now : ℕ) → is_reached (earlier_of a b) now ≡ false → (is_reached a now ≡ false) × (is_reached b now ≡ false)
+earlier-not_reached None b now h = (refl, h)
+earlier-not_reached (Some a) None now h = (h, refl)
+earlier-not_reached (Some a) (Some b) now h =
+    let front = not_reached (min a b) now h in
+    let left = min-le_left a b in
+    let right = min-le_right a b in
+    (lt-leb a now (omega arith), lt-leb b now (omega arith))

@@ -6,9 +6,10 @@ use Rattle.engine_reference.specs.declared.data.Write.{Write}
 use Rattle.engine_reference.specs.declared.data.Write.TheVariants.{Put, Removed}
 use Rattle.engine_reference.specs.Calls.{written, sent, removed_by, removal_told, with_read, cleared_by, with_predicate, with_room, without_notice}
 use Rattle.engine_reference.specs.Records.{record_at, moved_to_back}
-use Rattle.engine_reference.specs.Runs.{RunsToEnd, first_of}
+use Rattle.engine_reference.specs.Runs.{Runs, RunsToEnd, first_of}
 use Rattle.engine_reference.specs.Soundness.{Each, IsIn, IsSound}
 use Rattle.engine_reference.specs.State.{State, Answers}
+use Rattle.engine_laws.specs.Fronts.{NothingIsDue}
 use Rattle.engine_reference.specs.Times.{end_of, is_reached, tick_of}
 
 -- ---- the write list: the numbers of records, the one whose write was applied longest ago first. Records that are gone are passed over
@@ -93,6 +94,11 @@ module _ (K V P S R : Type 0) where
   SweptRunsStayTimely =
       (answers : Answers K V P R) (moment step now : ℕ) (order : List ℕ) (old new : State K V P S R) → IsTimely moment step order old → moment ≤ now → now ≤ 9223372036854775807
       → RunsToEnd answers now old new → IsSwept now (order_after old.writes order) old new → IsTimely now step (order_after old.writes order) new
+
+  -- a run that leaves nothing due did so, whatever the write list
+  abbrev pub LookingAtAllSweeps : Type 0
+  LookingAtAllSweeps =
+      (answers : Answers K V P R) (now : ℕ) (order : List ℕ) (old new : State K V P S R) → IsSound old → old.unsent ≡ [] → Runs answers now old new → NothingIsDue answers now new → IsSwept now order old new
 
   -- as an empty cache is, and calls keep it, each at a moment and a step not before the last, with its ticket sent at once
   pub record CallsStayTimely : Type 0 where

@@ -3,3 +3,4 @@ pub mod Sums
 pub mod Keeping
 pub mod Steps
 pub mod Writing
+pub mod Covering

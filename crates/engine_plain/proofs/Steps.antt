@@ -1,15 +1,16 @@
 -- The steps of a run.
 use Rattle.std.proofs.Common.{◌≡◌, refl, ap, sym, ◌∙◌, subst, ℕ, zero, suc, ◌+◌, ◌<◌, arith, Bool, true, false, cond, not, ◌&&◌, List, [], ◌∷◌, ◌++◌, Option, Some, None, length, drop}
-use Rattle.std.specs.Prelude.{remove, slice_get, is_some}
+use Rattle.std.specs.Prelude.{min, remove, slice_get, is_some}
 use Rattle.engine_reference.specs.declared.data.Record.{Record}
 use Rattle.engine_reference.specs.declared.data.Read.{Read}
 use Rattle.engine_reference.specs.declared.data.Read.TheVariants.{Hit, Miss}
 use Rattle.engine_rules.specs.declared.causes.RemovalCause.{RemovalCause}
-use Rattle.engine_reference.specs.Records.{record_at, moved_to_back, without}
+use Rattle.engine_reference.specs.declared.data.Registered.{Registered}
+use Rattle.engine_reference.specs.Records.{admitted_number, admitted_weight, settled_in, record_at, moved_to_back, without}
 use Rattle.engine_reference.specs.Soundness.{AreNumbered}
 use Rattle.engine_reference.specs.Visible.{told}
 use Rattle.engine_plain.proofs.Places.{at_without, at_number}
-use Rattle.engine_reference.specs.Runs.{Step, Steps, after_read, after_hit, left, with_left, IsApplied}
+use Rattle.engine_reference.specs.Runs.{RunsToEnd, IsDone, Step, Steps, after_read, after_hit, left, with_left, IsApplied}
 use Rattle.engine_reference.specs.State.{State, Answers}
 use Rattle.engine_reference.proofs.HeldRecords.{record_at-number}
 use Rattle.engine_plain.specs.Chains.{Chain, is_admitted, is_due, none_due}
@@ -88,7 +89,40 @@ module _ {K V P S R : Type 0} where
       go None = h
       go (Some r) = record { reads = h.reads; writes = h.writes }
 
+module _ {K V P S R : Type 0} where
+  pub predicates_left : (why : RemovalCause) (n : ℕ) (s : State K V P S R) → (left why n s).predicates ≡ s.predicates
+  predicates_left why n s = go (record_at s.records n)
+    where
+      go : (o : Option (Record K V)) → (with_left why s o).predicates ≡ s.predicates
+      go None = refl
+      go (Some r) = refl
+
 pub shorter_left : {X : Type 0} (xs : List X) (i : ℕ) (x : X) → slice_get xs i ≡ Some x → length (remove xs i) < length xs
 shorter_left [] i x h = absurd (cc)
 shorter_left (y ∷ xs) zero x h = omega arith
 shorter_left (y ∷ xs) (suc i) x h = let e = shorter_left xs i x h in omega arith
+
+module _ {K V P S R : Type 0} (answers : Answers K V P R) (now : ℕ) where
+  joined : (first second : List (State K V P S R)) (old mid new : State K V P S R) → Steps answers now old first mid → Steps answers now mid second new → Steps answers now old (first ++ second) new
+  joined [] second old mid new e h = subst (λ s. Steps answers now s second new) e h
+  joined (t ∷ first) second old mid new k h = (k.0, joined first second t mid new k.1 h)
+
+  pub chain_join : (old mid new : State K V P S R) → Chain answers now old mid → Chain answers now mid new → Chain answers now old new
+  chain_join old mid new h k = record { stages = h.stages ++ k.stages; steps = joined h.stages k.stages old mid new h.steps k.steps }
+
+  -- steps to a state with nothing to apply, no record too many and no predicate, and then the counts
+  pub run_from : (old last new : State K V P S R) → Chain answers now old last → IsApplied last
+      → new ≡ record last { number = admitted_number last.records; weight = min (admitted_weight last.records) 18446744073709551615; ran = now }
+      → ((capacity : ℕ) → last.settings.capacity ≡ Some capacity → 0 < capacity → capacity < admitted_weight last.records → settled_in last.records last.access ≡ []) → last.predicates ≡ []
+      → RunsToEnd answers now old new
+  run_from old last new h applied after within none = record {
+    runs = record { stages = h.stages; last = last; steps = h.steps; applied = applied; after = after };
+    done = subst (λ (s : State K V P S R). IsDone answers s) (sym after) (record {
+      within = within;
+      uncovered = λ number p there. absurd (nothing number p (subst (λ ps. slice_get ps number ≡ Some p) none there));
+    });
+  }
+    where
+      nothing : (number : ℕ) (p : Registered P) → slice_get {X = Registered P} [] number ≡ Some p → ⊥
+      nothing zero p e = absurd (cc)
+      nothing (suc number) p e = absurd (cc)

@@ -3,8 +3,8 @@ ghost use Rattle.std.specs.Prelude.{◌≡◌, ℕ, ◌+◌, ◌-◌, ◌<◌, �
 ghost use Rattle.std.specs.Result.{IsErrOf};
 ghost use Rattle.engine_reference.specs.Admission.{Verdict, admit, displace, refuse, verdict, is_above, shortest_front, wants_table};
 ghost use Rattle.engine_reference.specs.Calls.{without_ticket, IsNew, written, with_written, sent, unsent_at, is_full, removed_by, removal_told, LooksUp, MaintainsIfDue, with_read, cleared_by, without_notice, with_room, used_entry};
-ghost use Rattle.engine_reference.specs.Records.{moved_to_back, held_at, record_at, held_weight, settled_in, admitted_weight, is_settled};
-ghost use Rattle.engine_reference.specs.Runs.{Step, RunsToEnd, after_read, after_hit, after_write, after_put, IsApplied, next_to_evict, left, all_left, is_overtaken, is_due};
+ghost use Rattle.engine_reference.specs.Records.{admitted_number, moved_to_back, held_at, record_at, held_weight, settled_in, admitted_weight, is_settled};
+ghost use Rattle.engine_reference.specs.Runs.{is_due_for, Step, RunsToEnd, after_read, after_hit, after_write, after_put, IsApplied, next_to_evict, left, all_left, is_overtaken, is_due};
 ghost use Rattle.engine_reference.specs.Visible.{visible_record, visible_value, cause_of_write};
 ghost use Rattle.policy_sketch.specs.Counts.{incremented};
 ghost use Rattle.engine_reference.specs.declared.data.Record.{Record};
@@ -15,13 +15,16 @@ ghost use Rattle.engine_reference.specs.declared.data.Write.TheVariants.{Put, Re
 ghost use Rattle.engine_lists.specs.Asking.{answers_of};
 ghost use Rattle.engine_plain.specs.Chains.{Chain, none_due, is_admitted};
 
-use crate::due::find_due;
+use crate::due::{find_due, find_excess};
 use crate::entries::{
     beside, cause_of_removal, cause_of_write, clone_entry, expires_after_use, first_entry,
     next_entry, rooms_of_removal, upsert,
 };
-use crate::looks::{clone_at, is_admitted, look_up};
-use engine_lists::{Lists, MAX_READS, MAX_WRITES, Refusal, place_at, place_of_ticket, weigh_held};
+use crate::looks::{clone_at, has_predicates, has_reads, is_admitted, look_up};
+use engine_lists::{
+    Lists, MAX_READS, MAX_WRITES, Refusal, count_admitted, place_at, place_of_ticket,
+    weigh_admitted, weigh_held,
+};
 use engine_reference::{Entry, Notice, Read, Record, Settings, Upsert, Write};
 use engine_rules::{RemovalCause, Rules};
 use policy_base::Instant;
@@ -349,5 +352,184 @@ impl<K: Eq, V, S, R: Rules<K, V>> BaseCache<K, V, S, R> {
     {
         let read = self.pop_read();
         self.count_read(read);
+    }
+
+    /// Whether a read waits to be counted.
+    fn has_reads(&self) -> bool
+        ensures some { result ≡ true → 0 < length self.now.reads }
+        ensures none { result ≡ false → self.now.reads ≡ [] }
+    {
+        has_reads(&self.lists)
+    }
+
+    /// Counts all reads.
+    fn apply_reads(&mut self, now: u64)
+        ensures chain { Chain (answers_of R.weight_of R.created R.read R.updated R.covers) now self.old self.new }
+        ensures none { self.new.reads ≡ [] }
+    {
+        while self.has_reads() {
+            self.apply_read(now);
+        }
+    }
+
+    /// The record at a place leaves, and is told where it was held and removals are told.
+    fn leave(&mut self, place: usize, cause: RemovalCause)
+    where
+        K: Drop,
+        V: Drop,
+        requires { place < length self.old.records }
+        ensures left { (r : Record K V) × (slice_get self.old.records place ≡ Some r) × (record_at self.old.records r.number ≡ Some r) × (self.new ≡ left cause r.number self.old) }
+        ensures fewer { length self.new.records < length self.old.records }
+    {
+        self.lists.leave(place, cause);
+    }
+
+    /// A record that is due leaves.
+    fn leave_due(&mut self, place: usize, cause: RemovalCause, now: u64)
+    where
+        K: Drop,
+        V: Drop,
+        requires applied { IsApplied self.old }
+        requires within { place < length self.old.records }
+        requires due { (r : Record K V) × (slice_get self.old.records place ≡ Some r) × (r.is_held ≡ true) × (is_due_for (answers_of R.weight_of R.created R.read R.updated R.covers) self.old now r cause ≡ true) }
+        ensures step { Step (answers_of R.weight_of R.created R.read R.updated R.covers) now self.old self.new }
+        ensures applied { IsApplied self.new }
+        ensures fewer { length self.new.records < length self.old.records }
+    {
+        self.leave(place, cause);
+    }
+
+    /// All records that are due leave.
+    fn sweep(&mut self, now: u64)
+    where
+        K: Drop,
+        V: Drop,
+        requires { IsApplied self.old }
+        ensures chain { Chain (answers_of R.weight_of R.created R.read R.updated R.covers) now self.old self.new }
+        ensures applied { IsApplied self.new }
+        ensures none { none_due (answers_of R.weight_of R.created R.read R.updated R.covers) self.new now self.new.records ≡ true }
+    {
+        while let Some((place, cause)) = self.find_due(now) {
+            self.leave_due(place, cause, now);
+        }
+    }
+
+    /// The first record that has to leave, and why.
+    fn find_due(&self, now: u64) -> Option<(usize, RemovalCause)>
+        ensures found { IfSome result (λ due. (r : Record K V) × (slice_get self.now.records due.0 ≡ Some r) × (r.is_held ≡ true) × (is_due_for (answers_of R.weight_of R.created R.read R.updated R.covers) self.now now r due.1 ≡ true)) }
+        ensures within { IfSome result (λ due. due.0 < length self.now.records) }
+        ensures none { IfNone result (none_due (answers_of R.weight_of R.created R.read R.updated R.covers) self.now now self.now.records ≡ true) }
+    {
+        find_due(&self.lists, now)
+    }
+
+    /// The first predicate goes, as it covers nothing.
+    fn end_first(&mut self, now: u64)
+        requires applied { IsApplied self.old }
+        requires some { 0 < length self.old.predicates }
+        requires none { none_due (answers_of R.weight_of R.created R.read R.updated R.covers) self.old now self.old.records ≡ true }
+        ensures step { Step (answers_of R.weight_of R.created R.read R.updated R.covers) now self.old self.new }
+        ensures applied { IsApplied self.new }
+        ensures none { none_due (answers_of R.weight_of R.created R.read R.updated R.covers) self.new now self.new.records ≡ true }
+        ensures fewer { length self.new.predicates < length self.old.predicates }
+    {
+        self.lists.end_predicate(0);
+    }
+
+    /// Whether there is a predicate.
+    fn has_predicates(&self) -> bool
+        ensures some { result ≡ true → 0 < length self.now.predicates }
+        ensures none { result ≡ false → self.now.predicates ≡ [] }
+    {
+        has_predicates(&self.lists)
+    }
+
+    /// Where no record is due, all predicates go.
+    fn end_predicates(&mut self, now: u64)
+        requires applied { IsApplied self.old }
+        requires none { none_due (answers_of R.weight_of R.created R.read R.updated R.covers) self.old now self.old.records ≡ true }
+        ensures chain { Chain (answers_of R.weight_of R.created R.read R.updated R.covers) now self.old self.new }
+        ensures applied { IsApplied self.new }
+        ensures none { none_due (answers_of R.weight_of R.created R.read R.updated R.covers) self.new now self.new.records ≡ true }
+        ensures ended { self.new.predicates ≡ [] }
+    {
+        while self.has_predicates() {
+            self.end_first(now);
+        }
+    }
+
+    /// The settled record used longest ago leaves, as the weight is above the capacity.
+    fn evict_one(&mut self, place: usize, now: u64)
+    where
+        K: Drop,
+        V: Drop,
+        requires applied { IsApplied self.old }
+        requires within { place < length self.old.records }
+        requires excess { (r : Record K V) × (slice_get self.old.records place ≡ Some r) × (is_above self.old.settings.capacity (admitted_weight self.old.records) ≡ true) × (next_to_evict self.old ≡ Some r) }
+        ensures step { Step (answers_of R.weight_of R.created R.read R.updated R.covers) now self.old self.new }
+        ensures applied { IsApplied self.new }
+        ensures predicates { self.new.predicates ≡ self.old.predicates }
+        ensures fewer { length self.new.records < length self.old.records }
+    {
+        self.leave(place, RemovalCause::Size);
+    }
+
+    /// Where a settled record has to leave for the weight.
+    fn find_excess(&self) -> Option<usize>
+        ensures found { IfSome result (λ i. (r : Record K V) × (slice_get self.now.records i ≡ Some r) × (is_above self.now.settings.capacity (admitted_weight self.now.records) ≡ true) × (next_to_evict self.now ≡ Some r)) }
+        ensures within { IfSome result (λ i. i < length self.now.records) }
+        ensures none { IfNone result ((capacity : ℕ) → self.now.settings.capacity ≡ Some capacity → 0 < capacity → capacity < admitted_weight self.now.records → settled_in self.now.records self.now.access ≡ []) }
+    {
+        find_excess(&self.lists)
+    }
+
+    /// While the weight is above the capacity, settled records leave, those used longest ago first.
+    fn evict(&mut self, now: u64)
+    where
+        K: Drop,
+        V: Drop,
+        requires { IsApplied self.old }
+        ensures chain { Chain (answers_of R.weight_of R.created R.read R.updated R.covers) now self.old self.new }
+        ensures applied { IsApplied self.new }
+        ensures predicates { self.new.predicates ≡ self.old.predicates }
+        ensures within { (capacity : ℕ) → self.new.settings.capacity ≡ Some capacity → 0 < capacity → capacity < admitted_weight self.new.records → settled_in self.new.records self.new.access ≡ [] }
+    {
+        while let Some(place) = self.find_excess() {
+            self.evict_one(place, now);
+        }
+    }
+
+    /// Takes down number and weight of the admitted records.
+    fn finish_run(&mut self, now: u64)
+        ensures { self.new ≡ record self.old { number = admitted_number self.old.records; weight = min (admitted_weight self.old.records) 18446744073709551615; ran = now } }
+    {
+        let number = count_admitted(self.lists.records());
+        let weight = capped(weigh_admitted(self.lists.records()));
+        self.lists.finish_run(number, weight, now);
+    }
+
+    /// A run of what has no read and no write to apply.
+    fn settle(&mut self, now: u64)
+    where
+        K: Drop,
+        V: Drop,
+        requires { IsApplied self.old }
+        ensures { RunsToEnd (answers_of R.weight_of R.created R.read R.updated R.covers) now self.old self.new }
+    {
+        self.sweep(now);
+        self.end_predicates(now);
+        self.evict(now);
+        self.finish_run(now);
+    }
+}
+
+/// A weight, or the largest number of 64 bits where it is larger.
+fn capped(weight: u128) -> u64
+    ensures { result ≡ min weight 18446744073709551615 }
+{
+    if weight < 18446744073709551615 {
+        weight as u64
+    } else {
+        u64::MAX
     }
 }

@@ -1,13 +1,15 @@
 //! Which records are due to leave.
-ghost use Rattle.std.specs.Prelude.{◌≡◌, ℕ, ◌<◌, true, false, ◌&&◌, ◌||◌, length, slice_get, Some, None, IfSome, IfNone};
-ghost use Rattle.engine_reference.specs.Runs.{is_due_for};
+ghost use Rattle.std.specs.Prelude.{◌≡◌, ℕ, ◌<◌, true, false, ◌&&◌, ◌||◌, [], length, slice_get, Some, None, IfSome, IfNone};
+ghost use Rattle.engine_reference.specs.Admission.{is_above};
+ghost use Rattle.engine_reference.specs.Records.{admitted_weight, settled_in};
+ghost use Rattle.engine_reference.specs.Runs.{is_due_for, next_to_evict};
 ghost use Rattle.engine_reference.specs.Times.{has_come};
 ghost use Rattle.engine_reference.specs.Visible.{is_covered};
 ghost use Rattle.engine_reference.specs.declared.data.Record.{Record};
 ghost use Rattle.engine_lists.specs.Asking.{answers_of};
 ghost use Rattle.engine_plain.specs.Chains.{is_due, none_due};
 
-use engine_lists::Lists;
+use engine_lists::{Lists, place_of_oldest, weigh_admitted};
 use engine_reference::Record;
 use engine_rules::{RemovalCause, Rules};
 
@@ -60,4 +62,30 @@ pub fn find_due<K: Eq, V, S, R: Rules<K, V>>(
         }
     }
     None
+}
+
+/// Whether the admitted records weigh more than the capacity.
+fn is_too_heavy<K: Eq, V, S, R: Rules<K, V>>(lists: &Lists<K, V, S, R>) -> bool
+    ensures { result ≡ is_above lists.now.settings.capacity (admitted_weight lists.now.records) }
+{
+    let weight = weigh_admitted(lists.records());
+    match lists.settings().capacity {
+        Some(capacity) => u128::from(capacity) < weight,
+        None => false,
+    }
+}
+
+/// Where a settled record has to leave for the weight: the one used longest ago.
+pub fn find_excess<K: Eq, V, S, R: Rules<K, V>>(lists: &Lists<K, V, S, R>) -> Option<usize>
+    ensures found { IfSome result (λ i. (r : Record K V) × (slice_get lists.now.records i ≡ Some r) × (is_above lists.now.settings.capacity (admitted_weight lists.now.records) ≡ true) × (next_to_evict lists.now ≡ Some r)) }
+    ensures within { IfSome result (λ i. i < length lists.now.records) }
+    ensures none { IfNone result ((capacity : ℕ) → lists.now.settings.capacity ≡ Some capacity → 0 < capacity → capacity < admitted_weight lists.now.records → settled_in lists.now.records lists.now.access ≡ []) }
+{
+    if !is_too_heavy(lists) {
+        return None;
+    }
+    let records = lists.records();
+    let access = lists.access();
+    let place = place_of_oldest(records, access)?;
+    Some(place)
 }

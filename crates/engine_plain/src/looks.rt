@@ -68,3 +68,12 @@ pub fn has_reads<K: Eq, V, S, R: Rules<K, V>>(lists: &Lists<K, V, S, R>) -> bool
     let reads = lists.reads();
     !reads.is_empty()
 }
+
+/// Whether there is a predicate.
+pub fn has_predicates<K: Eq, V, S, R: Rules<K, V>>(lists: &Lists<K, V, S, R>) -> bool
+    ensures some { result ≡ true → 0 < length lists.now.predicates }
+    ensures none { result ≡ false → lists.now.predicates ≡ [] }
+{
+    let predicates = lists.predicates();
+    !predicates.is_empty()
+}

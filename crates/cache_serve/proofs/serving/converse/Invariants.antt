@@ -1,5 +1,7 @@
 use Rattle.std.proofs.Common.{◌≤◌}
-use Rattle.cache_devices.specs.Watched.{failures}
+use Rattle.cache_devices.specs.Watched.{device, failures}
+use Rattle.cache_serve.specs.Written.{Answers}
+use Rattle.cache_shared.specs.Untaken.{WereUntaken}
 use Rattle.cache_serve.proofs.serving.converse.Given as goal
 
 abbrev pub invariant-loop-turn : goal.invariant-loop-turn
@@ -7,4 +9,5 @@ invariant-loop-turn g l = record {
   count : l.fn.seat.count ≤ l.seat.count;
   reads : failures l.fn.reader ≤ failures l.reader;
   writes : failures l.fn.writer ≤ failures l.writer;
+  wrote : Answers (λ text. ∥ WereUntaken g.C.Core.service g.C.Core.events g.C.Takings.untaken l.conn text ∥₁) l.fn.seat.count l.seat.count (g.O.Write.contents (device l.fn.writer)) (g.O.Write.contents (device l.writer));
 }

@@ -1,0 +1,20 @@
+use Rattle.std.proofs.Common.{refl, arith}
+use Rattle.cache_serve.proofs.Writing.{answers-more, answers-none, breaks-more}
+use Rattle.cache_serve.proofs.serving.converse.Goals as goal
+
+pub loop-turn-init : goal.loop-turn-init
+loop-turn-init g c = record { count = omega arith; reads = omega arith; writes = omega arith; wrote = answers-none _ _ _ _ refl }
+
+pub loop-turn-preserved : goal.loop-turn-preserved
+loop-turn-preserved g c = record {
+  count = let before = c.loop-turn.invariant.count in let after = c.take_turn.ensures.count in omega arith;
+  reads = let before = c.loop-turn.invariant.reads in let after = c.take_turn.ensures.reads in omega arith;
+  writes = let before = c.loop-turn.invariant.writes in let after = c.take_turn.ensures.writes in omega arith;
+  wrote = answers-more _ _ _ _ _ _ _ c.loop-turn.invariant.wrote c.in-Ok-More.ensures.ok;
+}
+
+pub returns-in-Ok-Over-clause-ok : goal.returns-in-Ok-Over-clause-ok
+returns-in-Ok-Over-clause-ok g c = answers-more _ _ _ _ _ _ _ c.loop-turn.invariant.wrote c.in-Ok-Over.ensures.ok
+
+pub returns-in-Err-clause-err : goal.returns-in-Err-clause-err
+returns-in-Err-clause-err g c = breaks-more _ _ _ _ _ _ _ c.loop-turn.invariant.wrote c.in-Err.ensures.err

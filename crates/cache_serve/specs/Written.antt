@@ -1,0 +1,41 @@
+-- What a connection of a shared service is written.
+use Rattle.std.specs.Prelude.{◌≡◌, ℕ, ◌+◌, ◌≤◌, List, [], ◌∷◌, length, Option}
+use Rattle.std.specs.List.{concat}
+use Rattle.audit_model.specs.declared.input.Conn.{Conn}
+use Rattle.cache_devices.specs.Sent.{SentBut}
+use Rattle.cache_shared.specs.Untaken.{WereUntaken}
+use Rattle.cache_spaces.specs.declared.service.Service.{Service}
+
+-- each of the texts is so
+abbrev pub AllAre : (List ℕ → Type 0) → List (List ℕ) → Type 0
+AllAre IsTaken [] = Unit {0}
+AllAre IsTaken (text ∷ texts) = IsTaken text × AllAre IsTaken texts
+
+-- so many texts were taken, and written one behind the other, but for the rest
+pub record Writes (IsTaken : List ℕ → Type 0) (count : ℕ) (before after : Option (List ℕ)) (rest : List ℕ) : Type 0 where
+  pub texts : List (List ℕ)
+  pub number : length texts ≡ count
+  pub taken : AllAre IsTaken texts
+  pub sent : SentBut rest (concat texts) before after
+
+-- for each input that was taken a text was written whole
+pub record Answers (IsTaken : List ℕ → Type 0) (inputs later : ℕ) (before after : Option (List ℕ)) : Type 0 where
+  pub count : ℕ
+  pub counted : later ≡ inputs + count
+  pub writes : Writes IsTaken count before after []
+
+-- so it was for all inputs but the last one; the last text may be cut
+pub record Breaks (IsTaken : List ℕ → Type 0) (inputs later : ℕ) (before after : Option (List ℕ)) : Type 0 where
+  pub count : ℕ
+  pub rest : List ℕ
+  pub counted : later ≤ inputs + count + 1
+  pub writes : Writes IsTaken count before after rest
+
+module _ {C : Type 0} (service : C → Service) (events : C → ℕ) (untaken : C → Conn → List ℕ) where
+  -- The texts are the replies of one connection, each taken from a service to which some journals that obey lead. They are as many as the
+  -- inputs that the seat counts, but for those that open and close the connection, and one that was not answered.
+  pub record Serves (inputs later : ℕ) (before after : Option (List ℕ)) (rest : List ℕ) : Type 0 where
+    pub conn : Conn
+    pub count : ℕ
+    pub counted : later ≤ inputs + count + 3
+    pub writes : Writes (λ text. ∥ WereUntaken service events untaken conn text ∥₁) count before after rest

@@ -1,0 +1,26 @@
+use Rattle.std.proofs.Common.{◌++◌, [], map, subst}
+use Rattle.audit_model.specs.Changes.{all_held_after}
+use Rattle.audit_model.specs.Steps.{RunLines}
+use Rattle.audit_model.specs.declared.config.Config.{Config}
+use Rattle.cache_store.specs.Promises.{no_deed}
+use Rattle.cache_namespace.specs.Drawing.{identifiers}
+use Rattle.cache_namespace.specs.Making.{making_of}
+use Rattle.cache_namespace.specs.Waiting.{under_way}
+use Rattle.cache_settling.specs.Told.{when_idle}
+use Rattle.cache_settling.proofs.Outcomes.{hands-out, stands-idle}
+use Rattle.cache_settling.proofs.answering.hand_out.Goals as goal
+
+pub returns-clause-out : goal.returns-clause-out
+returns-clause-out g c = λ values m.
+    let was = c.args.store.now in
+    let is = c.resume_all.new.store in
+    let config = c.args.config.now in
+    let making = making_of (g.S.Store.frame was) in
+    let ns = c.args.waiting.now in
+    let l = under_way c.args.loads.now in
+    let drawn = identifiers (g.S.Store.stream was) (g.S.Store.registered was) in
+    let t = c.tell_all.ensures.told making c.args.now l (g.S.Store.frame was).dropped values (map RunLines ns ++ []) drawn in
+    let stays = stands-idle config c.args.now (g.S.Store.stands was) values t.count
+    (λ held stands. subst (λ (k : Config). g.S.Store.stands was (all_held_after k c.args.now held no_deed [])) c.requires.config (g.met.S.Store.idle was held c.args.now stands)) m in
+    hands-out config making c.args.outcome.now c.args.now values ns (g.S.Store.stands is) l (under_way c.resume_all.new.loads) (g.S.Store.frame was).dropped (g.S.Store.frame is).dropped drawn (identifiers (g.S.Store.stream is) (g.S.Store.registered is))
+    c.args.connections.now.items c.tell_all.new.connections.items c.resume_all.new.connections.items (g.S.Store.untaken was) (g.S.Store.untaken is) t c.tell_all.ensures.texts (c.resume_all.ensures.ran (when_idle config c.args.now t.count values) stays)

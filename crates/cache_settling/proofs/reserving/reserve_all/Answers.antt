@@ -1,0 +1,20 @@
+use Rattle.std.proofs.Common.{sym, subst, take, get_or}
+use Rattle.cache_settling.specs.Told.{HaveRoom}
+use Rattle.cache_settling.proofs.Chain.{front-more}
+use Rattle.cache_settling.proofs.Rooms.{room-more, same-on}
+use Rattle.cache_settling.proofs.reserving.reserve_all.Goals as goal
+
+pub returns-in_err-reserve_at-clause-same : goal.returns-in_err-reserve_at-clause-same
+returns-in_err-reserve_at-clause-same c = same-on c.args.connections.now.items c.loop-number.connections.items c.reserve_at.new.connections.items c.loop-number.invariant.same c.reserve_at.ensures.same
+
+pub loop-number-preserved : goal.loop-number-preserved
+loop-number-preserved c =
+    let at = c.loop-number.number-index in
+    let ns = c.args.waiting.now in
+    let mid = c.loop-number.connections.items in
+    let new = c.reserve_at.new.connections.items in
+    record {
+      same = same-on c.args.connections.now.items mid new c.loop-number.invariant.same c.reserve_at.ensures.same;
+      room = subst (HaveRoom new c.args.size) (sym (front-more ns at c.loop-number-test.true))
+          (room-more mid new c.args.size (get_or ns at 0) (take at ns) c.loop-number.invariant.room c.reserve_at.ensures.others c.in_ok-reserve_at.ensures.room);
+    }

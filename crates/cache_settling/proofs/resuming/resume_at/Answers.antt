@@ -1,0 +1,44 @@
+use Rattle.std.proofs.Common.{◌≡◌, ◌<◌, ◌-◌, suc, refl, sym, ap, ◌∙◌, arith, inl, inr, length, true, false}
+use Rattle.std.specs.Prelude.{◌⊎◌}
+use Rattle.std.specs.List.{slice_get}
+use Rattle.cache_namespace.specs.Drawing.{identifiers, workings}
+use Rattle.cache_namespace.specs.Making.{making_of}
+use Rattle.cache_namespace.specs.Shown.{situation}
+use Rattle.cache_namespace.specs.Waiting.{under_way}
+use Rattle.cache_settling.specs.Resumed.{runs_at}
+use Rattle.cache_settling.proofs.Resumes.{none-here, none-there, runs-here, runs-none, runs-resumed, there-at}
+use Rattle.cache_settling.proofs.resuming.resume_at.Goals as goal
+use Rattle.cache_settling.proofs.resuming.resume_at.Goals.{then-number-eq0-via-then-number-eq0, then-number-eq0-via-else-number-eq0+then-number-len}
+
+pub returns-then-number-eq0-clause-ran : goal.returns-then-number-eq0-clause-ran
+returns-then-number-eq0-clause-ran g c = λ values m.
+    let cs = c.args.connections.now.items in
+    let away : (c.args.number ≡ 0) ⊎ (length cs < c.args.number) = elim c.then-number-eq0.branch [ then-number-eq0-via-then-number-eq0 w ↦ inl w.if-number-eq0.true | then-number-eq0-via-else-number-eq0+then-number-len w ↦ inr (omega (arith, w.if-number-len.true, w.len.ensures)) ] in
+    runs-none c.args.config.now (making_of (g.S.Store.frame c.args.store.now)) c.args.now c.args.number (under_way c.args.loads.now) cs (g.S.Store.frame c.args.store.now).dropped values (g.S.Store.stands c.args.store.now) (identifiers (g.S.Store.stream c.args.store.now) (g.S.Store.registered c.args.store.now)) (g.S.Store.untaken c.args.store.now)
+    (none-there cs c.args.number away) m
+
+pub returns-then-not-runs_there-clause-ran : goal.returns-then-not-runs_there-clause-ran
+returns-then-not-runs_there-clause-ran g c = λ values m.
+    let cs = c.args.connections.now.items in
+    let e : c.args.number ≡ suc (c.args.number - 1) = omega (arith, c.if-number-eq0.false) in
+    let none : runs_at (slice_get cs (c.args.number - 1)) ≡ false = sym (c.runs_there.ensures ∙ ap (λ ks. runs_at (slice_get ks (c.args.number - 1))) c.deref.ensures.value) ∙ c.if-not-runs_there.true in
+    runs-none c.args.config.now (making_of (g.S.Store.frame c.args.store.now)) c.args.now c.args.number (under_way c.args.loads.now) cs (g.S.Store.frame c.args.store.now).dropped values (g.S.Store.stands c.args.store.now) (identifiers (g.S.Store.stream c.args.store.now) (g.S.Store.registered c.args.store.now)) (g.S.Store.untaken c.args.store.now)
+    (none-here cs c.args.number (c.args.number - 1) e none) m
+
+pub returns-clause-ran : goal.returns-clause-ran
+returns-clause-ran g c = λ values m.
+    let cs = c.args.connections.now.items in
+    let after = c.resume_there-closed.new.connections.items in
+    let was = c.args.store.now in
+    let is = c.resume_there-closed.new.store in
+    let l = under_way c.args.loads.now in
+    let dropped = (g.S.Store.frame was).dropped in
+    let e : c.args.number ≡ suc (c.args.number - 1) = omega (arith, c.if-number-eq0.false) in
+    let runs : runs_at (slice_get cs (c.args.number - 1)) ≡ true = sym (c.runs_there.ensures ∙ ap (λ ks. runs_at (slice_get ks (c.args.number - 1))) c.deref.ensures.value) ∙ c.if-not-runs_there.false in
+    let p = c.resume_there-closed.ensures.ran.0 in
+    let so = runs-here cs (c.args.number - 1) p.was p.at runs in
+    let there = there-at c.args.now c.args.number (c.args.number - 1) l cs dropped values p.was e p.at so.1 in
+    let f = c.resume_there-closed.ensures.ran.2 (situation c.args.now l cs dropped values) values refl refl refl there m in
+    runs-resumed c.args.config.now (making_of (g.S.Store.frame was)) c.args.now c.args.number (c.args.number - 1) l (under_way c.resume_there-closed.new.loads) (under_way c.leave_where.new.loads) cs after dropped (g.S.Store.frame is).dropped c.resume_there-closed.result f.0 values (g.S.Store.stands is)
+    (workings (g.S.Store.stream was) (g.S.Store.registered was) (g.S.Store.recency was)) (workings (g.S.Store.stream is) (g.S.Store.registered is) (g.S.Store.recency is)) (g.S.Store.untaken was) (g.S.Store.untaken is)
+    e p runs c.resume_there-closed.ensures.ran.1 c.leave_where.ensures f.1

@@ -1,0 +1,40 @@
+-- What an answer does to a namespace.
+use Rattle.std.specs.Prelude.{◌≡◌, ℕ, Bool, true, false, List, [], ◌++◌, map}
+use Rattle.std.specs.List.{flat_map}
+use Rattle.audit_model.specs.Belongs.{Known}
+use Rattle.audit_model.specs.Follows.{known_in}
+use Rattle.audit_model.specs.Situation.{HeldValue}
+use Rattle.audit_model.specs.Steps.{Deliver, RunLines}
+use Rattle.audit_model.specs.declared.config.Config.{Config}
+use Rattle.audit_model.specs.declared.event.Event.{Event}
+use Rattle.audit_model.specs.declared.event.Event.TheVariants as event
+use Rattle.audit_model.specs.declared.event.Outcome.{Outcome}
+use Rattle.audit_model.specs.declared.transcript.Note.{Note}
+use Rattle.audit_model.specs.declared.transcript.Step.{Step}
+use Rattle.cache_namespace.specs.Drawing.{Identifiers}
+use Rattle.cache_namespace.specs.Making.{Making}
+use Rattle.cache_namespace.specs.Shown.{situation}
+use Rattle.cache_namespace.specs.Waiting.{UnderWay}
+use Rattle.cache_namespace.specs.declared.connection.Connection.{Connection}
+use Rattle.cache_settling.specs.Leads.{Leads}
+use Rattle.cache_settling.specs.Told.{WritesTo}
+
+-- Those that waited were handed the outcome in order, and then their lines ran in the same order; replies and notes were gathered.
+pub record HandsOut (config : Config) (making : Making) (outcome : Outcome) (latest : ℕ) (values : List HeldValue) (waiting : List ℕ) (Stands : List HeldValue → Type 0) (was_under is_under : UnderWay) (dropped dropping : Bool) (drawn drawing : Identifiers) (old new : List Connection) (told telling : List Note) : Type 0 where
+  pub steps : List Step
+  pub held : List HeldValue
+  pub stands : Stands held
+  pub leads : Leads config making (situation latest was_under old dropped values) (map (λ conn. Deliver conn outcome) waiting ++ map RunLines waiting) steps (situation latest is_under new dropping held) [] drawn drawing
+  pub texts : WritesTo true steps old new
+  pub notes : telling ≡ told ++ flat_map (λ step. step.notices) steps
+
+-- an answer, and a give-up
+abbrev pub answering : ℕ → Outcome → ℕ → Event
+answering load outcome moment = event.Answer load outcome (record { nanos = moment })
+
+abbrev pub giving_up : ℕ → ℕ → Event
+giving_up load moment = event.GiveUp load (record { nanos = moment })
+
+-- what is known of those loads under way
+abbrev pub knows_loads : UnderWay → Known
+knows_loads loads = known_in (situation 0 loads [] false [])

@@ -1,0 +1,44 @@
+//! Answering a load: its outcome is handed out, and then lines run.
+ghost use Rattle.std.specs.Prelude.{◌≡◌, ◌<◌, ◌≤◌, ◌^◌, [], false, List, length};
+ghost use Rattle.audit_model.specs.Replies.{outcome_text};
+ghost use Rattle.audit_model.specs.Situation.{HeldValue};
+ghost use Rattle.cache_steps.specs.Right.{KeepsFrame};
+ghost use Rattle.cache_namespace.specs.Drawing.{identifiers};
+ghost use Rattle.cache_namespace.specs.Making.{making_of};
+ghost use Rattle.cache_namespace.specs.Shown.{situation};
+ghost use Rattle.cache_namespace.specs.Waiting.{no_loads, under_way};
+ghost use Rattle.load_laws.specs.Tidy.{Tidy};
+ghost use Rattle.cache_settling.specs.Answered.{HandsOut};
+ghost use Rattle.cache_settling.specs.Told.{HaveRoom};
+
+use crate::resuming::resume_all;
+use crate::telling::tell_all;
+use audit_model::{Config, Outcome};
+use cache_loads::Loads;
+use cache_namespace::Connection;
+use cache_store::Store;
+use std::alloc::Global;
+
+/// Hands the outcome to the connections that wait for it, in order, and then runs each one's lines in the same order; no record is made.
+pub fn hand_out<S: Store>(
+    store: &mut S,
+    alloc: Global,
+    config: &Config,
+    now: u64,
+    loads: &mut Loads,
+    connections: &mut Vec<Connection>,
+    waiting: &[u64],
+    outcome: &Outcome,
+)
+    requires config { (S.frame store.old).config ≡ config.now }
+    requires in_time { (S.frame store.old).latest ≤ now }
+    requires moment { now < 2 ^ 63 }
+    requires tidy { Tidy waiting.now (situation 0 no_loads connections.old.items false []) }
+    requires room { HaveRoom connections.old.items (length (outcome_text outcome.now)) waiting.now }
+    ensures out { (values : List HeldValue) → S.stands store.old values → HandsOut config.now (making_of (S.frame store.old)) outcome.now now values waiting.now (S.stands store.new) (under_way loads.old) (under_way loads.new) (S.frame store.old).dropped (S.frame store.new).dropped (identifiers (S.stream store.old) (S.registered store.old)) (identifiers (S.stream store.new) (S.registered store.new)) connections.old.items connections.new.items (S.untaken store.old) (S.untaken store.new) }
+    ensures frame { KeepsFrame (S.frame store.old) (S.frame store.new) now }
+    ensures count { length connections.new.items ≡ length connections.old.items }
+{
+    tell_all(config, connections, waiting, outcome, true);
+    resume_all(store, alloc, config, now, loads, connections, waiting);
+}

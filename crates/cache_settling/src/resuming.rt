@@ -1,0 +1,195 @@
+//! Running the lines of connections that were told of their load.
+ghost use Rattle.std.specs.Prelude.{◌≡◌, ◌<◌, ◌≤◌, ◌^◌, ◌∷◌, [], None, Some, List, ℕ, Bool, true, length, not, is_some};
+ghost use Rattle.std.specs.List.{slice_get};
+ghost use Rattle.audit_model.specs.Situation.{Situation, HeldValue};
+ghost use Rattle.cache_steps.specs.Right.{KeepsFrame};
+ghost use Rattle.cache_namespace.specs.Drawing.{identifiers, workings};
+ghost use Rattle.cache_namespace.specs.Kept.{gathered};
+ghost use Rattle.cache_namespace.specs.Lines.{IsThere};
+ghost use Rattle.cache_namespace.specs.Making.{making_of};
+ghost use Rattle.cache_namespace.specs.Taken.{FeedsConnection, ReplacedAt};
+ghost use Rattle.cache_namespace.specs.Waiting.{loads_in, under_way, when_left};
+ghost use Rattle.cache_namespace.specs.declared.standing.Standing.TheVariants as stands;
+ghost use Rattle.cache_settling.specs.Resumed.{RunsThem, runs_at};
+
+use audit_model::{Closing, Config};
+use cache_loads::Loads;
+use cache_namespace::{Connection, End, Kept, Standing, close_where_behind, run_ready};
+use cache_store::Store;
+use std::alloc::Global;
+
+/// Runs the lines of an open connection that runs lines, and answers whether it closed; no record is made.
+fn resume<S: Store>(
+    store: &mut S,
+    alloc: Global,
+    config: &Config,
+    now: u64,
+    number: u64,
+    loads: &mut Loads,
+    connection: &mut Connection,
+) -> bool
+    requires config { (S.frame store.old).config ≡ config.now }
+    requires in_time { (S.frame store.old).latest ≤ now }
+    requires moment { now < 2 ^ 63 }
+    requires ready { connection.old.standing ≡ stands.Ready }
+    requires open { connection.old.closing ≡ None }
+    ensures ran { (base : Situation) (values : List HeldValue) → base.latest ≡ now → base.dropped ≡ (S.frame store.old).dropped → loads_in base ≡ under_way loads.old → IsThere number base → S.stands store.old values → (is_held : Bool) × FeedsConnection config.now base number (making_of (S.frame store.old)) values connection.old [] connection.new is_held (S.stands store.new) (S.frame store.new).dropped (under_way loads.new) (workings (S.stream store.old) (S.registered store.old) (S.recency store.old)) (workings (S.stream store.new) (S.registered store.new) (S.recency store.new)) (gathered connection.old.output.items None (S.untaken store.old)) (gathered connection.new.output.items None (S.untaken store.new)) }
+    ensures frame { KeepsFrame (S.frame store.old) (S.frame store.new) now }
+    ensures closes { result ≡ is_some connection.new.closing }
+{
+    let mut kept: Option<Kept> = None;
+    match run_ready(
+        store,
+        alloc,
+        config,
+        now,
+        number,
+        loads,
+        &mut connection.unread,
+        &mut connection.output,
+        &mut connection.spare,
+        &[],
+        &mut kept,
+    ) {
+        End::More => {
+            connection.standing = Standing::Ready;
+            connection.waited = 0;
+            false
+        }
+        End::TooLong => {
+            connection.standing = Standing::Ready;
+            connection.waited = 0;
+            connection.closing = Some(Closing::Long);
+            connection.unread.clear();
+            true
+        }
+        End::Quit => {
+            connection.standing = Standing::Ready;
+            connection.waited = 0;
+            connection.closing = Some(Closing::Quit);
+            connection.unread.clear();
+            true
+        }
+        End::Held => {
+            connection.standing = Standing::Held;
+            connection.waited = 0;
+            false
+        }
+        End::Waits(times) => {
+            if close_where_behind(&mut connection.unread, &mut connection.closing) {
+                connection.standing = Standing::Ready;
+                connection.waited = 0;
+                true
+            } else {
+                connection.standing = Standing::Waiting;
+                connection.waited = times;
+                false
+            }
+        }
+    }
+}
+
+/// Whether the connection is open and runs lines.
+fn runs(connection: &Connection) -> bool
+    ensures { result ≡ runs_at (Some connection.now) }
+{
+    match connection.closing {
+        Some(_) => false,
+        None => match connection.standing {
+            Standing::Ready => true,
+            Standing::Held => false,
+            Standing::Waiting => false,
+        },
+    }
+}
+
+/// Whether the connection at a place is open and runs lines.
+fn runs_there(connections: &[Connection], index: usize) -> bool
+    requires { index < length connections.now }
+    ensures { result ≡ runs_at (slice_get connections.now index) }
+{
+    let connection = &connections[index];
+    runs(connection)
+}
+
+/// Runs the lines of the connection at a place, and answers whether it closed.
+fn resume_there<S: Store>(
+    store: &mut S,
+    alloc: Global,
+    config: &Config,
+    now: u64,
+    number: u64,
+    loads: &mut Loads,
+    connections: &mut Vec<Connection>,
+    index: usize,
+) -> bool
+    requires config { (S.frame store.old).config ≡ config.now }
+    requires in_time { (S.frame store.old).latest ≤ now }
+    requires moment { now < 2 ^ 63 }
+    requires inside { index < length connections.old.items }
+    requires runs { runs_at (slice_get connections.old.items index) ≡ true }
+    ensures ran { (p : ReplacedAt connections.old.items connections.new.items index) × (result ≡ is_some p.is.closing) × ((base : Situation) (values : List HeldValue) → base.latest ≡ now → base.dropped ≡ (S.frame store.old).dropped → loads_in base ≡ under_way loads.old → IsThere number base → S.stands store.old values → (is_held : Bool) × FeedsConnection config.now base number (making_of (S.frame store.old)) values p.was [] p.is is_held (S.stands store.new) (S.frame store.new).dropped (under_way loads.new) (workings (S.stream store.old) (S.registered store.old) (S.recency store.old)) (workings (S.stream store.new) (S.registered store.new) (S.recency store.new)) (gathered p.was.output.items None (S.untaken store.old)) (gathered p.is.output.items None (S.untaken store.new))) }
+    ensures frame { KeepsFrame (S.frame store.old) (S.frame store.new) now }
+{
+    let connection = &mut connections[index];
+    resume(store, alloc, config, now, number, loads, connection)
+}
+
+/// Takes a connection that closed out of those that wait.
+fn leave_where(loads: &mut Loads, number: u64, closed: bool)
+    ensures { under_way loads.new ≡ when_left (not closed) number (under_way loads.old) }
+{
+    if closed {
+        loads.leave(number);
+    }
+}
+
+/// Runs the lines of a connection, where it is open and runs lines; no record is made.
+fn resume_at<S: Store>(
+    store: &mut S,
+    alloc: Global,
+    config: &Config,
+    now: u64,
+    number: u64,
+    loads: &mut Loads,
+    connections: &mut Vec<Connection>,
+)
+    requires config { (S.frame store.old).config ≡ config.now }
+    requires in_time { (S.frame store.old).latest ≤ now }
+    requires moment { now < 2 ^ 63 }
+    ensures ran { (values : List HeldValue) → S.stands store.old values → RunsThem config.now (making_of (S.frame store.old)) now values (number ∷ []) [] (S.stands store.new) (under_way loads.old) (under_way loads.new) (S.frame store.old).dropped (S.frame store.new).dropped (identifiers (S.stream store.old) (S.registered store.old)) (identifiers (S.stream store.new) (S.registered store.new)) connections.old.items connections.new.items (S.untaken store.old) (S.untaken store.new) }
+    ensures frame { KeepsFrame (S.frame store.old) (S.frame store.new) now }
+    ensures count { length connections.new.items ≡ length connections.old.items }
+{
+    if number == 0 || number > connections.len() as u64 {
+        return;
+    }
+    let index = (number - 1) as usize;
+    if !runs_there(connections, index) {
+        return;
+    }
+    let closed = resume_there(store, alloc, config, now, number, loads, connections, index);
+    leave_where(loads, number, closed);
+}
+
+/// Runs the lines of those connections, one after another, as far as they are open and run lines; no record is made.
+pub fn resume_all<S: Store>(
+    store: &mut S,
+    alloc: Global,
+    config: &Config,
+    now: u64,
+    loads: &mut Loads,
+    connections: &mut Vec<Connection>,
+    told: &[u64],
+)
+    requires config { (S.frame store.old).config ≡ config.now }
+    requires in_time { (S.frame store.old).latest ≤ now }
+    requires moment { now < 2 ^ 63 }
+    ensures ran { (values : List HeldValue) → S.stands store.old values → RunsThem config.now (making_of (S.frame store.old)) now values told.now [] (S.stands store.new) (under_way loads.old) (under_way loads.new) (S.frame store.old).dropped (S.frame store.new).dropped (identifiers (S.stream store.old) (S.registered store.old)) (identifiers (S.stream store.new) (S.registered store.new)) connections.old.items connections.new.items (S.untaken store.old) (S.untaken store.new) }
+    ensures frame { KeepsFrame (S.frame store.old) (S.frame store.new) now }
+    ensures count { length connections.new.items ≡ length connections.old.items }
+{
+    for number in told {
+        resume_at(store, alloc, config, now, *number, loads, connections);
+    }
+}

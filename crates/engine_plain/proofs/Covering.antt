@@ -1,0 +1,68 @@
+-- Where no record is due, no predicate covers any that is held.
+use Rattle.std.proofs.Common.{◌≡◌, refl, ap, sym, ◌∙◌, ℕ, Bool, true, false, not, ◌&&◌, ◌||◌, List, [], ◌∷◌, drop}
+use Rattle.std.specs.Prelude.{remove, nat_lt}
+use Rattle.std.specs.List.{list_any}
+use Rattle.engine_reference.specs.declared.data.Record.{Record}
+use Rattle.engine_reference.specs.declared.data.Registered.{Registered}
+use Rattle.engine_reference.specs.Runs.{covers_none}
+use Rattle.engine_reference.specs.State.{State, Answers}
+use Rattle.engine_reference.specs.Times.{has_come}
+use Rattle.engine_reference.specs.Visible.{is_covered_by}
+use Rattle.engine_plain.specs.Chains.{is_due, none_due}
+use Rattle.engine_plain.proofs.Places.{and_left, and_right}
+
+both : (a b : Bool) → a ≡ true → b ≡ true → (a && b) ≡ true
+both a b e f = ap (λ x. x && b) e ∙ f
+
+-- the first of several reasons, and the others
+uncovered : (held dead cleared first others : Bool) → not (held && (dead || (cleared || (first || others)))) ≡ true → not (held && first) ≡ true
+uncovered false dead cleared first others h = refl
+uncovered true true cleared first others h = absurd (cc)
+uncovered true false true first others h = absurd (cc)
+uncovered true false false true others h = absurd (cc)
+uncovered true false false false others h = refl
+
+still_not : (held dead cleared first others : Bool) → not (held && (dead || (cleared || (first || others)))) ≡ true → not (held && (dead || (cleared || others))) ≡ true
+still_not false dead cleared first others h = refl
+still_not true true cleared first others h = absurd (cc)
+still_not true false true first others h = absurd (cc)
+still_not true false false true others h = absurd (cc)
+still_not true false false false others h = h
+
+module _ {K V P S R : Type 0} (answers : Answers K V P R) (now : ℕ) (s : State K V P S R) where
+  abbrev due_with : List (Registered P) → Record K V → Bool
+  due_with ps r = r.is_held && (has_come s.settings now r.entry || (nat_lt r.entry.step s.cleared || list_any (λ p. is_covered_by answers s.rules p r.entry) ps))
+
+  abbrev none_with : List (Registered P) → List (Record K V) → Bool
+  none_with ps [] = true
+  none_with ps (r ∷ rs) = not (due_with ps r) && none_with ps rs
+
+  none_as : (rs : List (Record K V)) → none_due answers s now rs ≡ none_with s.predicates rs
+  none_as [] = refl
+  none_as (r ∷ rs) = ap (λ b. not (is_due answers s now r) && b) (none_as rs)
+
+  covered_none : (p : Registered P) (ps : List (Registered P)) (rs : List (Record K V)) → none_with (p ∷ ps) rs ≡ true → covers_none answers s.rules p rs ≡ true
+  covered_none p ps [] h = refl
+  covered_none p ps (r ∷ rs) h =
+      let any = list_any (λ q. is_covered_by answers s.rules q r.entry) ps in
+      both (not (r.is_held && is_covered_by answers s.rules p r.entry)) (covers_none answers s.rules p rs)
+      (uncovered r.is_held (has_come s.settings now r.entry) (nat_lt r.entry.step s.cleared) (is_covered_by answers s.rules p r.entry) any (and_left (not (due_with (p ∷ ps) r)) (none_with (p ∷ ps) rs) h))
+      (covered_none p ps rs (and_right (not (due_with (p ∷ ps) r)) (none_with (p ∷ ps) rs) h))
+
+  fewer_none : (p : Registered P) (ps : List (Registered P)) (rs : List (Record K V)) → none_with (p ∷ ps) rs ≡ true → none_with ps rs ≡ true
+  fewer_none p ps [] h = refl
+  fewer_none p ps (r ∷ rs) h =
+      let any = list_any (λ q. is_covered_by answers s.rules q r.entry) ps in
+      both (not (due_with ps r)) (none_with ps rs)
+      (still_not r.is_held (has_come s.settings now r.entry) (nat_lt r.entry.step s.cleared) (is_covered_by answers s.rules p r.entry) any (and_left (not (due_with (p ∷ ps) r)) (none_with (p ∷ ps) rs) h))
+      (fewer_none p ps rs (and_right (not (due_with (p ∷ ps) r)) (none_with (p ∷ ps) rs) h))
+
+  pub first_covers_none : (p : Registered P) → s.predicates ≡ p ∷ drop 1 s.predicates → none_due answers s now s.records ≡ true → covers_none answers s.rules p s.records ≡ true
+  first_covers_none p e h = covered_none p (drop 1 s.predicates) s.records (sym (ap (λ ps. none_with ps s.records) e) ∙ sym (none_as s.records) ∙ h)
+
+module _ {K V P S R : Type 0} (answers : Answers K V P R) (now : ℕ) (s : State K V P S R) where
+  pub none_due-fewer : (p : Registered P) → s.predicates ≡ p ∷ drop 1 s.predicates → none_due answers s now s.records ≡ true
+      → none_due answers (record s { predicates = remove s.predicates 0 }) now s.records ≡ true
+  none_due-fewer p e h =
+      none_as answers now (record s { predicates = remove s.predicates 0 }) s.records
+      ∙ fewer_none answers now s p (drop 1 s.predicates) s.records (sym (ap (λ ps. none_with answers now s ps s.records) e) ∙ sym (none_as answers now s s.records) ∙ h)

@@ -1,0 +1,12 @@
+use Rattle.engine_lists.specs.Asking.{answers_of}
+use Rattle.engine_plain.proofs.Steps.{chain_start, chain_more}
+use Rattle.engine_plain.proofs.cache.BaseCache.sweep.Goals as goal
+
+pub loop-place-init : goal.loop-place-init
+loop-place-init g c = record { chain = chain_start (answers_of g.R.Rules.weight_of g.R.Rules.created g.R.Rules.read g.R.Rules.updated g.R.Rules.covers) c.args.now c.args.self.now; applied = c.requires }
+
+pub loop-place-preserved : goal.loop-place-preserved
+loop-place-preserved g c = record {
+  chain = chain_more (answers_of g.R.Rules.weight_of g.R.Rules.created g.R.Rules.read g.R.Rules.updated g.R.Rules.covers) c.args.now c.args.self.now _ _ c.loop-place.invariant.chain c.leave_due.ensures.step;
+  applied = c.leave_due.ensures.applied;
+}

@@ -1,0 +1,11 @@
+use Rattle.std.proofs.Common.{length}
+use Rattle.engine_lists.specs.Asking.{answers_of}
+use Rattle.engine_reference.specs.Runs.{IsApplied}
+use Rattle.engine_plain.specs.Chains.{Chain}
+use Rattle.engine_plain.proofs.cache.BaseCache.sweep.Given as goal
+
+abbrev pub invariant-loop-place : goal.invariant-loop-place
+invariant-loop-place g l = record { chain : Chain (answers_of g.R.Rules.weight_of g.R.Rules.created g.R.Rules.read g.R.Rules.updated g.R.Rules.covers) l.now l.fn.self l.self; applied : IsApplied l.self }
+
+abbrev pub decreases-loop-place : goal.decreases-loop-place
+decreases-loop-place g l = length l.self.records
