@@ -2,6 +2,7 @@ pub mod Chain
 pub mod Leading
 pub mod Outcomes
 pub mod Placed
+pub mod Stored
 pub mod Turns
 pub mod Resumes
 pub mod Rooms

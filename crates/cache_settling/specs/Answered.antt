@@ -1,6 +1,7 @@
 -- What an answer does to a namespace.
-use Rattle.std.specs.Prelude.{◌≡◌, ℕ, Bool, true, false, List, [], ◌++◌, map}
-use Rattle.std.specs.List.{flat_map}
+use Rattle.std.specs.Prelude.{◌≡◌, ℕ, Bool, true, false, not, ◌==◌, List, [], ◌++◌, map}
+use Rattle.std.specs.List.{filter, flat_map}
+use Rattle.std.specs.Option.{option_map_or}
 use Rattle.audit_model.specs.Belongs.{Known}
 use Rattle.audit_model.specs.Follows.{known_in}
 use Rattle.audit_model.specs.Situation.{HeldValue}
@@ -11,6 +12,7 @@ use Rattle.audit_model.specs.declared.event.Event.TheVariants as event
 use Rattle.audit_model.specs.declared.event.Outcome.{Outcome}
 use Rattle.audit_model.specs.declared.transcript.Note.{Note}
 use Rattle.audit_model.specs.declared.transcript.Step.{Step}
+use Rattle.cache_loads.specs.Pending.{load_numbered}
 use Rattle.cache_namespace.specs.Drawing.{Identifiers}
 use Rattle.cache_namespace.specs.Making.{Making}
 use Rattle.cache_namespace.specs.Shown.{situation}
@@ -38,3 +40,11 @@ giving_up load moment = event.GiveUp load (record { nanos = moment })
 -- what is known of those loads under way
 abbrev pub knows_loads : UnderWay → Known
 knows_loads loads = known_in (situation 0 loads [] false [])
+
+-- those that wait for that load
+abbrev pub waiting_for : ℕ → UnderWay → List ℕ
+waiting_for number loads = option_map_or (λ load. load.waiting) (load_numbered number loads.pending) []
+
+-- the loads under way, but for that one
+abbrev pub but_for : ℕ → UnderWay → UnderWay
+but_for number loads = record { sent = loads.sent; pending = filter (λ load. not (load.number == number)) loads.pending }

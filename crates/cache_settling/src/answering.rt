@@ -1,5 +1,5 @@
 //! Answering a load: its outcome is handed out, and then lines run.
-ghost use Rattle.std.specs.Prelude.{◌≡◌, ◌<◌, ◌≤◌, ◌^◌, [], false, List, length};
+ghost use Rattle.std.specs.Prelude.{◌≡◌, ◌<◌, ◌≤◌, ◌^◌, [], false, true, is_some, List, length};
 ghost use Rattle.audit_model.specs.Replies.{outcome_text};
 ghost use Rattle.audit_model.specs.Situation.{HeldValue};
 ghost use Rattle.cache_steps.specs.Right.{KeepsFrame};
@@ -8,7 +8,8 @@ ghost use Rattle.cache_namespace.specs.Making.{making_of};
 ghost use Rattle.cache_namespace.specs.Shown.{situation};
 ghost use Rattle.cache_namespace.specs.Waiting.{no_loads, under_way};
 ghost use Rattle.load_laws.specs.Tidy.{Tidy};
-ghost use Rattle.cache_settling.specs.Answered.{HandsOut};
+ghost use Rattle.cache_loads.specs.Pending.{load_numbered, pending_of};
+ghost use Rattle.cache_settling.specs.Answered.{HandsOut, but_for, waiting_for};
 ghost use Rattle.cache_settling.specs.Told.{HaveRoom};
 
 use crate::resuming::resume_all;
@@ -41,4 +42,41 @@ pub fn hand_out<S: Store>(
 {
     tell_all(config, connections, waiting, outcome, true);
     resume_all(store, alloc, config, now, loads, connections, waiting);
+}
+
+/// Takes the load out, whose answer was stored, and hands its outcome out; no record is made.
+pub fn settle_answer<S: Store>(
+    store: &mut S,
+    alloc: Global,
+    config: &Config,
+    now: u64,
+    loads: &mut Loads,
+    connections: &mut Vec<Connection>,
+    load: u64,
+    outcome: &Outcome,
+)
+    requires config { (S.frame store.old).config ≡ config.now }
+    requires in_time { (S.frame store.old).latest ≤ now }
+    requires moment { now < 2 ^ 63 }
+    requires under { is_some (load_numbered load (pending_of loads.old)) ≡ true }
+    requires tidy { Tidy (waiting_for load (under_way loads.old)) (situation 0 no_loads connections.old.items false []) }
+    requires room { HaveRoom connections.old.items (length (outcome_text outcome.now)) (waiting_for load (under_way loads.old)) }
+    ensures out { (values : List HeldValue) → S.stands store.old values → HandsOut config.now (making_of (S.frame store.old)) outcome.now now values (waiting_for load (under_way loads.old)) (S.stands store.new) (but_for load (under_way loads.old)) (under_way loads.new) (S.frame store.old).dropped (S.frame store.new).dropped (identifiers (S.stream store.old) (S.registered store.old)) (identifiers (S.stream store.new) (S.registered store.new)) connections.old.items connections.new.items (S.untaken store.old) (S.untaken store.new) }
+    ensures frame { KeepsFrame (S.frame store.old) (S.frame store.new) now }
+    ensures count { length connections.new.items ≡ length connections.old.items }
+{
+    let Some(settled) = loads.settle(load) else {
+        unreachable!();
+    };
+    let waiting = settled.waiting.as_slice();
+    hand_out(
+        store,
+        alloc,
+        config,
+        now,
+        loads,
+        connections,
+        waiting,
+        outcome,
+    );
 }

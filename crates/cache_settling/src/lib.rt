@@ -5,14 +5,16 @@ mod answering;
 mod refusing;
 mod reserving;
 mod resuming;
+mod storing;
 mod telling;
 
 ghost use Rattle.cache_settling.specs.Laws.{AbandonedLeads, AnswerSettles, AnswerTidy, AnsweredLeads, DeliveredLeads, GiveUpSettles, GiveUpTidy, HeldBackLeads, LeadsOn, LinesLead, NoLinesLead, NothingLeads, ToldWaits, WaitsAgainLeads};
 
-pub use answering::hand_out;
+pub use answering::{hand_out, settle_answer};
 pub use refusing::{refuse_answer, refuse_load};
 pub use reserving::reserve_all;
 pub use resuming::resume_all;
+pub use storing::store_answer;
 pub use telling::tell_all;
 
 /// No step leads nowhere else, and steps lead on from where others led.
