@@ -79,6 +79,9 @@ module _ (config : Config) (now : ℕ) (deed : Deed) (sized : List ℕ) (old : L
   values-done f k (suc i) [] = refl
   values-done f k (suc i) (h ∷ hs) = ap (λ v. v ∷ values_of (done f i hs)) (k h) ∙ ap (λ vs. h.value ∷ vs) (values-done f k i hs)
 
+  pub same-values : (held : List HeldValue) (i : ℕ) → held ≡ done step i old → values_of old ≡ values_of held
+  same-values held i is = sym (ap values_of is ∙ values-done step (λ x. refl) i old)
+
   pub pass-next : (held : List HeldValue) (i part : ℕ) (d e new : HeldValue) (over anew : Bool) → i < length old → held ≡ done step i old → part ≡ (get_or held i d).value.part
       → over ≡ is_over config part (values_of held) → anew ≡ (deed.syncs || is_among sized part) → new ≡ passed_on config now deed over anew (get_or held i e)
       → set held i new ≡ done step (i + 1) old

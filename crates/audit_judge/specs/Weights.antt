@@ -1,8 +1,9 @@
 -- What parts weigh.
-use Rattle.std.specs.Prelude.{ℕ, ◌==◌, List, map, if◌then◌else◌}
+use Rattle.std.specs.Prelude.{◌≡◌, ◌<◌, ℕ, ◌==◌, List, map, length, get_or, is_some, true, if◌then◌else◌}
 use Rattle.std.specs.List.{filter, sum_by}
 use Rattle.audit_model.specs.History.{Value}
 use Rattle.audit_model.specs.Situation.{HeldValue}
+use Rattle.audit_model.specs.declared.config.Config.{Config}
 
 -- the values that are held
 abbrev pub values_of : List HeldValue → List Value
@@ -15,3 +16,11 @@ weight_of_part part values = sum_by (λ v. v.weight) (filter (λ v. v.part == pa
 -- what a held value weighs in that part
 abbrev pub weight_in : ℕ → HeldValue → ℕ
 weight_in part h = if h.value.part == part then h.value.weight else 0
+
+-- each of these is what a part's values weigh
+abbrev pub WeighsEach : List ℕ → List Value → Type 0
+WeighsEach weights values = (part : ℕ) → part < length weights → get_or weights part 0 ≡ weight_of_part part values
+
+-- the same, where there is a capacity
+abbrev pub WeighsWhere : Config → List ℕ → List Value → Type 0
+WeighsWhere config weights values = is_some config.capacity ≡ true → WeighsEach weights values

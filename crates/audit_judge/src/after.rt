@@ -10,14 +10,14 @@ ghost use Rattle.audit_model.specs.declared.config.Config.{Config};
 ghost use Rattle.audit_judge.specs.After.{has_true_notes, Judges, sized_part, told_values, is_among, passed_on, passed_on_by, IsNew};
 ghost use Rattle.audit_judge.specs.Deeds.{deed_with};
 ghost use Rattle.audit_judge.specs.Scenes.{candidate_of, candidate_in, held_in, deed_in};
-ghost use Rattle.audit_judge.specs.Weights.{values_of};
+ghost use Rattle.audit_judge.specs.Weights.{values_of, WeighsWhere};
 ghost use Rattle.audit_model.specs.History.{Value};
 
 use crate::deed::{Deed, covers_key, is_this};
 use crate::held::Held;
 use crate::notes::{Candidate, Scene, are_true_notes, position_of, same_cause};
 use crate::times::is_live;
-use crate::weights::is_over;
+use crate::weights::{is_over_by, loads_of};
 use audit_model::{Config, Note, RemovalCause};
 use std::alloc::{AllocError, Global};
 
@@ -124,13 +124,21 @@ fn is_anew(deed: &Deed<'_>, sized: &[u64], part: u64) -> bool
     deed.syncs || sized.contains(&part)
 }
 
-/// Does to each value that stays what the step does to it.
-fn pass_all_on(config: &Config, now: u64, deed: &Deed<'_>, sized: &[u64], held: &mut [Held])
+/// Does to each value that stays what the step does to it, by what the parts weigh.
+fn pass_all_on(
+    config: &Config,
+    now: u64,
+    deed: &Deed<'_>,
+    sized: &[u64],
+    weights: &[u128],
+    held: &mut [Held],
+)
+    requires { WeighsWhere config.now weights.now (values_of held.old) }
     ensures { (value : Option Value) → held.new ≡ map (passed_on_by config.now now (deed_with deed.entry.now value) sized.now (values_of held.old)) held.old }
 {
     for i in 0..held.len() {
         let part = held[i].part();
-        let over = is_over(config, held, part);
+        let over = is_over_by(config, weights, held, part);
         let anew = is_anew(deed, sized, part);
         pass_on(config, now, deed, over, anew, &mut held[i]);
     }
@@ -194,7 +202,8 @@ pub fn do_deed(
         Some(sized) => {
             add(held, newcomer)?;
             forget(held, notes);
-            pass_all_on(config, now, deed, &sized, held);
+            let weights = loads_of(alloc, config, held)?;
+            pass_all_on(config, now, deed, &sized, &weights, held);
             Ok(true)
         }
         None => Ok(false),

@@ -12,4 +12,4 @@ pub use after::do_deed;
 pub use deed::{Covering, Deed};
 pub use held::Held;
 pub use times::{is_live, live};
-pub use weights::{is_over, part_count};
+pub use weights::{is_over, is_over_by, loads_of, part_count};

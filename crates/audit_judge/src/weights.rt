@@ -1,15 +1,19 @@
 //! What parts weigh.
-ghost use Rattle.std.specs.Prelude.{◌≡◌, ◌+◌, ◌-◌, ◌*◌, ◌/◌, ◌≤◌, ◌==◌, ℕ, map, length, nat_lt, Some};
+ghost use Rattle.std.specs.Prelude.{◌≡◌, ◌+◌, ◌-◌, ◌*◌, ◌/◌, ◌≤◌, ◌==◌, ◌++◌, ◌∷◌, [], ℕ, List, map, length, nat_lt, Some, IfOk, OnOk};
 ghost use Rattle.std.specs.List.{find};
 ghost use Rattle.std.specs.Option.{option_map};
 ghost use Rattle.audit_model.specs.Bytewise.{same};
 ghost use Rattle.audit_model.specs.History.{Value, part_count, share};
 ghost use Rattle.audit_model.specs.Values.{without_key};
 ghost use Rattle.audit_model.specs.Notes.{is_over, just_accepted};
-ghost use Rattle.audit_judge.specs.Weights.{weight_in, weight_of_part, values_of};
+ghost use Rattle.audit_judge.specs.Weights.{weight_in, weight_of_part, values_of, WeighsEach, WeighsWhere};
 
 use crate::held::Held;
 use audit_model::Config;
+use std::alloc::{AllocError, Global};
+
+/// There are at most so many parts.
+const PARTS: usize = 256;
 
 /// How many parts there are: the next power of two.
 pub fn part_count(config: &Config) -> u64
@@ -115,4 +119,56 @@ pub fn first_of<'a>(held: &'a [Held], key: &[u8]) -> Option<&'a Held>
     ensures { option_map (λ h. h.now) result ≡ find (λ h. same key.now h.value.key) held.now }
 {
     held.iter().find(|h| key == h.key())
+}
+
+/// What each part weighs, of those below 256.
+fn weights_of(alloc: Global, held: &[Held]) -> Result<Vec<u128>, AllocError>
+    ensures { IfOk result (λ weights. WeighsEach weights.items (values_of held.now)) }
+{
+    let mut weights = vec![in alloc; 0; PARTS]?;
+    for h in held {
+        add_weight(&mut weights, h)?;
+    }
+    Ok(weights)
+}
+
+/// Adds what a value weighs to what its part weighs.
+fn add_weight(weights: &mut Vec<u128>, held: &Held) -> Result<(), AllocError>
+    ensures { OnOk result ((values : List Value) → WeighsEach weights.old.items values → WeighsEach weights.new.items (values ++ held.now.value ∷ [])) }
+{
+    let part = held.part() as usize;
+    if part >= weights.len() {
+        return Ok(());
+    }
+    match weights[part].checked_add(u128::from(held.weight())) {
+        Some(sum) => {
+            weights[part] = sum;
+            Ok(())
+        }
+        None => Err(AllocError),
+    }
+}
+
+/// What the parts below 256 weigh, where that matters: where there is a capacity.
+pub fn loads_of(alloc: Global, config: &Config, held: &[Held]) -> Result<Vec<u128>, AllocError>
+    ensures { IfOk result (λ weights. WeighsWhere config.now weights.items (values_of held.now)) }
+{
+    match config.capacity {
+        Some(_) => weights_of(alloc, held),
+        None => Ok(Vec::new(alloc)),
+    }
+}
+
+/// Whether the values of a part weigh more than its share, by what the parts weigh.
+pub fn is_over_by(config: &Config, weights: &[u128], held: &[Held], part: u64) -> bool
+    requires { WeighsWhere config.now weights.now (values_of held.now) }
+    ensures { result ≡ is_over config.now part (values_of held.now) }
+{
+    match config.capacity {
+        Some(capacity) => match weights.get(part as usize) {
+            Some(weight) => share(config, capacity) < *weight,
+            None => is_over(config, held, part),
+        },
+        None => false,
+    }
 }

@@ -11,7 +11,7 @@ ghost use Rattle.audit_model.specs.Situation.{connection_in, view_in};
 ghost use Rattle.audit_model.specs.Steps.{Task, RunHeld, has_right_notes};
 ghost use Rattle.audit_model.specs.View.{View};
 ghost use Rattle.audit_judge.specs.After.{IsNew};
-ghost use Rattle.audit_judge.specs.Weights.{values_of};
+ghost use Rattle.audit_judge.specs.Weights.{values_of, WeighsWhere};
 ghost use Rattle.audit_situation.specs.States.{situation_of, are_apart};
 ghost use Rattle.audit_steps.specs.Doings.{action_of, acting};
 ghost use Rattle.audit_steps.specs.Judging.{placed_by, placed_with, is_fit, is_synced, reply_fits, IsJudged};
@@ -22,7 +22,7 @@ use crate::doing::{Doing, deed_of, is_drop, is_hold, is_silent, is_sync, key_loa
 use crate::owing::{loads_rightly, replies_rightly};
 use crate::replies::{counts_of, is_said};
 use crate::shown::{Duty, Shown, do_due, is_duty_of, is_held_rightly, is_run_lines, is_store};
-use audit_judge::{Held, do_deed, is_over};
+use audit_judge::{Held, do_deed, is_over_by, loads_of};
 use audit_model::{Config, Note};
 use audit_parts::Parts;
 use audit_situation::{Link, Moved, Moving, State, find_link, first_line, pass, waited};
@@ -98,17 +98,24 @@ fn are_all(turn: bool, held: bool, line: bool, reply: bool, load: bool, quiet: b
 }
 
 /// Whether each part is within its share.
-fn are_within(config: &Config, held: &[Held]) -> bool
-    ensures { result ≡ is_within config.now (values_of held.now) }
+fn are_within(alloc: Global, config: &Config, held: &[Held]) -> Result<bool, AllocError>
+    ensures { IfOk result (λ b. b ≡ is_within config.now (values_of held.now)) }
 {
-    are_within_of(config, held, held)
+    let weights = loads_of(alloc, config, held)?;
+    Ok(are_within_by(config, &weights, held))
 }
 
-/// Whether the part of each of these is within its share of all.
-fn are_within_of(config: &Config, held: &[Held], all: &[Held]) -> bool
-    ensures { result ≡ list_all (λ h. not (is_over config.now h.value.part (values_of all.now))) held.now }
+/// The same, by what the parts weigh.
+fn are_within_by(config: &Config, weights: &[u128], held: &[Held]) -> bool
+    requires { WeighsWhere config.now weights.now (values_of held.now) }
+    ensures { result ≡ is_within config.now (values_of held.now) }
 {
-    held.iter().all(|h| !is_over(config, all, h.part()))
+    for h in held {
+        if is_over_by(config, weights, held, h.part()) {
+            return false;
+        }
+    }
+    true
 }
 
 /// Whether a `SYNC` that leaves these values held has the reply that it owes, and each part is within its share.
@@ -124,7 +131,8 @@ fn is_synced(
     match doing {
         Doing::Sync => {
             let counts = counts_of(alloc, held)?;
-            Ok(is_said(reply, Some(counts.as_slice())) && are_within(config, held))
+            let within = are_within(alloc, config, held)?;
+            Ok(is_said(reply, Some(counts.as_slice())) && within)
         }
         Doing::Set { .. } | Doing::Get { .. } | Doing::Has { .. } | Doing::Load { .. } => Ok(true),
         Doing::Del { .. } | Doing::Add { .. } | Doing::Clear | Doing::DropIf { .. } => Ok(true),

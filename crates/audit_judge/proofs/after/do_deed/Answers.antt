@@ -7,8 +7,8 @@ use Rattle.audit_judge.specs.Weights.{values_of}
 use Rattle.audit_judge.proofs.Passing.{written, all-passed, new-list, copied, length-passed}
 use Rattle.audit_judge.proofs.after.do_deed.Goals as goal
 
-pub returns-in_ok-add-in-Some-clause-left : goal.returns-in_ok-add-in-Some-clause-left
-returns-in_ok-add-in-Some-clause-left c e =
+pub returns-in_ok-weights-in-Some-clause-left : goal.returns-in_ok-weights-in-Some-clause-left
+returns-in_ok-weights-in-Some-clause-left c e =
     let config = c.args.config.now in
     let now = c.args.now in
     let held = c.args.held.now.items in
@@ -23,8 +23,8 @@ returns-in_ok-add-in-Some-clause-left c e =
     let are_sized = (subst (λ o. Judges config now held deed notes (option_map (λ v. v.items) o)) c.in-Some.is right).1 in
     let left = c.forget.ensures ∙ ap (untold (λ h. h.value.key) notes) (c.in_ok-add-in-Some.ensures ∙ ap (λ hs. held ++ hs) (new-list now c.args.newcomer c.requires)) in
     written c.forget.new.held.len c.pass_all_on.new.held c.forget.new.held.items c.forget.new.held.ok.0
-    (ap length passed ∙ length-passed config now deed c.deref-in-Some.result.now c.deref_mut.result.now ∙ ap length c.deref_mut.ensures.value)
+    (ap length passed ∙ length-passed config now deed c.deref-in-Some-2.result.now c.deref_mut.result.now ∙ ap length c.deref_mut.ensures.value)
     ∙ passed
-    ∙ ap (λ ps. map (passed_on_by config now deed ps (values_of c.deref_mut.result.now)) c.deref_mut.result.now) c.deref-in-Some.ensures.value
+    ∙ ap (λ ps. map (passed_on_by config now deed ps (values_of c.deref_mut.result.now)) c.deref_mut.result.now) c.deref-in-Some-2.ensures.value
     ∙ ap (λ hs. map (passed_on_by config now deed sized (values_of hs)) hs) (c.deref_mut.ensures.value ∙ left)
     ∙ all-passed config now held deed notes sized are_sized

@@ -1,0 +1,3 @@
+pub mod Seeing
+pub mod Holds
+pub mod Weights
