@@ -1,5 +1,5 @@
 //! The values held.
-ghost use Rattle.std.specs.Prelude.{◌≡◌, ℕ, ◌<◌, ◌++◌, ◌∷◌, [], true, false, not, ◌||◌, ◌&&◌, nat_lt, map, reverse, length, option_map, None, IfOk, IfSome, OnOk};
+ghost use Rattle.std.specs.Prelude.{◌≡◌, ℕ, List, ◌<◌, ◌++◌, ◌∷◌, [], true, false, not, ◌||◌, ◌&&◌, nat_lt, map, reverse, length, option_map, None, IfOk, IfSome, OnOk};
 ghost use Rattle.std.specs.List.{find, list_all, sum_by};
 ghost use Rattle.audit_model.specs.Bytewise.{same};
 ghost use Rattle.audit_model.specs.Values.{without_key};
@@ -101,6 +101,7 @@ impl Holding {
     pub fn len(&self) -> usize
         ensures number { result ≡ length self.now }
         ensures small { list_all (λ h. nat_lt h.value.part 256) self.now ≡ true }
+        ensures apart { (key : List ℕ) → find (λ h. same key h.value.key) (without_key (λ h. h.value.key) key self.now) ≡ None }
     {
         self.table.len()
     }

@@ -203,3 +203,16 @@ length-slots (e ∷ es) = length-append (slots_of es) (item_of e ∷ []) ∙ ap 
   where
     one-more : (n : ℕ) → n + 1 ≡ suc n
     one-more n = omega arith
+
+-- ---- no key twice
+
+new-gone : (key : List ℕ) (es : List Entry) → are_apart es ≡ true → is_new key (remove_entry (is_at key) es) ≡ true
+new-gone key [] a = refl
+new-gone key (e ∷ es) a = let parts = and_parts (is_new e.0.items es) (are_apart es) a in go (same key e.0.items) refl parts.0 (new-gone key es parts.1)
+  where
+    go : (b : Bool) → same key e.0.items ≡ b → is_new e.0.items es ≡ true → is_new key (remove_entry (is_at key) es) ≡ true → is_new key (cond b es (e ∷ remove_entry (is_at key) es)) ≡ true
+    go true h n ih = same-new key e es h n
+    go false h n ih = and_from _ _ (not_from_false (same key e.0.items) h) ih
+
+pub gone : (key : List ℕ) (es : List Entry) → are_apart es ≡ true → slot_at key (without key (slots_of es)) ≡ None
+gone key es a = ap (slot_at key) (sym (removed_is key es a)) ∙ none-new key (remove_entry (is_at key) es) (new-gone key es a)

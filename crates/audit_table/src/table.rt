@@ -1,5 +1,5 @@
 //! The map from keys to what is kept, in the order of acceptance.
-ghost use Rattle.std.specs.Prelude.{◌≡◌, ℕ, ◌≤◌, ◌^◌, ◌-◌, ◌++◌, ◌∷◌, [], map, true, length, None, IfOk, IfSome, OnOk, OnErr};
+ghost use Rattle.std.specs.Prelude.{◌≡◌, ℕ, List, ◌≤◌, ◌^◌, ◌-◌, ◌++◌, ◌∷◌, [], map, true, length, None, IfOk, IfSome, OnOk, OnErr};
 ghost use Rattle.std.specs.Option.{option_map};
 ghost use Rattle.std.specs.Map.Iter.{ShowsInOrder, deref_pair};
 ghost use Rattle.std.specs.declared.vec.Vec.{Vec as Word};
@@ -44,7 +44,8 @@ impl Table {
 
     /// How many values there are.
     pub fn len(&self) -> usize
-        ensures { result ≡ length self.now }
+        ensures number { result ≡ length self.now }
+        ensures apart { (key : List ℕ) → slot_at key (without key self.now) ≡ None }
     {
         self.cache.len()
     }
