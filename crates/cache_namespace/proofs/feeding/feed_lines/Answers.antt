@@ -10,19 +10,23 @@ use Rattle.cache_steps.specs.Right.{step_saying, held_when_run}
 use Rattle.cache_store.specs.Promises.{Frame, no_deed}
 use Rattle.cache_namespace.specs.Drawing.{workings}
 use Rattle.cache_namespace.specs.Ends.{left_by}
-use Rattle.cache_namespace.specs.Gathered.{gather}
+use Rattle.cache_namespace.specs.Gathered.{IsFresh, gather}
 use Rattle.cache_namespace.specs.Kept.{gathered}
 use Rattle.cache_namespace.specs.Lines.{ended, ready, set_in, with_drops}
 use Rattle.cache_namespace.specs.Making.{Making, making_of}
 use Rattle.cache_namespace.specs.Ran.{RanReady, RanFeed, standing_with}
 use Rattle.cache_namespace.specs.Stops.{ends_by_quit, holds_back, misses_now, quits_now}
-use Rattle.cache_namespace.specs.Waiting.{holding_load, loads_in, sent_by, under_way, waiting, when_waiting, with_under_way}
-use Rattle.cache_namespace.specs.Whole.{held_line}
+use Rattle.cache_namespace.specs.Waiting.{UnderWay, holding_load, loads_in, sent_by, under_way, waiting, when_waiting, with_under_way}
+use Rattle.cache_namespace.specs.Whole.{has_line, held_line}
 use Rattle.cache_namespace.proofs.FeedSteps.{feeds-ready, feeds-held, feeds-quit}
-use Rattle.cache_namespace.proofs.LoadFeeds.{feeds-by, feeds-waits}
-use Rattle.cache_namespace.proofs.Receiving.{behind-more, held-more}
-use Rattle.cache_namespace.proofs.Running.{ran-as}
+use Rattle.cache_namespace.proofs.LoadFeeds.{feeds-by, feeds-waits-on}
+use Rattle.cache_namespace.proofs.Receiving.{has-line-more}
+use Rattle.cache_namespace.proofs.Running.{fresh-gather, ran-as}
 use Rattle.cache_namespace.proofs.feeding.feed_lines.Goals as goal
+use Rattle.std.specs.Prelude.{Ok, not, ◌||◌}
+use Rattle.audit_model.specs.declared.command.Command.TheVariants as says
+use Rattle.cache_lines.specs.Unread.{Unread}
+use Rattle.cache_namespace.specs.declared.feeding.End.TheVariants as at
 
 pub returns-then-not-held-clause-ran : goal.returns-then-not-held-clause-ran
 returns-then-not-held-clause-ran g c = λ base values e d under there m.
@@ -90,3 +94,56 @@ returns-in-Ok-Quits-clause-ran g c = λ base values e d under there m.
     (feeds-by c.args.config.now base c.args.number making values true c.args.waited bytes c.args.piece.now true false Stands dropped (under_way c.args.loads.now) (ready c.args.number rest) drawn drawing old new under
     (feeds-quit c.args.config.now base c.args.number making values c.args.waited bytes c.args.piece.now rest Stands dropped drawn drawing old new there one)) in
     subst (λ b. RanFeed c.args.config.now base c.args.number making values c.args.held c.args.waited b c.args.piece.now true false target Stands drawn drawing old new) c.reserve.ensures.bytes f
+
+pub returns-in-Ok-clause-ran : goal.returns-in-Ok-clause-ran
+returns-in-Ok-clause-ran g c = λ base values e d under there m.
+    let making = making_of (g.S.Store.frame c.args.store.now) in
+    let old = gathered c.args.text.now.items c.args.kept.now (g.S.Store.untaken c.args.store.now) in
+    let untaken = g.S.Store.untaken c.release.new.store in
+    let new = gathered c.join_first.new.output.items c.join_first.new.kept untaken in
+    let drawn = workings (g.S.Store.stream c.args.store.now) (g.S.Store.registered c.args.store.now) (g.S.Store.recency c.args.store.now) in
+    let Stood = g.S.Store.stands c.args.store.now in
+    let bytes = c.reserve.new.self.bytes in
+    let held_bytes = c.release.new.unread.bytes in
+    let all = c.append.new.self.bytes in
+    let hit = ap misses_now c.in-Ok-Misses.field-0-is in
+    let missed = c.in-Ok-Misses.ensures.missed hit in
+    let stays : held_bytes ≡ bytes = ap (λ (u : Unread). u.bytes) (c.in-Ok-Misses.ensures.stays hit) in
+    let reads : reading c.args.config.now (held_line held_bytes) ≡ Ok (says.Load missed.2.key) = ap (λ b. reading c.args.config.now (held_line b)) stays ∙ missed.2.reads in
+    let none : live_at c.args.config.now base.latest values missed.2.key ≡ None = subst (λ (n : ℕ). live_at c.args.config.now n values missed.2.key ≡ None) (sym e) (missed.2.none values m) in
+    let idle : Stood (all_held_after c.args.config.now base.latest values no_deed []) = subst (λ (k : Config). Stood (all_held_after k base.latest values no_deed [])) c.requires.config (g.met.S.Store.idle c.args.store.now values base.latest m) in
+    let step = λ (b : List ℕ) (u : UnderWay). step_silent c.args.number (held_line b) (sent_by missed.2.key u) None [] in
+    let gathers : new ≡ gather old (step bytes (loads_in base) ∷ []) =
+    ap (λ t. gathered t c.join_first.new.kept untaken) c.join_first.ensures.output
+    ∙ c.in-Ok.ensures.step missed.2.key reads c.release.new.text.items untaken
+    ∙ ap (λ x. gather x (step held_bytes (under_way c.args.loads.now) ∷ [])) missed.1
+    ∙ ap (λ b. gather old (step b (under_way c.args.loads.now) ∷ [])) stays
+    ∙ ap (λ u. gather old (step bytes u ∷ [])) (sym under) in
+    let joined = ap (when_waiting c.args.number missed.2.key) under ∙ sym (c.in-Ok.ensures.joined missed.2.key reads) in
+    let is : all ≡ bytes ++ c.args.piece.now = c.append.ensures.bytes ∙ ap (λ b. b ++ c.args.piece.now) stays in
+    let whole : has_line bytes ≡ true = ap has_line c.reserve.ensures.bytes ∙ subst (λ h. (not h || has_line c.args.unread.now.bytes) ≡ true) c.if-not-held.false c.requires.whole in
+    let f : RanFeed c.args.config.now base c.args.number making values c.args.held c.args.waited bytes c.args.piece.now false false (left_by c.args.number base (g.S.Store.frame c.args.store.now).dropped (under_way c.join_first.new.loads) (at.Waits (c.args.waited + 1)) all) Stood drawn drawn old new =
+    feeds-waits-on c.args.config.now base c.args.number making values c.args.held c.args.waited (c.args.waited + 1) bytes c.args.piece.now all missed.2.key Stood (g.S.Store.frame c.args.store.now).dropped (under_way c.join_first.new.loads) drawn old new
+    c.if-not-held.false refl is whole d joined there missed.2.reads none idle gathers in
+    subst (λ st. RanFeed c.args.config.now base c.args.number making values c.args.held c.args.waited c.args.unread.now.bytes c.args.piece.now false false (left_by c.args.number base (g.S.Store.frame st).dropped (under_way c.join_first.new.loads) (at.Waits (c.args.waited + 1)) all) (g.S.Store.stands st) drawn (workings (g.S.Store.stream st) (g.S.Store.registered st) (g.S.Store.recency st)) old new) (sym missed.0)
+    (subst (λ b. RanFeed c.args.config.now base c.args.number making values c.args.held c.args.waited b c.args.piece.now false false (left_by c.args.number base (g.S.Store.frame c.args.store.now).dropped (under_way c.join_first.new.loads) (at.Waits (c.args.waited + 1)) all) Stood drawn drawn old new) c.reserve.ensures.bytes f)
+
+pub returns-in-Ok-clause-ends : goal.returns-in-Ok-clause-ends
+returns-in-Ok-clause-ends g c =
+    let bytes = c.reserve.new.self.bytes in
+    let hit = ap misses_now c.in-Ok-Misses.field-0-is in
+    let stays : c.release.new.unread.bytes ≡ bytes = ap (λ (u : Unread). u.bytes) (c.in-Ok-Misses.ensures.stays hit) in
+    let is : c.append.new.self.bytes ≡ bytes ++ c.args.piece.now = c.append.ensures.bytes ∙ ap (λ b. b ++ c.args.piece.now) stays in
+    let whole : has_line bytes ≡ true = ap has_line c.reserve.ensures.bytes ∙ subst (λ h. (not h || has_line c.args.unread.now.bytes) ≡ true) c.if-not-held.false c.requires.whole in
+    let few = c.requires.few in
+    (ap has_line is ∙ has-line-more bytes c.args.piece.now whole, omega arith)
+
+pub returns-in-Ok-clause-fresh : goal.returns-in-Ok-clause-fresh
+returns-in-Ok-clause-fresh g c =
+    let untaken = g.S.Store.untaken c.release.new.store in
+    let hit = ap misses_now c.in-Ok-Misses.field-0-is in
+    let missed = c.in-Ok-Misses.ensures.missed hit in
+    let stays : c.release.new.unread.bytes ≡ c.reserve.new.self.bytes = ap (λ (u : Unread). u.bytes) (c.in-Ok-Misses.ensures.stays hit) in
+    let reads : reading c.args.config.now (held_line c.release.new.unread.bytes) ≡ Ok (says.Load missed.2.key) = ap (λ b. reading c.args.config.now (held_line b)) stays ∙ missed.2.reads in
+    subst IsFresh (sym (ap (λ t. gathered t c.join_first.new.kept untaken) c.join_first.ensures.output ∙ c.in-Ok.ensures.step missed.2.key reads c.release.new.text.items untaken))
+    (fresh-gather (gathered c.release.new.text.items c.release.new.kept untaken) (step_silent c.args.number (held_line c.release.new.unread.bytes) (sent_by missed.2.key (under_way c.args.loads.now)) None [] ∷ []) c.release.ensures.fresh)

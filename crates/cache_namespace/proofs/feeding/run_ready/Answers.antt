@@ -114,3 +114,40 @@ returns-in-Ok-clause-ran g c = λ base held e d under there m.
     let joined = ap (when_waiting c.args.number missed.key) under ∙ sym (c.in-Ok.ensures.joined missed.key missed.reads) in
     subst (λ u. RanReady c.args.config.now base c.args.number making held all false false (λ left. set_in (with_under_way u (with_drops dropped base)) left (waiting c.args.number line (behind_lines 1 rest) 1)) Stands drawn drawing old new) joined
     (ready-waits c.args.config.now base c.args.number making held all rest line missed.key c.in-Misses.len load Stands dropped drawn drawing old middle new there r c.in-Misses.ensures.stops said missed.reads refl none idle gathers)
+
+pub returns-in-Ok-clause-fresh : goal.returns-in-Ok-clause-fresh
+returns-in-Ok-clause-fresh g c =
+    let missed = c.in-Misses.ensures.missed refl in
+    let untaken = g.S.Store.untaken c.run_lines.new.store in
+    subst IsFresh (sym (ap (λ t. gathered t c.join_first.new.kept untaken) c.join_first.ensures.output ∙ c.in-Ok.ensures.step missed.key missed.reads c.run_lines.new.text.items untaken))
+    (fresh-gather (gathered c.run_lines.new.text.items c.run_lines.new.kept untaken) (step_silent c.args.number (held_line c.run_lines.new.unread.bytes) (sent_by missed.key (under_way c.args.loads.now)) None [] ∷ []) c.run_lines.ensures.fresh)
+
+pub returns-in-Err-clause-ran : goal.returns-in-Err-clause-ran
+returns-in-Err-clause-ran g c = λ base held e d under there m.
+    let making = making_of (g.S.Store.frame c.args.store.now) in
+    let old = gathered c.args.text.now.items c.args.kept.now (g.S.Store.untaken c.args.store.now) in
+    let middle = gathered c.run_lines.new.text.items c.run_lines.new.kept (g.S.Store.untaken c.run_lines.new.store) in
+    let drawn = workings (g.S.Store.stream c.args.store.now) (g.S.Store.registered c.args.store.now) (g.S.Store.recency c.args.store.now) in
+    let drawing = workings (g.S.Store.stream c.run_lines.new.store) (g.S.Store.registered c.run_lines.new.store) (g.S.Store.recency c.run_lines.new.store) in
+    let dropped = (g.S.Store.frame c.run_lines.new.store).dropped in
+    let Stands = g.S.Store.stands c.run_lines.new.store in
+    let all = c.args.unread.now.bytes ++ c.args.piece.now in
+    let rest = c.run_lines.new.unread.bytes in
+    let r = subst (λ b. RanLines c.args.config.now base c.args.number making held b false rest Stands dropped drawn drawing old middle) c.append.ensures.bytes (c.in-Misses.ensures.ran base held e d there m) in
+    let same : (g.S.Store.frame c.run_lines.new.store).config ≡ c.args.config.now = ap (λ (f : Frame). f.config) c.run_lines.ensures.frame.rest ∙ c.requires.config in
+    let idle : Stands (all_held_after c.args.config.now base.latest r.left no_deed []) = subst (λ (k : Config). Stands (all_held_after k base.latest r.left no_deed [])) same (g.met.S.Store.idle c.run_lines.new.store r.left base.latest r.stands) in
+    let untaken = g.S.Store.untaken c.run_lines.new.store in
+    let same_gathered : gathered c.join_first.new.output.items c.join_first.new.kept untaken ≡ middle =
+    ap (λ t. gathered t c.join_first.new.kept untaken) c.join_first.ensures.output ∙ ap (λ k. record { text = c.run_lines.new.text.items; kept = k; waiting = untaken }) c.in-Err.ensures.kept in
+    ready-by c.args.config.now base c.args.number making held all false true Stands dropped (under_way c.join_first.new.loads) (standing_with c.args.number true 0 rest) drawn drawing old _ (under ∙ sym (same-under c.args.loads.now c.join_first.new.loads c.in-Err.ensures.same))
+    (ready-held c.args.config.now base c.args.number making held all rest c.line-in-Err.result.now c.in-Misses.len Stands dropped drawn drawing old middle _ there r c.in-Misses.ensures.stops c.line-in-Err.ensures.line idle
+    (c.hold_back-in-Err.ensures c.join_first.new.output.items untaken ∙ ap (λ x. gather x (held_step c.args.number c.line-in-Err.result.now ∷ [])) same_gathered))
+
+pub returns-in-Err-clause-fresh : goal.returns-in-Err-clause-fresh
+returns-in-Err-clause-fresh g c =
+    let untaken = g.S.Store.untaken c.run_lines.new.store in
+    let middle = gathered c.run_lines.new.text.items c.run_lines.new.kept untaken in
+    let same_gathered : gathered c.join_first.new.output.items c.join_first.new.kept untaken ≡ middle =
+    ap (λ t. gathered t c.join_first.new.kept untaken) c.join_first.ensures.output ∙ ap (λ k. record { text = c.run_lines.new.text.items; kept = k; waiting = untaken }) c.in-Err.ensures.kept in
+    subst IsFresh (sym (c.hold_back-in-Err.ensures c.join_first.new.output.items untaken ∙ ap (λ x. gather x (held_step c.args.number c.line-in-Err.result.now ∷ [])) same_gathered))
+    (fresh-gather middle (held_step c.args.number c.line-in-Err.result.now ∷ []) c.run_lines.ensures.fresh)
