@@ -1,5 +1,5 @@
 -- An answer, from what is stored and what is handed out.
-use Rattle.std.proofs.Common.{◌≡◌, ℕ, suc, max, Bool, true, false, not, ◌&&◌, ◌||◌, ◌==◌, List, [], ◌∷◌, ◌++◌, map, Option, Some, None, if◌then◌else◌, refl, sym, ap, ◌∙◌, subst}
+use Rattle.std.proofs.Common.{◌≡◌, ℕ, max, Bool, true, false, ◌||◌, List, [], ◌++◌, map, Option, Some, None, if◌then◌else◌, refl, ap, ◌∙◌}
 use Rattle.std.specs.Prelude.{IfSome, is_some}
 use Rattle.std.specs.List.{flat_map}
 use Rattle.std.specs.Option.{option_map, option_map_or}
@@ -7,10 +7,9 @@ use Rattle.audit_laws.specs.Leading.{is_parted}
 use Rattle.std.proofs.lemmas.Bool.{eq-eqb}
 use Rattle.audit_model.specs.Belongs.{refusal_of}
 use Rattle.audit_model.specs.Bytewise.{is_empty}
-use Rattle.audit_model.specs.Follows.{known_in, without_load}
 use Rattle.audit_model.specs.History.{Storing, accepts_values}
 use Rattle.audit_model.specs.Replies.{value_with}
-use Rattle.audit_model.specs.Situation.{Situation, HeldValue, key_in, view_in, waiting_in}
+use Rattle.audit_model.specs.Situation.{Situation, HeldValue, key_in, view_in}
 use Rattle.audit_model.specs.Steps.{Task, Deliver, RunLines, effect_in}
 use Rattle.audit_model.specs.declared.config.Config.{Config}
 use Rattle.audit_model.specs.declared.event.Outcome.{Outcome}
