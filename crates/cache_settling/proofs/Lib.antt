@@ -1,3 +1,4 @@
+pub mod Answered
 pub mod Chain
 pub mod Leading
 pub mod Outcomes

@@ -1,5 +1,5 @@
 -- What an answer does to a namespace.
-use Rattle.std.specs.Prelude.{◌≡◌, ℕ, Bool, true, false, not, ◌==◌, List, [], ◌++◌, map}
+use Rattle.std.specs.Prelude.{◌≡◌, ℕ, max, Option, Bool, true, false, not, ◌==◌, List, [], ◌++◌, map}
 use Rattle.std.specs.List.{filter, flat_map}
 use Rattle.std.specs.Option.{option_map_or}
 use Rattle.audit_model.specs.Belongs.{Known}
@@ -10,6 +10,7 @@ use Rattle.audit_model.specs.declared.config.Config.{Config}
 use Rattle.audit_model.specs.declared.event.Event.{Event}
 use Rattle.audit_model.specs.declared.event.Event.TheVariants as event
 use Rattle.audit_model.specs.declared.event.Outcome.{Outcome}
+use Rattle.audit_model.specs.declared.transcript.Accepted.{Accepted}
 use Rattle.audit_model.specs.declared.transcript.Note.{Note}
 use Rattle.audit_model.specs.declared.transcript.Step.{Step}
 use Rattle.cache_loads.specs.Pending.{load_numbered}
@@ -18,7 +19,8 @@ use Rattle.cache_namespace.specs.Making.{Making}
 use Rattle.cache_namespace.specs.Shown.{situation}
 use Rattle.cache_namespace.specs.Waiting.{UnderWay}
 use Rattle.cache_namespace.specs.declared.connection.Connection.{Connection}
-use Rattle.cache_settling.specs.Leads.{Leads}
+use Rattle.cache_settling.specs.Laws.{record_answered}
+use Rattle.cache_settling.specs.Leads.{Leads, Settles}
 use Rattle.cache_settling.specs.Told.{WritesTo}
 
 -- Those that waited were handed the outcome in order, and then their lines ran in the same order; replies and notes were gathered.
@@ -48,3 +50,13 @@ waiting_for number loads = option_map_or (λ load. load.waiting) (load_numbered 
 -- the loads under way, but for that one
 abbrev pub but_for : ℕ → UnderWay → UnderWay
 but_for number loads = record { sent = loads.sent; pending = filter (λ load. not (load.number == number)) loads.pending }
+
+-- The record of an answer follows: its value was stored and told those notes, then its outcome was handed out, and lines ran.
+pub record AnswersLoad (config : Config) (making : Making) (load : ℕ) (outcome : Outcome) (latest moment : ℕ) (accepted : Option Accepted) (values : List HeldValue) (Stands : List HeldValue → Type 0) (was_under is_under : UnderWay) (dropped dropping : Bool) (drawn drawing : Identifiers) (old new : List Connection) (told telling : List Note) : Type 0 where
+  pub own : List Note
+  pub steps : List Step
+  pub held : List HeldValue
+  pub stands : Stands held
+  pub settles : Settles config making (situation latest was_under old dropped values) (record_answered load outcome moment accepted own steps) (situation (max moment latest) is_under new dropping held) drawn drawing
+  pub texts : WritesTo true steps old new
+  pub notes : telling ≡ (told ++ own) ++ flat_map (λ step. step.notices) steps

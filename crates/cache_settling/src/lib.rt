@@ -1,6 +1,7 @@
 //! Settling a load: an answer, or a give-up. Each function here does nothing: its contract is the law.
 #![tactic(auto)]
 
+mod answer;
 mod answering;
 mod refusing;
 mod reserving;
@@ -10,6 +11,7 @@ mod telling;
 
 ghost use Rattle.cache_settling.specs.Laws.{AbandonedLeads, AnswerSettles, AnswerTidy, AnsweredLeads, DeliveredLeads, GiveUpSettles, GiveUpTidy, HeldBackLeads, LeadsOn, LinesLead, NoLinesLead, NothingLeads, ToldWaits, WaitsAgainLeads};
 
+pub use answer::{reserve_for, store_for};
 pub use answering::{hand_out, settle_answer};
 pub use refusing::{refuse_answer, refuse_load};
 pub use reserving::reserve_all;
