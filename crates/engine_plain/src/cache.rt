@@ -20,7 +20,7 @@ use crate::entries::{
     beside, cause_of_removal, cause_of_write, clone_entry, expires_after_use, first_entry,
     next_entry, rooms_of_removal, upsert,
 };
-use crate::looks::{clone_at, has_predicates, has_reads, is_admitted, look_up};
+use crate::looks::{is_held_at, clone_at, has_predicates, has_reads, is_admitted, look_up};
 use engine_lists::{
     Lists, MAX_READS, MAX_WRITES, Refusal, count_admitted, place_at, place_of_ticket,
     weigh_admitted, weigh_held,
@@ -496,6 +496,59 @@ impl<K: Eq, V, S, R: Rules<K, V>> BaseCache<K, V, S, R> {
     {
         while let Some(place) = self.find_excess() {
             self.evict_one(place, now);
+        }
+    }
+
+    /// Takes off the oldest write, which changes nothing else.
+    fn skip_write(&mut self, write: Write)
+        requires first { slice_get self.old.writes 0 ≡ Some write }
+        requires same { after_write write (record self.old { writes = drop 1 self.old.writes }) ≡ (record self.old { writes = drop 1 self.old.writes }) }
+        ensures { self.new ≡ after_write write (record self.old { writes = drop 1 self.old.writes }) }
+    {
+        let _write = write;
+        let _popped = self.lists.pop_write();
+    }
+
+    /// Takes off the oldest write, the removal of a key, and its record goes.
+    fn forget_at(&mut self, place: usize, number: u64)
+    where
+        K: Drop,
+        V: Drop,
+        requires first { slice_get self.old.writes 0 ≡ Some (Removed number) }
+        requires gone { (r : Record K V) × (slice_get self.old.records place ≡ Some r) × (record_at self.old.records number ≡ Some r) × (r.is_held ≡ false) }
+        ensures { self.new ≡ after_write (Removed number) (record self.old { writes = drop 1 self.old.writes }) }
+    {
+        let _popped = self.lists.pop_write();
+        self.lists.forget(place);
+    }
+
+    /// Applies the oldest write, the removal of a key whose record is there.
+    fn apply_removal_at(&mut self, place: usize, number: u64)
+    where
+        K: Drop,
+        V: Drop,
+        requires first { slice_get self.old.writes 0 ≡ Some (Removed number) }
+        requires found { (r : Record K V) × (slice_get self.old.records place ≡ Some r) × (record_at self.old.records number ≡ Some r) }
+        ensures { self.new ≡ after_write (Removed number) (record self.old { writes = drop 1 self.old.writes }) }
+    {
+        if is_held_at(&self.lists, place) {
+            self.skip_write(Write::Removed(number));
+        } else {
+            self.forget_at(place, number);
+        }
+    }
+
+    /// Applies the oldest write, the removal of a key.
+    fn apply_removal(&mut self, number: u64)
+    where
+        K: Drop,
+        V: Drop,
+        requires first { slice_get self.old.writes 0 ≡ Some (Removed number) }
+        ensures { self.new ≡ after_write (Removed number) (record self.old { writes = drop 1 self.old.writes }) }
+    {
+        match place_at(self.lists.records(), number) {
+            Some(place) => self.apply_removal_at(place, number),
+            None => self.skip_write(Write::Removed(number)),
         }
     }
 
