@@ -1,15 +1,16 @@
 -- What the application of a write makes of the lists.
-use Rattle.std.proofs.Common.{◌≡◌, refl, ap, sym, ◌∙◌, subst, ℕ, Bool, true, false, cond, List, [], ◌∷◌, Option, Some, None, drop}
-use Rattle.std.specs.Prelude.{slice_get, remove}
+use Rattle.std.proofs.Common.{◌≡◌, ap, sym, ◌∙◌, ℕ, true, false, cond, Some, None, drop}
+use Rattle.std.specs.Prelude.{slice_get, slice_set, remove}
 use Rattle.engine_reference.specs.declared.data.Record.{Record}
+use Rattle.engine_reference.specs.declared.data.Upsert.{Upsert}
 use Rattle.engine_reference.specs.declared.data.Write.{Write}
-use Rattle.engine_reference.specs.Records.{record_at, without_record, without}
-use Rattle.engine_reference.specs.Runs.{after_write, after_removal}
+use Rattle.engine_reference.specs.Records.{changed_at, moved_to_back, record_at, without_record, without}
+use Rattle.engine_reference.specs.Runs.{after_write, after_removal, counting, put_off}
 use Rattle.engine_reference.specs.Soundness.{AreNumbered, IsSound}
 use Rattle.engine_reference.specs.State.{State}
 use Rattle.engine_reference.proofs.SoundSteps.{popped-is_sound}
 use Rattle.engine_reference.proofs.HeldRecords.{record_at-number}
-use Rattle.engine_plain.proofs.Places.{at_without}
+use Rattle.engine_plain.proofs.Places.{at_without, at_changed}
 use Rattle.engine_plain.proofs.Keeping.{sound_as}
 use Rattle.engine_plain.proofs.Steps.{first_rest}
 
@@ -34,3 +35,17 @@ module _ {K V P S R : Type 0} where
 
   pub unknown : (s : State K V P S R) (number : ℕ) → record_at s.records number ≡ None → after_removal (record_at s.records number) s ≡ s
   unknown s number none = ap (λ o. after_removal o s) none
+
+  pub counted : (s : State K V P S R) (place : ℕ) (u : Upsert) (r : Record K V) → AreNumbered s.records → slice_get s.records place ≡ Some r → record_at s.records u.number ≡ Some r
+      → record s { records = slice_set s.records place (record r { applied = u.write; counts = Some u.weight }); access = moved_to_back r.number s.access } ≡ counting u s
+  counted s place u r numbered there found =
+      let number = record_at-number s.records u.number r found in
+      ap (λ rs. record s { records = rs; access = moved_to_back r.number s.access }) (sym (at_changed (λ x. record x { applied = u.write; counts = Some u.weight }) s.records place r numbered there))
+      ∙ ap (λ n. record s { records = changed_at n (λ x. record x { applied = u.write; counts = Some u.weight }) s.records; access = moved_to_back n s.access }) number
+
+  pub was_put_off : (s : State K V P S R) (place : ℕ) (u : Upsert) (r : Record K V) → AreNumbered s.records → slice_get s.records place ≡ Some r → record_at s.records u.number ≡ Some r
+      → record s { records = slice_set s.records place (record r { applied = u.write }) } ≡ put_off u s
+  was_put_off s place u r numbered there found =
+      let number = record_at-number s.records u.number r found in
+      ap (λ rs. record s { records = rs }) (sym (at_changed (λ x. record x { applied = u.write }) s.records place r numbered there))
+      ∙ ap (λ n. record s { records = changed_at n (λ x. record x { applied = u.write }) s.records }) number

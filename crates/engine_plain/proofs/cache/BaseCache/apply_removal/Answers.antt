@@ -1,4 +1,4 @@
-use Rattle.std.proofs.Common.{◌≡◌, ap, sym, ◌∙◌}
+use Rattle.std.proofs.Common.{ap, sym, ◌∙◌}
 use Rattle.std.specs.Prelude.{slice_get}
 use Rattle.engine_reference.specs.Records.{record_at}
 use Rattle.engine_plain.proofs.cache.BaseCache.apply_removal.Goals as goal

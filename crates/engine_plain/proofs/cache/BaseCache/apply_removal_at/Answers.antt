@@ -1,6 +1,5 @@
-use Rattle.std.proofs.Common.{◌≡◌, ap, sym, ◌∙◌}
+use Rattle.std.proofs.Common.{ap, sym, ◌∙◌}
 use Rattle.std.specs.Prelude.{slice_get}
-use Rattle.engine_reference.specs.Records.{record_at}
 use Rattle.engine_plain.proofs.cache.BaseCache.apply_removal_at.Goals as goal
 
 pub forget_at-requires-clause-gone : goal.forget_at-requires-clause-gone

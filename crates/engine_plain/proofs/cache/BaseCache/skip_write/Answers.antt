@@ -1,12 +1,9 @@
-use Rattle.std.proofs.Common.{◌≡◌, ◌<◌, refl, ap, sym, ◌∙◌, subst, true, false, arith, length, drop, [], Some}
-use Rattle.std.specs.Prelude.{slice_get, remove}
-use Rattle.std.proofs.lemmas.Option.{same_Some, slice_get_within}
-use Rattle.engine_reference.specs.declared.data.Write.TheVariants.{Removed}
-use Rattle.engine_reference.specs.Records.{record_at, without}
-use Rattle.engine_reference.specs.Runs.{after_write, after_removal}
+use Rattle.std.proofs.Common.{ap, sym, ◌∙◌}
+use Rattle.std.specs.Prelude.{slice_get}
+use Rattle.std.proofs.lemmas.Option.{slice_get_within}
+use Rattle.engine_reference.specs.Runs.{after_write}
 use Rattle.engine_reference.specs.State.{State}
-use Rattle.engine_plain.proofs.Places.{numbered_from}
-use Rattle.engine_plain.proofs.Applying.{popped, applied_sound, forgotten, not_gone, unknown}
+use Rattle.engine_plain.proofs.Applying.{popped, applied_sound}
 use Rattle.engine_plain.proofs.cache.BaseCache.skip_write.Goals as goal
 
 pub pop_write-popped-requires : goal.pop_write-popped-requires
