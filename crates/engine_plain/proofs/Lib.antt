@@ -4,3 +4,4 @@ pub mod Keeping
 pub mod Steps
 pub mod Writing
 pub mod Covering
+pub mod Applying

@@ -4,7 +4,7 @@ ghost use Rattle.std.specs.Result.{IsErrOf};
 ghost use Rattle.engine_reference.specs.Admission.{Verdict, admit, displace, refuse, verdict, is_above, shortest_front, wants_table};
 ghost use Rattle.engine_reference.specs.Calls.{without_ticket, IsNew, written, with_written, sent, unsent_at, is_full, removed_by, removal_told, LooksUp, MaintainsIfDue, with_read, cleared_by, without_notice, with_room, used_entry};
 ghost use Rattle.engine_reference.specs.Records.{admitted_number, moved_to_back, held_at, record_at, held_weight, settled_in, admitted_weight, is_settled};
-ghost use Rattle.engine_reference.specs.Runs.{is_due_for, Step, RunsToEnd, after_read, after_hit, after_write, after_put, IsApplied, next_to_evict, left, all_left, is_overtaken, is_due};
+ghost use Rattle.engine_reference.specs.Runs.{counting, put_off, is_due_for, Step, RunsToEnd, after_read, after_hit, after_write, after_put, IsApplied, next_to_evict, left, all_left, is_overtaken, is_due};
 ghost use Rattle.engine_reference.specs.Visible.{visible_record, visible_value, cause_of_write};
 ghost use Rattle.policy_sketch.specs.Counts.{incremented};
 ghost use Rattle.engine_reference.specs.declared.data.Record.{Record};
@@ -20,7 +20,7 @@ use crate::entries::{
     beside, cause_of_removal, cause_of_write, clone_entry, expires_after_use, first_entry,
     next_entry, rooms_of_removal, upsert,
 };
-use crate::looks::{clone_at, has_predicates, has_reads, is_admitted, look_up};
+use crate::looks::{clone_at, has_predicates, has_reads, is_admitted, is_held_at, look_up};
 use engine_lists::{
     Lists, MAX_READS, MAX_WRITES, Refusal, count_admitted, place_at, place_of_ticket,
     weigh_admitted, weigh_held,
@@ -497,6 +497,80 @@ impl<K: Eq, V, S, R: Rules<K, V>> BaseCache<K, V, S, R> {
         while let Some(place) = self.find_excess() {
             self.evict_one(place, now);
         }
+    }
+
+    /// Takes off the oldest write, which changes nothing else.
+    fn skip_write(&mut self, write: Write)
+        requires first { slice_get self.old.writes 0 ≡ Some write }
+        requires same { after_write write (record self.old { writes = drop 1 self.old.writes }) ≡ (record self.old { writes = drop 1 self.old.writes }) }
+        ensures { self.new ≡ after_write write (record self.old { writes = drop 1 self.old.writes }) }
+    {
+        let _write = write;
+        let _popped = self.lists.pop_write();
+    }
+
+    /// Takes off the oldest write, the removal of a key, and its record goes.
+    fn forget_at(&mut self, place: usize, number: u64)
+    where
+        K: Drop,
+        V: Drop,
+        requires first { slice_get self.old.writes 0 ≡ Some (Removed number) }
+        requires gone { (r : Record K V) × (slice_get self.old.records place ≡ Some r) × (record_at self.old.records number ≡ Some r) × (r.is_held ≡ false) }
+        ensures { self.new ≡ after_write (Removed number) (record self.old { writes = drop 1 self.old.writes }) }
+    {
+        let _popped = self.lists.pop_write();
+        self.lists.forget(place);
+    }
+
+    /// Applies the oldest write, the removal of a key whose record is there.
+    fn apply_removal_at(&mut self, place: usize, number: u64)
+    where
+        K: Drop,
+        V: Drop,
+        requires first { slice_get self.old.writes 0 ≡ Some (Removed number) }
+        requires found { (r : Record K V) × (slice_get self.old.records place ≡ Some r) × (record_at self.old.records number ≡ Some r) }
+        ensures { self.new ≡ after_write (Removed number) (record self.old { writes = drop 1 self.old.writes }) }
+    {
+        if is_held_at(&self.lists, place) {
+            self.skip_write(Write::Removed(number));
+        } else {
+            self.forget_at(place, number);
+        }
+    }
+
+    /// Applies the oldest write, the removal of a key.
+    fn apply_removal(&mut self, number: u64)
+    where
+        K: Drop,
+        V: Drop,
+        requires first { slice_get self.old.writes 0 ≡ Some (Removed number) }
+        ensures { self.new ≡ after_write (Removed number) (record self.old { writes = drop 1 self.old.writes }) }
+    {
+        match place_at(self.lists.records(), number) {
+            Some(place) => self.apply_removal_at(place, number),
+            None => self.skip_write(Write::Removed(number)),
+        }
+    }
+
+    /// Takes off the oldest write, and counts its record with its weight.
+    fn count_at(&mut self, place: usize, upsert: Upsert)
+        requires first { slice_get self.old.writes 0 ≡ Some (Put upsert) }
+        requires found { (r : Record K V) × (slice_get self.old.records place ≡ Some r) × (record_at self.old.records upsert.number ≡ Some r) }
+        requires leads { after_write (Put upsert) (record self.old { writes = drop 1 self.old.writes }) ≡ counting upsert (record self.old { writes = drop 1 self.old.writes }) }
+        ensures { self.new ≡ after_write (Put upsert) (record self.old { writes = drop 1 self.old.writes }) }
+    {
+        self.lists.count_write(place, upsert.write, upsert.weight);
+    }
+
+    /// Takes off the oldest write, and puts its record off.
+    fn put_off_at(&mut self, place: usize, upsert: Upsert)
+        requires first { slice_get self.old.writes 0 ≡ Some (Put upsert) }
+        requires found { (r : Record K V) × (slice_get self.old.records place ≡ Some r) × (record_at self.old.records upsert.number ≡ Some r) }
+        requires leads { after_write (Put upsert) (record self.old { writes = drop 1 self.old.writes }) ≡ put_off upsert (record self.old { writes = drop 1 self.old.writes }) }
+        ensures { self.new ≡ after_write (Put upsert) (record self.old { writes = drop 1 self.old.writes }) }
+    {
+        let _popped = self.lists.pop_write();
+        self.lists.put_off(place, upsert.write);
     }
 
     /// Takes down number and weight of the admitted records.

@@ -77,3 +77,11 @@ pub fn has_predicates<K: Eq, V, S, R: Rules<K, V>>(lists: &Lists<K, V, S, R>) ->
     let predicates = lists.predicates();
     !predicates.is_empty()
 }
+
+/// Whether the record at a place is held.
+pub fn is_held_at<K: Eq, V, S, R: Rules<K, V>>(lists: &Lists<K, V, S, R>, place: usize) -> bool
+    requires { place < length lists.now.records }
+    ensures { (r : Record K V) → slice_get lists.now.records place ≡ Some r → result ≡ r.is_held }
+{
+    record_in(lists, place).is_held
+}
