@@ -5,5 +5,9 @@ mod line;
 mod words;
 mod writing;
 
-pub use line::{put_config, put_event, put_made, put_note, put_own};
+pub use line::{
+    put_answer, put_close, put_config, put_event, put_feed, put_give_up, put_made, put_note,
+    put_own,
+};
+pub use words::{put, put_number};
 pub use writing::{put_whole_step, write_transcript};

@@ -94,7 +94,8 @@ fn put_open(text: &mut Vec<u8>, conn: u64) -> Result<(), AllocError>
     Ok(())
 }
 
-fn put_close(text: &mut Vec<u8>, conn: u64) -> Result<(), AllocError>
+/// Writes that a connection closes.
+pub fn put_close(text: &mut Vec<u8>, conn: u64) -> Result<(), AllocError>
     ensures { OnOk result (text.new.items ≡ text.old.items ++ line (codes "close" ∷ decimal conn ∷ [])) }
 {
     put(text, b"close", b' ')?;
@@ -102,7 +103,13 @@ fn put_close(text: &mut Vec<u8>, conn: u64) -> Result<(), AllocError>
     Ok(())
 }
 
-fn put_feed(text: &mut Vec<u8>, conn: u64, piece: &Bytes, moment: Instant) -> Result<(), AllocError>
+/// Writes that a piece of a connection's bytes comes.
+pub fn put_feed(
+    text: &mut Vec<u8>,
+    conn: u64,
+    piece: &Bytes,
+    moment: Instant,
+) -> Result<(), AllocError>
     ensures { OnOk result (text.new.items ≡ text.old.items ++ line (codes "feed" ∷ decimal conn ∷ decimal moment.nanos ∷ bytes_word piece.now ∷ [])) }
 {
     put(text, b"feed", b' ')?;
@@ -112,7 +119,8 @@ fn put_feed(text: &mut Vec<u8>, conn: u64, piece: &Bytes, moment: Instant) -> Re
     Ok(())
 }
 
-fn put_answer(
+/// Writes a load's answer.
+pub fn put_answer(
     text: &mut Vec<u8>,
     load: u64,
     outcome: &Outcome,
@@ -154,7 +162,8 @@ fn put_fault(text: &mut Vec<u8>, fault: &Bytes) -> Result<(), AllocError>
     Ok(())
 }
 
-fn put_give_up(text: &mut Vec<u8>, load: u64, moment: Instant) -> Result<(), AllocError>
+/// Writes that a load is given up.
+pub fn put_give_up(text: &mut Vec<u8>, load: u64, moment: Instant) -> Result<(), AllocError>
     ensures { OnOk result (text.new.items ≡ text.old.items ++ line (codes "giveup" ∷ decimal load ∷ decimal moment.nanos ∷ [])) }
 {
     put(text, b"giveup", b' ')?;

@@ -139,5 +139,9 @@ fn inputs_are_read(rt: HostRuntime) -> Result<(), Fail> {
     assert_eq!(rt; error, line(8));
     let error = read_inputs(rt.alloc(), b"made 0\n").err();
     assert_eq!(rt; error, line(1));
+    let mut text = Vec::from_slice(rt.alloc(), HEAD)?;
+    text.extend_from_slice(b"input 00 open\n")?;
+    let error = read_inputs(rt.alloc(), text.as_slice()).err();
+    assert_eq!(rt; error, line(3));
     Ok(())
 }

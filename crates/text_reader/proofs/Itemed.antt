@@ -40,7 +40,7 @@ abbrev pub note_words : Note → List (List ℕ)
 note_words note = cause_word note.cause ∷ bytes_word note.key ∷ bytes_word note.value ∷ []
 
 -- a step of a chain
-bind-some : {A B : Type 0} (o : Option A) (a : A) (f : A → Option B) → o ≡ Some a → (o >>= f) ≡ f a
+pub bind-some : {A B : Type 0} (o : Option A) (a : A) (f : A → Option B) → o ≡ Some a → (o >>= f) ≡ f a
 bind-some o a f e = ap (λ o. o >>= f) e
 
 -- ---- by kind
@@ -108,7 +108,7 @@ word-setting name w a b = Each-append (λ x. 32 < x) name w a b
 words-note : (word : List ℕ) (note : Note) → IsWord word → Each IsWord (word ∷ note_words note)
 words-note word note is = (is, (word-cause note.cause, (word-bytes note.key, (word-bytes note.value, tt))))
 
-words-outcome : (o : Outcome) → FitsOutcome o → Each IsWord (outcome_words o)
+pub words-outcome : (o : Outcome) → FitsOutcome o → Each IsWord (outcome_words o)
 words-outcome (outcome.Value bytes ms) fits = (word-tested (codes "value") refl, (word-bytes bytes, (word-number_or_none ms fits.1, tt)))
 words-outcome outcome.None fits = (word-tested (codes "none") refl, tt)
 words-outcome (outcome.Fault text) fits = (word-tested (codes "fault") refl, (word-bytes text, tt))
@@ -120,7 +120,7 @@ words-event (event.Feed conn piece moment) fits = (word-tested (codes "feed") re
 words-event (event.Answer load outcome moment) fits = (word-tested (codes "answer") refl, (word-decimal load fits.0, (word-decimal moment.nanos fits.2, words-outcome outcome fits.1)))
 words-event (event.GiveUp load moment) fits = (word-tested (codes "giveup") refl, (word-decimal load fits.0, (word-decimal moment.nanos fits.1, tt)))
 
-words-config : (c : Config) → FitsConfig c → Each IsWord (config_words c)
+pub words-config : (c : Config) → FitsConfig c → Each IsWord (config_words c)
 words-config c fits =
     let parts : c.parts < 2 ^ 64 = (let small = fits.parts in omega arith) in (
       word-tested (codes "config") refl,
@@ -204,7 +204,7 @@ text-item (item.Step step) fits =
     ap (λ n. line (step_words step) ++ flat_map (note_line (codes "note")) n) fits.1 ∙ append-nil (line (step_words step)) ∙ line-joined (step_words step)
 text-item (item.Note note) fits = line-joined (codes "note" ∷ note_words note)
 
-words-said : (ws : List (List ℕ)) → is_skipped (joined ws) ≡ false → Each IsWord ws → words (joined ws) ≡ ws
+pub words-said : (ws : List (List ℕ)) → is_skipped (joined ws) ≡ false → Each IsWord ws → words (joined ws) ≡ ws
 words-said [] says all = cc
 words-said (w ∷ ws) says all = words-joined w ws all
 

@@ -1,4 +1,5 @@
 pub mod Cutting
+pub mod Entered
 pub mod Gatherings
 pub mod Growing
 pub mod Itemed

@@ -1,33 +1,68 @@
 //! Inputs for a replay.
+ghost use Rattle.std.specs.Prelude.{◌≡◌, ◌++◌, ◌∷◌, [], IfOk, IsTrue, OnOk, None};
+ghost use Rattle.audit_text.specs.Words.{line};
+ghost use Rattle.text_reader.specs.Entries.{IsReplay, add_entry, asked_of, begin_config, begin_input, begin_lines, begin_made, begun_text, entry_in, entry_line, entry_of, entry_words_in, has_only_configs, input_in, input_of, replay_reading};
+ghost use Rattle.text_reader.specs.Fields.{IsRead, IsReadOff, words_left};
+ghost use Rattle.text_reader.specs.Gathering.{IsMade, IsReadText};
+ghost use Rattle.text_reader.specs.Inputs.{FitsReplay, asked_words, input_words, replay_text};
+ghost use Rattle.text_reader.specs.Lines.{kept, kept_line, said_line, words};
+
 use crate::fields::{LineFault, TextError, Words};
-use crate::item::{read_config, read_event};
+use crate::item::{is_line, read_config, read_event};
 use crate::lines::{cut_line, is_skipped};
-use audit_model::{Config, Conn, Event, Input, Instant, LoadId};
-use std::alloc::Global;
+use audit_model::{Config, Conn, Event, Input, Instant, LoadId, Seq};
+use audit_text::{
+    put, put_answer, put_close, put_config, put_feed, put_give_up, put_made, put_number,
+};
+use std::alloc::{AllocError, Global};
 
 /// What is played: configurations, the moment of the making, and inputs.
 #[derive(Drop)]
 pub struct Replay {
-    pub configs: Vec<Config>,
+    pub configs: Seq<Config>,
     pub made: Instant,
-    pub inputs: Vec<Input>,
+    pub inputs: Seq<Input>,
 }
 
 /// What was read so far.
 #[derive(Drop)]
-struct Begun {
-    configs: Vec<Config>,
-    made: Option<Instant>,
-    inputs: Vec<Input>,
+pub struct Begun {
+    pub configs: Seq<Config>,
+    pub made: Option<Instant>,
+    pub inputs: Seq<Input>,
 }
 
-/// The inputs that a text writes: one or more lines `config`, a line `made`, and lines `input`. Else an error says which line is
-/// not of the form.
-pub fn read_inputs(alloc: Global, text: &[u8]) -> Result<Replay, TextError> {
+/// What one line of inputs says.
+#[derive(Drop)]
+pub enum Entry {
+    /// The settings of a namespace.
+    Config(Config),
+    /// The moment of the making.
+    Made(Instant),
+    /// An input.
+    Input(Input),
+}
+
+/// The inputs that a text writes: one or more lines `config`, a line `made`, and lines `input`.
+///
+/// What is read is what would be written, but for empty lines and comments. Else an error says which line is not of the form.
+pub fn read_inputs(alloc: Global, text: &[u8]) -> Result<Replay, TextError>
+    ensures written { IfOk result (λ replay. replay_text replay ≡ kept text.now) }
+    ensures exact { (replay : Replay) → FitsReplay replay → replay_text replay ≡ kept text.now → IsReplay result replay }
+{
+    read_entries(alloc, text)
+}
+
+/// The inputs that the lines of a text write.
+#[tactic(auto, using(crate::proofs::Gatherings::begin_lines_append), unfolding(crate::specs::Entries::replay_reading))]
+fn read_entries(alloc: Global, text: &[u8]) -> Result<Replay, TextError>
+    ensures text { IfOk result (λ replay. replay_text replay ≡ kept text.now) }
+    ensures said { IsReadText (replay_reading text.now) result }
+{
     let mut begun = Begun {
-        configs: Vec::new(alloc),
+        configs: Seq::new(alloc),
         made: None,
-        inputs: Vec::new(alloc),
+        inputs: Seq::new(alloc),
     };
     let mut rest = text;
     let mut number: u64 = 0;
@@ -56,43 +91,193 @@ pub fn read_inputs(alloc: Global, text: &[u8]) -> Result<Replay, TextError> {
 }
 
 /// Takes what a line says, if it says something.
-fn take_input_line(alloc: Global, begun: &mut Begun, line: &[u8]) -> Result<(), LineFault> {
+fn take_input_line(alloc: Global, begun: &mut Begun, line: &[u8]) -> Result<(), LineFault>
+    ensures text { OnOk result (begun_text begun.new ≡ begun_text begun.old ++ kept_line line.now) }
+    ensures said { IsMade (begin_lines begun.old (said_line line.now)) result begun.new }
+{
     if is_skipped(line) {
         return Ok(());
     }
-    let mut words = Words::new(line);
-    let kind = words.next()?;
-    if kind == b"input".as_slice() {
-        if begun.made.is_none() {
-            return Err(LineFault::Form);
-        }
-        let input = read_input(alloc, &mut words)?;
-        words.end()?;
-        begun.inputs.push(input)?;
-        return Ok(());
+    let entry = read_entry(alloc, line)?;
+    add_entry(begun, entry)
+}
+
+/// Adds an entry behind the others, where it may stand there.
+fn add_entry(begun: &mut Begun, entry: Entry) -> Result<(), LineFault>
+    ensures text { OnOk result (begun_text begun.new ≡ begun_text begun.old ++ entry_line entry) }
+    ensures said { IsMade (add_entry begun.old entry) result begun.new }
+{
+    match entry {
+        Entry::Config(config) => begin_config(begun, config),
+        Entry::Made(made) => begin_made(begun, made),
+        Entry::Input(input) => begin_input(begun, input),
     }
-    if begun.made.is_some() {
+}
+
+#[tactic(auto, using(crate::proofs::Growing::flat_map_push), unfolding(crate::specs::Entries::begin_config))]
+fn begin_config(begun: &mut Begun, config: Config) -> Result<(), LineFault>
+    ensures text { OnOk result (begun_text begun.new ≡ begun_text begun.old ++ entry_line (Entry.Config config)) }
+    ensures said { IsMade (begin_config begun.old config) result begun.new }
+{
+    if !has_only_configs(begun) {
         return Err(LineFault::Form);
     }
-    if kind == b"config".as_slice() {
-        let config = read_config(&mut words)?;
-        words.end()?;
-        begun.configs.push(config)?;
-        return Ok(());
-    }
-    if kind != b"made".as_slice() || begun.configs.is_empty() {
-        return Err(LineFault::Form);
-    }
-    let nanos = words.number()?;
-    words.end()?;
-    begun.made = Some(Instant { nanos });
+    begun.configs.push(config)?;
     Ok(())
 }
 
+/// Whether nothing but configurations was read.
+fn has_only_configs(begun: &Begun) -> bool
+    ensures said { result ≡ has_only_configs begun.now }
+    ensures none { IsTrue result → ((begun.now.made ≡ None) × (begun.now.inputs ≡ [])) }
+{
+    begun.made.is_none() && begun.inputs.len() == 0
+}
+
+#[tactic(auto, unfolding(crate::specs::Entries::begin_made))]
+fn begin_made(begun: &mut Begun, made: Instant) -> Result<(), LineFault>
+    ensures text { OnOk result (begun_text begun.new ≡ begun_text begun.old ++ entry_line (Entry.Made made)) }
+    ensures said { IsMade (begin_made begun.old made) result begun.new }
+{
+    if !has_only_configs(begun) || begun.configs.len() == 0 {
+        return Err(LineFault::Form);
+    }
+    begun.made = Some(made);
+    Ok(())
+}
+
+#[tactic(auto, using(crate::proofs::Growing::flat_map_push), unfolding(crate::specs::Entries::begin_input))]
+fn begin_input(begun: &mut Begun, input: Input) -> Result<(), LineFault>
+    ensures text { OnOk result (begun_text begun.new ≡ begun_text begun.old ++ entry_line (Entry.Input input)) }
+    ensures said { IsMade (begin_input begun.old input) result begun.new }
+{
+    if begun.made.is_none() {
+        return Err(LineFault::Form);
+    }
+    begun.inputs.push(input)?;
+    Ok(())
+}
+
+/// What a line says. A line is of the form only as it would be written: its text is compared.
+#[tactic(auto, unfolding(crate::specs::Entries::entry_in))]
+fn read_entry(alloc: Global, line: &[u8]) -> Result<Entry, LineFault>
+    ensures written { IfOk result (λ e. entry_line e ≡ line.now ++ 10 ∷ []) }
+    ensures said { IsRead (entry_in line.now) result }
+{
+    let entry = parse_entry(alloc, line)?;
+    let mut text = Vec::new(alloc);
+    put_entry(&mut text, &entry)?;
+    if is_line(text.as_slice(), line) {
+        Ok(entry)
+    } else {
+        Err(LineFault::Form)
+    }
+}
+
+/// Writes an entry.
+fn put_entry(text: &mut Vec<u8>, entry: &Entry) -> Result<(), AllocError>
+    ensures { OnOk result (text.new.items ≡ text.old.items ++ entry_line entry.now) }
+{
+    match entry {
+        Entry::Config(config) => put_config(text, config),
+        Entry::Made(made) => put_made(text, *made),
+        Entry::Input(input) => put_input(text, input),
+    }
+}
+
+/// Writes an input.
+fn put_input(text: &mut Vec<u8>, input: &Input) -> Result<(), AllocError>
+    ensures { OnOk result (text.new.items ≡ text.old.items ++ line (input_words input.now)) }
+{
+    put(text, b"input", b' ')?;
+    put_asked(text, input)
+}
+
+/// Writes what is asked, behind the word `input`.
+fn put_asked(text: &mut Vec<u8>, input: &Input) -> Result<(), AllocError>
+    ensures { OnOk result (text.new.items ≡ text.old.items ++ line (asked_words input.now)) }
+{
+    match input {
+        Input::Open { namespace } => {
+            put_number(text, *namespace, b' ')?;
+            put(text, b"open", b'\n')
+        }
+        Input::Close { conn } => {
+            put_number(text, conn.namespace, b' ')?;
+            put_close(text, conn.number)
+        }
+        Input::Feed {
+            conn,
+            piece,
+            moment,
+        } => {
+            put_number(text, conn.namespace, b' ')?;
+            put_feed(text, conn.number, piece, *moment)
+        }
+        Input::Answer {
+            load,
+            outcome,
+            moment,
+        } => {
+            put_number(text, load.namespace, b' ')?;
+            put_answer(text, load.number, outcome, *moment)
+        }
+        Input::GiveUp { load, moment } => {
+            put_number(text, load.namespace, b' ')?;
+            put_give_up(text, load.number, *moment)
+        }
+    }
+}
+
+/// Reads a line, not so strictly.
+#[tactic(auto, unfolding(crate::specs::Entries::entry_words_in))]
+fn parse_entry(alloc: Global, line: &[u8]) -> Result<Entry, LineFault>
+    ensures { IsRead (entry_words_in (words line.now)) result }
+{
+    let mut words = Words::new(line);
+    let kind = words.next()?;
+    let entry = parse_entry_kind(alloc, kind, &mut words)?;
+    words.end()?;
+    Ok(entry)
+}
+
+/// What is said behind the word that names its kind.
+#[tactic(auto, unfolding(crate::specs::Entries::entry_of))]
+fn parse_entry_kind(alloc: Global, kind: &[u8], words: &mut Words<'_>) -> Result<Entry, LineFault>
+    ensures { IsReadOff (entry_of kind.now (words_left words.old)) result (words_left words.new) }
+{
+    if kind == b"input".as_slice() {
+        Ok(Entry::Input(read_input(alloc, words)?))
+    } else if kind == b"config".as_slice() {
+        Ok(Entry::Config(read_config(words)?))
+    } else if kind == b"made".as_slice() {
+        let nanos = words.number()?;
+        Ok(Entry::Made(Instant { nanos }))
+    } else {
+        Err(LineFault::Form)
+    }
+}
+
 /// An input behind its word: a namespace, and an event; an opening has no number.
-fn read_input(alloc: Global, words: &mut Words<'_>) -> Result<Input, LineFault> {
+#[tactic(auto, unfolding(crate::specs::Entries::input_in))]
+fn read_input(alloc: Global, words: &mut Words<'_>) -> Result<Input, LineFault>
+    ensures { IsReadOff (input_in (words_left words.old)) result (words_left words.new) }
+{
     let namespace = words.number()?;
     let kind = words.next()?;
+    read_asked(alloc, namespace, kind, words)
+}
+
+/// What is asked of a namespace, behind the word that names its kind.
+#[tactic(auto, unfolding(crate::specs::Entries::asked_of))]
+fn read_asked(
+    alloc: Global,
+    namespace: u64,
+    kind: &[u8],
+    words: &mut Words<'_>,
+) -> Result<Input, LineFault>
+    ensures { IsReadOff (asked_of namespace kind.now (words_left words.old)) result (words_left words.new) }
+{
     if kind == b"open".as_slice() {
         return Ok(Input::Open { namespace });
     }
@@ -101,7 +286,9 @@ fn read_input(alloc: Global, words: &mut Words<'_>) -> Result<Input, LineFault> 
 }
 
 /// The event, asked of a namespace.
-fn input_of(namespace: u64, event: Event) -> Input {
+fn input_of(namespace: u64, event: Event) -> Input
+    ensures { result ≡ input_of namespace event }
+{
     match event {
         Event::Open { conn: _ } => Input::Open { namespace },
         Event::Close { conn } => Input::Close {

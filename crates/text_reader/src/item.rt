@@ -46,7 +46,7 @@ pub fn read_item(alloc: Global, line: &[u8]) -> Result<Item, LineFault>
 }
 
 /// Whether the text is the line with its line feed.
-fn is_line(text: &[u8], line: &[u8]) -> bool
+pub fn is_line(text: &[u8], line: &[u8]) -> bool
     ensures { result ≡ bytes_eq text.now (line.now ++ 10 ∷ []) }
 {
     match text.strip_suffix(b"\n") {

@@ -10,4 +10,4 @@ mod reading;
 
 pub use fields::TextError;
 pub use inputs::{Replay, read_inputs};
-pub use reading::read_transcript;
+pub use reading::{read_transcript, texts_tell_transcripts_apart};

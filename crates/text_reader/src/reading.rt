@@ -26,6 +26,13 @@ pub fn read_transcript(alloc: Global, text: &[u8]) -> Result<(Config, Transcript
     read_lines(alloc, text)
 }
 
+/// A law: two transcripts with one text are one, and so are their configurations. It does nothing.
+pub fn texts_tell_transcripts_apart()
+    ensures { (config : Config) → (transcript : Transcript) → FitsConfig config → FitsTranscript transcript
+        → (other_config : Config) → (other : Transcript) → FitsConfig other_config → FitsTranscript other
+        → transcript_text config transcript ≡ transcript_text other_config other → (config ≡ other_config) × (transcript ≡ other) }
+{}
+
 /// The transcript that the lines of a text write, with its configuration.
 #[tactic(auto, using(crate::proofs::Gatherings::add_lines_append), unfolding(crate::specs::Gathering::reading))]
 fn read_lines(alloc: Global, text: &[u8]) -> Result<(Config, Transcript), TextError>

@@ -7,3 +7,4 @@ mod replaying;
 
 pub use auditing::judge;
 pub use program::{transcript, without_words};
+pub use replaying::{ReplayError, replay};

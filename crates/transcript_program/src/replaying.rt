@@ -1,4 +1,7 @@
 //! Inputs, played and printed.
+ghost use Rattle.std.specs.Prelude.{◌≡◌, ◌++◌, IfOk, OnOk};
+ghost use Rattle.transcript_program.specs.Printed.{IsPrintedOf, namespace_text, namespaces_text};
+
 use audit_model::{Config, ServiceError, Transcript};
 use audit_text::write_transcript;
 use cache_spaces::play;
@@ -48,7 +51,9 @@ impl From<ServiceError> for ReplayError {
 }
 
 /// The inputs of a text, played, and what they came to: the transcript of each namespace.
-pub fn replay(alloc: Global, text: &[u8]) -> Result<Vec<u8>, ReplayError> {
+pub fn replay(alloc: Global, text: &[u8]) -> Result<Vec<u8>, ReplayError>
+    ensures printed { IfOk result (λ printed. IsPrintedOf text.now printed.items) }
+{
     let replay = read_inputs(alloc, text)?;
     let generator = Xoshiro256PlusPlus::seed_from_u64(SEED);
     let transcripts = play(
@@ -63,21 +68,43 @@ pub fn replay(alloc: Global, text: &[u8]) -> Result<Vec<u8>, ReplayError> {
 }
 
 /// The namespaces, each with its number and transcript.
+#[tactic(auto, using(crate::proofs::Printing::namespaces_more, crate::proofs::Printing::namespaces_past, crate::proofs::Printing::namespaces_none))]
 fn print_transcripts(
     alloc: Global,
     configs: &[Config],
     transcripts: &[Transcript],
-) -> Result<Vec<u8>, AllocError> {
+) -> Result<Vec<u8>, AllocError>
+    ensures { IfOk result (λ printed. printed.items ≡ namespaces_text 0 configs.now transcripts.now) }
+{
     let mut printed = Vec::new(alloc);
+    let mut left = transcripts;
     let mut number: u64 = 0;
-    for (config, transcript) in configs.iter().zip(transcripts) {
-        let mut digits = Buffer::new();
-        printed.extend_from_slice(b"namespace ")?;
-        printed.extend_from_slice(digits.format(number).as_bytes())?;
-        printed.push(b'\n')?;
-        let text = write_transcript(alloc, config, transcript)?;
-        printed.extend_from_slice(text.as_slice())?;
-        number = number.wrapping_add(1);
+    for config in configs {
+        let [transcript, behind @ ..] = left else {
+            return Ok(printed);
+        };
+        left = behind;
+        print_namespace(alloc, &mut printed, number, config, transcript)?;
+        number += 1;
     }
     Ok(printed)
+}
+
+/// A namespace, with its number and transcript.
+fn print_namespace(
+    alloc: Global,
+    printed: &mut Vec<u8>,
+    number: u64,
+    config: &Config,
+    transcript: &Transcript,
+) -> Result<(), AllocError>
+    ensures { OnOk result (printed.new.items ≡ printed.old.items ++ namespace_text number config.now transcript.now) }
+{
+    let mut digits = Buffer::new();
+    let text = write_transcript(alloc, config, transcript)?;
+    printed.extend_from_slice(b"namespace ")?;
+    printed.extend_from_slice(digits.format(number).as_bytes())?;
+    printed.push(b'\n')?;
+    printed.extend_from_slice(text.as_slice())?;
+    Ok(())
 }
