@@ -5,6 +5,8 @@ use Rattle.engine_reference.specs.declared.data.Record.{Record}
 use Rattle.engine_reference.specs.declared.data.Upsert.{Upsert}
 use Rattle.engine_reference.specs.declared.data.Write.{Write}
 use Rattle.engine_reference.specs.Records.{changed_at, moved_to_back, record_at, without_record, without}
+use Rattle.engine_rules.specs.declared.causes.RemovalCause.TheVariants as cause
+use Rattle.engine_reference.specs.Visible.{told}
 use Rattle.engine_reference.specs.Runs.{after_write, after_removal, counting, put_off}
 use Rattle.engine_reference.specs.Soundness.{AreNumbered, IsSound}
 use Rattle.engine_reference.specs.State.{State}
@@ -49,3 +51,11 @@ module _ {K V P S R : Type 0} where
       let number = record_at-number s.records u.number r found in
       ap (λ rs. record s { records = rs }) (sym (at_changed (λ x. record x { applied = u.write }) s.records place r numbered there))
       ∙ ap (λ n. record s { records = changed_at n (λ x. record x { applied = u.write }) s.records }) number
+
+  -- the record at a place left for its weight
+  abbrev pub gone : State K V P S R → ℕ → Record K V → State K V P S R
+  gone s place r = record s {
+    records = remove s.records place;
+    access = without r.number s.access;
+    notices = cond r.is_held (told s.settings.tells cause.Size r.entry s.notices) s.notices;
+  }

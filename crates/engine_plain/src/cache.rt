@@ -12,6 +12,7 @@ ghost use Rattle.engine_reference.specs.declared.data.Unsent.{Unsent};
 ghost use Rattle.engine_reference.specs.declared.data.Upsert.{Upsert};
 ghost use Rattle.engine_reference.specs.declared.data.Write.{Write};
 ghost use Rattle.engine_reference.specs.declared.data.Write.TheVariants.{Put, Removed};
+ghost use Rattle.engine_rules.specs.declared.causes.RemovalCause.TheVariants as cause;
 ghost use Rattle.engine_lists.specs.Asking.{answers_of};
 ghost use Rattle.engine_plain.specs.Chains.{Chain, none_due, is_admitted};
 
@@ -571,6 +572,20 @@ impl<K: Eq, V, S, R: Rules<K, V>> BaseCache<K, V, S, R> {
     {
         let _popped = self.lists.pop_write();
         self.lists.put_off(place, upsert.write);
+    }
+
+    /// Takes off the oldest write, and its record leaves, as there is no room for it.
+    fn refuse_at(&mut self, place: usize, upsert: Upsert)
+    where
+        K: Drop,
+        V: Drop,
+        requires first { slice_get self.old.writes 0 ≡ Some (Put upsert) }
+        requires found { (r : Record K V) × (slice_get self.old.records place ≡ Some r) × (record_at self.old.records upsert.number ≡ Some r) }
+        requires leads { after_write (Put upsert) (record self.old { writes = drop 1 self.old.writes }) ≡ left cause.Size upsert.number (record self.old { writes = drop 1 self.old.writes }) }
+        ensures { self.new ≡ after_write (Put upsert) (record self.old { writes = drop 1 self.old.writes }) }
+    {
+        let _popped = self.lists.pop_write();
+        self.lists.leave(place, RemovalCause::Size);
     }
 
     /// Takes down number and weight of the admitted records.
