@@ -1,8 +1,13 @@
-//! A cache that is served by lines: namespaces with their connections, journals, runs over readers and writers, and play.
+//! A cache that is served by lines: namespaces with their connections, journals, runs over readers and writers, play, and services that
+//! threads share.
 //!
 //! The types of configurations, inputs and transcripts are `moka_audit`'s.
 #![tactic(auto)]
 
 pub use cache_devices::{Clock, Loader, Watched};
+pub use cache_live::LiveService;
+pub use cache_reading::ReadService;
 pub use cache_run::{RunError, run};
+pub use cache_serve::{Devices, Hosted, Teller, Untold, host, serve, serve_and_tell};
+pub use cache_shared::{Core, Finished, Replies, Seat, Seating, SharedService, Takings};
 pub use cache_spaces::{AnswerError, Fed, Output, RecordedService, Refusal, Service, play};

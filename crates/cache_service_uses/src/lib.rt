@@ -1,15 +1,19 @@
 //! How `cache_service` is used.
 #![tactic(auto)]
 
-ghost use Rattle.std.specs.Prelude.{IfOk, IfSome, ◌∷◌, []};
+ghost use Rattle.std.specs.Prelude.{IfOk, IfSome, ◌∷◌, ◌≤◌, []};
 ghost use Rattle.std.specs.List.{slice_get};
 ghost use Rattle.cache_service.specs.Words.{ArePlayed, KeepsList};
 
-use cache_service::{Service, play};
+use cache_service::{
+    Clock, LiveService, Loader, RunError, Seat, Seating, Service, SharedService, Watched, play,
+    serve,
+};
 use moka_audit::{Config, Conn, EvictionPolicy, Input, Instant, ServiceError, Transcript, Weight};
 use rand_core::SeedableRng;
 use rand_xoshiro::Xoshiro256PlusPlus;
 use std::alloc::Global;
+use std::sync::Wait;
 
 /// A namespace without limits.
 pub const PLAIN: Config = Config {
@@ -90,6 +94,37 @@ pub fn play_pair(
     let generator = Xoshiro256PlusPlus::seed_from_u64(0);
     match play(alloc, &[PAIR], generator, made, inputs) {
         Ok(transcripts) => Ok(transcripts),
+        Err(error) => Err(error),
+    }
+}
+
+/// What a connection of a shared service is written where these bytes come from its client. The seat counts what was taken of it.
+pub fn answer_shared<L: Seating, K: Clock, D: Loader>(
+    rt: &impl Wait,
+    alloc: Global,
+    shared: &SharedService<L, LiveService>,
+    seat: &mut Seat<L>,
+    text: &[u8],
+    clock: &mut K,
+    loader: &mut D,
+) -> Result<Vec<u8>, RunError>
+    ensures { seat.old.count ≤ seat.new.count }
+{
+    let mut replies = Vec::new(alloc);
+    let mut reader = Watched::new(text);
+    let mut writer = Watched::new(&mut replies);
+    match serve(
+        rt,
+        alloc,
+        shared,
+        seat,
+        0,
+        &mut reader,
+        &mut writer,
+        clock,
+        loader,
+    ) {
+        Ok(()) => Ok(replies),
         Err(error) => Err(error),
     }
 }

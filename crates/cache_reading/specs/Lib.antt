@@ -1,0 +1,3 @@
+pub mod Cursors
+pub mod Replies
+pub mod Read

@@ -1,0 +1,25 @@
+-- What is seen of a recording service whose replies are taken.
+use Rattle.std.specs.Prelude.{ℕ, List, drop}
+use Rattle.audit_model.specs.declared.input.Conn.{Conn}
+use Rattle.audit_model.specs.declared.transcript.Transcript.{Transcript}
+use Rattle.cache_reading.specs.Cursors.{cursor_at}
+use Rattle.cache_reading.specs.Replies.{records_at, replies_to}
+use Rattle.cache_reading.specs.declared.reading.ReadService.{ReadService}
+use Rattle.cache_spaces.specs.Journals.{journals_of, service_of}
+use Rattle.cache_spaces.specs.declared.journals.RecordedService.{RecordedService}
+use Rattle.cache_spaces.specs.declared.service.Service.{Service}
+
+-- the recording service itself
+abbrev pub recorded_of : ReadService → RecordedService
+recorded_of reader = reader.recorded
+
+abbrev pub journals_in : ReadService → List Transcript
+journals_in reader = journals_of reader.recorded
+
+abbrev pub service_in : ReadService → Service
+service_in reader = service_of reader.recorded
+
+-- the replies that a connection's records hold since the last taking
+abbrev pub untaken_in : ReadService → Conn → List ℕ
+untaken_in reader conn =
+    replies_to conn.number (drop (cursor_at reader.read.items conn.namespace conn.number) (records_at (journals_of reader.recorded) conn.namespace))

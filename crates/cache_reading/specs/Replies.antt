@@ -1,0 +1,19 @@
+-- The replies that records hold.
+use Rattle.std.specs.Prelude.{ℕ, ◌==◌, List, [], unwrap_or, if◌then◌else◌}
+use Rattle.std.specs.List.{flat_map, slice_get}
+use Rattle.std.specs.Option.{option_map_or}
+use Rattle.audit_model.specs.declared.transcript.Record.{Record}
+use Rattle.audit_model.specs.declared.transcript.Step.{Step}
+use Rattle.audit_model.specs.declared.transcript.Transcript.{Transcript}
+
+-- a step's reply, where the step is that connection's
+abbrev pub reply_to : ℕ → Step → List ℕ
+reply_to number step = if step.conn == number then unwrap_or step.reply [] else []
+
+-- the replies of a connection, in order
+abbrev pub replies_to : ℕ → List Record → List ℕ
+replies_to number records = flat_map (λ entry. flat_map (reply_to number) entry.steps) records
+
+-- the records of a namespace
+abbrev pub records_at : List Transcript → ℕ → List Record
+records_at journals namespace = option_map_or (λ journal. journal.records) (slice_get journals namespace) []

@@ -1,0 +1,67 @@
+//! The core that keeps its journals, and whose replies are taken.
+use crate::reading::{ReadService, take_note, take_replies};
+use audit_model::{Closing, Conn, Input, Note, ServiceError, Transcript};
+use cache_shared::{Core, Takings};
+use cache_spaces::{Output, RecordedService, Refusal};
+
+impl Core for ReadService {
+    ghost use Rattle.cache_shared.specs.Events.{RecordedAs, record_count};
+    ghost use Rattle.cache_reading.specs.Read.{journals_in, service_in};
+    ghost use Rattle.cache_spaces.specs.Services.{spaces_of};
+    ghost use Rattle.std.specs.Prelude.{true};
+
+    ghost service = { service_in };
+
+    ghost events = { λ reader. record_count (journals_in reader) };
+
+    ghost journals = { journals_in };
+
+    ghost KEEPS = { true };
+
+    const KEEPS: bool = true;
+
+    ghost Recorded = { λ i output was is. RecordedAs i output (journals_in was) (journals_in is) (spaces_of (service_in was)) (spaces_of (service_in is)) };
+
+    fn step(&mut self, input: Input) -> Result<Output, Refusal> {
+        let ReadService { recorded, .. } = self;
+        <RecordedService as Core>::step(recorded, input)
+    }
+
+    fn stands(&self) {
+        Core::stands(&self.recorded)
+    }
+
+    fn journal(&self, namespace: u64) -> Result<&Transcript, ServiceError> {
+        Core::journal(&self.recorded, namespace)
+    }
+}
+
+impl Takings for ReadService {
+    ghost use Rattle.cache_reading.specs.Read.{untaken_in};
+
+    ghost untaken = { untaken_in };
+
+    fn take_output(&mut self, conn: Conn) -> Result<Vec<u8>, ServiceError> {
+        let ReadService {
+            alloc,
+            recorded,
+            read,
+            ..
+        } = self;
+        take_replies(*alloc, recorded, read, conn)
+    }
+
+    fn next_notice(&mut self, namespace: u64) -> Result<Option<Note>, ServiceError> {
+        let ReadService {
+            alloc,
+            recorded,
+            told,
+            ..
+        } = self;
+        take_note(*alloc, recorded, told, namespace)
+    }
+
+    fn closed(&self, conn: Conn) -> Result<Option<Closing>, ServiceError> {
+        self.recorded.service().closed(conn)
+    }
+}
