@@ -1,9 +1,5 @@
-//! Tests of the judge of transcripts, as tables of rows.
+//! Tests of the judge of transcripts: what a service plays is right.
 #![tactic(auto)]
 
 #[cfg(test)]
 mod played;
-#[cfg(test)]
-mod refused;
-#[cfg(test)]
-mod rows;

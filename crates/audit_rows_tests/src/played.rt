@@ -1,5 +1,4 @@
 //! The worked scripts, played from a service, and judged.
-use crate::rows::PLAIN;
 use audit_model::{Config, Conn, EvictionPolicy, Input, Instant, Seq, Weight};
 use audit_records::{Verdict, audit};
 use cache_spaces::play;
@@ -7,6 +6,17 @@ use rand_core::SeedableRng;
 use rand_xoshiro::Xoshiro256PlusPlus;
 use std::alloc::{AllocError, Global};
 use std::test::Fail;
+
+/// Without capacity, times and own deadlines, with one part.
+const PLAIN: Config = Config {
+    capacity: None,
+    policy: EvictionPolicy::Lru,
+    parts: 1,
+    weight: Weight::One,
+    live_ms: None,
+    idle_ms: None,
+    own_deadlines: false,
+};
 
 const OWN: Config = Config {
     own_deadlines: true,

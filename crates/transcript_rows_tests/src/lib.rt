@@ -1,5 +1,9 @@
-//! Verdicts on transcripts in their text form: hostile ones, and those that wrong bodies would make.
+//! Verdicts on transcripts in their text form: hostile ones, and those that wrong services would make.
 #![tactic(auto)]
 
 #[cfg(test)]
+mod hostile;
+#[cfg(test)]
 mod rows;
+#[cfg(test)]
+mod wrong;
