@@ -12,9 +12,9 @@ use Rattle.engine_reference.specs.Soundness.{AreNumbered, IsSound}
 use Rattle.engine_reference.specs.State.{State}
 use Rattle.engine_reference.proofs.SoundSteps.{popped-is_sound}
 use Rattle.engine_reference.proofs.HeldRecords.{record_at-number}
-use Rattle.engine_plain.proofs.Places.{at_without, at_changed}
+use Rattle.engine_looks.proofs.Places.{at_without, at_changed}
 use Rattle.engine_plain.proofs.Keeping.{sound_as}
-use Rattle.engine_plain.proofs.Steps.{first_rest}
+use Rattle.engine_looks.proofs.Steps.{first_rest}
 
 module _ {K V P S R : Type 0} where
   abbrev pub popped : State K V P S R → State K V P S R

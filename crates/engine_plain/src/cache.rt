@@ -14,14 +14,13 @@ ghost use Rattle.engine_reference.specs.declared.data.Write.{Write};
 ghost use Rattle.engine_reference.specs.declared.data.Write.TheVariants.{Put, Removed};
 ghost use Rattle.engine_rules.specs.declared.causes.RemovalCause.TheVariants as cause;
 ghost use Rattle.engine_lists.specs.Asking.{answers_of};
-ghost use Rattle.engine_plain.specs.Chains.{Chain, none_due, is_admitted};
+ghost use Rattle.engine_looks.specs.Chains.{Chain, none_due, is_admitted};
 
-use crate::due::{find_due, find_excess};
-use crate::entries::{
-    beside, cause_of_removal, cause_of_write, clone_entry, expires_after_use, first_entry,
+use engine_looks::{
+    beside, cause_of_removal, cause_of_write, clone_at, clone_entry, expires_after_use, find_due,
+    find_excess, first_entry, has_predicates, has_reads, is_admitted, is_held_at, look_up,
     next_entry, rooms_of_removal, upsert,
 };
-use crate::looks::{clone_at, has_predicates, has_reads, is_admitted, is_held_at, look_up};
 use engine_lists::{
     Lists, MAX_READS, MAX_WRITES, Refusal, count_admitted, place_at, place_of_ticket,
     weigh_admitted, weigh_held,

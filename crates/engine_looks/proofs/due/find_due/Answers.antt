@@ -1,8 +1,8 @@
 use Rattle.std.proofs.Common.{ap, ◌∙◌, arith, length}
 use Rattle.engine_lists.specs.Asking.{answers_of}
-use Rattle.engine_plain.proofs.Places.{is_there}
-use Rattle.engine_plain.proofs.Steps.{none_due-past}
-use Rattle.engine_plain.proofs.due.find_due.Goals as goal
+use Rattle.engine_looks.proofs.Places.{is_there}
+use Rattle.engine_looks.proofs.Steps.{none_due-past}
+use Rattle.engine_looks.proofs.due.find_due.Goals as goal
 
 pub loop-place-preserved : goal.loop-place-preserved
 loop-place-preserved g c =

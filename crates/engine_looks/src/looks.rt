@@ -4,7 +4,7 @@ ghost use Rattle.engine_reference.specs.Records.{record_at};
 ghost use Rattle.engine_reference.specs.Visible.{visible_record};
 ghost use Rattle.engine_reference.specs.declared.data.Record.{Record};
 ghost use Rattle.engine_lists.specs.Asking.{answers_of};
-ghost use Rattle.engine_plain.specs.Chains.{is_admitted};
+ghost use Rattle.engine_looks.specs.Chains.{is_admitted};
 
 use crate::due::record_in;
 use engine_lists::{Lists, place_at};

@@ -1,5 +1,5 @@
 use Rattle.std.proofs.Common.{sym, ◌∙◌}
-use Rattle.engine_plain.proofs.due.cause_of.Goals as goal
+use Rattle.engine_looks.proofs.due.cause_of.Goals as goal
 
 pub returns-then-is_dead-clause-why : goal.returns-then-is_dead-clause-why
 returns-then-is_dead-clause-why g c =

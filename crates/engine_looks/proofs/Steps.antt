@@ -9,11 +9,11 @@ use Rattle.engine_reference.specs.declared.data.Registered.{Registered}
 use Rattle.engine_reference.specs.Records.{admitted_number, admitted_weight, settled_in, record_at, moved_to_back, without}
 use Rattle.engine_reference.specs.Soundness.{AreNumbered}
 use Rattle.engine_reference.specs.Visible.{told}
-use Rattle.engine_plain.proofs.Places.{at_without, at_number}
+use Rattle.engine_looks.proofs.Places.{at_without, at_number}
 use Rattle.engine_reference.specs.Runs.{RunsToEnd, IsDone, Step, Steps, after_read, after_hit, left, with_left, IsApplied}
 use Rattle.engine_reference.specs.State.{State, Answers}
 use Rattle.engine_reference.proofs.HeldRecords.{record_at-number}
-use Rattle.engine_plain.specs.Chains.{Chain, is_admitted, is_due, none_due}
+use Rattle.engine_looks.specs.Chains.{Chain, is_admitted, is_due, none_due}
 
 pub first_rest : {X : Type 0} (xs : List X) (x : X) → slice_get xs 0 ≡ Some x → xs ≡ x ∷ drop 1 xs
 first_rest [] x h = absurd (cc)

@@ -2,7 +2,7 @@ use Rattle.std.proofs.Common.{ap, sym, ◌∙◌}
 use Rattle.std.specs.Prelude.{slice_get}
 use Rattle.engine_reference.specs.Records.{settled_in}
 use Rattle.engine_reference.specs.Runs.{first_of}
-use Rattle.engine_plain.proofs.due.find_excess.Goals as goal
+use Rattle.engine_looks.proofs.due.find_excess.Goals as goal
 
 pub returns-clause-found : goal.returns-clause-found
 returns-clause-found g c =

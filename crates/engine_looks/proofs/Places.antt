@@ -10,7 +10,7 @@ use Rattle.engine_reference.specs.Records.{record_at, without_record, changed_at
 use Rattle.engine_reference.specs.Soundness.{AreNumbered, IsSound, Each, IsIn}
 use Rattle.engine_reference.specs.State.{State}
 use Rattle.engine_reference.proofs.SoundCalls.{held_at-each}
-use Rattle.engine_plain.specs.Chains.{is_admitted}
+use Rattle.engine_looks.specs.Chains.{is_admitted}
 
 pub and_left : (a b : Bool) → (a && b) ≡ true → a ≡ true
 and_left true b h = refl

@@ -7,7 +7,7 @@ ghost use Rattle.engine_reference.specs.Times.{has_come};
 ghost use Rattle.engine_reference.specs.Visible.{is_covered};
 ghost use Rattle.engine_reference.specs.declared.data.Record.{Record};
 ghost use Rattle.engine_lists.specs.Asking.{answers_of};
-ghost use Rattle.engine_plain.specs.Chains.{is_due, none_due};
+ghost use Rattle.engine_looks.specs.Chains.{is_due, none_due};
 
 use engine_lists::{Lists, place_of_oldest, weigh_admitted};
 use engine_reference::Record;

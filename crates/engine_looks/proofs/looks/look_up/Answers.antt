@@ -1,7 +1,7 @@
 use Rattle.std.proofs.Common.{sym, ◌∙◌}
 use Rattle.engine_lists.specs.Asking.{answers_of}
 use Rattle.engine_lists.proofs.Looks.{visible_there}
-use Rattle.engine_plain.proofs.looks.look_up.Goals as goal
+use Rattle.engine_looks.proofs.looks.look_up.Goals as goal
 
 pub returns-clause-some : goal.returns-clause-some
 returns-clause-some g c =

@@ -1,9 +1,9 @@
 use Rattle.std.proofs.Common.{◌≡◌, ap, sym, ◌∙◌, arith, true}
 use Rattle.std.proofs.lemmas.Option.{same_Some}
 use Rattle.engine_reference.specs.Records.{held_weight}
-use Rattle.engine_plain.proofs.Places.{of_place}
-use Rattle.engine_plain.proofs.Sums.{held_weight-at}
-use Rattle.engine_plain.proofs.entries.beside.Goals as goal
+use Rattle.engine_looks.proofs.Places.{of_place}
+use Rattle.engine_looks.proofs.Sums.{held_weight-at}
+use Rattle.engine_looks.proofs.entries.beside.Goals as goal
 
 pub overflow_sub-result : goal.overflow_sub-result
 overflow_sub-result g c =

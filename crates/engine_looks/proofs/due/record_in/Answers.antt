@@ -1,7 +1,7 @@
 use Rattle.std.proofs.Common.{refl, ap, sym, ◌∙◌, arith, length}
 use Rattle.std.specs.Prelude.{slice_get}
 use Rattle.std.proofs.lemmas.Option.{slice_get_read}
-use Rattle.engine_plain.proofs.due.record_in.Goals as goal
+use Rattle.engine_looks.proofs.due.record_in.Goals as goal
 
 pub returns : goal.returns
 returns g c =

@@ -1,0 +1,4 @@
+pub mod Places
+pub mod Sums
+pub mod Steps
+pub mod Contests
