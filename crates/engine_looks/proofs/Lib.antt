@@ -2,3 +2,4 @@ pub mod Places
 pub mod Sums
 pub mod Steps
 pub mod Contests
+pub mod Displaced

@@ -2,11 +2,13 @@
 #![tactic(auto)]
 
 mod deciding;
+mod displacing;
 mod due;
 mod entries;
 mod looks;
 
 pub use deciding::{Decision, decide, is_above};
+pub use displacing::displace_for;
 pub use due::{find_due, find_excess};
 pub use entries::{
     beside, cause_of_removal, cause_of_write, clone_entry, expires_after_use, first_entry,
