@@ -2,3 +2,5 @@ pub mod Keeping
 pub mod Writing
 pub mod Covering
 pub mod Applying
+pub mod Outcomes
+pub mod Unsettled

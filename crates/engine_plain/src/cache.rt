@@ -15,15 +15,16 @@ ghost use Rattle.engine_reference.specs.declared.data.Write.TheVariants.{Put, Re
 ghost use Rattle.engine_rules.specs.declared.causes.RemovalCause.TheVariants as cause;
 ghost use Rattle.engine_lists.specs.Asking.{answers_of};
 ghost use Rattle.engine_looks.specs.Chains.{Chain, none_due, is_admitted};
+ghost use Rattle.engine_looks.specs.Displacing.{front_of, displaced};
 
-use engine_looks::{
-    beside, cause_of_removal, cause_of_write, clone_at, clone_entry, expires_after_use, find_due,
-    find_excess, first_entry, has_predicates, has_reads, is_admitted, is_held_at, look_up,
-    next_entry, rooms_of_removal, upsert,
-};
 use engine_lists::{
     Lists, MAX_READS, MAX_WRITES, Refusal, count_admitted, place_at, place_of_ticket,
     weigh_admitted, weigh_held,
+};
+use engine_looks::{
+    Decision, beside, cause_of_removal, cause_of_write, clone_at, clone_entry, decide,
+    displace_for, expires_after_use, find_due, find_excess, first_entry, has_predicates, has_reads,
+    is_admitted, is_held_at, look_up, next_entry, rooms_of_removal, upsert,
 };
 use engine_reference::{Entry, Notice, Read, Record, Settings, Upsert, Write};
 use engine_rules::{RemovalCause, Rules};
@@ -585,6 +586,52 @@ impl<K: Eq, V, S, R: Rules<K, V>> BaseCache<K, V, S, R> {
     {
         let _popped = self.lists.pop_write();
         self.lists.leave(place, RemovalCause::Size);
+    }
+
+    /// Takes off the oldest write, and counts its record with its weight, for which others leave.
+    fn displace_at(&mut self, upsert: Upsert)
+    where
+        K: Drop,
+        V: Drop,
+        requires first { slice_get self.old.writes 0 ≡ Some (Put upsert) }
+        requires found { (r : Record K V) × (record_at self.old.records upsert.number ≡ Some r) × (is_some r.counts ≡ false) }
+        requires front { is_some (front_of upsert.weight self.old) ≡ true }
+        requires leads { after_write (Put upsert) (record self.old { writes = drop 1 self.old.writes }) ≡ counting upsert (displaced upsert.weight (record self.old { writes = drop 1 self.old.writes })) }
+        ensures { self.new ≡ after_write (Put upsert) (record self.old { writes = drop 1 self.old.writes }) }
+    {
+        displace_for(&mut self.lists, upsert);
+    }
+
+    /// Applies the oldest write, of a record that is there.
+    fn apply_put_at(&mut self, place: usize, upsert: Upsert)
+    where
+        K: Drop,
+        V: Drop,
+        requires first { slice_get self.old.writes 0 ≡ Some (Put upsert) }
+        requires found { (r : Record K V) × (slice_get self.old.records place ≡ Some r) × (record_at self.old.records upsert.number ≡ Some r) }
+        ensures { self.new ≡ after_write (Put upsert) (record self.old { writes = drop 1 self.old.writes }) }
+    {
+        match decide(&self.lists, place, upsert) {
+            Decision::Skip => self.skip_write(Write::Put(upsert)),
+            Decision::Count => self.count_at(place, upsert),
+            Decision::Displace => self.displace_at(upsert),
+            Decision::PutOff => self.put_off_at(place, upsert),
+            Decision::Refuse => self.refuse_at(place, upsert),
+        }
+    }
+
+    /// Applies the oldest write, of a record that may be there.
+    fn apply_put(&mut self, upsert: Upsert)
+    where
+        K: Drop,
+        V: Drop,
+        requires first { slice_get self.old.writes 0 ≡ Some (Put upsert) }
+        ensures { self.new ≡ after_write (Put upsert) (record self.old { writes = drop 1 self.old.writes }) }
+    {
+        match place_at(self.lists.records(), upsert.number) {
+            Some(place) => self.apply_put_at(place, upsert),
+            None => self.skip_write(Write::Put(upsert)),
+        }
     }
 
     /// Takes down number and weight of the admitted records.
