@@ -126,3 +126,10 @@ module _ {K V P S R : Type 0} (answers : Answers K V P R) (now : ℕ) where
       nothing : (number : ℕ) (p : Registered P) → slice_get {X = Registered P} [] number ≡ Some p → ⊥
       nothing zero p e = absurd (cc)
       nothing (suc number) p e = absurd (cc)
+
+  -- a run after such a stretch
+  pub run_later : (old mid new : State K V P S R) → Chain answers now old mid → RunsToEnd answers now mid new → RunsToEnd answers now old new
+  run_later old mid new h k = record {
+    runs = record { stages = h.stages ++ k.runs.stages; last = k.runs.last; steps = joined h.stages k.runs.stages old mid k.runs.last h.steps k.runs.steps; applied = k.runs.applied; after = k.runs.after };
+    done = k.done;
+  }

@@ -14,4 +14,6 @@ pub use entries::{
     beside, cause_of_removal, cause_of_write, clone_entry, expires_after_use, first_entry,
     next_entry, rooms_of_removal, upsert,
 };
-pub use looks::{clone_at, has_predicates, has_reads, is_admitted, is_held_at, look_up};
+pub use looks::{
+    clone_at, first_write, has_predicates, has_reads, has_writes, is_admitted, is_held_at, look_up,
+};

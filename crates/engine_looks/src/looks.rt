@@ -8,6 +8,7 @@ ghost use Rattle.engine_looks.specs.Chains.{is_admitted};
 
 use crate::due::record_in;
 use engine_lists::{Lists, place_at};
+use engine_reference::Write;
 use engine_rules::Rules;
 use std::alloc::AllocError;
 
@@ -67,6 +68,24 @@ pub fn has_reads<K: Eq, V, S, R: Rules<K, V>>(lists: &Lists<K, V, S, R>) -> bool
 {
     let reads = lists.reads();
     !reads.is_empty()
+}
+
+/// Whether a write waits to be applied.
+pub fn has_writes<K: Eq, V, S, R: Rules<K, V>>(lists: &Lists<K, V, S, R>) -> bool
+    ensures some { result ≡ true → 0 < length lists.now.writes }
+    ensures none { result ≡ false → lists.now.writes ≡ [] }
+{
+    let writes = lists.writes();
+    !writes.is_empty()
+}
+
+/// The write that waits longest.
+pub fn first_write<K: Eq, V, S, R: Rules<K, V>>(lists: &Lists<K, V, S, R>) -> Write
+    requires { 0 < length lists.now.writes }
+    ensures { slice_get lists.now.writes 0 ≡ Some result }
+{
+    let writes = lists.writes();
+    writes[0]
 }
 
 /// Whether there is a predicate.

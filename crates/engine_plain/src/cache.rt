@@ -23,8 +23,9 @@ use engine_lists::{
 };
 use engine_looks::{
     Decision, beside, cause_of_removal, cause_of_write, clone_at, clone_entry, decide,
-    displace_for, expires_after_use, find_due, find_excess, first_entry, has_predicates, has_reads,
-    is_admitted, is_held_at, look_up, next_entry, rooms_of_removal, upsert,
+    displace_for, expires_after_use, find_due, find_excess, first_entry, first_write,
+    has_predicates, has_reads, has_writes, is_admitted, is_held_at, look_up, next_entry,
+    rooms_of_removal, upsert,
 };
 use engine_reference::{Entry, Notice, Read, Record, Settings, Upsert, Write};
 use engine_rules::{RemovalCause, Rules};
@@ -634,6 +635,65 @@ impl<K: Eq, V, S, R: Rules<K, V>> BaseCache<K, V, S, R> {
         }
     }
 
+    /// Applies the oldest write.
+    fn apply_oldest(&mut self, write: Write)
+    where
+        K: Drop,
+        V: Drop,
+        requires first { slice_get self.old.writes 0 ≡ Some write }
+        ensures { self.new ≡ after_write write (record self.old { writes = drop 1 self.old.writes }) }
+    {
+        match write {
+            Write::Put(upsert) => self.apply_put(upsert),
+            Write::Removed(number) => self.apply_removal(number),
+        }
+    }
+
+    /// The oldest write.
+    fn first_write(&self) -> Write
+        requires { 0 < length self.now.writes }
+        ensures { slice_get self.now.writes 0 ≡ Some result }
+    {
+        first_write(&self.lists)
+    }
+
+    /// Where no read is left to count, applies the oldest write.
+    fn apply_write(&mut self, _now: u64)
+    where
+        K: Drop,
+        V: Drop,
+        requires read { self.old.reads ≡ [] }
+        requires some { 0 < length self.old.writes }
+        ensures step { Step (answers_of R.weight_of R.created R.read R.updated R.covers) _now self.old self.new }
+        ensures read { self.new.reads ≡ [] }
+        ensures fewer { length self.new.writes < length self.old.writes }
+    {
+        let write = self.first_write();
+        self.apply_oldest(write);
+    }
+
+    /// Whether a write waits to be applied.
+    fn has_writes(&self) -> bool
+        ensures some { result ≡ true → 0 < length self.now.writes }
+        ensures none { result ≡ false → self.now.writes ≡ [] }
+    {
+        has_writes(&self.lists)
+    }
+
+    /// Where no read is left to count, applies all writes, in the order in which they were sent.
+    fn apply_writes(&mut self, now: u64)
+    where
+        K: Drop,
+        V: Drop,
+        requires { self.old.reads ≡ [] }
+        ensures chain { Chain (answers_of R.weight_of R.created R.read R.updated R.covers) now self.old self.new }
+        ensures applied { IsApplied self.new }
+    {
+        while self.has_writes() {
+            self.apply_write(now);
+        }
+    }
+
     /// Takes down number and weight of the admitted records.
     fn finish_run(&mut self, now: u64)
         ensures { self.new ≡ record self.old { number = admitted_number self.old.records; weight = min (admitted_weight self.old.records) 18446744073709551615; ran = now } }
@@ -655,6 +715,19 @@ impl<K: Eq, V, S, R: Rules<K, V>> BaseCache<K, V, S, R> {
         self.end_predicates(now);
         self.evict(now);
         self.finish_run(now);
+    }
+
+    /// Runs maintenance to its end: all that is pending is applied, what is due leaves, and then the excess.
+    pub fn run_pending_tasks(&mut self, now: Instant)
+    where
+        K: Drop,
+        V: Drop,
+        ensures { RunsToEnd (answers_of R.weight_of R.created R.read R.updated R.covers) now self.old self.new }
+    {
+        let moment = now.as_nanos();
+        self.apply_reads(moment);
+        self.apply_writes(moment);
+        self.settle(moment);
     }
 }
 
