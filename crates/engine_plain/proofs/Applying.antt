@@ -12,14 +12,12 @@ use Rattle.engine_reference.specs.Soundness.{AreNumbered, IsSound}
 use Rattle.engine_reference.specs.State.{State}
 use Rattle.engine_reference.proofs.SoundSteps.{popped-is_sound}
 use Rattle.engine_reference.proofs.HeldRecords.{record_at-number}
-use Rattle.engine_plain.proofs.Places.{at_without, at_changed}
+use Rattle.engine_looks.proofs.Places.{at_without, at_changed}
 use Rattle.engine_plain.proofs.Keeping.{sound_as}
-use Rattle.engine_plain.proofs.Steps.{first_rest}
+use Rattle.engine_looks.proofs.Steps.{first_rest}
+pub use Rattle.engine_looks.proofs.Displaced.{popped, counted}
 
 module _ {K V P S R : Type 0} where
-  abbrev pub popped : State K V P S R → State K V P S R
-  popped s = record s { writes = drop 1 s.writes }
-
   -- the oldest write is applied, and the cache stays sound
   pub applied_sound : (old new : State K V P S R) (w : Write) → slice_get old.writes 0 ≡ Some w → new ≡ after_write w (popped old) → ∥ IsSound old ∥₁ → ∥ IsSound new ∥₁
   applied_sound old new w first e h = sound_as old new (after_write w (popped old)) e (popped-is_sound old w (drop 1 old.writes) (first_rest old.writes w first)) h
@@ -37,13 +35,6 @@ module _ {K V P S R : Type 0} where
 
   pub unknown : (s : State K V P S R) (number : ℕ) → record_at s.records number ≡ None → after_removal (record_at s.records number) s ≡ s
   unknown s number none = ap (λ o. after_removal o s) none
-
-  pub counted : (s : State K V P S R) (place : ℕ) (u : Upsert) (r : Record K V) → AreNumbered s.records → slice_get s.records place ≡ Some r → record_at s.records u.number ≡ Some r
-      → record s { records = slice_set s.records place (record r { applied = u.write; counts = Some u.weight }); access = moved_to_back r.number s.access } ≡ counting u s
-  counted s place u r numbered there found =
-      let number = record_at-number s.records u.number r found in
-      ap (λ rs. record s { records = rs; access = moved_to_back r.number s.access }) (sym (at_changed (λ x. record x { applied = u.write; counts = Some u.weight }) s.records place r numbered there))
-      ∙ ap (λ n. record s { records = changed_at n (λ x. record x { applied = u.write; counts = Some u.weight }) s.records; access = moved_to_back n s.access }) number
 
   pub was_put_off : (s : State K V P S R) (place : ℕ) (u : Upsert) (r : Record K V) → AreNumbered s.records → slice_get s.records place ≡ Some r → record_at s.records u.number ≡ Some r
       → record s { records = slice_set s.records place (record r { applied = u.write }) } ≡ put_off u s

@@ -8,8 +8,8 @@ use Rattle.engine_reference.specs.Runs.{covers_none}
 use Rattle.engine_reference.specs.State.{State, Answers}
 use Rattle.engine_reference.specs.Times.{has_come}
 use Rattle.engine_reference.specs.Visible.{is_covered_by}
-use Rattle.engine_plain.specs.Chains.{is_due, none_due}
-use Rattle.engine_plain.proofs.Places.{and_left, and_right}
+use Rattle.engine_looks.specs.Chains.{is_due, none_due}
+use Rattle.engine_looks.proofs.Places.{and_left, and_right}
 
 both : (a b : Bool) → a ≡ true → b ≡ true → (a && b) ≡ true
 both a b e f = ap (λ x. x && b) e ∙ f

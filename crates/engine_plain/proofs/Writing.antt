@@ -11,8 +11,8 @@ use Rattle.engine_reference.specs.Records.{held_at, held_weight, changed_at}
 use Rattle.engine_reference.specs.Soundness.{AreNumbered}
 use Rattle.engine_reference.specs.State.{State, Answers}
 use Rattle.engine_reference.specs.Visible.{told, cause_of_write}
-use Rattle.engine_plain.proofs.Places.{at_changed, held_at-held}
-use Rattle.engine_plain.proofs.Sums.{held_weight-push, held_weight-set}
+use Rattle.engine_looks.proofs.Places.{at_changed, held_at-held}
+use Rattle.engine_looks.proofs.Sums.{held_weight-push, held_weight-set}
 
 abbrev pub upsert_of : (number write weight hash kept : ℕ) → Upsert
 upsert_of number write weight hash kept = record { number = number; write = write; weight = weight; hash = hash; kept = kept }

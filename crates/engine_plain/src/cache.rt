@@ -14,17 +14,18 @@ ghost use Rattle.engine_reference.specs.declared.data.Write.{Write};
 ghost use Rattle.engine_reference.specs.declared.data.Write.TheVariants.{Put, Removed};
 ghost use Rattle.engine_rules.specs.declared.causes.RemovalCause.TheVariants as cause;
 ghost use Rattle.engine_lists.specs.Asking.{answers_of};
-ghost use Rattle.engine_plain.specs.Chains.{Chain, none_due, is_admitted};
+ghost use Rattle.engine_looks.specs.Chains.{Chain, none_due, is_admitted};
+ghost use Rattle.engine_looks.specs.Displacing.{front_of, displaced};
 
-use crate::due::{find_due, find_excess};
-use crate::entries::{
-    beside, cause_of_removal, cause_of_write, clone_entry, expires_after_use, first_entry,
-    next_entry, rooms_of_removal, upsert,
-};
-use crate::looks::{clone_at, has_predicates, has_reads, is_admitted, is_held_at, look_up};
 use engine_lists::{
     Lists, MAX_READS, MAX_WRITES, Refusal, count_admitted, place_at, place_of_ticket,
     weigh_admitted, weigh_held,
+};
+use engine_looks::{
+    Decision, beside, cause_of_removal, cause_of_write, clone_at, clone_entry, decide,
+    displace_for, expires_after_use, find_due, find_excess, first_entry, first_write,
+    has_predicates, has_reads, has_writes, is_admitted, is_held_at, look_up, next_entry,
+    rooms_of_removal, upsert,
 };
 use engine_reference::{Entry, Notice, Read, Record, Settings, Upsert, Write};
 use engine_rules::{RemovalCause, Rules};
@@ -588,6 +589,111 @@ impl<K: Eq, V, S, R: Rules<K, V>> BaseCache<K, V, S, R> {
         self.lists.leave(place, RemovalCause::Size);
     }
 
+    /// Takes off the oldest write, and counts its record with its weight, for which others leave.
+    fn displace_at(&mut self, upsert: Upsert)
+    where
+        K: Drop,
+        V: Drop,
+        requires first { slice_get self.old.writes 0 ≡ Some (Put upsert) }
+        requires found { (r : Record K V) × (record_at self.old.records upsert.number ≡ Some r) × (is_some r.counts ≡ false) }
+        requires front { is_some (front_of upsert.weight self.old) ≡ true }
+        requires leads { after_write (Put upsert) (record self.old { writes = drop 1 self.old.writes }) ≡ counting upsert (displaced upsert.weight (record self.old { writes = drop 1 self.old.writes })) }
+        ensures { self.new ≡ after_write (Put upsert) (record self.old { writes = drop 1 self.old.writes }) }
+    {
+        displace_for(&mut self.lists, upsert);
+    }
+
+    /// Applies the oldest write, of a record that is there.
+    fn apply_put_at(&mut self, place: usize, upsert: Upsert)
+    where
+        K: Drop,
+        V: Drop,
+        requires first { slice_get self.old.writes 0 ≡ Some (Put upsert) }
+        requires found { (r : Record K V) × (slice_get self.old.records place ≡ Some r) × (record_at self.old.records upsert.number ≡ Some r) }
+        ensures { self.new ≡ after_write (Put upsert) (record self.old { writes = drop 1 self.old.writes }) }
+    {
+        match decide(&self.lists, place, upsert) {
+            Decision::Skip => self.skip_write(Write::Put(upsert)),
+            Decision::Count => self.count_at(place, upsert),
+            Decision::Displace => self.displace_at(upsert),
+            Decision::PutOff => self.put_off_at(place, upsert),
+            Decision::Refuse => self.refuse_at(place, upsert),
+        }
+    }
+
+    /// Applies the oldest write, of a record that may be there.
+    fn apply_put(&mut self, upsert: Upsert)
+    where
+        K: Drop,
+        V: Drop,
+        requires first { slice_get self.old.writes 0 ≡ Some (Put upsert) }
+        ensures { self.new ≡ after_write (Put upsert) (record self.old { writes = drop 1 self.old.writes }) }
+    {
+        match place_at(self.lists.records(), upsert.number) {
+            Some(place) => self.apply_put_at(place, upsert),
+            None => self.skip_write(Write::Put(upsert)),
+        }
+    }
+
+    /// Applies the oldest write.
+    fn apply_oldest(&mut self, write: Write)
+    where
+        K: Drop,
+        V: Drop,
+        requires first { slice_get self.old.writes 0 ≡ Some write }
+        ensures { self.new ≡ after_write write (record self.old { writes = drop 1 self.old.writes }) }
+    {
+        match write {
+            Write::Put(upsert) => self.apply_put(upsert),
+            Write::Removed(number) => self.apply_removal(number),
+        }
+    }
+
+    /// The oldest write.
+    fn first_write(&self) -> Write
+        requires { 0 < length self.now.writes }
+        ensures { slice_get self.now.writes 0 ≡ Some result }
+    {
+        first_write(&self.lists)
+    }
+
+    /// Where no read is left to count, applies the oldest write.
+    fn apply_write(&mut self, _now: u64)
+    where
+        K: Drop,
+        V: Drop,
+        requires read { self.old.reads ≡ [] }
+        requires some { 0 < length self.old.writes }
+        ensures step { Step (answers_of R.weight_of R.created R.read R.updated R.covers) _now self.old self.new }
+        ensures read { self.new.reads ≡ [] }
+        ensures fewer { length self.new.writes < length self.old.writes }
+    {
+        let write = self.first_write();
+        self.apply_oldest(write);
+    }
+
+    /// Whether a write waits to be applied.
+    fn has_writes(&self) -> bool
+        ensures some { result ≡ true → 0 < length self.now.writes }
+        ensures none { result ≡ false → self.now.writes ≡ [] }
+    {
+        has_writes(&self.lists)
+    }
+
+    /// Where no read is left to count, applies all writes, in the order in which they were sent.
+    fn apply_writes(&mut self, now: u64)
+    where
+        K: Drop,
+        V: Drop,
+        requires { self.old.reads ≡ [] }
+        ensures chain { Chain (answers_of R.weight_of R.created R.read R.updated R.covers) now self.old self.new }
+        ensures applied { IsApplied self.new }
+    {
+        while self.has_writes() {
+            self.apply_write(now);
+        }
+    }
+
     /// Takes down number and weight of the admitted records.
     fn finish_run(&mut self, now: u64)
         ensures { self.new ≡ record self.old { number = admitted_number self.old.records; weight = min (admitted_weight self.old.records) 18446744073709551615; ran = now } }
@@ -609,6 +715,19 @@ impl<K: Eq, V, S, R: Rules<K, V>> BaseCache<K, V, S, R> {
         self.end_predicates(now);
         self.evict(now);
         self.finish_run(now);
+    }
+
+    /// Runs maintenance to its end: all that is pending is applied, what is due leaves, and then the excess.
+    pub fn run_pending_tasks(&mut self, now: Instant)
+    where
+        K: Drop,
+        V: Drop,
+        ensures { RunsToEnd (answers_of R.weight_of R.created R.read R.updated R.covers) now self.old self.new }
+    {
+        let moment = now.as_nanos();
+        self.apply_reads(moment);
+        self.apply_writes(moment);
+        self.settle(moment);
     }
 }
 

@@ -2,9 +2,6 @@
 #![tactic(auto)]
 
 mod cache;
-mod due;
-mod entries;
-mod looks;
 
 pub use cache::BaseCache;
 pub use engine_lists::Refusal;

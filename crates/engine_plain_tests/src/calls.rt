@@ -128,3 +128,27 @@ fn the_queue_takes_128_writes(rt: HostRuntime) -> Result<(), Fail> {
     assert!(rt; cache.send(500) == Err(Refusal::UnknownTicket));
     Ok(())
 }
+
+#[test]
+fn a_run_keeps_what_was_used_last(rt: HostRuntime) -> Result<(), Fail> {
+    let mut cache = new_cache(rt.alloc())?;
+    for key in 1..5u32 {
+        let ticket = put(&mut cache, key, 10 * key, 0, u64::from(key))?;
+        assert!(rt; cache.send(ticket).is_ok());
+    }
+    assert_eq!(rt; cache.entry_count(), 0);
+    cache.run_pending_tasks(Instant::from_nanos(6));
+    is_told(&rt, &mut cache, RemovalCause::Size, 10);
+    is_told(&rt, &mut cache, RemovalCause::Size, 20);
+    assert_eq!(rt; cache.entry_count(), 2);
+    assert_eq!(rt; cache.weighted_size(), 2);
+    assert_eq!(rt; seen(&cache, 1, 6)?, 0);
+    assert_eq!(rt; seen(&cache, 4, 6)?, 41);
+    // their idle time has ended
+    cache.run_pending_tasks(Instant::from_nanos(7));
+    is_told(&rt, &mut cache, RemovalCause::Expired, 30);
+    is_told(&rt, &mut cache, RemovalCause::Expired, 40);
+    assert!(rt; cache.next_notice().is_none());
+    assert_eq!(rt; cache.entry_count(), 0);
+    Ok(())
+}

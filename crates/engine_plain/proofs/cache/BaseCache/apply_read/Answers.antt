@@ -1,6 +1,6 @@
 use Rattle.engine_reference.specs.Runs.{reads, after_read}
 use Rattle.std.proofs.Common.{ap, ◌∙◌, arith, length, drop}
-use Rattle.engine_plain.proofs.Steps.{first_rest, fewer_left, reads_left}
+use Rattle.engine_looks.proofs.Steps.{first_rest, fewer_left, reads_left}
 use Rattle.engine_plain.proofs.cache.BaseCache.apply_read.Goals as goal
 
 pub returns-clause-step : goal.returns-clause-step

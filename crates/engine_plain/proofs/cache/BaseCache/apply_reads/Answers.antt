@@ -1,5 +1,5 @@
 use Rattle.engine_lists.specs.Asking.{answers_of}
-use Rattle.engine_plain.proofs.Steps.{chain_start, chain_more}
+use Rattle.engine_looks.proofs.Steps.{chain_start, chain_more}
 use Rattle.engine_plain.proofs.cache.BaseCache.apply_reads.Goals as goal
 
 pub loop-self-init : goal.loop-self-init

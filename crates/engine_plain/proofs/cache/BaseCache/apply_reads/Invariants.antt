@@ -1,6 +1,6 @@
 use Rattle.std.proofs.Common.{length}
 use Rattle.engine_lists.specs.Asking.{answers_of}
-use Rattle.engine_plain.specs.Chains.{Chain}
+use Rattle.engine_looks.specs.Chains.{Chain}
 use Rattle.engine_plain.proofs.cache.BaseCache.apply_reads.Given as goal
 
 abbrev pub invariant-loop-self : goal.invariant-loop-self

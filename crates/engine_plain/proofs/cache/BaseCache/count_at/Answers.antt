@@ -6,7 +6,7 @@ use Rattle.engine_reference.specs.declared.data.Write.TheVariants.{Put}
 use Rattle.engine_reference.specs.Records.{record_at, moved_to_back}
 use Rattle.engine_reference.specs.Runs.{after_write, counting}
 use Rattle.engine_reference.specs.State.{State}
-use Rattle.engine_plain.proofs.Places.{numbered_from}
+use Rattle.engine_looks.proofs.Places.{numbered_from}
 use Rattle.engine_plain.proofs.Applying.{popped, applied_sound, counted}
 use Rattle.engine_plain.proofs.cache.BaseCache.count_at.Goals as goal
 

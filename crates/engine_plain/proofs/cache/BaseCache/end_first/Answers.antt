@@ -5,9 +5,9 @@ use Rattle.engine_lists.specs.Asking.{answers_of}
 use Rattle.engine_reference.specs.Runs.{ends, IsApplied}
 use Rattle.engine_reference.specs.State.{State}
 use Rattle.engine_reference.specs.Soundness.{IsSound}
-use Rattle.engine_plain.specs.Chains.{none_due}
-use Rattle.engine_plain.proofs.Places.{is_there}
-use Rattle.engine_plain.proofs.Steps.{first_rest, shorter_left}
+use Rattle.engine_looks.specs.Chains.{none_due}
+use Rattle.engine_looks.proofs.Places.{is_there}
+use Rattle.engine_looks.proofs.Steps.{first_rest, shorter_left}
 use Rattle.engine_plain.proofs.Covering.{first_covers_none, none_due-fewer}
 use Rattle.engine_plain.proofs.cache.BaseCache.end_first.Goals as goal
 

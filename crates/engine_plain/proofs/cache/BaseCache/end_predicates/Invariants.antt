@@ -1,7 +1,7 @@
 use Rattle.std.proofs.Common.{◌≡◌, true, length}
 use Rattle.engine_lists.specs.Asking.{answers_of}
 use Rattle.engine_reference.specs.Runs.{IsApplied}
-use Rattle.engine_plain.specs.Chains.{Chain, none_due}
+use Rattle.engine_looks.specs.Chains.{Chain, none_due}
 use Rattle.engine_plain.proofs.cache.BaseCache.end_predicates.Given as goal
 
 abbrev pub invariant-loop-self : goal.invariant-loop-self

@@ -1,6 +1,6 @@
 use Rattle.std.proofs.Common.{refl, ◌∙◌}
 use Rattle.engine_lists.specs.Asking.{answers_of}
-use Rattle.engine_plain.proofs.Steps.{chain_start, chain_more}
+use Rattle.engine_looks.proofs.Steps.{chain_start, chain_more}
 use Rattle.engine_plain.proofs.cache.BaseCache.evict.Goals as goal
 
 pub loop-place-init : goal.loop-place-init

@@ -2,7 +2,7 @@ use Rattle.std.proofs.Common.{◌≡◌, ap, sym, ◌∙◌, subst, Some}
 use Rattle.std.proofs.lemmas.Option.{same_Some}
 use Rattle.engine_rules.specs.declared.causes.RemovalCause.TheVariants as cause
 use Rattle.engine_reference.specs.Runs.{evicts, IsApplied}
-use Rattle.engine_plain.proofs.Steps.{applied_left, predicates_left}
+use Rattle.engine_looks.proofs.Steps.{applied_left, predicates_left}
 use Rattle.engine_plain.proofs.cache.BaseCache.evict_one.Goals as goal
 
 pub returns-clause-step : goal.returns-clause-step

@@ -5,7 +5,7 @@ use Rattle.engine_reference.specs.declared.data.Write.TheVariants.{Removed}
 use Rattle.engine_reference.specs.Records.{record_at, without}
 use Rattle.engine_reference.specs.Runs.{after_write}
 use Rattle.engine_reference.specs.State.{State}
-use Rattle.engine_plain.proofs.Places.{numbered_from}
+use Rattle.engine_looks.proofs.Places.{numbered_from}
 use Rattle.engine_plain.proofs.Applying.{popped, applied_sound, forgotten}
 use Rattle.engine_plain.proofs.cache.BaseCache.forget_at.Goals as goal
 

@@ -3,9 +3,9 @@ use Rattle.std.specs.Prelude.{slice_get}
 use Rattle.engine_reference.specs.Runs.{left}
 use Rattle.engine_reference.specs.Records.{record_at}
 use Rattle.engine_reference.proofs.SoundSteps.{left-is_sound}
-use Rattle.engine_plain.proofs.Places.{numbered_from, at_number}
+use Rattle.engine_looks.proofs.Places.{numbered_from, at_number}
 use Rattle.engine_plain.proofs.Keeping.{sound_as}
-use Rattle.engine_plain.proofs.Steps.{left_at, shorter_left}
+use Rattle.engine_looks.proofs.Steps.{left_at, shorter_left}
 use Rattle.engine_plain.proofs.cache.BaseCache.leave.Goals as goal
 
 pub invariant_of-self : goal.invariant_of-self

@@ -2,7 +2,7 @@ use Rattle.std.proofs.Common.{◌≡◌, sym, ◌∙◌, subst, true}
 use Rattle.std.proofs.lemmas.Option.{same_Some}
 use Rattle.engine_lists.specs.Asking.{answers_of}
 use Rattle.engine_reference.specs.Runs.{is_due_for, leaves, IsApplied}
-use Rattle.engine_plain.proofs.Steps.{applied_left}
+use Rattle.engine_looks.proofs.Steps.{applied_left}
 use Rattle.engine_plain.proofs.cache.BaseCache.leave_due.Goals as goal
 
 pub returns-clause-step : goal.returns-clause-step

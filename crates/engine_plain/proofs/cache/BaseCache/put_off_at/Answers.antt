@@ -6,7 +6,7 @@ use Rattle.engine_reference.specs.declared.data.Write.TheVariants.{Put}
 use Rattle.engine_reference.specs.Records.{record_at}
 use Rattle.engine_reference.specs.Runs.{after_write, put_off}
 use Rattle.engine_reference.specs.State.{State}
-use Rattle.engine_plain.proofs.Places.{numbered_from}
+use Rattle.engine_looks.proofs.Places.{numbered_from}
 use Rattle.engine_plain.proofs.Applying.{popped, applied_sound, was_put_off}
 use Rattle.engine_plain.proofs.cache.BaseCache.put_off_at.Goals as goal
 

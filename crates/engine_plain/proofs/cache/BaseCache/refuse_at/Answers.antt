@@ -8,8 +8,8 @@ use Rattle.engine_reference.specs.Records.{record_at}
 use Rattle.engine_reference.specs.Runs.{after_write, left}
 use Rattle.engine_reference.specs.State.{State}
 use Rattle.engine_reference.proofs.HeldRecords.{record_at-number}
-use Rattle.engine_plain.proofs.Places.{numbered_from}
-use Rattle.engine_plain.proofs.Steps.{left_at}
+use Rattle.engine_looks.proofs.Places.{numbered_from}
+use Rattle.engine_looks.proofs.Steps.{left_at}
 use Rattle.engine_plain.proofs.Applying.{popped, applied_sound, gone}
 use Rattle.engine_plain.proofs.cache.BaseCache.refuse_at.Goals as goal
 

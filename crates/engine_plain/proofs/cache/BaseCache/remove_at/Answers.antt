@@ -4,7 +4,7 @@ use Rattle.std.proofs.lemmas.Option.{same_Some}
 use Rattle.engine_reference.specs.Calls.{removed_by}
 use Rattle.engine_reference.specs.Records.{held_at}
 use Rattle.engine_reference.proofs.SoundCalls.{calls_stay_sound}
-use Rattle.engine_plain.proofs.Places.{numbered_from}
+use Rattle.engine_looks.proofs.Places.{numbered_from}
 use Rattle.engine_plain.proofs.Keeping.{sound_as}
 use Rattle.engine_plain.proofs.Writing.{removed_at, marked, taken}
 use Rattle.engine_plain.proofs.cache.BaseCache.remove_at.Goals as goal

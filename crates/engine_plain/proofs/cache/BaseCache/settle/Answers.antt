@@ -1,6 +1,6 @@
 use Rattle.std.proofs.Common.{◌∙◌}
 use Rattle.engine_lists.specs.Asking.{answers_of}
-use Rattle.engine_plain.proofs.Steps.{chain_join, run_from}
+use Rattle.engine_looks.proofs.Steps.{chain_join, run_from}
 use Rattle.engine_plain.proofs.cache.BaseCache.settle.Goals as goal
 
 pub returns : goal.returns

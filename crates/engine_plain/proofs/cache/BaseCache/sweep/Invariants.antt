@@ -1,7 +1,7 @@
 use Rattle.std.proofs.Common.{length}
 use Rattle.engine_lists.specs.Asking.{answers_of}
 use Rattle.engine_reference.specs.Runs.{IsApplied}
-use Rattle.engine_plain.specs.Chains.{Chain}
+use Rattle.engine_looks.specs.Chains.{Chain}
 use Rattle.engine_plain.proofs.cache.BaseCache.sweep.Given as goal
 
 abbrev pub invariant-loop-place : goal.invariant-loop-place

@@ -3,8 +3,8 @@ use Rattle.std.proofs.Math.Logic.{∥∥₁_elim, ∥∥₁_map}
 use Rattle.std.proofs.Props.{props}
 use Rattle.engine_reference.specs.Records.{record_at}
 use Rattle.engine_reference.specs.Soundness.{IsSound}
-use Rattle.engine_plain.specs.Chains.{is_admitted}
-use Rattle.engine_plain.proofs.Places.{admitted_listed, shorter_without}
+use Rattle.engine_looks.specs.Chains.{is_admitted}
+use Rattle.engine_looks.proofs.Places.{admitted_listed, shorter_without}
 use Rattle.engine_plain.proofs.Keeping.{moved_sound}
 use Rattle.engine_plain.proofs.cache.BaseCache.use_again.Goals as goal
 

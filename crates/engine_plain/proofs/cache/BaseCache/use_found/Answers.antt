@@ -1,6 +1,6 @@
 use Rattle.std.proofs.Common.{ap, sym, ◌∙◌}
-use Rattle.engine_plain.proofs.Steps.{hit_found}
-use Rattle.engine_plain.specs.Chains.{is_admitted}
+use Rattle.engine_looks.proofs.Steps.{hit_found}
+use Rattle.engine_looks.specs.Chains.{is_admitted}
 use Rattle.engine_reference.specs.Records.{record_at}
 use Rattle.engine_plain.proofs.cache.BaseCache.use_found.Goals as goal
 

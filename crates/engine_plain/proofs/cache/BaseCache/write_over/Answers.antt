@@ -5,7 +5,7 @@ use Rattle.engine_lists.specs.Asking.{answers_of}
 use Rattle.engine_reference.specs.Calls.{written}
 use Rattle.engine_reference.specs.Records.{held_at}
 use Rattle.engine_reference.specs.Visible.{cause_of_write}
-use Rattle.engine_plain.proofs.Places.{numbered_from, held_at-held, of_place}
+use Rattle.engine_looks.proofs.Places.{numbered_from, held_at-held, of_place}
 use Rattle.engine_plain.proofs.Keeping.{sound_as, written_sound}
 use Rattle.engine_plain.proofs.Writing.{over_written, over, next_record}
 use Rattle.engine_plain.proofs.cache.BaseCache.write_over.Goals as goal

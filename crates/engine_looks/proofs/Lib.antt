@@ -1,0 +1,5 @@
+pub mod Places
+pub mod Sums
+pub mod Steps
+pub mod Contests
+pub mod Displaced

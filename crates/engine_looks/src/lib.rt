@@ -1,0 +1,19 @@
+//! What is looked for in the lists of a cache, and entries as a write or a look-up leaves them.
+#![tactic(auto)]
+
+mod deciding;
+mod displacing;
+mod due;
+mod entries;
+mod looks;
+
+pub use deciding::{Decision, decide, is_above};
+pub use displacing::displace_for;
+pub use due::{find_due, find_excess};
+pub use entries::{
+    beside, cause_of_removal, cause_of_write, clone_entry, expires_after_use, first_entry,
+    next_entry, rooms_of_removal, upsert,
+};
+pub use looks::{
+    clone_at, first_write, has_predicates, has_reads, has_writes, is_admitted, is_held_at, look_up,
+};
