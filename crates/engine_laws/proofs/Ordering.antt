@@ -10,7 +10,7 @@ use Rattle.engine_reference.specs.declared.data.Upsert.{Upsert}
 use Rattle.engine_reference.specs.declared.data.Write.{Write}
 use Rattle.engine_reference.specs.declared.data.Write.TheVariants.{Put, Removed}
 use Rattle.engine_reference.specs.Admission.{is_above}
-use Rattle.engine_reference.specs.Calls.{with_written, first_entry, next_entry, with_sent, sent, unsent_at, without_ticket, with_removed, with_removal_told, with_read, used_entry}
+use Rattle.engine_reference.specs.Calls.{with_written, first_entry, next_entry, with_sent, sent, unsent_at, without_ticket, with_removed, removal_told, with_read, used_entry}
 use Rattle.engine_reference.specs.Records.{record_at, held_at, without_record, changed_at, held_entries, held_weight, admitted_weight, weight_at}
 use Rattle.engine_reference.specs.Soundness.{IsIn, number_of, IsPending, Each, AreNumbered, Fits, IsAccounted, AreSound, IsSound}
 use Rattle.engine_reference.specs.State.{State, Answers}
@@ -229,9 +229,8 @@ module _ {K V P S R : Type 0} where
         within = not_above s.settings.capacity (admitted_weight (changed_at r.number f s.records)) (admitted_weight s.records) (fewer-weight (changed_at r.number f s.records) s.records fewer) h.within;
       }
 
-  told-order : (answers : Answers K V P R) (o : Option (Record K V)) (now : ℕ) (s : State K V P S R) → IsSound (with_removal_told answers o now s) → IsInOrder s → IsInOrder (with_removal_told answers o now s)
-  told-order answers None now s sound h = h
-  told-order answers (Some r) now s sound h = order-same s (with_removal_told answers (Some r) now s) sound refl refl refl h
+  told-order : (answers : Answers K V P R) (e : Entry K V) (now : ℕ) (s : State K V P S R) → IsSound (removal_told answers e now s) → IsInOrder s → IsInOrder (removal_told answers e now s)
+  told-order answers e now s sound h = order-same s (removal_told answers e now s) sound refl refl refl h
 
   -- the last of the pending writes is kept as what is held
   last-kept : (t : State K V P S R) (ws : List Write) (u : Upsert) → pending_of t ≡ ws ++ Put u ∷ [] → u.kept ≡ held_weight t.records → IsSound t → Each (λ x. AreRising x.number x.applied (pending_of t)) t.records → IsKeptBy (Put u) (admitted_weight (with_writes (ws ++ Put u ∷ []) t.records))
@@ -334,7 +333,7 @@ module _ (K V P S R : Type 0) where
         written = λ eq answers s key hash value now step h. written-order eq answers s key hash value now step (held_at eq s.records key) refl (sound.written eq answers s key hash value now step h.sound) h;
         sent = λ oldest rest s e h. sent-order oldest rest s e (sound.sent oldest.ticket s h.sound) h;
         removed = λ eq key s h. removed-order s (held_at eq s.records key) (sound.removed eq key s h.sound) h;
-        removal_told = λ answers number now s h. told-order answers (record_at s.records number) now s (sound.removal_told answers number now s h.sound) h;
+        removal_told = λ answers e now s h. told-order answers e now s (sound.removal_told answers e now s h.sound) h;
         looks_up = λ answers eq key hash now old new look h.
             subst (λ t. IsInOrder t) (sym look.reads) (read-order answers (visible_record answers eq old now key) hash now look.mid (used-sound answers (visible_record answers eq old now key) hash now look.mid h.sound) h);
         cleared = λ step s h. order-same s _ (sound.cleared step s h.sound) refl refl refl h;

@@ -3,8 +3,9 @@ use Rattle.std.proofs.Common.{◌≡◌, refl, ap, sym, ◌∙◌, ℕ, ◌+◌,
 use Rattle.std.specs.Cmp.{IsEquivalence}
 use Rattle.std.specs.Option.{option_map}
 use Rattle.std.proofs.lemmas.Bool.{eqb-true, and_parts}
+use Rattle.engine_reference.specs.declared.data.Entry.{Entry}
 use Rattle.engine_reference.specs.declared.data.Record.{Record}
-use Rattle.engine_reference.specs.Calls.{with_written, first_entry, next_entry, with_removed, with_removal_told, with_read, used_entry}
+use Rattle.engine_reference.specs.Calls.{with_written, first_entry, next_entry, with_removed, removal_told, with_read, used_entry}
 use Rattle.engine_reference.specs.Records.{record_at, held_at, changed_at, held_entries}
 use Rattle.engine_reference.specs.Soundness.{Each, IsSound}
 use Rattle.engine_reference.specs.State.{State, Answers}
@@ -248,9 +249,8 @@ module _ {K V P S R : Type 0} where
       (each-map (λ x. x.number ≡ r.number → x ≡ r) (λ x. x.number ≡ r.number → (eq other x.entry.key ≡ false) × (eq other (f x).entry.key ≡ false))
       (λ x k same. (ap (λ y. eq other y.entry.key) (k same) ∙ laws.symm other r.entry.key ∙ sym (laws.congr key r.entry.key other mine) ∙ laws.symm key other ∙ unlike, unlike)) s.records only))
 
-  told-shows : (eq : K → K → Bool) (answers : Answers K V P R) (s : State K V P S R) (now moment : ℕ) (other : K) (o : Option (Record K V)) → visible answers eq (with_removal_told answers o now s) moment other ≡ visible answers eq s moment other
-  told-shows eq answers s now moment other None = refl
-  told-shows eq answers s now moment other (Some r) = refl
+  told-shows : (eq : K → K → Bool) (answers : Answers K V P R) (s : State K V P S R) (now moment : ℕ) (other : K) (e : Entry K V) → visible answers eq (removal_told answers e now s) moment other ≡ visible answers eq s moment other
+  told-shows eq answers s now moment other e = refl
 
   -- ---- keys stay apart
 
@@ -294,7 +294,7 @@ module _ (K V P S R : Type 0) where
     written = λ eq laws answers s key hash value now step moment other sound unlike. written-shows eq laws answers s key hash value now step moment other sound unlike (held_at eq s.records key) refl;
     removed = λ eq laws answers s key moment other apart. removed-shows eq laws answers s moment other (to-records eq s.records apart) (held_at eq s.records key);
     read = λ eq answers s key hash now other sound. read-shows eq answers s key hash now other sound (visible_record answers eq s now key) refl;
-    removal_told = λ eq answers s number now moment other. told-shows eq answers s now moment other (record_at s.records number);
+    removal_told = λ eq answers s e now moment other. told-shows eq answers s now moment other e;
     room = λ eq answers s moment other. refl;
     taken = λ eq answers s moment other. refl;
   }

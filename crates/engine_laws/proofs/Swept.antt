@@ -15,7 +15,7 @@ use Rattle.engine_reference.specs.declared.data.Upsert.{Upsert}
 use Rattle.engine_reference.specs.declared.data.Write.{Write}
 use Rattle.engine_reference.specs.declared.data.Write.TheVariants.{Put, Removed}
 use Rattle.engine_reference.specs.Admission.{Verdict, admit, displace, refuse, verdict}
-use Rattle.engine_reference.specs.Calls.{with_written, first_entry, next_entry, with_sent, sent, unsent_at, without_ticket, with_removed, with_removal_told, with_read, used_entry}
+use Rattle.engine_reference.specs.Calls.{with_written, first_entry, next_entry, with_sent, sent, unsent_at, without_ticket, with_removed, removal_told, with_read, used_entry}
 use Rattle.engine_reference.specs.Records.{record_at, held_at, without_record, changed_at, without, moved_to_back, held_weight}
 use Rattle.engine_reference.specs.Runs.{Step, reads, writes, grows, leaves, evicts, ends, Steps, Runs, left, all_left, after_read, after_hit, after_write, after_put, after_removal, counting, put_off, judged, is_overtaken, first_of}
 use Rattle.engine_reference.specs.Soundness.{IsIn, Each, AreNumbered, IsAccounted, IsSound}
@@ -297,9 +297,8 @@ module _ {K V P S R : Type 0} where
         range = h.range;
       }
 
-  told-timely : (answers : Answers K V P R) (moment step : ℕ) (order : List ℕ) (s : State K V P S R) (o : Option (Record K V)) (now : ℕ) → IsSound (with_removal_told answers o now s) → IsTimely moment step order s → IsTimely moment step order (with_removal_told answers o now s)
-  told-timely answers moment step order s None now sound h = h
-  told-timely answers moment step order s (Some r) now sound h = timely-same moment step order s (with_removal_told answers (Some r) now s) sound refl refl refl refl refl h
+  told-timely : (answers : Answers K V P R) (moment step : ℕ) (order : List ℕ) (s : State K V P S R) (e : Entry K V) (now : ℕ) → IsSound (removal_told answers e now s) → IsTimely moment step order s → IsTimely moment step order (removal_told answers e now s)
+  told-timely answers moment step order s e now sound h = timely-same moment step order s (removal_told answers e now s) sound refl refl refl refl refl h
 
   -- the records after a write
   record HasWritten (moment step now next : ℕ) (s : State K V P S R) (ns : List ℕ) (n : ℕ) (rs : List (Record K V)) : Type 0 where
@@ -541,7 +540,7 @@ module _ (K V P S R : Type 0) where
             (sound.sent s.next_ticket _ (sound.written eq answers s key hash value now next h.sound)) h;
         removed = λ eq moment step order s key h. removed-timely eq moment step order s key (held_at eq s.records key) refl (sound.sent s.next_ticket _ (sound.removed eq key s h.sound)) h;
         read = λ answers moment step order s found hash now h less range. timely-later moment step now order (with_read answers found hash now s) less range (read-timely answers moment step order s found hash now less range h);
-        removal_told = λ answers moment step order s number now h. told-timely answers moment step order s (record_at s.records number) now (sound.removal_told answers number now s h.sound) h;
+        removal_told = λ answers moment step order s e now h. told-timely answers moment step order s e now (sound.removal_told answers e now s h.sound) h;
         cleared = λ moment step order s next h. timely-same moment step order s _ (sound.cleared next s h.sound) refl refl refl refl refl h;
         covered = λ moment step order s p h. timely-same moment step order s _ (sound.covered p s h.sound) refl refl refl refl refl h;
         room = λ moment step order s h. timely-same moment step order s _ (sound.room s h.sound) refl refl refl refl refl h;

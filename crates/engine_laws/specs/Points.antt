@@ -99,7 +99,7 @@ module _ (K V P S R : Type 0) where
     pub written : (eq : K → K → Bool) (answers : Answers K V P R) (s : State K V P S R) (key : K) (hash : ℕ) (value : V) (now step : ℕ) → IsInOrder s → IsInOrder (written answers eq s key hash value now step)
     pub sent : (oldest : Unsent) (rest : List Unsent) (s : State K V P S R) → s.unsent ≡ oldest ∷ rest → IsInOrder s → IsInOrder (sent oldest.ticket s)
     pub removed : (eq : K → K → Bool) (key : K) (s : State K V P S R) → IsInOrder s → IsInOrder (removed_by eq key s)
-    pub removal_told : (answers : Answers K V P R) (number now : ℕ) (s : State K V P S R) → IsInOrder s → IsInOrder (removal_told answers number now s)
+    pub removal_told : (answers : Answers K V P R) (e : Entry K V) (now : ℕ) (s : State K V P S R) → IsInOrder s → IsInOrder (removal_told answers e now s)
     pub looks_up : (answers : Answers K V P R) (eq : K → K → Bool) (key : K) (hash now : ℕ) (old new : State K V P S R) (look : LooksUp answers eq key hash now old new) → IsInOrder look.mid → IsInOrder new
     pub cleared : (step : ℕ) (s : State K V P S R) → IsInOrder s → IsInOrder (cleared_by step s)
     pub covered : (p : Registered P) (s : State K V P S R) → IsInOrder s → IsInOrder (with_predicate p s)

@@ -1,5 +1,6 @@
 -- What an uncut run leaves of times and clears.
 use Rattle.std.specs.Prelude.{◌≡◌, ◌+◌, ◌<◌, ◌≤◌, ℕ, Bool, true, false, nat_lt, if◌then◌else◌, List, [], ◌∷◌, Option, Some, None, is_some}
+use Rattle.engine_reference.specs.declared.data.Entry.{Entry}
 use Rattle.engine_reference.specs.declared.data.Record.{Record}
 use Rattle.engine_reference.specs.declared.data.Registered.{Registered}
 use Rattle.engine_reference.specs.declared.data.Write.{Write}
@@ -108,7 +109,7 @@ module _ (K V P S R : Type 0) where
     pub removed : (eq : K → K → Bool) (moment step : ℕ) (order : List ℕ) (s : State K V P S R) (key : K) → IsTimely moment step order s → IsTimely moment step order (sent s.next_ticket (removed_by eq key s))
     pub read : (answers : Answers K V P R) (moment step : ℕ) (order : List ℕ) (s : State K V P S R) (found : Option (Record K V)) (hash now : ℕ)
         → IsTimely moment step order s → moment ≤ now → now ≤ 9223372036854775807 → IsTimely now step order (with_read answers found hash now s)
-    pub removal_told : (answers : Answers K V P R) (moment step : ℕ) (order : List ℕ) (s : State K V P S R) (number now : ℕ) → IsTimely moment step order s → IsTimely moment step order (removal_told answers number now s)
+    pub removal_told : (answers : Answers K V P R) (moment step : ℕ) (order : List ℕ) (s : State K V P S R) (e : Entry K V) (now : ℕ) → IsTimely moment step order s → IsTimely moment step order (removal_told answers e now s)
     pub cleared : (moment step : ℕ) (order : List ℕ) (s : State K V P S R) (next : ℕ) → IsTimely moment step order s → IsTimely moment step order (cleared_by next s)
     pub covered : (moment step : ℕ) (order : List ℕ) (s : State K V P S R) (p : Registered P) → IsTimely moment step order s → IsTimely moment step order (with_predicate p s)
     pub room : (moment step : ℕ) (order : List ℕ) (s : State K V P S R) → IsTimely moment step order s → IsTimely moment step order (with_room s)
