@@ -1,3 +1,4 @@
+pub mod Admitted
 pub mod Answered
 pub mod Chain
 pub mod Leading

@@ -3,6 +3,7 @@
 
 mod answer;
 mod answering;
+mod loading;
 mod refusing;
 mod reserving;
 mod resuming;
@@ -13,6 +14,7 @@ ghost use Rattle.cache_settling.specs.Laws.{AbandonedLeads, AnswerSettles, Answe
 
 pub use answer::{reserve_for, store_for};
 pub use answering::{hand_out, settle_answer};
+pub use loading::answer_load;
 pub use refusing::{refuse_answer, refuse_load};
 pub use reserving::reserve_all;
 pub use resuming::resume_all;
