@@ -3,6 +3,7 @@
 
 mod answer;
 mod answering;
+mod calls;
 mod loading;
 mod refusing;
 mod reserving;
@@ -14,6 +15,7 @@ ghost use Rattle.cache_settling.specs.Laws.{AbandonedLeads, AnswerSettles, Answe
 
 pub use answer::{reserve_for, store_for};
 pub use answering::{hand_out, settle_answer};
+pub use calls::answer_in;
 pub use loading::answer_load;
 pub use refusing::{refuse_answer, refuse_load};
 pub use reserving::reserve_all;

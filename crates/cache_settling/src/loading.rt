@@ -6,6 +6,7 @@ ghost use Rattle.audit_model.specs.Situation.{HeldValue};
 ghost use Rattle.cache_steps.specs.Right.{KeepsFrame};
 ghost use Rattle.cache_store.specs.Identifiers.{KeepsIdentifiers};
 ghost use Rattle.cache_store.specs.Promises.{IsUnchanged};
+ghost use Rattle.cache_store.specs.Recency.{KeepsRecency};
 ghost use Rattle.cache_namespace.specs.Drawing.{identifiers};
 ghost use Rattle.cache_namespace.specs.Making.{making_of};
 ghost use Rattle.cache_namespace.specs.Shown.{situation};
@@ -57,20 +58,12 @@ pub fn answer_load<S: Store>(
     ensures loads { OnErr result (loads.new ≡ loads.old) }
     ensures identifiers { OnErr result (KeepsIdentifiers (S.stream store.old) (S.stream store.new) (S.registered store.old) (S.registered store.new)) }
     ensures unchanged { OnErr result (IsUnchanged (S.stands store.old) (S.stands store.new) (S.frame store.old) (S.frame store.new) (S.untaken store.old) (S.untaken store.new)) }
+    ensures unmoved { OnErr result (KeepsRecency (S.recency store.old) (S.recency store.new)) }
 {
     let size = reply_len(outcome);
     let now = moment.max(latest);
     reserve_for(loads, connections, load, size)?;
     let accepted = store_for(store, config.capacity, loads, load, outcome, now)?;
-    settle_answer(
-        store,
-        alloc,
-        config,
-        now,
-        loads,
-        connections,
-        load,
-        outcome,
-    );
+    settle_answer(store, alloc, config, now, loads, connections, load, outcome);
     Ok(accepted)
 }
