@@ -37,7 +37,7 @@ use Rattle.cache_settling.proofs.Leading.{draws-on}
 use Rattle.cache_settling.proofs.Settling.{answer}
 
 -- where identifiers were kept before
-kept-first : (config : Config) (making : Making) (s t : Situation) (tasks left : List Task) (steps : List Step) (a b c : Identifiers) → KeepsIdentifiers a.stream b.stream a.registered b.registered → Leads config making s tasks steps t left b c → Leads config making s tasks steps t left a c
+pub kept-first : (config : Config) (making : Making) (s t : Situation) (tasks left : List Task) (steps : List Step) (a b c : Identifiers) → KeepsIdentifiers a.stream b.stream a.registered b.registered → Leads config making s tasks steps t left b c → Leads config making s tasks steps t left a c
 kept-first config making s t tasks left steps a b c kept l = record {
   after = l.after;
   parted = l.parted;

@@ -6,6 +6,7 @@ pub mod Outcomes
 pub mod Placed
 pub mod Stored
 pub mod Turns
+pub mod Reruns
 pub mod Resumes
 pub mod Rooms
 pub mod Settling

@@ -1,6 +1,7 @@
 //! Settling a load: an answer, or a give-up. Each function here does nothing: its contract is the law.
 #![tactic(auto)]
 
+mod again;
 mod answer;
 mod answering;
 mod calls;
