@@ -1,10 +1,11 @@
 -- A given-up `LOAD` that runs again.
 use Rattle.std.proofs.Common.{◌≡◌, ◌<◌, ◌≤◌, ℕ, suc, Bool, true, false, List, [], ◌∷◌, ◌++◌, Some, None, if◌then◌else◌, refl, sym, ap, ◌∙◌, subst, arith}
-use Rattle.std.specs.Prelude.{Ok, codes, is_none, nat_le}
+use Rattle.std.specs.Prelude.{Err, Ok, codes, is_none, nat_le}
 use Rattle.std.proofs.Math.Bool.{or-false}
+use Rattle.std.proofs.lemmas.Bool.{leb-true}
 use Rattle.std.proofs.lemmas.List.{append-nil}
 use Rattle.audit_model.specs.Changes.{all_held_after}
-use Rattle.audit_model.specs.Grammar.{reading}
+use Rattle.audit_model.specs.Grammar.{Reading, reading}
 use Rattle.audit_model.specs.History.{Running}
 use Rattle.audit_model.specs.Situation as model
 use Rattle.audit_model.specs.Situation.{Situation, HeldValue, connection_in, live_at, without_connection}
@@ -19,15 +20,15 @@ use Rattle.cache_store.specs.Handing.{Hands}
 use Rattle.cache_store.specs.Identifiers.{KeepsIdentifiers}
 use Rattle.cache_store.specs.Promises.{no_deed}
 use Rattle.cache_steps.proofs.LoadSteps.{abandons, waits}
-use Rattle.cache_steps.specs.Loading.{step_silent}
+use Rattle.cache_steps.specs.Loading.{step_silent, step_waiting}
 use Rattle.cache_steps.specs.Order.{Order, Unknown, order_by}
-use Rattle.cache_steps.specs.Right.{Answers, step_saying}
+use Rattle.cache_steps.specs.Right.{Answers, held_when_run, step_saying}
 use Rattle.cache_namespace.specs.Drawing.{Identifiers}
 use Rattle.cache_namespace.specs.Lines.{held_step, ready, set_in, with_drops}
 use Rattle.cache_namespace.specs.Making.{Making}
 use Rattle.cache_namespace.specs.Ordered.{order_after}
 use Rattle.cache_namespace.specs.Shown.{put_in, shown, standing_as}
-use Rattle.cache_namespace.specs.Waiting.{UnderWay, holding_load, loads_in, waiting, when_waiting, with_under_way}
+use Rattle.cache_namespace.specs.Waiting.{UnderWay, holding_load, is_load, loads_in, waiting, when_waiting, with_under_way}
 use Rattle.cache_namespace.specs.Whole.{held_line}
 use Rattle.cache_namespace.specs.declared.connection.Connection.{Connection}
 use Rattle.cache_namespace.specs.declared.standing.Standing.TheVariants as now
@@ -109,7 +110,7 @@ answered-again config making s n Stands k dropping a b old new told telling key 
     let line = held_line old.unread.bytes in
     let behind = behind_lines 1 old.unread.bytes in
     let step = step_saying n line x.reply None x.told in
-    let left = _ in
+    let left = held_when_run config s (Running (says.Load key)) (step_saying 0 [] x.reply None x.told) in
     record {
       step = step;
       held = left;
@@ -157,7 +158,7 @@ waits-again config making s n Stands k dropping a b old new told telling key fou
     let x = waits config s key Stands none stands in
     let number = number_to_send key s.sent s.pending in
     let step = step_silent n line number None [] in
-    let left = _ in
+    let left = held_when_run config s (Running (says.Load key)) (step_waiting config s key 0 []) in
     record {
       step = step;
       held = left;
@@ -173,3 +174,28 @@ waits-again config making s n Stands k dropping a b old new told telling key fou
       notes = notes ∙ sym (append-nil told);
       unknown = load-unknown config step key refl reads;
     }
+
+-- ---- what the code asks
+
+-- a line that is a `LOAD` says its key
+pub load-key : (r : Reading) → is_load r ≡ true → (key : List ℕ) × (r ≡ Ok (says.Load key))
+load-key (Err e) is = let no : false ≡ true = is in cc
+load-key (Ok (says.Set key ms value)) is = let no : false ≡ true = is in cc
+load-key (Ok (says.Get key)) is = let no : false ≡ true = is in cc
+load-key (Ok (says.Has key)) is = let no : false ≡ true = is in cc
+load-key (Ok (says.Load key)) is = (key, refl)
+load-key (Ok (says.Del key)) is = let no : false ≡ true = is in cc
+load-key (Ok (says.Add key ms number)) is = let no : false ≡ true = is in cc
+load-key (Ok says.Clear) is = let no : false ≡ true = is in cc
+load-key (Ok (says.DropIf prefix)) is = let no : false ≡ true = is in cc
+load-key (Ok says.Keys) is = let no : false ≡ true = is in cc
+load-key (Ok says.Sync) is = let no : false ≡ true = is in cc
+load-key (Ok says.Quit) is = let no : false ≡ true = is in cc
+
+-- it waited fewer times
+pub not-last : (times : ℕ) → times < 200 → nat_le 200 times ≡ false
+not-last times few = go (nat_le 200 times) refl
+  where
+    go : (b : Bool) → nat_le 200 times ≡ b → b ≡ false
+    go true e = let h = leb-true 200 times e in absurd (omega arith)
+    go false e = refl
