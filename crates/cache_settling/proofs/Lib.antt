@@ -1,6 +1,7 @@
 pub mod Admitted
 pub mod Answered
 pub mod Chain
+pub mod GiveUps
 pub mod Leading
 pub mod Outcomes
 pub mod Placed

@@ -1,6 +1,7 @@
 -- What a give-up does to a namespace.
-use Rattle.std.specs.Prelude.{◌≡◌, ℕ, Bool, true, List, [], ◌∷◌, ◌++◌}
-use Rattle.std.specs.List.{flat_map}
+use Rattle.std.specs.Prelude.{◌≡◌, ℕ, ◌-◌, ◌<◌, ◌≤◌, Bool, true, List, [], ◌∷◌, ◌++◌, length, Some, None}
+use Rattle.std.specs.List.{flat_map, slice_get}
+use Rattle.audit_model.specs.Grammar.{reading}
 use Rattle.audit_model.specs.Places.{tasks_to_give_up}
 use Rattle.audit_model.specs.Situation.{Situation, HeldValue}
 use Rattle.audit_model.specs.Steps.{Task, RunAgain}
@@ -14,8 +15,11 @@ use Rattle.cache_namespace.specs.Lines.{with_drops}
 use Rattle.cache_namespace.specs.Making.{Making}
 use Rattle.cache_namespace.specs.Ordered.{order_after}
 use Rattle.cache_namespace.specs.Shown.{put_in, situation}
-use Rattle.cache_namespace.specs.Waiting.{UnderWay, with_under_way}
+use Rattle.cache_namespace.specs.Waiting.{UnderWay, is_load, with_under_way}
+use Rattle.cache_namespace.specs.Whole.{held_line}
 use Rattle.cache_namespace.specs.declared.connection.Connection.{Connection}
+use Rattle.cache_namespace.specs.declared.standing.Standing.TheVariants as now
+use Rattle.load_laws.specs.Tidy.{times_in}
 use Rattle.cache_settling.specs.Leads.{BeginsUnknown, Leads}
 use Rattle.cache_settling.specs.Told.{WritesTo}
 
@@ -36,7 +40,15 @@ pub record GivesUp (config : Config) (making : Making) (latest : ℕ) (values : 
   pub steps : List Step
   pub held : List HeldValue
   pub stands : Stands held
-  pub leads : Leads config making (situation latest was_under old dropped values) (tasks_to_give_up conns) steps (situation latest is_under new dropping held) (tasks_to_give_up left) drawn drawing
+  pub leads : (tasks : List Task) → Leads config making (situation latest was_under old dropped values) (tasks_to_give_up conns ++ tasks) steps (situation latest is_under new dropping held) (tasks_to_give_up left ++ tasks) drawn drawing
   pub texts : WritesTo true steps old new
   pub notes : telling ≡ told ++ flat_map (λ step. step.notices) steps
   pub begins : BeginsUnknown config steps
+
+-- it is open, and its first unread line is a `LOAD` that waits
+abbrev pub IsWaitingLoad : Config → Connection → Type 0
+IsWaitingLoad config c = (c.standing ≡ now.Waiting) × (c.closing ≡ None) × (is_load (reading config (held_line c.unread.bytes)) ≡ true)
+
+-- each of those connections is there, and its first unread line is a `LOAD` that waits
+abbrev pub HaveLoads : Config → List Connection → List ℕ → Type 0
+HaveLoads config connections conns = (n : ℕ) → 1 ≤ times_in n conns → (1 ≤ n) × (n - 1 < length connections) × ((c : Connection) → slice_get connections (n - 1) ≡ Some c → IsWaitingLoad config c)

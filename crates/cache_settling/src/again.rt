@@ -121,7 +121,7 @@ fn load_first<S: Store>(
 
 /// Runs the waiting `LOAD` of an open connection again, in one step; at its 200th give-up it is answered so. It takes no memory that it
 /// cannot do without, and no record is made.
-fn run_again<S: Store>(
+pub fn run_again<S: Store>(
     store: &mut S,
     alloc: Global,
     config: &Config,

@@ -5,6 +5,7 @@ mod again;
 mod answer;
 mod answering;
 mod calls;
+mod giving_up;
 mod loading;
 mod refusing;
 mod reserving;
@@ -17,6 +18,7 @@ ghost use Rattle.cache_settling.specs.Laws.{AbandonedLeads, AnswerSettles, Answe
 pub use answer::{reserve_for, store_for};
 pub use answering::{hand_out, settle_answer};
 pub use calls::answer_in;
+pub use giving_up::give_up_all;
 pub use loading::answer_load;
 pub use refusing::{refuse_answer, refuse_load};
 pub use reserving::reserve_all;
