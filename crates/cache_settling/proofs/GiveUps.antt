@@ -1,13 +1,16 @@
 -- Given-up `LOAD`s that run again, one connection after another.
-use Rattle.std.proofs.Common.{◌≡◌, ℕ, suc, ◌+◌, ◌-◌, ◌<◌, ◌≤◌, Bool, true, false, ◌==◌, List, [], ◌∷◌, ◌++◌, map, length, Some, None, if◌then◌else◌, refl, sym, ap, ◌∙◌, subst, arith}
+use Rattle.std.proofs.Common.{◌≡◌, ℕ, max, Option, not, suc, ◌+◌, ◌-◌, ◌<◌, ◌≤◌, Bool, true, false, ◌==◌, List, [], ◌∷◌, ◌++◌, map, length, Some, None, if◌then◌else◌, refl, sym, ap, ◌∙◌, subst, arith}
 use Rattle.std.specs.Prelude.{is_none, slice_set}
 use Rattle.std.specs.List.{flat_map, slice_get}
-use Rattle.std.proofs.lemmas.Bool.{eq-eqb}
+use Rattle.std.specs.Option.{option_map_or}
+use Rattle.std.proofs.lemmas.Bool.{and_parts, eq-eqb}
 use Rattle.std.proofs.lemmas.Grind.{flat_map-append}
 use Rattle.std.proofs.lemmas.List.{append-nil, append_assoc}
-use Rattle.std.proofs.lemmas.Option.{get_or_from_slice_get, slice_get_within}
+use Rattle.std.proofs.lemmas.Option.{get_or_from_slice_get, same_Some, slice_get_within}
 use Rattle.audit_model.specs.Places.{tasks_to_give_up}
-use Rattle.audit_model.specs.Situation.{HeldValue}
+use Rattle.audit_model.specs.Belongs.{refusal_of}
+use Rattle.audit_model.specs.Situation as model
+use Rattle.audit_model.specs.Situation.{HeldValue, connection_in, is_overlong, is_waiting_now}
 use Rattle.audit_model.specs.Steps.{Task, RunAgain, RunLines}
 use Rattle.audit_model.specs.declared.config.Config.{Config}
 use Rattle.audit_model.specs.declared.transcript.Note.{Note}
@@ -16,19 +19,24 @@ use Rattle.cache_namespace.specs.Drawing.{Identifiers}
 use Rattle.cache_namespace.specs.Gathered.{reply_in}
 use Rattle.cache_namespace.specs.Lines.{with_drops}
 use Rattle.cache_namespace.specs.Making.{Making}
-use Rattle.cache_namespace.specs.Shown.{put_in, situation}
+use Rattle.cache_namespace.specs.Shown.{put_in, shown, situation}
 use Rattle.cache_namespace.specs.Taken.{ReplacedAt, text_at}
-use Rattle.cache_namespace.specs.Waiting.{UnderWay, when_left, with_under_way}
+use Rattle.cache_namespace.specs.Waiting.{UnderWay, no_loads, when_left, with_under_way}
+use Rattle.cache_namespace.specs.Whole.{held_line}
 use Rattle.cache_namespace.specs.declared.connection.Connection.{Connection}
 use Rattle.cache_namespace.proofs.Following.{listed-open, put-situation}
-use Rattle.load_laws.specs.Tidy.{times_in}
+use Rattle.load_laws.specs.Tidy.{Tidy, times_in}
 use Rattle.load_laws.proofs.Counts.{one_if}
-use Rattle.cache_settling.specs.GivenUp.{GivesUp, HaveLoads, RunsAgain}
+use Rattle.cache_settling.specs.Answered.{but_for, giving_up, knows_loads, waiting_for}
+use Rattle.cache_settling.specs.GivenUp.{GivesUp, GivesUpLoad, HaveLoads, IsWaitingLoad, RunsAgain, WaitForLoads}
 use Rattle.cache_settling.specs.Leads.{BeginsUnknown, Leads}
 use Rattle.cache_settling.specs.Resumed.{RunsThem}
 use Rattle.cache_settling.specs.Told.{replies_to}
 use Rattle.cache_settling.proofs.Chain.{same-place}
 use Rattle.cache_settling.proofs.Leading.{nothing, on}
+use Rattle.cache_settling.proofs.Placed.{found-back, open-so, waits-so}
+use Rattle.cache_settling.proofs.Settling.{give-up}
+use Rattle.cache_settling.proofs.Turns.{counted}
 use Rattle.cache_settling.proofs.Resumes.{own-joined, replies-both, text-ran}
 
 -- ---- one of them
@@ -134,3 +142,48 @@ loads-left config n rest mid new few have count others m some =
     let within = there.1 in
     let differs : (m - 1 ≡ n - 1) → ⊥ = λ at. no-two m n rest (omega arith) some few in
     (there.0, omega arith, λ c at. there.2 c (sym (others (m - 1) differs) ∙ at))
+
+-- ---- the whole list
+
+-- one that waits is counted once
+waits-once : (o : Option model.Connection) → option_map_or (λ (k : model.Connection). if is_waiting_now k.standing then 1 else 0) o 0 ≤ 1
+waits-once None = omega arith
+waits-once (Some k) = go (is_waiting_now k.standing)
+  where
+    go : (b : Bool) → (if b then 1 else 0) ≤ 1
+    go true = omega arith
+    go false = omega arith
+
+pub told-few : (told : List ℕ) (cs : List Connection) → Tidy told (situation 0 no_loads cs false []) → (n : ℕ) → times_in n told ≤ 1
+told-few told cs tidy n = let once = tidy.once n in let few = waits-once (connection_in n (situation 0 no_loads cs false [])) in omega arith
+
+-- each of them is there, and waits
+pub told-loads : (config : Config) (told : List ℕ) (cs : List Connection) → Tidy told (situation 0 no_loads cs false []) → WaitForLoads config cs → HaveLoads config cs told
+told-loads config told cs tidy reads n some =
+    let once = tidy.once n in
+    let c = counted (connection_in n (situation 0 no_loads cs false [])) (omega arith) in
+    let f = found-back n 1 c.0 cs c.1 in
+    let place = f.place in
+    let lt = slice_get_within cs f.index f.is f.at in
+    let here : f.index ≡ n - 1 = omega arith in
+    let waits = waits-so f.is.standing (held_line f.is.unread.bytes) (ap (λ (k : model.Connection). is_waiting_now k.standing) f.shows ∙ c.2) in
+    let is_open = open-so f.is.closing (and_parts (is_none f.is.closing) (not (is_overlong (shown n f.is))) f.listed).0 in
+    let there : IsWaitingLoad config f.is = (waits, is_open, reads f.index f.is f.at waits) in
+    (omega arith, omega arith, λ k at. subst (IsWaitingLoad config) (same_Some f.is k (sym f.at ∙ ap (slice_get cs) here ∙ at)) there)
+
+-- ---- the record
+
+pub given-up : (config : Config) (making : Making) (load latest moment : ℕ) (values : List HeldValue) (Stands : List HeldValue → Type 0) (l k : UnderWay) (dropped dropping : Bool) (a c : Identifiers) (cs new : List Connection) (told telling : List Note)
+    → refusal_of config (knows_loads l) (giving_up load moment) ≡ None
+    → GivesUp config making (max moment latest) values (waiting_for load l) [] Stands (but_for load l) k dropped dropping a c cs new told telling
+    → GivesUpLoad config making load latest moment values Stands l k dropped dropping a c cs new told telling
+given-up config making load latest moment values Stands l k dropped dropping a c cs new told telling admitted g = record {
+  steps = g.steps;
+  held = g.held;
+  stands = g.stands;
+  settles = give-up config making (situation latest l cs dropped values) (situation (max moment latest) k new dropping g.held) load moment g.steps a c admitted
+      (subst (λ tasks. Leads config making (situation (max moment latest) (but_for load l) cs dropped values) tasks g.steps (situation (max moment latest) k new dropping g.held) [] a c) (append-nil (tasks_to_give_up (waiting_for load l))) (g.leads []))
+      g.begins;
+  texts = g.texts;
+  notes = g.notes;
+}

@@ -1,5 +1,5 @@
 -- What a give-up does to a namespace.
-use Rattle.std.specs.Prelude.{◌≡◌, ℕ, ◌-◌, ◌<◌, ◌≤◌, Bool, true, List, [], ◌∷◌, ◌++◌, length, Some, None}
+use Rattle.std.specs.Prelude.{◌≡◌, ℕ, ◌-◌, ◌<◌, ◌≤◌, Bool, true, List, [], ◌∷◌, ◌++◌, length, max, Some, None}
 use Rattle.std.specs.List.{flat_map, slice_get}
 use Rattle.audit_model.specs.Grammar.{reading}
 use Rattle.audit_model.specs.Places.{tasks_to_give_up}
@@ -20,7 +20,8 @@ use Rattle.cache_namespace.specs.Whole.{held_line}
 use Rattle.cache_namespace.specs.declared.connection.Connection.{Connection}
 use Rattle.cache_namespace.specs.declared.standing.Standing.TheVariants as now
 use Rattle.load_laws.specs.Tidy.{times_in}
-use Rattle.cache_settling.specs.Leads.{BeginsUnknown, Leads}
+use Rattle.cache_settling.specs.Laws.{record_given_up}
+use Rattle.cache_settling.specs.Leads.{BeginsUnknown, Leads, Settles}
 use Rattle.cache_settling.specs.Told.{WritesTo}
 
 -- A connection's waiting `LOAD` ran again, in one step: its reply and its notes were gathered, and nothing is known behind it of the order
@@ -52,3 +53,16 @@ IsWaitingLoad config c = (c.standing ≡ now.Waiting) × (c.closing ≡ None) ×
 -- each of those connections is there, and its first unread line is a `LOAD` that waits
 abbrev pub HaveLoads : Config → List Connection → List ℕ → Type 0
 HaveLoads config connections conns = (n : ℕ) → 1 ≤ times_in n conns → (1 ≤ n) × (n - 1 < length connections) × ((c : Connection) → slice_get connections (n - 1) ≡ Some c → IsWaitingLoad config c)
+
+-- the first unread line of each connection whose `LOAD` waits is a `LOAD`
+abbrev pub WaitForLoads : Config → List Connection → Type 0
+WaitForLoads config connections = (place : ℕ) (c : Connection) → slice_get connections place ≡ Some c → c.standing ≡ now.Waiting → is_load (reading config (held_line c.unread.bytes)) ≡ true
+
+-- The record of a give-up follows: each `LOAD` that waited ran again, in order, each followed by its connection's lines.
+pub record GivesUpLoad (config : Config) (making : Making) (load latest moment : ℕ) (values : List HeldValue) (Stands : List HeldValue → Type 0) (was_under is_under : UnderWay) (dropped dropping : Bool) (drawn drawing : Identifiers) (old new : List Connection) (told telling : List Note) : Type 0 where
+  pub steps : List Step
+  pub held : List HeldValue
+  pub stands : Stands held
+  pub settles : Settles config making (situation latest was_under old dropped values) (record_given_up load moment steps) (situation (max moment latest) is_under new dropping held) drawn drawing
+  pub texts : WritesTo true steps old new
+  pub notes : telling ≡ told ++ flat_map (λ step. step.notices) steps
