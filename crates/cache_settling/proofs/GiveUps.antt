@@ -19,7 +19,7 @@ use Rattle.cache_namespace.specs.Drawing.{Identifiers}
 use Rattle.cache_namespace.specs.Gathered.{reply_in}
 use Rattle.cache_namespace.specs.Lines.{with_drops}
 use Rattle.cache_namespace.specs.Making.{Making}
-use Rattle.cache_namespace.specs.Shown.{put_in, shown, situation}
+use Rattle.cache_namespace.specs.Shown.{put_in, shown, situation, stands_before}
 use Rattle.cache_namespace.specs.Taken.{ReplacedAt, text_at}
 use Rattle.cache_namespace.specs.Waiting.{UnderWay, no_loads, when_left, with_under_way}
 use Rattle.cache_namespace.specs.Whole.{held_line}
@@ -158,7 +158,7 @@ pub told-few : (told : List ℕ) (cs : List Connection) → Tidy told (situation
 told-few told cs tidy n = let once = tidy.once n in let few = waits-once (connection_in n (situation 0 no_loads cs false [])) in omega arith
 
 -- each of them is there, and waits
-pub told-loads : (config : Config) (told : List ℕ) (cs : List Connection) → Tidy told (situation 0 no_loads cs false []) → WaitForLoads config cs → HaveLoads config cs told
+pub told-loads : (config : Config) (told : List ℕ) (cs : List Connection) → Tidy told (situation 0 no_loads cs false []) → WaitForLoads config (situation 0 no_loads cs false []) → HaveLoads config cs told
 told-loads config told cs tidy reads n some =
     let once = tidy.once n in
     let c = counted (connection_in n (situation 0 no_loads cs false [])) (omega arith) in
@@ -168,7 +168,9 @@ told-loads config told cs tidy reads n some =
     let here : f.index ≡ n - 1 = omega arith in
     let waits = waits-so f.is.standing (held_line f.is.unread.bytes) (ap (λ (k : model.Connection). is_waiting_now k.standing) f.shows ∙ c.2) in
     let is_open = open-so f.is.closing (and_parts (is_none f.is.closing) (not (is_overlong (shown n f.is))) f.listed).0 in
-    let there : IsWaitingLoad config f.is = (waits, is_open, reads f.index f.is f.at waits) in
+    let line = held_line f.is.unread.bytes in
+    let stands = ap (λ (k : model.Connection). k.standing) (sym f.shows) ∙ ap (λ st. stands_before st line) waits in
+    let there : IsWaitingLoad config f.is = (waits, is_open, reads n c.0 line c.1 stands) in
     (omega arith, omega arith, λ k at. subst (IsWaitingLoad config) (same_Some f.is k (sym f.at ∙ ap (slice_get cs) here ∙ at)) there)
 
 -- ---- the record

@@ -3,7 +3,8 @@ use Rattle.std.specs.Prelude.{◌≡◌, ℕ, ◌-◌, ◌<◌, ◌≤◌, Bool,
 use Rattle.std.specs.List.{flat_map, slice_get}
 use Rattle.audit_model.specs.Grammar.{reading}
 use Rattle.audit_model.specs.Places.{tasks_to_give_up}
-use Rattle.audit_model.specs.Situation.{Situation, HeldValue}
+use Rattle.audit_model.specs.Situation as model
+use Rattle.audit_model.specs.Situation.{Situation, HeldValue, connection_in}
 use Rattle.audit_model.specs.Steps.{Task, RunAgain}
 use Rattle.audit_model.specs.declared.config.Config.{Config}
 use Rattle.audit_model.specs.declared.transcript.Note.{Note}
@@ -54,9 +55,9 @@ IsWaitingLoad config c = (c.standing ≡ now.Waiting) × (c.closing ≡ None) ×
 abbrev pub HaveLoads : Config → List Connection → List ℕ → Type 0
 HaveLoads config connections conns = (n : ℕ) → 1 ≤ times_in n conns → (1 ≤ n) × (n - 1 < length connections) × ((c : Connection) → slice_get connections (n - 1) ≡ Some c → IsWaitingLoad config c)
 
--- the first unread line of each connection whose `LOAD` waits is a `LOAD`
-abbrev pub WaitForLoads : Config → List Connection → Type 0
-WaitForLoads config connections = (place : ℕ) (c : Connection) → slice_get connections place ≡ Some c → c.standing ≡ now.Waiting → is_load (reading config (held_line c.unread.bytes)) ≡ true
+-- the line that waits of each open connection is a `LOAD`
+abbrev pub WaitForLoads : Config → Situation → Type 0
+WaitForLoads config s = (n : ℕ) (c : model.Connection) (line : List ℕ) → connection_in n s ≡ Some c → c.standing ≡ model.Waiting line → is_load (reading config line) ≡ true
 
 -- The record of a give-up follows: each `LOAD` that waited ran again, in order, each followed by its connection's lines.
 pub record GivesUpLoad (config : Config) (making : Making) (load latest moment : ℕ) (values : List HeldValue) (Stands : List HeldValue → Type 0) (was_under is_under : UnderWay) (dropped dropping : Bool) (drawn drawing : Identifiers) (old new : List Connection) (told telling : List Note) : Type 0 where

@@ -1,5 +1,5 @@
 //! The calls of a namespace that settle a load.
-ghost use Rattle.std.specs.Prelude.{◌≡◌, max, [], IfErr, IfOk, MatchOption, OnErr, OnOk, false, List, length};
+ghost use Rattle.std.specs.Prelude.{◌≡◌, max, [], IfErr, IfOk, MatchOption, None, OnErr, OnOk, Some, false, List, length};
 ghost use Rattle.audit_model.specs.Belongs.{refusal_of};
 ghost use Rattle.audit_model.specs.Situation.{HeldValue};
 ghost use Rattle.cache_store.specs.Identifiers.{KeepsIdentifiers};
@@ -12,10 +12,12 @@ ghost use Rattle.cache_namespace.specs.Shown.{situation};
 ghost use Rattle.cache_namespace.specs.Taken.{IsSound, SameConnections};
 ghost use Rattle.cache_namespace.specs.Waiting.{under_way};
 ghost use Rattle.load_laws.specs.Tidy.{Tidy};
-ghost use Rattle.cache_settling.specs.Answered.{AnswersLoad, answering, knows_loads};
+ghost use Rattle.cache_settling.specs.Answered.{AnswersLoad, answering, giving_up, knows_loads};
+ghost use Rattle.cache_settling.specs.GivenUp.{GivesUpLoad, WaitForLoads};
 
+use crate::giving_up::give_up_load;
 use crate::loading::answer_load;
-use crate::refusing::refuse_answer;
+use crate::refusing::{refuse_answer, refuse_load};
 use audit_model::{Accepted, Outcome, ServiceError};
 use cache_namespace::Namespace;
 use cache_store::Store;
@@ -69,4 +71,45 @@ pub fn answer_in<S: Store>(
         }
         Err(_) => Err((ServiceError::OutOfMemory, outcome)),
     }
+}
+
+/// Gives up a load of a namespace at a moment in nanoseconds: each `LOAD` that waits for it runs again, in order, as a whole command,
+/// followed by its connection's lines. No record is made. It takes no memory that it cannot do without; an `Err` changes nothing.
+pub fn give_up_in<S: Store>(
+    namespace: &mut Namespace<S>,
+    alloc: Global,
+    load: u64,
+    moment: u64,
+) -> Result<(), ServiceError>
+    requires sound { IsSound namespace.old.config (S.frame namespace.old.store) namespace.old.latest }
+    requires tidy { Tidy [] (situation 0 (under_way namespace.old.loads) namespace.old.connections.items false []) }
+    requires reads { WaitForLoads namespace.old.config (situation 0 (under_way namespace.old.loads) namespace.old.connections.items false []) }
+    ensures ran { OnOk result ((values : List HeldValue) → S.stands namespace.old.store values → GivesUpLoad namespace.old.config (making_of (S.frame namespace.old.store)) load namespace.old.latest moment values (S.stands namespace.new.store) (under_way namespace.old.loads) (under_way namespace.new.loads) (S.frame namespace.old.store).dropped (S.frame namespace.new.store).dropped (identifiers (S.stream namespace.old.store) (S.registered namespace.old.store)) (identifiers (S.stream namespace.new.store) (S.registered namespace.new.store)) namespace.old.connections.items namespace.new.connections.items (S.untaken namespace.old.store) (S.untaken namespace.new.store)) }
+    ensures latest { OnOk result (namespace.new.latest ≡ max moment namespace.old.latest) }
+    ensures tidy { OnOk result ((values : List HeldValue) → S.stands namespace.old.store values → Tidy [] (situation 0 (under_way namespace.new.loads) namespace.new.connections.items false [])) }
+    ensures count { length namespace.new.connections.items ≡ length namespace.old.connections.items }
+    ensures sound { IsSound namespace.new.config (S.frame namespace.new.store) namespace.new.latest }
+    ensures config { namespace.new.config ≡ namespace.old.config }
+    ensures made { OnOk result (KeepsFrame (S.frame namespace.old.store) (S.frame namespace.new.store) namespace.new.latest) }
+    // it succeeds wherever it is not refused
+    ensures refused { IfErr result (λ e. refusal_of namespace.old.config (knows_loads (under_way namespace.old.loads)) (giving_up load moment) ≡ Some e) }
+    ensures admitted { OnOk result (refusal_of namespace.old.config (knows_loads (under_way namespace.old.loads)) (giving_up load moment) ≡ None) }
+    ensures err { OnErr result (namespace.new ≡ namespace.old) }
+{
+    match refuse_load(&namespace.config, &namespace.loads, load, moment) {
+        Some(error) => return Err(error),
+        None => {}
+    }
+    give_up_load(
+        &mut namespace.store,
+        alloc,
+        &namespace.config,
+        namespace.latest,
+        &mut namespace.loads,
+        &mut namespace.connections,
+        load,
+        moment,
+    );
+    namespace.latest = moment.max(namespace.latest);
+    Ok(())
 }

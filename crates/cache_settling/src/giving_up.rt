@@ -137,7 +137,7 @@ pub fn give_up_load<S: Store>(
     requires sound { IsSound config.now (S.frame store.old) latest }
     requires admitted { refusal_of config.now (knows_loads (under_way loads.old)) (giving_up load moment) ≡ None }
     requires tidy { Tidy [] (situation 0 (under_way loads.old) connections.old.items false []) }
-    requires reads { WaitForLoads config.now connections.old.items }
+    requires reads { WaitForLoads config.now (situation 0 (under_way loads.old) connections.old.items false []) }
     ensures ran { (values : List HeldValue) → S.stands store.old values → GivesUpLoad config.now (making_of (S.frame store.old)) load latest moment values (S.stands store.new) (under_way loads.old) (under_way loads.new) (S.frame store.old).dropped (S.frame store.new).dropped (identifiers (S.stream store.old) (S.registered store.old)) (identifiers (S.stream store.new) (S.registered store.new)) connections.old.items connections.new.items (S.untaken store.old) (S.untaken store.new) }
     ensures frame { KeepsFrame (S.frame store.old) (S.frame store.new) (max moment latest) }
     ensures count { length connections.new.items ≡ length connections.old.items }

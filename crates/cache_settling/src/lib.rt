@@ -17,7 +17,7 @@ ghost use Rattle.cache_settling.specs.Laws.{AbandonedLeads, AnswerSettles, Answe
 
 pub use answer::{reserve_for, store_for};
 pub use answering::{hand_out, settle_answer};
-pub use calls::answer_in;
+pub use calls::{answer_in, give_up_in};
 pub use giving_up::{give_up_all, give_up_load};
 pub use loading::answer_load;
 pub use refusing::{refuse_answer, refuse_load};

@@ -17,7 +17,7 @@ settle_give_up-requires-clause-once g c =
 
 pub settle_give_up-requires-clause-waits : goal.settle_give_up-requires-clause-waits
 settle_give_up-requires-clause-waits g c =
-    told-loads c.args.config.now (waiting_for c.args.load (under_way c.args.loads.now)) c.args.connections.now.items (waiting-tidy c.args.load (under_way c.args.loads.now) c.args.connections.now.items c.requires.tidy) c.requires.reads
+    told-loads c.args.config.now (waiting_for c.args.load (under_way c.args.loads.now)) c.args.connections.now.items (waiting-tidy c.args.load (under_way c.args.loads.now) c.args.connections.now.items c.requires.tidy) (λ n k line found stands. c.requires.reads n k line found stands)
 
 pub returns-clause-ran : goal.returns-clause-ran
 returns-clause-ran g c = λ values m.
