@@ -1,5 +1,5 @@
 -- An answer, from what is stored and what is handed out.
-use Rattle.std.proofs.Common.{◌≡◌, ℕ, max, Bool, true, false, ◌||◌, List, [], ◌++◌, map, Option, Some, None, if◌then◌else◌, refl, ap, ◌∙◌}
+use Rattle.std.proofs.Common.{◌≡◌, ℕ, max, Bool, true, false, ◌||◌, List, [], ◌++◌, map, Option, Some, None, if◌then◌else◌, refl, ap, ◌∙◌, subst, suc}
 use Rattle.std.specs.Prelude.{IfSome, is_some}
 use Rattle.std.specs.List.{flat_map}
 use Rattle.std.specs.Option.{option_map, option_map_or}
@@ -26,15 +26,18 @@ use Rattle.cache_namespace.specs.Drawing.{Identifiers}
 use Rattle.cache_namespace.specs.Lines.{has_its_part}
 use Rattle.cache_namespace.specs.Making.{Making}
 use Rattle.cache_namespace.specs.Shown.{situation}
+use Rattle.cache_namespace.specs.Taken.{SameConnections}
 use Rattle.cache_namespace.specs.Waiting.{UnderWay}
 use Rattle.cache_namespace.specs.declared.connection.Connection.{Connection}
 use Rattle.cache_settling.specs.Answered.{AnswersLoad, HandsOut, answering, but_for, knows_loads, waiting_for}
-use Rattle.cache_settling.specs.Leads.{Leads}
+use Rattle.cache_settling.specs.Laws.{record_answered}
+use Rattle.cache_settling.specs.Leads.{Leads, Settles}
+use Rattle.cache_settling.specs.Told.{replies_to}
 use Rattle.cache_settling.proofs.Leading.{draws-on}
 use Rattle.cache_settling.proofs.Settling.{answer}
 
 -- where identifiers were kept before
-kept-first : (config : Config) (making : Making) (s t : Situation) (tasks left : List Task) (steps : List Step) (a b c : Identifiers) → KeepsIdentifiers a.stream b.stream a.registered b.registered → Leads config making s tasks steps t left b c → Leads config making s tasks steps t left a c
+pub kept-first : (config : Config) (making : Making) (s t : Situation) (tasks left : List Task) (steps : List Step) (a b c : Identifiers) → KeepsIdentifiers a.stream b.stream a.registered b.registered → Leads config making s tasks steps t left b c → Leads config making s tasks steps t left a c
 kept-first config making s t tasks left steps a b c kept l = record {
   after = l.after;
   parted = l.parted;
@@ -76,3 +79,16 @@ answered config making load latest moment key outcome accepted values Stood Stan
       texts = h.texts;
       notes = h.notes ∙ ap (λ ns. ns ++ flat_map (λ (y : Step). y.notices) h.steps) x.handed.added;
     }
+
+-- the same, of connections that stand for the same
+pub answered-same : (config : Config) (making : Making) (load latest moment : ℕ) (outcome : Outcome) (accepted : Option Accepted) (values : List HeldValue) (Stands : List HeldValue → Type 0) (l k : UnderWay) (old mid new : List Connection) (dropped dropping : Bool) (a c : Identifiers) (told telling : List Note)
+    → SameConnections old mid → AnswersLoad config making load outcome latest moment accepted values Stands l k dropped dropping a c mid new told telling → AnswersLoad config making load outcome latest moment accepted values Stands l k dropped dropping a c old new told telling
+answered-same config making load latest moment outcome accepted values Stands l k old mid new dropped dropping a c told telling same x = record {
+  own = x.own;
+  steps = x.steps;
+  held = x.held;
+  stands = x.stands;
+  settles = subst (λ s. Settles config making s (record_answered load outcome moment accepted x.own x.steps) (situation (max moment latest) k new dropping x.held) a c) (same.situation latest l dropped values) x.settles;
+  texts = λ place. x.texts place ∙ ap (λ text. text ++ replies_to (suc place) x.steps) (same.texts place);
+  notes = x.notes;
+}

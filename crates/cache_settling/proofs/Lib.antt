@@ -1,10 +1,13 @@
+pub mod Admitted
 pub mod Answered
 pub mod Chain
+pub mod GiveUps
 pub mod Leading
 pub mod Outcomes
 pub mod Placed
 pub mod Stored
 pub mod Turns
+pub mod Reruns
 pub mod Resumes
 pub mod Rooms
 pub mod Settling

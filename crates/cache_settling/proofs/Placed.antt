@@ -112,7 +112,7 @@ pub record WaitsAt (cs : List Connection) (m : ℕ) : Type 0 where
   pub waits_now : is.standing ≡ now.Waiting
   pub open_now : is.closing ≡ None
 
-waits-so : (standing : Standing) (line : List ℕ) → is_waiting_now (stands_before standing line) ≡ true → standing ≡ now.Waiting
+pub waits-so : (standing : Standing) (line : List ℕ) → is_waiting_now (stands_before standing line) ≡ true → standing ≡ now.Waiting
 waits-so now.Ready line e = let no : false ≡ true = e in cc
 waits-so now.Held line e = let no : false ≡ true = e in cc
 waits-so now.Waiting line e = refl

@@ -48,7 +48,7 @@ no-truth : false ≡ true → ⊥
 no-truth e = let no : false ≡ true = e in cc
 
 -- one more of them
-own-joined : (m number : ℕ) (step : Step) (more : List Step) → step.conn ≡ m → (b : Bool) → (m == number) ≡ b → replies_to number more ≡ (if m == number then flat_map reply_in more else [])
+pub own-joined : (m number : ℕ) (step : Step) (more : List Step) → step.conn ≡ m → (b : Bool) → (m == number) ≡ b → replies_to number more ≡ (if m == number then flat_map reply_in more else [])
     → replies_to number (step ∷ more) ≡ (if m == number then flat_map reply_in (step ∷ more) else [])
 own-joined m number step more own true is next =
     ap (λ b. flat_map reply_in (cond b (step ∷ filter (λ (x : Step). x.conn == number) more) (filter (λ (x : Step). x.conn == number) more))) (ap (λ k. k == number) own ∙ is)
@@ -134,7 +134,7 @@ put-same latest m i l cs dropped values c e at is_open =
     ∙ ap (λ ks. situation latest l ks dropped values) (set-get_or cs i c)
 
 -- the text at a place, when lines of the connection at one place ran
-text-ran : (cs after : List Connection) (m i place : ℕ) (steps : List Step) → m ≡ suc i → (p : ReplacedAt cs after i) → p.is.output.items ≡ p.was.output.items ++ flat_map reply_in steps → (b : Bool) → (i == place) ≡ b
+pub text-ran : (cs after : List Connection) (m i place : ℕ) (steps : List Step) → m ≡ suc i → (p : ReplacedAt cs after i) → p.is.output.items ≡ p.was.output.items ++ flat_map reply_in steps → (b : Bool) → (i == place) ≡ b
     → text_at after place ≡ text_at cs place ++ (if i == place then flat_map reply_in steps else [])
 text-ran cs after m i place steps e p output true at =
     let is : i ≡ place = eqb-true i place at in

@@ -1,5 +1,6 @@
 pub mod Leads
 pub mod Answered
+pub mod GivenUp
 pub mod Laws
 pub mod Resumed
 pub mod Told

@@ -8,6 +8,7 @@ ghost use Rattle.cache_loads.specs.Pending.{load_numbered, pending_of};
 ghost use Rattle.cache_store.specs.Handing.{Hands};
 ghost use Rattle.cache_store.specs.Identifiers.{KeepsIdentifiers};
 ghost use Rattle.cache_store.specs.Promises.{IsUnchanged};
+ghost use Rattle.cache_store.specs.Recency.{KeepsRecency};
 ghost use Rattle.cache_steps.specs.Loading.{Stores};
 ghost use Rattle.cache_steps.specs.Right.{KeepsFrame};
 ghost use Rattle.cache_namespace.specs.Taken.{SameConnections};
@@ -59,6 +60,7 @@ pub fn store_for<S: Store>(
     ensures dropped { (S.frame store.new).dropped ≡ (S.frame store.old).dropped }
     ensures identifiers { KeepsIdentifiers (S.stream store.old) (S.stream store.new) (S.registered store.old) (S.registered store.new) }
     ensures unchanged { OnErr result (IsUnchanged (S.stands store.old) (S.stands store.new) (S.frame store.old) (S.frame store.new) (S.untaken store.old) (S.untaken store.new)) }
+    ensures unmoved { OnErr result (KeepsRecency (S.recency store.old) (S.recency store.new)) }
 {
     let Some(found) = loads.get(load) else {
         unreachable!();

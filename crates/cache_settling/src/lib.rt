@@ -1,8 +1,12 @@
 //! Settling a load: an answer, or a give-up. Each function here does nothing: its contract is the law.
 #![tactic(auto)]
 
+mod again;
 mod answer;
 mod answering;
+mod calls;
+mod giving_up;
+mod loading;
 mod refusing;
 mod reserving;
 mod resuming;
@@ -13,6 +17,9 @@ ghost use Rattle.cache_settling.specs.Laws.{AbandonedLeads, AnswerSettles, Answe
 
 pub use answer::{reserve_for, store_for};
 pub use answering::{hand_out, settle_answer};
+pub use calls::{answer_in, give_up_in};
+pub use giving_up::{give_up_all, give_up_load};
+pub use loading::answer_load;
 pub use refusing::{refuse_answer, refuse_load};
 pub use reserving::reserve_all;
 pub use resuming::resume_all;

@@ -1,5 +1,5 @@
 //! Running the lines of connections that were told of their load.
-ghost use Rattle.std.specs.Prelude.{◌≡◌, ◌<◌, ◌≤◌, ◌^◌, ◌∷◌, [], None, Some, List, ℕ, Bool, true, length, not, is_some};
+ghost use Rattle.std.specs.Prelude.{◌≡◌, ◌≢◌, ◌-◌, ◌<◌, ◌≤◌, ◌^◌, ◌∷◌, [], None, Some, List, ℕ, Bool, true, length, not, is_some};
 ghost use Rattle.std.specs.List.{slice_get};
 ghost use Rattle.audit_model.specs.Situation.{Situation, HeldValue};
 ghost use Rattle.cache_steps.specs.Right.{KeepsFrame};
@@ -145,7 +145,7 @@ fn leave_where(loads: &mut Loads, number: u64, closed: bool)
 }
 
 /// Runs the lines of a connection, where it is open and runs lines; no record is made.
-fn resume_at<S: Store>(
+pub fn resume_at<S: Store>(
     store: &mut S,
     alloc: Global,
     config: &Config,
@@ -158,6 +158,7 @@ fn resume_at<S: Store>(
     requires in_time { (S.frame store.old).latest ≤ now }
     requires moment { now < 2 ^ 63 }
     ensures ran { (values : List HeldValue) → S.stands store.old values → RunsThem config.now (making_of (S.frame store.old)) now values (number ∷ []) [] (S.stands store.new) (under_way loads.old) (under_way loads.new) (S.frame store.old).dropped (S.frame store.new).dropped (identifiers (S.stream store.old) (S.registered store.old)) (identifiers (S.stream store.new) (S.registered store.new)) connections.old.items connections.new.items (S.untaken store.old) (S.untaken store.new) }
+    ensures others { (place : ℕ) → place ≢ number - 1 → slice_get connections.new.items place ≡ slice_get connections.old.items place }
     ensures frame { KeepsFrame (S.frame store.old) (S.frame store.new) now }
     ensures count { length connections.new.items ≡ length connections.old.items }
 {

@@ -7,6 +7,7 @@ ghost use Rattle.audit_model.specs.Situation.{Situation};
 ghost use Rattle.cache_store.specs.Handing.{Hands};
 ghost use Rattle.cache_store.specs.Identifiers.{KeepsIdentifiers};
 ghost use Rattle.cache_store.specs.Promises.{IsUnchanged};
+ghost use Rattle.cache_store.specs.Recency.{KeepsRecency};
 ghost use Rattle.cache_steps.specs.Loading.{Stores};
 ghost use Rattle.cache_steps.specs.Right.{KeepsFrame};
 
@@ -43,6 +44,7 @@ pub fn store_answer<S: Store>(
     ensures dropped { (S.frame store.new).dropped ≡ (S.frame store.old).dropped }
     ensures identifiers { KeepsIdentifiers (S.stream store.old) (S.stream store.new) (S.registered store.old) (S.registered store.new) }
     ensures unchanged { OnErr result (IsUnchanged (S.stands store.old) (S.stands store.new) (S.frame store.old) (S.frame store.new) (S.untaken store.old) (S.untaken store.new)) }
+    ensures unmoved { OnErr result (KeepsRecency (S.recency store.old) (S.recency store.new)) }
 {
     match outcome {
         Outcome::Value(bytes, milliseconds) => {

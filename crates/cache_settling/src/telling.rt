@@ -32,7 +32,7 @@ fn reply_where(writes: bool, outcome: &Outcome, output: &mut Vec<u8>)
 }
 
 /// Takes the first line.
-fn pass_line(unread: &mut Buffer)
+pub fn pass_line(unread: &mut Buffer)
     requires { IsTrue (has_line unread.old.bytes) }
     ensures { unread.new.bytes ≡ behind_lines 1 unread.old.bytes }
 {

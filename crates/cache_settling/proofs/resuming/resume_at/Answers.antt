@@ -5,6 +5,7 @@ use Rattle.cache_namespace.specs.Drawing.{identifiers, workings}
 use Rattle.cache_namespace.specs.Making.{making_of}
 use Rattle.cache_namespace.specs.Shown.{situation}
 use Rattle.cache_namespace.specs.Waiting.{under_way}
+use Rattle.cache_namespace.proofs.Places.{replaced-others}
 use Rattle.cache_settling.specs.Resumed.{runs_at}
 use Rattle.cache_settling.proofs.Resumes.{none-here, none-there, runs-here, runs-none, runs-resumed, there-at}
 use Rattle.cache_settling.proofs.resuming.resume_at.Goals as goal
@@ -42,3 +43,6 @@ returns-clause-ran g c = λ values m.
     runs-resumed c.args.config.now (making_of (g.S.Store.frame was)) c.args.now c.args.number (c.args.number - 1) l (under_way c.resume_there-closed.new.loads) (under_way c.leave_where.new.loads) cs after dropped (g.S.Store.frame is).dropped c.resume_there-closed.result f.0 values (g.S.Store.stands is)
     (workings (g.S.Store.stream was) (g.S.Store.registered was) (g.S.Store.recency was)) (workings (g.S.Store.stream is) (g.S.Store.registered is) (g.S.Store.recency is)) (g.S.Store.untaken was) (g.S.Store.untaken is)
     e p runs c.resume_there-closed.ensures.ran.1 c.leave_where.ensures f.1
+
+pub returns-clause-others : goal.returns-clause-others
+returns-clause-others g c = λ place ne. replaced-others c.args.connections.now.items c.resume_there-closed.new.connections.items (c.args.number - 1) c.resume_there-closed.ensures.ran.0 place ne

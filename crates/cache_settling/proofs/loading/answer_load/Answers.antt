@@ -1,0 +1,69 @@
+use Rattle.std.proofs.Common.{◌≡◌, false, [], ◌||◌, ℕ, List, Some, Bool, true, None, max, sym, ap, ◌∙◌, subst}
+use Rattle.std.specs.Prelude.{IfSome, is_some}
+use Rattle.audit_model.specs.Bytewise.{is_empty}
+use Rattle.audit_model.specs.History.{Storing}
+use Rattle.audit_model.specs.Situation.{Situation, HeldValue}
+use Rattle.audit_model.specs.declared.config.Config.{Config}
+use Rattle.cache_store.specs.Handing.{Hands}
+use Rattle.cache_steps.specs.Loading.{Stores, step_silent}
+use Rattle.cache_steps.specs.Right.{held_when_run}
+use Rattle.cache_namespace.specs.Drawing.{identifiers}
+use Rattle.cache_namespace.specs.Making.{Making, making_of}
+use Rattle.cache_namespace.specs.Shown.{situation}
+use Rattle.cache_namespace.specs.Waiting.{under_way}
+use Rattle.cache_settling.specs.Answered.{HandsOut, but_for, waiting_for}
+use Rattle.cache_settling.proofs.Admitted.{answer-fits, few-replied, tidy-same, waiting-tidy}
+use Rattle.cache_settling.proofs.Answered.{answered, answered-same}
+use Rattle.cache_settling.proofs.loading.answer_load.Goals as goal
+
+pub reply_len-size-requires : goal.reply_len-size-requires
+reply_len-size-requires g c =
+    few-replied c.args.config.now c.args.outcome.now (answer-fits c.args.config.now (under_way c.args.loads.now) c.args.load c.args.moment c.args.outcome.now c.requires.admitted)
+
+pub settle_answer-requires-clause-tidy : goal.settle_answer-requires-clause-tidy
+settle_answer-requires-clause-tidy g c =
+    let l = under_way c.args.loads.now in
+    let mid = c.reserve_for.new.connections.items in
+    waiting-tidy c.args.load l mid (tidy-same [] l c.args.connections.now.items mid c.reserve_for.ensures.same c.requires.tidy)
+
+pub returns-clause-ran : goal.returns-clause-ran
+returns-clause-ran g c = λ values m.
+    let was = c.args.store.now in
+    let mid = c.store_for.new.store in
+    let is = c.settle_answer.new.store in
+    let config = c.args.config.now in
+    let making = making_of (g.S.Store.frame was) in
+    let load = c.args.load in
+    let outcome = c.args.outcome.now in
+    let latest = c.args.latest in
+    let moment = c.args.moment in
+    let accepted = c.in_ok-accepted.accepted in
+    let l = under_way c.args.loads.now in
+    let k = under_way c.settle_answer.new.loads in
+    let old = c.args.connections.now.items in
+    let between = c.reserve_for.new.connections.items in
+    let new = c.settle_answer.new.connections.items in
+    let dropped = (g.S.Store.frame was).dropped in
+    let dropping = (g.S.Store.frame is).dropped in
+    let a = identifiers (g.S.Store.stream was) (g.S.Store.registered was) in
+    let b = identifiers (g.S.Store.stream mid) (g.S.Store.registered mid) in
+    let d = identifiers (g.S.Store.stream is) (g.S.Store.registered is) in
+    let told = g.S.Store.untaken was in
+    let telling = g.S.Store.untaken mid in
+    let last = g.S.Store.untaken is in
+    let s = situation (max moment latest) (but_for load l) between dropped values in
+    let ok = c.in_ok-accepted.ensures.ok in
+    let key = ok.0 in
+    let x = subst (λ (f : Config). (y : Stores f s key outcome accepted (g.S.Store.stands mid) (Hands making.part_of told telling)) × ((is_some accepted || is_empty y.told) ≡ true)) c.requires.sound.config
+    (ok.3 s (sym c.max-now.ensures) m) in
+    let held = held_when_run config s (Storing (Some key) outcome) (step_silent 0 [] None accepted x.0.told) in
+    let same : making_of (g.S.Store.frame mid) ≡ making = ap making_of c.in_ok-accepted.ensures.frame.rest in
+    let h = subst (λ (now : ℕ). HandsOut config making outcome now held (waiting_for load l) (g.S.Store.stands is) (but_for load l) k dropped dropping b d between new telling last) c.max-now.ensures
+    (subst (λ (drop : Bool). HandsOut config making outcome c.max-now.result held (waiting_for load l) (g.S.Store.stands is) (but_for load l) k drop dropping b d between new telling last) c.store_for.ensures.dropped
+    (subst (λ (made : Making). HandsOut config made outcome c.max-now.result held (waiting_for load l) (g.S.Store.stands is) (but_for load l) k (g.S.Store.frame mid).dropped dropping b d between new telling last) same
+    (c.settle_answer.ensures.out held x.0.left))) in
+    answered-same config making load latest moment outcome accepted values (g.S.Store.stands is) l k old between new dropped dropping a d told last c.reserve_for.ensures.same
+    (answered config making load latest moment key outcome accepted values (g.S.Store.stands mid) (g.S.Store.stands is) l k between new dropped dropping a b d told telling last c.requires.admitted ok.1 ok.2 x.0 x.1 c.store_for.ensures.identifiers h)
+
+pub returns-clause-count : goal.returns-clause-count
+returns-clause-count g c = c.settle_answer.ensures.count ∙ ap (λ (s : Situation). s.opened) (c.reserve_for.ensures.same.situation 0 (under_way c.args.loads.now) false [])
