@@ -3,3 +3,4 @@ pub mod Sums
 pub mod Steps
 pub mod Contests
 pub mod Displaced
+pub mod Reading

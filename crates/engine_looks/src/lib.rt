@@ -6,6 +6,7 @@ mod displacing;
 mod due;
 mod entries;
 mod looks;
+mod uses;
 
 pub use deciding::{Decision, decide, is_above};
 pub use displacing::displace_for;
@@ -17,3 +18,4 @@ pub use entries::{
 pub use looks::{
     clone_at, first_write, has_predicates, has_reads, has_writes, is_admitted, is_held_at, look_up,
 };
+pub use uses::{is_due, use_found};

@@ -24,8 +24,8 @@ use engine_lists::{
 use engine_looks::{
     Decision, beside, cause_of_removal, cause_of_write, clone_at, clone_entry, decide,
     displace_for, expires_after_use, find_due, find_excess, first_entry, first_write,
-    has_predicates, has_reads, has_writes, is_admitted, is_held_at, look_up, next_entry,
-    rooms_of_removal, upsert,
+    has_predicates, has_reads, has_writes, is_admitted, is_due, is_held_at, look_up, next_entry,
+    rooms_of_removal, upsert, use_found,
 };
 use engine_reference::{Entry, Notice, Read, Record, Settings, Upsert, Write};
 use engine_rules::{RemovalCause, Rules};
@@ -728,6 +728,75 @@ impl<K: Eq, V, S, R: Rules<K, V>> BaseCache<K, V, S, R> {
         self.apply_reads(moment);
         self.apply_writes(moment);
         self.settle(moment);
+    }
+
+    // ---- uses
+
+    /// Whether maintenance is due.
+    fn is_due(&self, now: u64) -> bool
+        ensures { result ≡ is_due self.now now }
+    {
+        is_due(&self.lists, now)
+    }
+
+    /// Runs maintenance where it is due: where 64 reads or 64 writes are pending, or 300 milliseconds after the last run.
+    pub fn apply_reads_writes_if_needed(&mut self, now: Instant)
+    where
+        K: Drop,
+        V: Drop,
+        ensures due { MaintainsIfDue (answers_of R.weight_of R.created R.read R.updated R.covers) now self.old self.new }
+        ensures room { length self.new.reads < 64 }
+    {
+        if self.is_due(now.as_nanos()) {
+            self.run_pending_tasks(now);
+        }
+    }
+
+    /// A look-up that found the record of a number uses it, and its read waits to be counted.
+    fn record_hit(&mut self, number: u64, hash: u64, now: Instant)
+        requires room { length self.old.reads < 64 }
+        requires known { (r : Record K V) × (r.number ≡ number) }
+        ensures { (r : Record K V) → r.number ≡ number → self.new ≡ with_read (answers_of R.weight_of R.created R.read R.updated R.covers) (Some r) hash now self.old }
+    {
+        use_found(&mut self.lists, number, hash, now);
+    }
+
+    /// The read of a look-up that found nothing waits to be counted.
+    fn record_miss(&mut self, hash: u64, _now: Instant)
+        requires room { length self.old.reads < 64 }
+        ensures { self.new ≡ with_read (answers_of R.weight_of R.created R.read R.updated R.covers) None hash _now self.old }
+    {
+        self.lists.push_read(Read::Miss(hash));
+    }
+
+    /// A clone of the visible value of a key, of which it is a use. Maintenance runs where it is due, after the look.
+    pub fn get_with_hash(
+        &mut self,
+        key: &K,
+        hash: u64,
+        now: Instant,
+    ) -> Result<Option<V>, AllocError>
+    where
+        K: Drop,
+        V: Clone + Drop,
+        requires exact { (x y : V) → V.is_clone x y → y ≡ x }
+        ensures found { IfOk result (λ found. found ≡ visible_value (answers_of R.weight_of R.created R.read R.updated R.covers) K.eq self.old now key.now) }
+        ensures used { OnOk result (LooksUp (answers_of R.weight_of R.created R.read R.updated R.covers) K.eq key.now hash now self.old self.new) }
+        ensures err { OnErr result (self.new ≡ self.old) }
+    {
+        match look_up(&self.lists, key, now.as_nanos()) {
+            Some(place) => {
+                let found = clone_at(&self.lists, place)?;
+                self.apply_reads_writes_if_needed(now);
+                self.record_hit(found.0, hash, now);
+                Ok(Some(found.1))
+            }
+            None => {
+                self.apply_reads_writes_if_needed(now);
+                self.record_miss(hash, now);
+                Ok(None)
+            }
+        }
     }
 }
 

@@ -152,3 +152,40 @@ fn a_run_keeps_what_was_used_last(rt: HostRuntime) -> Result<(), Fail> {
     assert_eq!(rt; cache.entry_count(), 0);
     Ok(())
 }
+
+#[test]
+fn a_use_keeps_a_value(rt: HostRuntime) -> Result<(), Fail> {
+    let mut cache = new_cache(rt.alloc())?;
+    for key in 1..3u32 {
+        let ticket = put(&mut cache, key, 10 * key, 0, u64::from(key))?;
+        assert!(rt; cache.send(ticket).is_ok());
+    }
+    cache.run_pending_tasks(Instant::from_nanos(0));
+    let found = cache.get_with_hash(&1, 1, Instant::from_nanos(5))?;
+    assert!(rt; found == Some(10));
+    assert!(rt;
+        cache
+            .get_with_hash(&7, 7, Instant::from_nanos(5))?
+            .is_none()
+    );
+    let ticket = put(&mut cache, 3, 30, 6, 3)?;
+    assert!(rt; cache.send(ticket).is_ok());
+    cache.run_pending_tasks(Instant::from_nanos(6));
+    is_told(&rt, &mut cache, RemovalCause::Size, 20);
+    // its idle time began again
+    assert_eq!(rt; seen(&cache, 1, 11)?, 11);
+    assert_eq!(rt; seen(&cache, 1, 12)?, 0);
+    Ok(())
+}
+
+#[test]
+fn maintenance_comes_where_it_is_due(rt: HostRuntime) -> Result<(), Fail> {
+    let mut cache = new_cache(rt.alloc())?;
+    let ticket = put(&mut cache, 1, 10, 0, 1)?;
+    assert!(rt; cache.send(ticket).is_ok());
+    cache.apply_reads_writes_if_needed(Instant::from_nanos(299_999_999));
+    assert!(rt; cache.next_notice().is_none());
+    cache.apply_reads_writes_if_needed(Instant::from_nanos(300_000_000));
+    is_told(&rt, &mut cache, RemovalCause::Expired, 10);
+    Ok(())
+}
