@@ -44,6 +44,7 @@ pub fn answer_in<S: Store>(
     ensures refused { IfErr result (λ e. MatchOption (refusal_of namespace.old.config (knows_loads (under_way namespace.old.loads)) (answering load outcome moment)) (e.0 ≡ ServiceError.OutOfMemory) (λ refusal. e.0 ≡ refusal)) }
     ensures back { IfErr result (λ e. e.1 ≡ outcome) }
     ensures same { OnErr result (SameConnections namespace.old.connections.items namespace.new.connections.items) }
+    ensures still { OnErr result (Tidy [] (situation 0 (under_way namespace.new.loads) namespace.new.connections.items false [])) }
     ensures loads { OnErr result (namespace.new.loads ≡ namespace.old.loads) }
     ensures unmoved { OnErr result (KeepsRecency (S.recency namespace.old.store) (S.recency namespace.new.store)) }
     ensures identifiers { OnErr result (KeepsIdentifiers (S.stream namespace.old.store) (S.stream namespace.new.store) (S.registered namespace.old.store) (S.registered namespace.new.store)) }

@@ -1,8 +1,10 @@
-use Rattle.std.proofs.Common.{[], false}
+use Rattle.std.proofs.Common.{[], false, sym, ap, subst}
 use Rattle.cache_namespace.specs.Making.{making_of}
 use Rattle.cache_namespace.specs.Shown.{situation}
-use Rattle.cache_namespace.specs.Waiting.{under_way}
+use Rattle.cache_namespace.specs.Waiting.{UnderWay, under_way}
+use Rattle.load_laws.specs.Tidy.{Tidy}
 use Rattle.load_laws.proofs.Records.{records}
+use Rattle.cache_settling.proofs.Admitted.{tidy-same}
 use Rattle.cache_settling.specs.Laws.{record_answered}
 use Rattle.cache_settling.proofs.calls.answer_in.Goals as goal
 
@@ -14,3 +16,10 @@ returns-in-Ok-clause-tidy g c = λ values m.
     let x = c.in-Ok.ensures.ran values m in
     let f = records was.config (situation was.latest (under_way was.loads) was.connections.items (g.S.Store.frame was.store).dropped values) _ (record_answered c.args.load c.args.outcome moment c.in-Ok.accepted x.own x.steps) x.settles.follows (record { once = t.once; keys = t.keys }) in
     record { once = f.once; keys = f.keys }
+
+pub returns-in-Err-clause-still : goal.returns-in-Err-clause-still
+returns-in-Err-clause-still g c =
+    let was = c.args.namespace.now in
+    let l = under_way was.loads in
+    let new = c.answer_load.new.connections.items in
+    subst (λ (loads : UnderWay). Tidy [] (situation 0 loads new false [])) (sym (ap under_way c.in-Err.ensures.loads)) (tidy-same [] l was.connections.items new c.in-Err.ensures.same c.requires.tidy)
