@@ -468,6 +468,8 @@ impl<K: Eq, V, S, R: Rules<K, V>> BaseCache<K, V, S, R> {
         requires applied { IsApplied self.old }
         requires within { place < length self.old.records }
         requires excess { (r : Record K V) × (slice_get self.old.records place ≡ Some r) × (is_above self.old.settings.capacity (admitted_weight self.old.records) ≡ true) × (next_to_evict self.old ≡ Some r) }
+        requires none { none_due (answers_of R.weight_of R.created R.read R.updated R.covers) self.old now self.old.records ≡ true }
+        ensures none { none_due (answers_of R.weight_of R.created R.read R.updated R.covers) self.new now self.new.records ≡ true }
         ensures step { Step (answers_of R.weight_of R.created R.read R.updated R.covers) now self.old self.new }
         ensures applied { IsApplied self.new }
         ensures predicates { self.new.predicates ≡ self.old.predicates }
@@ -490,7 +492,9 @@ impl<K: Eq, V, S, R: Rules<K, V>> BaseCache<K, V, S, R> {
     where
         K: Drop,
         V: Drop,
-        requires { IsApplied self.old }
+        requires applied { IsApplied self.old }
+        requires none { none_due (answers_of R.weight_of R.created R.read R.updated R.covers) self.old now self.old.records ≡ true }
+        ensures none { none_due (answers_of R.weight_of R.created R.read R.updated R.covers) self.new now self.new.records ≡ true }
         ensures chain { Chain (answers_of R.weight_of R.created R.read R.updated R.covers) now self.old self.new }
         ensures applied { IsApplied self.new }
         ensures predicates { self.new.predicates ≡ self.old.predicates }
@@ -709,7 +713,8 @@ impl<K: Eq, V, S, R: Rules<K, V>> BaseCache<K, V, S, R> {
         K: Drop,
         V: Drop,
         requires { IsApplied self.old }
-        ensures { RunsToEnd (answers_of R.weight_of R.created R.read R.updated R.covers) now self.old self.new }
+        ensures runs { RunsToEnd (answers_of R.weight_of R.created R.read R.updated R.covers) now self.old self.new }
+        ensures none { none_due (answers_of R.weight_of R.created R.read R.updated R.covers) self.new now self.new.records ≡ true }
     {
         self.sweep(now);
         self.end_predicates(now);
@@ -717,12 +722,13 @@ impl<K: Eq, V, S, R: Rules<K, V>> BaseCache<K, V, S, R> {
         self.finish_run(now);
     }
 
-    /// Runs maintenance to its end: all that is pending is applied, what is due leaves, and then the excess.
+    /// Runs maintenance to its end: all that is pending is applied, what is due leaves, and then the excess. Nothing that is held is then dead or covered.
     pub fn run_pending_tasks(&mut self, now: Instant)
     where
         K: Drop,
         V: Drop,
-        ensures { RunsToEnd (answers_of R.weight_of R.created R.read R.updated R.covers) now self.old self.new }
+        ensures runs { RunsToEnd (answers_of R.weight_of R.created R.read R.updated R.covers) now self.old self.new }
+        ensures none { none_due (answers_of R.weight_of R.created R.read R.updated R.covers) self.new now self.new.records ≡ true }
     {
         let moment = now.as_nanos();
         self.apply_reads(moment);
