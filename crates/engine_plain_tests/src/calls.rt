@@ -8,6 +8,7 @@ use policy_base::Instant;
 use std::alloc::{AllocError, Global};
 use std::process::Abort;
 use std::test::Fail;
+use std::time::Duration;
 
 type Plain = Bundle<NoExpiry, WeighOne, NoPredicate, u8>;
 
@@ -74,6 +75,11 @@ fn an_empty_cache_shows_nothing(rt: HostRuntime) -> Result<(), Fail> {
     assert_eq!(rt; cache.entry_count(), 0);
     assert_eq!(rt; cache.weighted_size(), 0);
     assert!(rt; cache.is_removal_notifier_enabled());
+    let policy = cache.policy();
+    assert!(rt; policy.max_capacity() == Some(2));
+    assert_eq!(rt; policy.num_segments(), 1);
+    assert!(rt; policy.time_to_live().is_none());
+    assert!(rt; policy.time_to_idle() == Some(Duration::from_nanos(7)));
     Ok(())
 }
 
