@@ -6,6 +6,7 @@ mod displacing;
 mod due;
 mod entries;
 mod looks;
+mod settings;
 mod uses;
 
 pub use deciding::{Decision, decide, is_above};
@@ -18,4 +19,5 @@ pub use entries::{
 pub use looks::{
     clone_at, first_write, has_predicates, has_reads, has_writes, is_admitted, is_held_at, look_up,
 };
+pub use settings::policy_of;
 pub use uses::{is_due, use_found};

@@ -1,10 +1,12 @@
 -- Where no record is due, no predicate covers any that is held.
-use Rattle.std.proofs.Common.{◌≡◌, refl, ap, sym, ◌∙◌, ℕ, Bool, true, false, not, ◌&&◌, ◌||◌, List, [], ◌∷◌, drop}
+use Rattle.std.proofs.Common.{◌≡◌, refl, ap, sym, ◌∙◌, ℕ, Bool, true, false, not, ◌&&◌, ◌||◌, ◌==◌, cond, List, [], ◌∷◌, Option, Some, None, drop}
 use Rattle.std.specs.Prelude.{remove, nat_lt}
 use Rattle.std.specs.List.{list_any}
 use Rattle.engine_reference.specs.declared.data.Record.{Record}
 use Rattle.engine_reference.specs.declared.data.Registered.{Registered}
-use Rattle.engine_reference.specs.Runs.{covers_none}
+use Rattle.engine_rules.specs.declared.causes.RemovalCause.{RemovalCause}
+use Rattle.engine_reference.specs.Records.{record_at, without_record}
+use Rattle.engine_reference.specs.Runs.{covers_none, left, with_left}
 use Rattle.engine_reference.specs.State.{State, Answers}
 use Rattle.engine_reference.specs.Times.{has_come}
 use Rattle.engine_reference.specs.Visible.{is_covered_by}
@@ -66,3 +68,29 @@ module _ {K V P S R : Type 0} (answers : Answers K V P R) (now : ℕ) (s : State
   none_due-fewer p e h =
       none_as answers now (record s { predicates = remove s.predicates 0 }) s.records
       ∙ fewer_none answers now s p (drop 1 s.predicates) s.records (sym (ap (λ ps. none_with answers now s ps s.records) e) ∙ sym (none_as answers now s s.records) ∙ h)
+
+-- ---- where no record is due, none is once some have left
+
+module _ {K V P S R : Type 0} (answers : Answers K V P R) (now : ℕ) where
+  none_same : (why : RemovalCause) (s : State K V P S R) (gone : Record K V) (rs : List (Record K V)) → none_due answers (with_left why s (Some gone)) now rs ≡ none_due answers s now rs
+  none_same why s gone [] = refl
+  none_same why s gone (r ∷ rs) = ap (λ b. not (is_due answers s now r) && b) (none_same why s gone rs)
+
+  none_without : (s : State K V P S R) (n : ℕ) (rs : List (Record K V)) → none_due answers s now rs ≡ true → none_due answers s now (without_record n rs) ≡ true
+  none_without s n [] h = h
+  none_without s n (r ∷ rs) h = go (r.number == n) (none_without s n rs (and_right (not (is_due answers s now r)) (none_due answers s now rs) h))
+    where
+      go : (b : Bool) → none_due answers s now (without_record n rs) ≡ true → none_due answers s now (cond b rs (r ∷ without_record n rs)) ≡ true
+      go true later = and_right (not (is_due answers s now r)) (none_due answers s now rs) h
+      go false later = both (not (is_due answers s now r)) (none_due answers s now (without_record n rs)) (and_left (not (is_due answers s now r)) (none_due answers s now rs) h) later
+
+  pub none_due-left : (why : RemovalCause) (n : ℕ) (s : State K V P S R) → none_due answers s now s.records ≡ true → none_due answers (left why n s) now (left why n s).records ≡ true
+  none_due-left why n s h = go (record_at s.records n)
+    where
+      go : (o : Option (Record K V)) → none_due answers (with_left why s o) now (with_left why s o).records ≡ true
+      go None = h
+      go (Some r) = none_same why s r (without_record r.number s.records) ∙ none_without s r.number s.records h
+
+  pub none_due-counted : (s : State K V P S R) (number weight ran : ℕ) (rs : List (Record K V)) → none_due answers (record s { number = number; weight = weight; ran = ran }) now rs ≡ none_due answers s now rs
+  none_due-counted s number weight ran [] = refl
+  none_due-counted s number weight ran (r ∷ rs) = ap (λ b. not (is_due answers s now r) && b) (none_due-counted s number weight ran rs)

@@ -1,5 +1,6 @@
 //! The cache.
 ghost use Rattle.std.specs.Prelude.{◌≡◌, ℕ, ◌+◌, ◌-◌, ◌<◌, ◌≤◌, ◌^◌, Bool, true, false, [], ◌∷◌, ◌⊎◌, ◌++◌, length, drop, min, remove, slice_get, slice_set, is_some, Some, None, IfSome, IfNone, IfOk, OnOk, OnErr, if◌then◌else◌, option_map};
+ghost use Rattle.std.specs.Duration.{as_nanos};
 ghost use Rattle.std.specs.Result.{IsErrOf};
 ghost use Rattle.engine_reference.specs.Admission.{Verdict, admit, displace, refuse, verdict, is_above, shortest_front, wants_table};
 ghost use Rattle.engine_reference.specs.Calls.{without_ticket, IsNew, written, with_written, sent, unsent_at, is_full, removed_by, removal_told, LooksUp, MaintainsIfDue, with_read, cleared_by, without_notice, with_room, used_entry};
@@ -25,10 +26,10 @@ use engine_looks::{
     Decision, beside, cause_of_removal, cause_of_write, clone_at, clone_entry, decide,
     displace_for, expires_after_use, find_due, find_excess, first_entry, first_write,
     has_predicates, has_reads, has_writes, is_admitted, is_due, is_held_at, look_up, next_entry,
-    rooms_of_removal, upsert, use_found,
+    policy_of, rooms_of_removal, upsert, use_found,
 };
 use engine_reference::{Entry, Notice, Read, Record, Settings, Upsert, Write};
-use engine_rules::{RemovalCause, Rules};
+use engine_rules::{Policy, RemovalCause, Rules};
 use policy_base::Instant;
 use std::alloc::{AllocError, Global};
 use std::marker::Model;
@@ -81,6 +82,16 @@ impl<K: Eq, V, S, R: Rules<K, V>> BaseCache<K, V, S, R> {
         ensures { result ≡ self.now.settings.tells }
     {
         self.lists.settings().tells
+    }
+
+    /// What is shown of the settings.
+    pub fn policy(&self) -> Policy
+        ensures capacity { result.max_capacity ≡ self.now.settings.capacity }
+        ensures parts { result.num_segments ≡ 1 }
+        ensures live { option_map as_nanos result.time_to_live ≡ self.now.settings.live }
+        ensures idle { option_map as_nanos result.time_to_idle ≡ self.now.settings.idle }
+    {
+        policy_of(self.lists.settings())
     }
 
     /// Covers every value that was written at an earlier step.
@@ -468,6 +479,8 @@ impl<K: Eq, V, S, R: Rules<K, V>> BaseCache<K, V, S, R> {
         requires applied { IsApplied self.old }
         requires within { place < length self.old.records }
         requires excess { (r : Record K V) × (slice_get self.old.records place ≡ Some r) × (is_above self.old.settings.capacity (admitted_weight self.old.records) ≡ true) × (next_to_evict self.old ≡ Some r) }
+        requires none { none_due (answers_of R.weight_of R.created R.read R.updated R.covers) self.old now self.old.records ≡ true }
+        ensures none { none_due (answers_of R.weight_of R.created R.read R.updated R.covers) self.new now self.new.records ≡ true }
         ensures step { Step (answers_of R.weight_of R.created R.read R.updated R.covers) now self.old self.new }
         ensures applied { IsApplied self.new }
         ensures predicates { self.new.predicates ≡ self.old.predicates }
@@ -490,7 +503,9 @@ impl<K: Eq, V, S, R: Rules<K, V>> BaseCache<K, V, S, R> {
     where
         K: Drop,
         V: Drop,
-        requires { IsApplied self.old }
+        requires applied { IsApplied self.old }
+        requires none { none_due (answers_of R.weight_of R.created R.read R.updated R.covers) self.old now self.old.records ≡ true }
+        ensures none { none_due (answers_of R.weight_of R.created R.read R.updated R.covers) self.new now self.new.records ≡ true }
         ensures chain { Chain (answers_of R.weight_of R.created R.read R.updated R.covers) now self.old self.new }
         ensures applied { IsApplied self.new }
         ensures predicates { self.new.predicates ≡ self.old.predicates }
@@ -709,7 +724,8 @@ impl<K: Eq, V, S, R: Rules<K, V>> BaseCache<K, V, S, R> {
         K: Drop,
         V: Drop,
         requires { IsApplied self.old }
-        ensures { RunsToEnd (answers_of R.weight_of R.created R.read R.updated R.covers) now self.old self.new }
+        ensures runs { RunsToEnd (answers_of R.weight_of R.created R.read R.updated R.covers) now self.old self.new }
+        ensures none { none_due (answers_of R.weight_of R.created R.read R.updated R.covers) self.new now self.new.records ≡ true }
     {
         self.sweep(now);
         self.end_predicates(now);
@@ -717,12 +733,13 @@ impl<K: Eq, V, S, R: Rules<K, V>> BaseCache<K, V, S, R> {
         self.finish_run(now);
     }
 
-    /// Runs maintenance to its end: all that is pending is applied, what is due leaves, and then the excess.
+    /// Runs maintenance to its end: all that is pending is applied, what is due leaves, and then the excess. Nothing that is held is then dead or covered.
     pub fn run_pending_tasks(&mut self, now: Instant)
     where
         K: Drop,
         V: Drop,
-        ensures { RunsToEnd (answers_of R.weight_of R.created R.read R.updated R.covers) now self.old self.new }
+        ensures runs { RunsToEnd (answers_of R.weight_of R.created R.read R.updated R.covers) now self.old self.new }
+        ensures none { none_due (answers_of R.weight_of R.created R.read R.updated R.covers) self.new now self.new.records ≡ true }
     {
         let moment = now.as_nanos();
         self.apply_reads(moment);

@@ -8,15 +8,16 @@ use policy_base::Instant;
 use std::alloc::{AllocError, Global};
 use std::process::Abort;
 use std::test::Fail;
+use std::time::Duration;
 
 type Plain = Bundle<NoExpiry, WeighOne, NoPredicate, u8>;
 
 type Cache = BaseCache<u32, u32, u8, Plain>;
 
 // An idle time of 7 nanoseconds, told removals.
-fn new_cache(alloc: Global) -> Result<Cache, AllocError> {
+fn cache_for(alloc: Global, capacity: u64) -> Result<Cache, AllocError> {
     let settings = Settings {
-        capacity: Some(2),
+        capacity: Some(capacity),
         live: None,
         idle: Some(7),
         policy: EvictionPolicy::Lru,
@@ -25,6 +26,11 @@ fn new_cache(alloc: Global) -> Result<Cache, AllocError> {
         made: 0,
     };
     BaseCache::new(alloc, settings, 0, Bundle::new(NoExpiry, WeighOne))
+}
+
+// A capacity of 2.
+fn new_cache(alloc: Global) -> Result<Cache, AllocError> {
+    cache_for(alloc, 2)
 }
 
 // Writes a value and keeps its ticket.
@@ -69,6 +75,11 @@ fn an_empty_cache_shows_nothing(rt: HostRuntime) -> Result<(), Fail> {
     assert_eq!(rt; cache.entry_count(), 0);
     assert_eq!(rt; cache.weighted_size(), 0);
     assert!(rt; cache.is_removal_notifier_enabled());
+    let policy = cache.policy();
+    assert!(rt; policy.max_capacity() == Some(2));
+    assert_eq!(rt; policy.num_segments(), 1);
+    assert!(rt; policy.time_to_live().is_none());
+    assert!(rt; policy.time_to_idle() == Some(Duration::from_nanos(7)));
     Ok(())
 }
 
@@ -126,6 +137,9 @@ fn the_queue_takes_128_writes(rt: HostRuntime) -> Result<(), Fail> {
     // a ticket that was sent is unknown, before the queue is looked at
     assert!(rt; cache.send(0) == Err(Refusal::UnknownTicket));
     assert!(rt; cache.send(500) == Err(Refusal::UnknownTicket));
+    // a run makes room
+    cache.run_pending_tasks(Instant::from_nanos(0));
+    assert!(rt; cache.send(last).is_ok());
     Ok(())
 }
 
@@ -187,5 +201,30 @@ fn maintenance_comes_where_it_is_due(rt: HostRuntime) -> Result<(), Fail> {
     assert!(rt; cache.next_notice().is_none());
     cache.apply_reads_writes_if_needed(Instant::from_nanos(300_000_000));
     is_told(&rt, &mut cache, RemovalCause::Expired, 10);
+    Ok(())
+}
+
+#[test]
+fn a_record_whose_write_was_not_sent_stays(rt: HostRuntime) -> Result<(), Fail> {
+    let mut cache = cache_for(rt.alloc(), 4)?;
+    let now = Instant::from_nanos(0);
+    let first = put(&mut cache, 0, 100, 0, 1)?;
+    assert!(rt; cache.send(first).is_ok());
+    cache.run_pending_tasks(now);
+    let held_back = put(&mut cache, 0, 200, 0, 2)?;
+    is_told(&rt, &mut cache, RemovalCause::Replaced, 100);
+    for key in 1..5u32 {
+        let ticket = put(&mut cache, key, 10 * key, 0, 2 + u64::from(key))?;
+        assert!(rt; cache.send(ticket).is_ok());
+    }
+    cache.run_pending_tasks(now);
+    is_told(&rt, &mut cache, RemovalCause::Size, 10);
+    assert!(rt; cache.next_notice().is_none());
+    assert_eq!(rt; cache.entry_count(), 4);
+    assert_eq!(rt; seen(&cache, 0, 0)?, 201);
+    assert!(rt; cache.send(held_back).is_ok());
+    cache.run_pending_tasks(now);
+    assert!(rt; cache.next_notice().is_none());
+    assert_eq!(rt; cache.entry_count(), 4);
     Ok(())
 }
