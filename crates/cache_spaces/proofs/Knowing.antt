@@ -1,5 +1,5 @@
 -- What a namespace knows of those that wait, event after event.
-use Rattle.std.proofs.Common.{◌≡◌, ℕ, Bool, false, List, [], None, Some, refl, sym, subst, arith}
+use Rattle.std.proofs.Common.{◌≡◌, ℕ, Bool, false, List, [], None, Some, sym, subst, arith}
 use Rattle.std.specs.Prelude.{Result, Ok, Err, IfOk, OnOk, OnErr}
 use Rattle.audit_model.specs.Follows.{Follows}
 use Rattle.audit_model.specs.Situation.{Situation, HeldValue}

@@ -1,5 +1,5 @@
 -- What a namespace's settled loads come to.
-use Rattle.std.proofs.Common.{◌≡◌, ◌≢◌, ◌&&◌, ◌==◌, not, Option, ℕ, zero, suc, ◌-◌, max, Bool, true, false, List, [], ◌∷◌, ◌++◌, None, Some, if◌then◌else◌, refl, sym, ap, ◌∙◌, subst, arith}
+use Rattle.std.proofs.Common.{◌≡◌, ◌≢◌, ◌&&◌, ◌==◌, not, Option, ℕ, suc, ◌-◌, max, Bool, true, false, List, [], ◌∷◌, ◌++◌, None, Some, if◌then◌else◌, refl, sym, ap, ◌∙◌, subst, arith}
 use Rattle.std.specs.Prelude.{IsTrue, is_none}
 use Rattle.std.specs.List.{filter, flat_map, list_all}
 use Rattle.std.proofs.lemmas.List.{append_assoc, append-nil}

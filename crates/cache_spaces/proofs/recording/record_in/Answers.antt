@@ -1,4 +1,4 @@
-use Rattle.std.proofs.Common.{◌≡◌, ℕ, suc, ◌+◌, length, Some, ap, ◌∙◌, arith, inl, inr, refl, Option}
+use Rattle.std.proofs.Common.{◌≡◌, ℕ, suc, ◌+◌, length, Some, ap, ◌∙◌, arith, inl, inr, Option}
 use Rattle.audit_model.specs.Belongs.{event_in}
 use Rattle.audit_model.specs.declared.event.Event.{Event}
 use Rattle.audit_model.specs.declared.event.Event.TheVariants as event

@@ -1,10 +1,10 @@
-use Rattle.std.proofs.Common.{◌≡◌, ◌-◌, [], false, max, refl, sym, ap, ◌∙◌, subst}
+use Rattle.std.proofs.Common.{◌-◌, [], false, max, refl, ap, ◌∙◌, subst}
 use Rattle.std.specs.Prelude.{IsTrue}
 use Rattle.std.proofs.Math.Logic.{∥∥₁_elim, ∥∥₁_map}
 use Rattle.std.proofs.Props.{props}
 use Rattle.audit_model.specs.Situation.{Situation}
 use Rattle.cache_namespace.specs.Shown.{situation}
-use Rattle.cache_namespace.specs.Waiting.{UnderWay, under_way}
+use Rattle.cache_namespace.specs.Waiting.{under_way}
 use Rattle.cache_settling.specs.Laws.{record_answered}
 use Rattle.cache_store.specs.Promises.{Frame}
 use Rattle.cache_store.specs.Running.{is_bounded}

@@ -1,4 +1,4 @@
-use Rattle.std.proofs.Common.{◌-◌, ap, refl, None, ◌≡◌, [], false, subst, sym, ◌∙◌}
+use Rattle.std.proofs.Common.{◌-◌, ap, refl, None, [], false, subst, sym}
 use Rattle.cache_namespace.specs.Taken.{is_quit}
 use Rattle.cache_spaces.specs.Spaces.{gathered_in}
 use Rattle.cache_namespace.specs.Waiting.{under_way}

@@ -1,7 +1,6 @@
-use Rattle.std.proofs.Common.{◌≡◌, [], max, refl, sym, ap, ◌∙◌, subst}
+use Rattle.std.proofs.Common.{[], max, refl, sym, ap, ◌∙◌, subst}
 use Rattle.std.specs.Prelude.{IsTrue}
 use Rattle.std.proofs.Math.Logic.{∥∥₁_map}
-use Rattle.cache_namespace.specs.Drawing.{Identifiers}
 use Rattle.cache_namespace.specs.Waiting.{UnderWay, under_way}
 use Rattle.cache_settling.specs.Answered.{but_for}
 use Rattle.cache_settling.specs.Laws.{record_given_up}

@@ -1,4 +1,4 @@
-use Rattle.std.proofs.Common.{ap, ◌∙◌, ◌≡◌, [], false, refl, subst, sym}
+use Rattle.std.proofs.Common.{ap, ◌∙◌, [], false}
 use Rattle.cache_namespace.specs.Shown.{situation}
 use Rattle.cache_store.specs.Promises.{Frame}
 use Rattle.cache_namespace.specs.Waiting.{under_way}

@@ -1,4 +1,4 @@
-use Rattle.std.proofs.Common.{[], refl, ap}
+use Rattle.std.proofs.Common.{refl}
 use Rattle.std.proofs.Math.Logic.{∥∥₁_map}
 use Rattle.cache_namespace.specs.Waiting.{under_way}
 use Rattle.plain_store.specs.Standing as plain

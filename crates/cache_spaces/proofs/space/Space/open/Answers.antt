@@ -10,7 +10,6 @@ use Rattle.plain_store.specs.Standing as plain
 use Rattle.cache_spaces.proofs.Moving.{moves-from, same-parts, serves-still, others-opened, opened-output, opened-closing, opened-text}
 use Rattle.std.proofs.Math.Logic.{∥∥₁_map}
 use Rattle.cache_spaces.proofs.Knowing.{by-result, by-taking, known-on, known-same}
-use Rattle.audit_model.specs.declared.event.Event.TheVariants as event
 use Rattle.cache_spaces.proofs.space.Space.open.Goals as goal
 
 pub returns-in-Ok-clause-moves : goal.returns-in-Ok-clause-moves
