@@ -1,6 +1,6 @@
 -- What is taken happens.
 use Rattle.std.proofs.Common.{◌≡◌, ◌∙◌, ℕ, suc, ◌+◌, Bool, false, List, [], ◌∷◌, length, Some, refl, sym, ap, subst, inl, inr, arith}
-use Rattle.std.specs.Prelude.{Result, Ok, Err, IfOk, IfErr, IsTrue, if◌then◌else◌}
+use Rattle.std.specs.Prelude.{Result, Ok, Err, IfOk, IsTrue, if◌then◌else◌}
 use Rattle.audit_model.specs.Belongs.{refusal_of}
 use Rattle.audit_model.specs.Follows.{after_event, tasks_in}
 use Rattle.audit_model.specs.Places.{steps_of}
@@ -28,7 +28,7 @@ use Rattle.cache_shared.specs.Events.{Happens, Leads, Performs}
 use Rattle.cache_spaces.specs.Moves.{At, are_parted_in}
 use Rattle.cache_spaces.proofs.Noting.{own-number, refused-as, refused-settling}
 use Rattle.cache_spaces.specs.Recorded.{RefusedInput, namespace_of}
-use Rattle.cache_spaces.specs.Serves.{RefusedAnswer, SameSpace, Serves, Settled, Settles, Takes, known_of}
+use Rattle.cache_spaces.specs.Serves.{RefusedAnswer, Serves, Settled, Settles, Takes, known_of}
 use Rattle.cache_spaces.specs.Spaces.{Stands, config_of, connections_of, recency_of}
 use Rattle.cache_spaces.specs.Services.{Refuses}
 use Rattle.cache_spaces.specs.declared.space.Space.{Space}
