@@ -1,6 +1,5 @@
 -- Whether a command can be held back without memory.
 use Rattle.std.specs.Prelude.{◌≡◌, ℕ, ◌+◌, ◌<◌, ◌≤◌, List, Option, MatchOption, option_map, vec_len, vec_capacity}
-use Rattle.std.specs.Option.{option_map_or}
 use Rattle.audit_model.specs.declared.transcript.Step.{Step}
 use Rattle.audit_model.specs.declared.transcript.Note.{Note}
 use Rattle.cache_namespace.specs.Gathered.{Gathered}
@@ -23,9 +22,13 @@ IsReadyToHold kept = MatchOption kept (Unit {0}) IsReady
 abbrev pub KeepsRoom : Option Kept → Type 0
 KeepsRoom kept = MatchOption kept (Unit {0}) IsRoomy
 
--- how many more lines there is room for
-abbrev pub more_in : Option Kept → ℕ
-more_in kept = option_map_or (λ k. vec_len k.more) kept 0
+-- how many more lines there is room for, where a record is made
+abbrev pub more_in : Option Kept → Option ℕ
+more_in kept = option_map (λ k. vec_len k.more) kept
+
+-- where a record is made, there is room for so many of them
+abbrev pub HasMore : ℕ → Option Kept → Type 0
+HasMore count kept = MatchOption kept (Unit {0}) (λ k. IsRoomy k × (count ≤ vec_len k.more))
 
 abbrev pub steps_of : Option Kept → Option (List Step)
 steps_of kept = option_map (λ k. k.steps.items) kept

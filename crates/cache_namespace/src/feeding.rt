@@ -1,5 +1,5 @@
 //! A piece of a connection's bytes, and the lines that it lets run.
-ghost use Rattle.std.specs.Prelude.{◌≡◌, ◌<◌, ◌≤◌, ◌^◌, ◌++◌, ◌∷◌, ◌||◌, [], MatchOption, None, Some, is_some, true, not, Bool, List, ℕ, IfOk, OnErr, IsErrOf, IsTrue, length, vec_len, vec_capacity};
+ghost use Rattle.std.specs.Prelude.{◌≡◌, ◌<◌, ◌≤◌, ◌^◌, ◌++◌, ◌∷◌, ◌||◌, [], MatchOption, None, Some, true, not, Bool, List, ℕ, IfOk, OnErr, IsErrOf, IsTrue, length, vec_len, vec_capacity};
 ghost use Rattle.audit_model.specs.Situation.{Situation, HeldValue};
 ghost use Rattle.audit_model.specs.declared.transcript.Note.{Note};
 ghost use Rattle.cache_store.specs.Identifiers.{DrawsAlone};
@@ -85,7 +85,6 @@ fn say(kept: &mut Option<Kept>, alloc: Global, number: u64, line: &[u8], text: &
     requires ready { IsReadyToHold kept.old }
     requires short { length line.now ≤ 8192 }
     ensures step { MatchOption kept.old (text.new ≡ text.old) (λ k. (text.new.items ≡ []) × (steps_of kept.new ≡ Some (k.steps.items ++ step_saying number line.now text.old.items None [] ∷ []))) }
-    ensures made { is_some kept.new ≡ is_some kept.old }
     ensures room { KeepsRoom kept.new }
     ensures more { more_in kept.new ≡ more_in kept.old }
 {
@@ -106,7 +105,6 @@ pub fn say_first(
     requires ready { IsReadyToHold kept.old }
     requires whole { IsTrue (has_line unread.now.bytes) }
     ensures step { MatchOption kept.old (text.new ≡ text.old) (λ k. (text.new.items ≡ []) × (steps_of kept.new ≡ Some (k.steps.items ++ step_saying number (held_line unread.now.bytes) text.old.items None [] ∷ []))) }
-    ensures made { is_some kept.new ≡ is_some kept.old }
     ensures room { KeepsRoom kept.new }
     ensures more { more_in kept.new ≡ more_in kept.old }
 {
