@@ -1,6 +1,6 @@
 -- What is noted of steps, one after another.
 use Rattle.std.proofs.Common.{◌≡◌, ℕ, suc, ◌+◌, ◌-◌, ◌≤◌, Bool, true, false, ◌==◌, List, [], ◌∷◌, ◌++◌, length, Option, Some, None, if◌then◌else◌, refl, sym, ap, ◌∙◌, subst, arith}
-use Rattle.std.specs.Prelude.{is_none, vec_len, vec_capacity}
+use Rattle.std.specs.Prelude.{is_none, is_some, vec_len, vec_capacity}
 use Rattle.std.specs.List.{filter, flat_map, slice_get}
 use Rattle.std.specs.Option.{option_map_or}
 use Rattle.std.proofs.lemmas.Bool.{eqb-true, eq-eqb}
@@ -139,3 +139,17 @@ more-kept (Some j) (Some k) count same room more = let e = same_Some (vec_len k.
 pub more-fewer : (kept : Option Kept) (few many : ℕ) → few ≤ many → HasMore many kept → HasMore few kept
 more-fewer None few many le more = tt
 more-fewer (Some k) few many le more = let h = more.1 in (more.0, omega arith)
+
+pub twice-more : (kept : Option Kept) (count : ℕ) → HasMore (suc count + suc count) kept → HasMore (suc (suc (count + count))) kept
+twice-more kept count more = more-fewer kept (suc (suc (count + count))) (suc count + suc count) (omega arith) more
+
+-- a record is made where one was
+pub made-by : (old new : Option Kept) → more_in new ≡ more_in old → is_some new ≡ is_some old
+made-by None None same = refl
+made-by None (Some k) same = let no : Some (vec_len k.more) ≡ None = same in cc
+made-by (Some j) None same = let no : None ≡ Some (vec_len j.more) = same in cc
+made-by (Some j) (Some k) same = refl
+
+pub made-fresh : (kept : Option Kept) (told : List Note) (cs : List Connection) → is_some kept ≡ true → NothingWaits (noted_in kept told) cs → ((place : ℕ) → text_at cs place ≡ []) × (told ≡ [])
+made-fresh None told cs made none = let no : false ≡ true = made in cc
+made-fresh (Some k) told cs made none = none

@@ -1,5 +1,5 @@
 -- The connections of a namespace that are told of their load.
-use Rattle.std.specs.Prelude.{◌≡◌, ℕ, zero, suc, ◌-◌, ◌+◌, ◌≤◌, ◌==◌, Bool, List, [], ◌++◌, map, Some, None, if◌then◌else◌, vec_len, vec_capacity}
+use Rattle.std.specs.Prelude.{◌≡◌, ℕ, zero, suc, ◌-◌, ◌+◌, ◌≤◌, ◌==◌, Bool, List, [], ◌++◌, map, Some, None, IsTrue, if◌then◌else◌, vec_len, vec_capacity}
 use Rattle.std.specs.List.{filter, flat_map, slice_get}
 use Rattle.std.specs.Option.{option_map_or}
 use Rattle.audit_model.specs.Changes.{all_held_after}

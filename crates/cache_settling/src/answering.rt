@@ -22,6 +22,13 @@ use cache_namespace::{Connection, Kept};
 use cache_store::Store;
 use std::alloc::Global;
 
+/// Whether replies are written to connections: no record is made.
+fn writes_replies(kept: &Option<Kept>) -> bool
+    ensures { result ≡ is_none kept.now }
+{
+    kept.is_none()
+}
+
 /// Hands the outcome to the connections that wait for it, in order, and then runs each one's lines in the same order.
 pub fn hand_out<S: Store>(
     store: &mut S,
@@ -47,8 +54,9 @@ pub fn hand_out<S: Store>(
     ensures frame { KeepsFrame (S.frame store.old) (S.frame store.new) now }
     ensures count { length connections.new.items ≡ length connections.old.items }
     ensures fresh { NothingWaits (noted_in kept.new (S.untaken store.new)) connections.new.items }
+    ensures made { is_some kept.new ≡ is_some kept.old }
 {
-    let writes = kept.is_none();
+    let writes = writes_replies(kept);
     tell_all(config, connections, waiting, outcome, writes);
     resume_all(store, alloc, config, now, loads, connections, waiting, kept);
 }
@@ -78,6 +86,7 @@ pub fn settle_answer<S: Store>(
     ensures frame { KeepsFrame (S.frame store.old) (S.frame store.new) now }
     ensures count { length connections.new.items ≡ length connections.old.items }
     ensures fresh { NothingWaits (noted_in kept.new (S.untaken store.new)) connections.new.items }
+    ensures made { is_some kept.new ≡ is_some kept.old }
 {
     let Some(settled) = loads.settle(load) else {
         unreachable!();

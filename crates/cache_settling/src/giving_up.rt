@@ -78,6 +78,7 @@ fn give_up_one<S: Store>(
     ensures frame { KeepsFrame (S.frame store.old) (S.frame store.new) now }
     ensures count { length connections.new.items ≡ length connections.old.items }
     ensures fresh { NothingWaits (noted_in kept.new (S.untaken store.new)) connections.new.items }
+    ensures made { is_some kept.new ≡ is_some kept.old }
     ensures stocked { (count : ℕ) → HasMore (suc (suc count)) kept.old → HasMore count kept.new }
 {
     let index = (number - 1) as usize;
@@ -108,6 +109,7 @@ pub fn give_up_all<S: Store>(
     ensures frame { KeepsFrame (S.frame store.old) (S.frame store.new) now }
     ensures count { length connections.new.items ≡ length connections.old.items }
     ensures fresh { NothingWaits (noted_in kept.new (S.untaken store.new)) connections.new.items }
+    ensures made { is_some kept.new ≡ is_some kept.old }
 {
     for number in waiting {
         give_up_one(store, alloc, config, now, *number, loads, connections, kept);
@@ -137,6 +139,7 @@ pub fn settle_give_up<S: Store>(
     ensures frame { KeepsFrame (S.frame store.old) (S.frame store.new) now }
     ensures count { length connections.new.items ≡ length connections.old.items }
     ensures fresh { NothingWaits (noted_in kept.new (S.untaken store.new)) connections.new.items }
+    ensures made { is_some kept.new ≡ is_some kept.old }
 {
     let Some(settled) = loads.settle(load) else {
         unreachable!();

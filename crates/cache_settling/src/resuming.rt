@@ -161,6 +161,7 @@ pub fn restock_where(kept: &mut Option<Kept>)
     requires stocked { HasMore 1 kept.old }
     ensures steps { steps_of kept.new ≡ steps_of kept.old }
     ensures ready { IsReadyToHold kept.new }
+    ensures made { is_some kept.new ≡ is_some kept.old }
     ensures more { (count : ℕ) → HasMore (suc count) kept.old → HasMore count kept.new }
 {
     match kept {
@@ -190,6 +191,7 @@ pub fn resume_at<S: Store>(
     ensures frame { KeepsFrame (S.frame store.old) (S.frame store.new) now }
     ensures count { length connections.new.items ≡ length connections.old.items }
     ensures fresh { NothingWaits (noted_in kept.new (S.untaken store.new)) connections.new.items }
+    ensures made { is_some kept.new ≡ is_some kept.old }
     ensures stocked { (count : ℕ) → HasMore (suc count) kept.old → HasMore count kept.new }
 {
     restock_where(kept);
@@ -224,6 +226,7 @@ pub fn resume_all<S: Store>(
     ensures frame { KeepsFrame (S.frame store.old) (S.frame store.new) now }
     ensures count { length connections.new.items ≡ length connections.old.items }
     ensures fresh { NothingWaits (noted_in kept.new (S.untaken store.new)) connections.new.items }
+    ensures made { is_some kept.new ≡ is_some kept.old }
 {
     for number in told {
         resume_at(store, alloc, config, now, *number, loads, connections, kept);

@@ -23,7 +23,7 @@ returns-clause-out g c = λ values m.
     let drawn = identifiers (g.S.Store.stream was) (g.S.Store.registered was) in
     let kept = c.args.kept.now in
     let told = g.S.Store.untaken was in
-    let texts = subst (λ b. WritesTo b (steps_told c.args.outcome.now c.args.connections.now.items ns) c.args.connections.now.items c.tell_all.new.connections.items) (c.is_none-writes.ensures ∙ sym (loose-none kept told)) c.tell_all.ensures.texts in
+    let texts = subst (λ b. WritesTo b (steps_told c.args.outcome.now c.args.connections.now.items ns) c.args.connections.now.items c.tell_all.new.connections.items) (c.writes_replies-writes.ensures ∙ sym (loose-none kept told)) c.tell_all.ensures.texts in
     let t = c.tell_all.ensures.told making c.args.now l (g.S.Store.frame was).dropped values (map RunLines ns ++ []) drawn in
     let stays = stands-idle config c.args.now (g.S.Store.stands was) values t.count
     (λ held stands. subst (λ (k : Config). g.S.Store.stands was (all_held_after k c.args.now held no_deed [])) c.requires.config (g.met.S.Store.idle was held c.args.now stands)) m in
@@ -38,4 +38,4 @@ resume_all-requires-clause-fresh g c =
     let old = c.args.connections.now.items in
     let steps = steps_told c.args.outcome.now old c.args.waiting.now in
     fresh-told (noted_in kept told) steps old c.tell_all.new.connections.items c.requires.fresh
-    (subst (λ b. WritesTo b steps old c.tell_all.new.connections.items) (c.is_none-writes.ensures ∙ sym (loose-noted kept told)) c.tell_all.ensures.texts)
+    (subst (λ b. WritesTo b steps old c.tell_all.new.connections.items) (c.writes_replies-writes.ensures ∙ sym (loose-noted kept told)) c.tell_all.ensures.texts)

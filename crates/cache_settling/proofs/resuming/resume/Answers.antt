@@ -82,8 +82,8 @@ returns-then-close_where_behind-clause-ran g c = λ base values e d under there 
     c.args.kept.now c.run_ready.new.kept c.args.connection.now.output.items c.run_ready.new.text.items (g.S.Store.untaken was) (g.S.Store.untaken is) c.requires.ready (c.in-Waits.ensures.ran base values e d under there m)
     (λ left. put-behind after left c.args.number c.in-Waits.times rest put (c.close_where_behind.ensures.long c.if-close_where_behind.true) ∙ ap (λ o. put_parts after left c.args.number o now.Ready 0 put) (sym closed)) (sym (ap is_quit closed))
 
-pub returns-clause-ran : goal.returns-clause-ran
-returns-clause-ran g c = λ base values e d under there m.
+pub returns-else-close_where_behind-clause-ran : goal.returns-else-close_where_behind-clause-ran
+returns-else-close_where_behind-clause-ran g c = λ base values e d under there m.
     let was = c.args.store.now in
     let is = c.run_ready.new.store in
     let dropped = (g.S.Store.frame is).dropped in

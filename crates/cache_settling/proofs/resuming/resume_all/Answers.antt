@@ -19,6 +19,7 @@ loop-number-init g c =
           (identifiers (g.S.Store.stream was) (g.S.Store.registered was)) (noted_in c.args.kept.now (g.S.Store.untaken was)) m;
       frame = record { rest = refl; latest = c.requires.in_time };
       fresh = c.requires.fresh;
+      made = refl;
       stocked = c.requires.stocked;
       count = refl;
     }
@@ -60,6 +61,7 @@ loop-number-preserved g c =
         latest = c.resume_at.ensures.frame.latest;
       };
       fresh = c.resume_at.ensures.fresh;
+      made = c.resume_at.ensures.made ∙ i.made;
       stocked = c.resume_at.ensures.stocked (length rest) (subst (λ xs. HasMore (length xs) c.loop-number.kept) (rest-next ns at c.loop-number-test.true) i.stocked);
       count = c.resume_at.ensures.count ∙ i.count;
     }

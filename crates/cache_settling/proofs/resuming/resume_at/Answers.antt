@@ -10,7 +10,7 @@ use Rattle.cache_namespace.specs.Gathered.{IsFresh}
 use Rattle.cache_namespace.specs.Taken.{text_at}
 use Rattle.cache_settling.specs.Noted.{Noted, NothingWaits, noted_in}
 use Rattle.cache_settling.specs.Resumed.{RunsThem, runs_at}
-use Rattle.cache_settling.proofs.Noting.{fresh-at, fresh-replaced, more-kept}
+use Rattle.cache_settling.proofs.Noting.{fresh-at, fresh-replaced, made-by, more-kept}
 use Rattle.cache_settling.proofs.Resumes.{none-here, none-there, runs-here, runs-none, runs-resumed, there-at}
 use Rattle.cache_settling.proofs.resuming.resume_at.Goals as goal
 use Rattle.cache_settling.proofs.resuming.resume_at.Goals.{then-number-eq0-via-then-number-eq0, then-number-eq0-via-else-number-eq0+then-number-len}
@@ -94,3 +94,6 @@ returns-clause-fresh g c =
 pub returns-clause-stocked : goal.returns-clause-stocked
 returns-clause-stocked g c = λ count more.
     more-kept c.restock_where.new.kept c.resume_there-closed.new.kept count c.resume_there-closed.ensures.more c.resume_there-closed.ensures.keeps_room (c.restock_where.ensures.more count more)
+
+pub returns-clause-made : goal.returns-clause-made
+returns-clause-made g c = made-by c.restock_where.new.kept c.resume_there-closed.new.kept c.resume_there-closed.ensures.more ∙ c.restock_where.ensures.made
