@@ -1,5 +1,5 @@
 -- Given-up `LOAD`s that run again, one connection after another.
-use Rattle.std.proofs.Common.{◌≡◌, ℕ, max, Option, not, suc, ◌+◌, ◌-◌, ◌<◌, ◌≤◌, Bool, true, false, ◌==◌, List, [], ◌∷◌, ◌++◌, map, length, Some, None, if◌then◌else◌, refl, sym, ap, ◌∙◌, subst, arith}
+use Rattle.std.proofs.Common.{◌≡◌, ℕ, max, Option, not, suc, ◌-◌, ◌≤◌, Bool, true, false, ◌==◌, List, [], ◌∷◌, ◌++◌, length, Some, None, if◌then◌else◌, refl, sym, ap, ◌∙◌, subst, arith}
 use Rattle.std.specs.Prelude.{is_none, slice_set, unwrap_or}
 use Rattle.std.specs.List.{flat_map, slice_get}
 use Rattle.std.specs.Option.{option_map_or}
@@ -10,7 +10,7 @@ use Rattle.audit_model.specs.Places.{tasks_to_give_up}
 use Rattle.audit_model.specs.Belongs.{refusal_of}
 use Rattle.audit_model.specs.Situation as model
 use Rattle.audit_model.specs.Situation.{HeldValue, connection_in, is_overlong, is_waiting_now}
-use Rattle.audit_model.specs.Steps.{Task, RunAgain, RunLines}
+use Rattle.audit_model.specs.Steps.{RunAgain, RunLines}
 use Rattle.audit_model.specs.declared.config.Config.{Config}
 use Rattle.audit_model.specs.declared.transcript.Note.{Note}
 use Rattle.audit_model.specs.declared.transcript.Step.{Step}

@@ -1,6 +1,6 @@
 -- What is noted of steps, one after another.
-use Rattle.std.proofs.Common.{◌≡◌, ℕ, suc, ◌+◌, ◌-◌, ◌≤◌, Bool, true, false, ◌==◌, List, [], ◌∷◌, ◌++◌, length, Option, Some, None, if◌then◌else◌, refl, sym, ap, ◌∙◌, subst, arith}
-use Rattle.std.specs.Prelude.{is_none, is_some, vec_len, vec_capacity}
+use Rattle.std.proofs.Common.{◌≡◌, ℕ, suc, ◌+◌, ◌≤◌, Bool, true, false, ◌==◌, List, [], ◌++◌, Option, Some, None, if◌then◌else◌, refl, sym, ap, ◌∙◌, subst, arith}
+use Rattle.std.specs.Prelude.{is_none, is_some, vec_len}
 use Rattle.std.specs.List.{filter, flat_map, slice_get}
 use Rattle.std.specs.Option.{option_map_or}
 use Rattle.std.proofs.lemmas.Bool.{eqb-true, eq-eqb}
@@ -11,12 +11,12 @@ use Rattle.std.proofs.lemmas.Option.{same_Some}
 use Rattle.audit_model.specs.declared.transcript.Note.{Note}
 use Rattle.audit_model.specs.declared.transcript.Step.{Step}
 use Rattle.cache_namespace.specs.Gathered.{Gathered, IsFresh, gather, reply_in}
-use Rattle.cache_namespace.specs.Kept.{HasMore, IsReadyToHold, KeepsRoom, gathered, more_in, steps_of}
+use Rattle.cache_namespace.specs.Kept.{HasMore, IsReadyToHold, KeepsRoom, gathered, more_in}
 use Rattle.cache_namespace.specs.Taken.{ReplacedAt, text_at}
 use Rattle.cache_namespace.specs.declared.connection.Connection.{Connection}
 use Rattle.cache_namespace.specs.declared.kept.Kept.{Kept}
 use Rattle.cache_namespace.proofs.Places.{replaced-is, replaced-others, text-is}
-use Rattle.cache_settling.specs.Noted.{Noted, NothingWaits, gathered_with, is_loose, none_noted, noted_in, with_steps}
+use Rattle.cache_settling.specs.Noted.{Noted, NothingWaits, gathered_with, is_loose, noted_in, with_steps}
 use Rattle.cache_settling.specs.Told.{WritesTo, replies_to}
 
 -- ---- steps, and more of them

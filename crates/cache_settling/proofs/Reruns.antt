@@ -1,5 +1,5 @@
 -- A given-up `LOAD` that runs again.
-use Rattle.std.proofs.Common.{◌≡◌, ◌<◌, ◌≤◌, ℕ, suc, Bool, true, false, List, [], ◌∷◌, ◌++◌, Option, Some, None, if◌then◌else◌, refl, sym, ap, ◌∙◌, subst, arith}
+use Rattle.std.proofs.Common.{◌≡◌, ◌<◌, ℕ, suc, Bool, true, false, List, [], ◌∷◌, ◌++◌, Option, Some, None, if◌then◌else◌, refl, sym, ap, ◌∙◌, subst, arith}
 use Rattle.std.specs.Prelude.{Err, MatchOption, Ok, codes, is_none, nat_le, vec_len}
 use Rattle.std.proofs.lemmas.List.{append-nil}
 use Rattle.std.proofs.Math.Bool.{or-false}
@@ -9,14 +9,14 @@ use Rattle.audit_model.specs.Grammar.{Reading, reading}
 use Rattle.audit_model.specs.History.{Running}
 use Rattle.audit_model.specs.Situation as model
 use Rattle.audit_model.specs.Situation.{Situation, HeldValue, connection_in, live_at, without_connection}
-use Rattle.audit_model.specs.Steps.{Task, RunAgain, action_by}
+use Rattle.audit_model.specs.Steps.{RunAgain, action_by}
 use Rattle.audit_model.specs.declared.transcript.Accepted.{Accepted}
 use Rattle.audit_model.specs.Stream.{behind_lines}
 use Rattle.audit_model.specs.declared.command.Command.TheVariants as says
 use Rattle.audit_model.specs.declared.config.Config.{Config}
 use Rattle.audit_model.specs.declared.transcript.Note.{Note}
 use Rattle.audit_model.specs.declared.transcript.Step.{Step}
-use Rattle.cache_loads.specs.Pending.{number_to_send, when_joined, when_sent}
+use Rattle.cache_loads.specs.Pending.{number_to_send}
 use Rattle.cache_store.specs.Promises.{no_deed}
 use Rattle.cache_steps.proofs.LoadSteps.{abandons, waits}
 use Rattle.cache_steps.specs.Loading.{step_silent, step_waiting}

@@ -4,9 +4,7 @@ use Rattle.std.specs.Prelude.{is_none, is_some, slice_set, ◌⊎◌}
 use Rattle.std.specs.List.{filter, flat_map, slice_get}
 use Rattle.std.specs.Option.{option_map_or}
 use Rattle.std.proofs.lemmas.Bool.{and_parts, eq-eqb, eqb-true}
-use Rattle.std.proofs.lemmas.Grind.{flat_map-append}
-use Rattle.std.proofs.lemmas.List.{append-nil, append_assoc, set-get_or}
-use Rattle.std.proofs.lemmas.List.Elements.{filter-append}
+use Rattle.std.proofs.lemmas.List.{append-nil, set-get_or}
 use Rattle.std.proofs.lemmas.Option.{get_or_from_slice_get, slice_get_within}
 use Rattle.audit_model.specs.Changes.{after_step}
 use Rattle.audit_model.specs.Follows.{after_steps, placed_step_in}
@@ -20,7 +18,7 @@ use Rattle.audit_model.specs.declared.config.Config.{Config}
 use Rattle.audit_model.specs.declared.transcript.Note.{Note}
 use Rattle.audit_model.specs.declared.transcript.Step.{Step}
 use Rattle.cache_namespace.specs.Drawing.{Identifiers, Workings, identifiers_in}
-use Rattle.cache_namespace.specs.Gathered.{Gathered, gather, reply_in}
+use Rattle.cache_namespace.specs.Gathered.{Gathered, reply_in}
 use Rattle.cache_namespace.specs.Kept.{gathered}
 use Rattle.cache_namespace.specs.Lines.{ArePartedIn, IsThere, are_timely, set_in, with_drops}
 use Rattle.cache_namespace.specs.Making.{Making}

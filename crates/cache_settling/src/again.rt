@@ -132,7 +132,13 @@ pub fn run_again<S: Store>(
         connection.standing = Standing::Ready;
         connection.waited = 0;
         write_abandoned(&mut connection.output);
-        say_first(kept, alloc, number, &connection.unread, &mut connection.output);
+        say_first(
+            kept,
+            alloc,
+            number,
+            &connection.unread,
+            &mut connection.output,
+        );
         pass_line(&mut connection.unread);
         return;
     }

@@ -30,11 +30,7 @@ fn copy_first(alloc: Global, unread: &Buffer) -> Result<Vec<u8>, AllocError>
 }
 
 /// A copy of the first unread line of the connection of that number, or of none.
-fn copy_line(
-    alloc: Global,
-    connections: &[Connection],
-    number: u64,
-) -> Result<Vec<u8>, AllocError>
+fn copy_line(alloc: Global, connections: &[Connection], number: u64) -> Result<Vec<u8>, AllocError>
     requires { (c : Waiter) → slice_get connections.now (number - 1) ≡ Some c → IsTrue (has_line c.unread.bytes) }
     ensures { IfOk result (λ line. line.items ≡ line_of connections.now number) }
 {

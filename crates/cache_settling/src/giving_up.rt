@@ -83,7 +83,17 @@ fn give_up_one<S: Store>(
 {
     let index = (number - 1) as usize;
     restock_where(kept);
-    run_again_there(store, alloc, config, now, number, loads, connections, index, kept);
+    run_again_there(
+        store,
+        alloc,
+        config,
+        now,
+        number,
+        loads,
+        connections,
+        index,
+        kept,
+    );
     resume_at(store, alloc, config, now, number, loads, connections, kept);
 }
 
@@ -171,6 +181,13 @@ pub fn give_up_load<S: Store>(
     let now = moment.max(latest);
     let mut kept: Option<Kept> = None;
     settle_give_up(
-        store, alloc, config, now, loads, connections, load, &mut kept,
+        store,
+        alloc,
+        config,
+        now,
+        loads,
+        connections,
+        load,
+        &mut kept,
     );
 }

@@ -134,7 +134,14 @@ pub fn record_give_up<S: Store>(
     let kept = draft_give_up(alloc, loads, load)?;
     let mut kept = Some(kept);
     settle_give_up(
-        store, alloc, config, now, loads, connections, load, &mut kept,
+        store,
+        alloc,
+        config,
+        now,
+        loads,
+        connections,
+        load,
+        &mut kept,
     );
     Ok(steps_kept(alloc, kept))
 }

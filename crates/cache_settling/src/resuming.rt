@@ -202,7 +202,17 @@ pub fn resume_at<S: Store>(
     if !runs_there(connections, index) {
         return;
     }
-    let closed = resume_there(store, alloc, config, now, number, loads, connections, index, kept);
+    let closed = resume_there(
+        store,
+        alloc,
+        config,
+        now,
+        number,
+        loads,
+        connections,
+        index,
+        kept,
+    );
     leave_where(loads, number, closed);
 }
 

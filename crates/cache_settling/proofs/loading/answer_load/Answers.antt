@@ -1,8 +1,8 @@
-use Rattle.std.proofs.Common.{◌≡◌, false, [], ◌||◌, ℕ, List, Some, Bool, true, None, max, sym, ap, ◌∙◌, subst}
-use Rattle.std.specs.Prelude.{IfSome, is_some}
+use Rattle.std.proofs.Common.{◌≡◌, false, [], ◌||◌, ℕ, Some, Bool, true, None, max, sym, ap, ◌∙◌, subst}
+use Rattle.std.specs.Prelude.{is_some}
 use Rattle.audit_model.specs.Bytewise.{is_empty}
 use Rattle.audit_model.specs.History.{Storing}
-use Rattle.audit_model.specs.Situation.{Situation, HeldValue}
+use Rattle.audit_model.specs.Situation.{Situation}
 use Rattle.audit_model.specs.declared.config.Config.{Config}
 use Rattle.cache_store.specs.Handing.{Hands}
 use Rattle.cache_steps.specs.Loading.{Stores, step_silent}

@@ -1,8 +1,7 @@
-use Rattle.std.proofs.Common.{◌≡◌, false, [], ◌++◌, ◌||◌, ℕ, List, Some, Bool, true, None, max, refl, sym, ap, ◌∙◌, subst}
+use Rattle.std.proofs.Common.{◌≡◌, [], ◌++◌, ◌||◌, ℕ, List, Some, Bool, true, None, max, sym, ap, ◌∙◌, subst}
 use Rattle.std.specs.Prelude.{is_some}
 use Rattle.audit_model.specs.Bytewise.{is_empty}
 use Rattle.audit_model.specs.History.{Storing}
-use Rattle.audit_model.specs.Situation.{Situation, HeldValue}
 use Rattle.audit_model.specs.declared.config.Config.{Config}
 use Rattle.audit_model.specs.declared.transcript.Note.{Note}
 use Rattle.cache_store.specs.Handing.{Hands}
@@ -16,6 +15,7 @@ use Rattle.cache_namespace.specs.Waiting.{under_way}
 use Rattle.cache_namespace.proofs.Drawn.{keeps-more}
 use Rattle.cache_settling.specs.Answered.{HandsOut, but_for, waiting_for}
 use Rattle.cache_settling.specs.Noted.{Noted, noted_in}
+use Rattle.cache_settling.specs.Told.{HaveLines}
 use Rattle.cache_settling.proofs.Admitted.{answer-fits, few-replied, waiting-tidy}
 use Rattle.cache_settling.proofs.Answered.{answer-kept}
 use Rattle.cache_settling.proofs.GiveUps.{have-lines}
@@ -30,7 +30,7 @@ pub draft_answer-requires-clause-lines : goal.draft_answer-requires-clause-lines
 draft_answer-requires-clause-lines g c =
     let l = under_way c.args.loads.now in
     let cs = c.args.connections.now.items in
-    have-lines (waiting_for c.args.load l) cs (waiting-tidy c.args.load l cs c.requires.tidy)
+    subst (λ ks. HaveLines ks (waiting_for c.args.load l)) (sym c.deref.ensures.value) (have-lines (waiting_for c.args.load l) cs (waiting-tidy c.args.load l cs c.requires.tidy))
 
 pub settle_answer-requires-clause-tidy : goal.settle_answer-requires-clause-tidy
 settle_answer-requires-clause-tidy g c = waiting-tidy c.args.load (under_way c.args.loads.now) c.args.connections.now.items c.requires.tidy

@@ -1,4 +1,4 @@
-use Rattle.std.proofs.Common.{◌≡◌, ℕ, [], List, Some, subst}
+use Rattle.std.proofs.Common.{ℕ, [], List, Some, subst}
 use Rattle.audit_model.specs.declared.transcript.Note.{Note}
 use Rattle.audit_model.specs.declared.transcript.Step.{Step as Ran}
 use Rattle.cache_namespace.specs.Drawing.{identifiers}
