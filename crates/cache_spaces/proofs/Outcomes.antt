@@ -18,7 +18,7 @@ use Rattle.audit_model.specs.declared.transcript.Accepted.{Accepted}
 use Rattle.audit_model.specs.declared.transcript.Note.{Note}
 use Rattle.audit_model.specs.declared.transcript.Record.{Record}
 use Rattle.audit_model.specs.declared.transcript.Step.{Step}
-use Rattle.cache_namespace.specs.Drawing.{Identifiers, identifiers}
+use Rattle.cache_namespace.specs.Drawing.{Identifiers, StepsDraw, identifiers}
 use Rattle.cache_namespace.specs.Making.{Making}
 use Rattle.cache_namespace.specs.Ordered.{OrdersSteps}
 use Rattle.cache_namespace.specs.Shown.{situation}
@@ -43,6 +43,7 @@ use Rattle.plain_store.specs.Parting.{part_by}
 use Rattle.plain_store.specs.Standing as plain
 use Rattle.rand_core.specs.Steps.{stream_of, steps_u64_high}
 use Rattle.rand_xoshiro.specs.Xoshiro256.{plus_plus}
+use Rattle.cache_spaces.specs.Recorded.{IsQuiet, LeadsOnIn}
 use Rattle.cache_spaces.specs.Serves.{Settles, known_of}
 use Rattle.cache_spaces.specs.Spaces.{Holds, Stands, config_of, connections_of, identifiers_of, loads_of, made_of, notices_of, output_of, recency_of}
 use Rattle.cache_spaces.specs.declared.space.Space.{Space}
@@ -66,18 +67,24 @@ outputs-by was is steps texts place =
     let e : suc place - 1 ≡ place = omega arith in
     ap (text_at (connections_of is)) e ∙ texts place ∙ ap (λ k. text_at (connections_of was) k ++ replies_to (suc place) steps) (sym e)
 
--- a load was settled by that record
+-- that record of a settled load leads on from a situation for which the namespace stood
+pub record SettlesBy (was is : Space) (entry : Record) (s : Situation) : Type 0 where
+  pub next : Situation
+  pub stands : Stands is next
+  pub follows : Follows (config_of was) s entry next
+  pub parted : IsTrue (are_parted_in (config_of was) s entry)
+  pub timely : IsTrue (are_timely_in (config_of was) (made_of was) s entry)
+  pub bounded : IsTrue (is_bounded (config_of was) next.held)
+  pub draws : StepsDraw (config_of was) entry.steps (identifiers_of was) (identifiers_of is)
+  pub ordered : OrdersSteps (config_of was) (recency_of was) (recency_of is) (after_event entry.event s) (tasks_in s entry.event) (steps_of entry)
+
 pub settles-by : (was is : Space) (making : Making) (entry : Record) (now : ℕ) (values left : List HeldValue) (s : Situation)
     → making.part_of ≡ part_in (config_of was) → making.made ≡ made_of was → is.inner.latest ≡ now → s ≡ with_values was values → Holds is left
     → settling.Settles (config_of was) making (with_values was values) entry (situation now (loads_of is) (connections_of is) is.inner.store.dropped left) (identifiers_of was) (identifiers_of is)
     → IsTrue (is_bounded (config_of was) left)
     → OrdersSteps (config_of was) (recency_of was) (recency_of is) (after_event entry.event (with_values was values)) (tasks_in (with_values was values) entry.event) (steps_of entry)
-    → WritesTo true entry.steps (connections_of was) (connections_of is)
-    → notices_of is ≡ notices_of was ++ flat_map (λ step. step.notices) (steps_of entry)
-    → Settles was is s entry.event
-settles-by was is making entry now values left s parts made late same holds x bounded ordered texts notices = record {
-  entry = entry;
-  event = refl;
+    → SettlesBy was is entry s
+settles-by was is making entry now values left s parts made late same holds x bounded ordered = record {
   next = with_values is left;
   stands = record { values = left; held = holds; same = refl };
   follows =
@@ -92,9 +99,29 @@ settles-by was is making entry now values left s parts made late same holds x bo
   bounded = bounded;
   draws = x.draws;
   ordered = subst (λ u. OrdersSteps (config_of was) (recency_of was) (recency_of is) (after_event entry.event u) (tasks_in u entry.event) (steps_of entry)) (sym same) ordered;
+}
+
+-- where no record is kept, replies and notes are handed out
+pub settles-with : (was is : Space) (entry : Record) (s : Situation) → SettlesBy was is entry s → WritesTo true entry.steps (connections_of was) (connections_of is)
+    → notices_of is ≡ notices_of was ++ flat_map (λ step. step.notices) (steps_of entry) → Settles was is s entry.event
+settles-with was is entry s x texts notices = record {
+  entry = entry;
+  event = refl;
+  next = x.next;
+  stands = x.stands;
+  follows = x.follows;
+  parted = x.parted;
+  timely = x.timely;
+  bounded = x.bounded;
+  draws = x.draws;
+  ordered = x.ordered;
   outputs = outputs-by was is entry.steps texts;
   notices = notices;
 }
+
+-- where one is kept, nothing waits beside it
+pub leads-with : (was is : Space) (entry : Record) (s : Situation) → SettlesBy was is entry s → IsQuiet is → LeadsOnIn was is s entry
+leads-with was is entry s x quiet = record { next = x.next; stands = x.stands; follows = x.follows; parted = x.parted; timely = x.timely; bounded = x.bounded; ordered = x.ordered; quiet = quiet }
 
 -- a give-up of a load for which some wait has a step
 gives-some : (config : Config) (s u t : Situation) (waiting : List ℕ) (a : Bool) → waiting ≢ [] → (if a then after_steps config u (tasks_to_give_up waiting) [] else None) ≡ Some t → ⊥
@@ -102,13 +129,20 @@ gives-some config s u t [] a some e = some refl
 gives-some config s u t (n ∷ ns) true some e = let no : None ≡ Some t = e in none-some t no
 gives-some config s u t (n ∷ ns) false some e = let no : None ≡ Some t = e in none-some t no
 
-pub orders-given-up : (config : Config) (making : Making) (old new : Bool → List (List ℕ) → Type 0) (s t : Situation) (load moment : ℕ) (steps : List Step) (drawn drawing : Identifiers) → waiting_in load s ≢ []
-    → settling.Settles config making s (record_given_up load moment steps) t drawn drawing
-    → OrdersSteps config old new (after_event (giving_up load moment) s) (tasks_in s (giving_up load moment)) steps
-orders-given-up config making old new s t load moment [] drawn drawing some x =
-    absurd (gives-some config s (without_load load moment s) t (waiting_in load s) (is_none (refusal_of config (known_in s) (giving_up load moment)) && is_numbered s.opened (giving_up load moment) && has_right_own_value (record_given_up load moment [])) some x.follows)
-orders-given-up config making old new s t load moment (step ∷ steps) drawn drawing some x =
-    orders-unknown config old new (without_load load moment s) (tasks_to_give_up (waiting_in load s)) step steps x.ordered
+given-up-orders : (config : Config) (old new : Bool → List (List ℕ) → Type 0) (s t : Situation) (load moment : ℕ) (own : Option Accepted) (told : List Note) (steps : List Step) → waiting_in load s ≢ []
+    → Follows config s (record { event = giving_up load moment; own = own; notices = told; steps = steps }) t → LeavesUnknown config (without_load load moment s) (tasks_to_give_up (waiting_in load s)) steps
+    → OrdersSteps config old new (without_load load moment s) (tasks_to_give_up (waiting_in load s)) steps
+given-up-orders config old new s t load moment own told [] some follows unknown =
+    absurd
+    (gives-some config s (without_load load moment s) t (waiting_in load s)
+    (is_none (refusal_of config (known_in s) (giving_up load moment)) && is_numbered s.opened (giving_up load moment) && has_right_own_value (record { event = giving_up load moment; own = own; notices = told; steps = [] })) some follows)
+given-up-orders config old new s t load moment own told (step ∷ steps) some follows unknown = orders-unknown config old new (without_load load moment s) (tasks_to_give_up (waiting_in load s)) step steps unknown
+
+pub orders-given-up : (config : Config) (making : Making) (old new : Bool → List (List ℕ) → Type 0) (s t : Situation) (load moment : ℕ) (entry : Record) (drawn drawing : Identifiers) → waiting_in load s ≢ [] → entry.event ≡ giving_up load moment
+    → settling.Settles config making s entry t drawn drawing → OrdersSteps config old new (after_event entry.event s) (tasks_in s entry.event) (steps_of entry)
+orders-given-up config making old new s t load moment entry drawn drawing some e x =
+    subst (λ h. Follows config s (record entry { event = h }) t → LeavesUnknown config (after_event h s) (tasks_in s h) (steps_of (record entry { event = h })) → OrdersSteps config old new (after_event h s) (tasks_in s h) (steps_of (record entry { event = h }))) (sym e)
+    (λ follows unknown. given-up-orders config old new s t load moment entry.own entry.notices entry.steps some follows unknown) x.follows x.ordered
 
 -- so many loads, but for that one
 pub loads-left : (l k : UnderWay) (load : ℕ) → k.sent ≡ l.sent → k.pending ≡ filter (λ (x : PendingLoad). not (x.number == load)) l.pending → k ≡ but_for load l
@@ -127,7 +161,7 @@ unwaited config making latest l cs dropped values load moment drawn admitted non
 pub drops-load : (was is : Space) (load moment : ℕ) → refusal_of (config_of was) (known_of was) (giving_up load moment) ≡ None → waiting_for load (loads_of was) ≡ []
     → is.inner ≡ record was.inner { latest = max moment was.inner.latest; loads = is.inner.loads } → loads_of is ≡ but_for load (loads_of was)
     → ((values : List HeldValue) → Holds was values → IsTrue (is_bounded (config_of was) values)) → part_by was.inner.store.parts (hashed 0) ≡ part_in (config_of was)
-    → (s : Situation) → Stands was s → Settles was is s (giving_up load moment)
+    → (s : Situation) → Stands was s → SettlesBy was is (record_given_up load moment []) s
 drops-load was is load moment admitted none same left bounded parts s stands =
     let making : Making = record { part_of = part_by was.inner.store.parts (hashed 0); made = made_of was } in
     let config = config_of was in
@@ -146,16 +180,24 @@ drops-load was is load moment admitted none same left bounded parts s stands =
     (bounded stands.values stands.held)
     (subst (λ conns. OrdersSteps config (recency_of was) (recency_of is) (without_load load moment here) (tasks_to_give_up conns) []) (sym none)
     (orders-kept config (recency_of was) (recency_of is) (without_load load moment here) [] (subst (λ st. KeepsRecency (recency_of was) (plain.AreInOrder st.config st.table)) (sym store) (λ b keys r. r))))
-    (λ place. ap (λ cs. text_at cs place) connections ∙ sym (append-nil (text_at (connections_of was) place)))
-    (ap (λ st. st.notes.items) store ∙ sym (append-nil (notices_of was)))
+
+-- no step tells a connection
+pub writes-none : (old new : List Connection) → new ≡ old → WritesTo true [] old new
+writes-none old new same = λ place. ap (λ cs. text_at cs place) same ∙ sym (append-nil (text_at old place))
 
 -- nothing is known of the order of use behind an answer
-pub orders-answered : (config : Config) (making : Making) (old new : Bool → List (List ℕ) → Type 0) (s t : Situation) (load moment : ℕ) (outcome : Outcome) (accepted : Option Accepted) (own : List Note) (steps : List Step) (drawn drawing : Identifiers)
-    → settling.Settles config making s (record_answered load outcome moment accepted own steps) t drawn drawing
-    → OrdersSteps config old new (after_event (answering load outcome moment) s) (tasks_in s (answering load outcome moment)) (steps_of (record_answered load outcome moment accepted own steps))
-orders-answered config making old new s t load moment outcome accepted own steps drawn drawing x = λ places order plain agrees.
-    let u = x.ordered (suc places) order in (subst (AgreesWith new places) (sym u.0) tt, u.1)
+pub orders-answered : (config : Config) (making : Making) (old new : Bool → List (List ℕ) → Type 0) (s t : Situation) (load moment : ℕ) (outcome : Outcome) (entry : Record) (drawn drawing : Identifiers) → entry.event ≡ answering load outcome moment
+    → settling.Settles config making s entry t drawn drawing → OrdersSteps config old new (after_event entry.event s) (tasks_in s entry.event) (steps_of entry)
+orders-answered config making old new s t load moment outcome entry drawn drawing e x =
+    subst (λ h. LeavesUnknown config (after_event h s) (tasks_in s h) (steps_of (record entry { event = h })) → OrdersSteps config old new (after_event h s) (tasks_in s h) (steps_of (record entry { event = h }))) (sym e)
+    (λ unknown places order plain agrees. let u = unknown (suc places) order in (subst (AgreesWith new places) (sym u.0) tt, u.1)) x.ordered
 
 -- an answer's own notes come first
 pub own-first : (before own : List Note) (told : List Note) (steps : List Step) → told ≡ (before ++ own) ++ flat_map (λ step. step.notices) steps → told ≡ before ++ (own ++ flat_map (λ step. step.notices) steps)
 own-first before own told steps e = e ∙ append_assoc before own (flat_map (λ step. step.notices) steps)
+
+-- where a record is kept, nothing waits in the connections
+pub untold : (space : Space) → IsQuiet space → (place : ℕ) → text_at (connections_of space) place ≡ []
+untold space quiet place =
+    let e : suc place - 1 ≡ place = omega arith in
+    ap (text_at (connections_of space)) (sym e) ∙ quiet.outputs (suc place)

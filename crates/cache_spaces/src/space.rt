@@ -8,11 +8,11 @@ ghost use Rattle.cache_spaces.specs.Served.{is_served};
 ghost use Rattle.cache_namespace.specs.Taken.{IsSound};
 ghost use Rattle.cache_namespace.specs.Waiting.{under_way};
 
-use crate::settling::is_waited_for;
-use audit_model::{Bytes, Closing, Config, LoadId, Note, Outcome, ServiceError};
+use crate::settling::{given_up, is_waited_for};
+use audit_model::{Bytes, Closing, Config, LoadId, Note, Outcome, Record, ServiceError};
 use cache_loads::Loads;
 use cache_namespace::{Kept, Namespace};
-use cache_settling::{answer_in, give_up_in, refuse_answer, refuse_load};
+use cache_settling::{answer_in, answer_kept, give_up_in, give_up_kept, refuse_load};
 use cache_store::Store;
 use plain_store::{FixedHasher, PlainStore};
 use rand_xoshiro::Xoshiro256PlusPlus;
@@ -38,6 +38,8 @@ impl Space {
     ghost use Rattle.cache_store.specs.Recency.{KeepsRecency};
     ghost use Rattle.cache_spaces.specs.Moves.{Moves};
     ghost use Rattle.cache_settling.specs.Answered.{answering, giving_up, waiting_for};
+    ghost use Rattle.cache_settling.specs.Laws.{record_given_up};
+    ghost use Rattle.cache_spaces.specs.Recorded.{IsQuiet, LeadsOnIn};
     ghost use Rattle.cache_spaces.specs.Serves.{Serves, Settled, Takes, RefusedAnswer, SameSpace, known_of};
     ghost use Rattle.cache_spaces.specs.Spaces.{Stands, config_of, connections_of, generator_of, loads_of, notices_of, outgoing_of, output_of, closing_of, gathered_in, made_of, recency_of, workings_of};
 
@@ -269,6 +271,9 @@ impl Space {
     fn drop_load(&mut self, load: u64, moment: u64) -> Result<(), ServiceError>
         requires unwaited { waiting_for load (loads_of self.old) ≡ [] }
         ensures settled { OnOk result (Settled self.old self.new (giving_up load moment)) }
+        ensures kept { OnOk result (IsQuiet self.old → (s : Situation) → Stands self.old s → LeadsOnIn self.old self.new s (record_given_up load moment [])) }
+        ensures config { config_of self.new ≡ config_of self.old }
+        ensures made { made_of self.new ≡ made_of self.old }
         ensures refused { IfErr result (λ e. refusal_of (config_of self.old) (known_of self.old) (giving_up load moment) ≡ Some e) }
         ensures err { OnErr result (self.new ≡ self.old) }
     {
@@ -281,23 +286,52 @@ impl Space {
         Ok(())
     }
 
-    /// Why an answer is refused of which a record would be kept. None is kept yet: where nothing else refuses it, memory does.
-    pub fn refusal_to_answer(&self, load: u64, outcome: &Outcome, moment: u64) -> ServiceError
-        ensures { RefusedAnswer self.now (answering load outcome.now moment) result }
+    /// Answers a load under way, and hands out its record, which holds its replies and notes. An `Err` hands the outcome back.
+    pub fn answer_kept(
+        &mut self,
+        alloc: Global,
+        load: u64,
+        outcome: Outcome,
+        moment: u64,
+    ) -> Result<Record, (ServiceError, Outcome)>
+        requires quiet { IsQuiet self.old }
+        ensures leads { IfOk result (λ entry. (s : Situation) → Stands self.old s → LeadsOnIn self.old self.new s entry) }
+        ensures happened { IfOk result (λ entry. entry.event ≡ answering load outcome moment) }
+        ensures config { config_of self.new ≡ config_of self.old }
+        ensures made { OnOk result (made_of self.new ≡ made_of self.old) }
+        ensures refused { IfErr result (λ e. RefusedAnswer self.old (answering load outcome moment) e.0) }
+        ensures same { OnErr result (SameSpace self.old self.new) }
     {
-        match refuse_answer(&self.inner.config, &self.inner.loads, load, outcome, moment) {
-            Some(error) => error,
-            None => ServiceError::OutOfMemory,
+        match answer_kept(&mut self.inner, alloc, load, outcome, moment) {
+            Ok(entry) => Ok(entry),
+            Err(refused) => Err(refused),
         }
     }
 
-    /// Why a give-up is refused of which a record would be kept. None is kept yet: where nothing else refuses it, memory does.
-    pub fn refusal_to_give_up(&self, load: u64, moment: u64) -> ServiceError
-        ensures { RefusedAnswer self.now (giving_up load moment) result }
+    /// Gives a load under way up, and hands out its record, which holds its replies and notes.
+    pub fn give_up_kept(
+        &mut self,
+        alloc: Global,
+        load: u64,
+        moment: u64,
+    ) -> Result<Record, ServiceError>
+        requires quiet { IsQuiet self.old }
+        ensures leads { IfOk result (λ entry. (s : Situation) → Stands self.old s → LeadsOnIn self.old self.new s entry) }
+        ensures happened { IfOk result (λ entry. entry.event ≡ giving_up load moment) }
+        ensures config { config_of self.new ≡ config_of self.old }
+        ensures made { OnOk result (made_of self.new ≡ made_of self.old) }
+        ensures refused { IfErr result (λ e. RefusedAnswer self.old (giving_up load moment) e) }
+        ensures err { OnErr result (self.new ≡ self.old) }
     {
-        match refuse_load(&self.inner.config, &self.inner.loads, load, moment) {
-            Some(error) => error,
-            None => ServiceError::OutOfMemory,
+        if !is_waited_for(&self.inner.loads, load) {
+            return match self.drop_load(load, moment) {
+                Ok(()) => Ok(given_up(alloc, load, moment)),
+                Err(error) => Err(error),
+            };
+        }
+        match give_up_kept(&mut self.inner, alloc, load, moment) {
+            Ok(entry) => Ok(entry),
+            Err(error) => Err(error),
         }
     }
 }

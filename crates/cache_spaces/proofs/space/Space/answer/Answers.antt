@@ -15,7 +15,7 @@ use Rattle.plain_store.specs.Standing as plain
 use Rattle.cache_spaces.specs.Spaces.{recency_of}
 use Rattle.cache_spaces.proofs.Knowing.{by-result, known-on, known-same}
 use Rattle.cache_spaces.proofs.Moving.{same-parts, stands-on}
-use Rattle.cache_spaces.proofs.Outcomes.{orders-answered, own-first, settles-by, with_values}
+use Rattle.cache_spaces.proofs.Outcomes.{orders-answered, own-first, settles-by, settles-with, with_values}
 use Rattle.cache_spaces.proofs.space.Space.answer.Goals as goal
 
 pub answer_in-requires-clause-tidy : goal.answer_in-requires-clause-tidy
@@ -41,10 +41,12 @@ returns-in-Ok-clause-settled c =
     record {
       settles = λ s stands.
           let x = c.in-Ok.ensures.ran stands.values stands.held in
-          settles-by was _ (record { part_of = part_by old.store.parts (hashed 0); made = old.store.made }) (record_answered c.args.load c.args.outcome c.args.moment _ x.own x.steps) (max c.args.moment old.latest) stands.values x.held s
+          let entry = record_answered c.args.load c.args.outcome c.args.moment _ x.own x.steps in
+          settles-with was _ entry s
+          (settles-by was _ (record { part_of = part_by old.store.parts (hashed 0); made = old.store.made }) entry (max c.args.moment old.latest) stands.values x.held s
           (same-parts old.store.parts old.store.config old.config old.store.counted was.sound.config) refl c.in-Ok.ensures.latest stands.same x.stands x.settles
           (subst (λ config. IsTrue (is_bounded config x.held)) (c.answer_in.ensures.sound.config ∙ c.answer_in.ensures.config) (bounded_from new.store.config (part_by new.store.parts (hashed 0)) new.store.table new.store.kept x.held x.stands))
-          (orders-answered old.config _ (recency_of was) (plain.AreInOrder new.store.config new.store.table) (with_values was stands.values) _ c.args.load c.args.moment c.args.outcome _ x.own x.steps _ _ x.settles)
+          (orders-answered old.config _ (recency_of was) (plain.AreInOrder new.store.config new.store.table) (with_values was stands.values) _ c.args.load c.args.moment c.args.outcome entry _ _ refl x.settles))
           x.texts (own-first old.store.notes.items x.own new.store.notes.items x.steps x.notes);
       config = c.answer_in.ensures.config;
       made = ap (λ (f : Frame). f.made) c.in-Ok.ensures.made.rest;

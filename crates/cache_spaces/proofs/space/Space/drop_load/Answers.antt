@@ -1,6 +1,7 @@
 use Rattle.std.proofs.Common.{[], max, refl, sym, ap, ◌∙◌, subst}
 use Rattle.std.specs.Prelude.{IsTrue}
 use Rattle.std.proofs.Math.Logic.{∥∥₁_map}
+use Rattle.std.proofs.lemmas.List.{append-nil}
 use Rattle.cache_namespace.specs.Waiting.{UnderWay, under_way}
 use Rattle.cache_settling.specs.Answered.{but_for}
 use Rattle.cache_settling.specs.Laws.{record_given_up}
@@ -13,7 +14,7 @@ use Rattle.cache_spaces.specs.Knowing.{KnowsWaiting}
 use Rattle.cache_spaces.specs.Spaces.{identifiers_of}
 use Rattle.cache_spaces.proofs.Knowing.{known-on}
 use Rattle.cache_spaces.proofs.Moving.{same-parts}
-use Rattle.cache_spaces.proofs.Outcomes.{drops-load, loads-left, unwaited}
+use Rattle.cache_spaces.proofs.Outcomes.{drops-load, leads-with, loads-left, settles-with, unwaited, writes-none}
 use Rattle.cache_spaces.proofs.space.Space.drop_load.Goals as goal
 
 pub invariant_of-self-2-clause-waiting : goal.invariant_of-self-2-clause-waiting
@@ -39,12 +40,25 @@ returns-clause-settled c =
     let was = c.args.self.now in
     let old = was.inner in
     record {
-      settles =
-          drops-load was _ c.args.load c.args.moment (sym c.refuse_load.ensures ∙ c.in-None.is) c.requires.unwaited (ap (λ n. record old { latest = n; loads = c.settle.new.self }) c.max-self.ensures)
+      settles = λ s stands.
+          settles-with was _ (record_given_up c.args.load c.args.moment []) s
+          (drops-load was _ c.args.load c.args.moment (sym c.refuse_load.ensures ∙ c.in-None.is) c.requires.unwaited (ap (λ n. record old { latest = n; loads = c.settle.new.self }) c.max-self.ensures)
           (loads-left (under_way old.loads) (under_way c.settle.new.self) c.args.load c.settle.ensures.sent c.settle.ensures.pending)
           (λ values held. subst (λ config. IsTrue (is_bounded config values)) was.sound.config (bounded_from old.store.config (part_by old.store.parts (hashed 0)) old.store.table old.store.kept values held))
-          (same-parts old.store.parts old.store.config old.config old.store.counted was.sound.config);
+          (same-parts old.store.parts old.store.config old.config old.store.counted was.sound.config) s stands)
+          (writes-none old.connections.items old.connections.items refl) (sym (append-nil old.store.notes.items));
       config = refl;
       made = refl;
       count = refl;
     }
+
+pub returns-clause-kept : goal.returns-clause-kept
+returns-clause-kept c = λ quiet s stands.
+    let was = c.args.self.now in
+    let old = was.inner in
+    leads-with was _ (record_given_up c.args.load c.args.moment []) s
+    (drops-load was _ c.args.load c.args.moment (sym c.refuse_load.ensures ∙ c.in-None.is) c.requires.unwaited (ap (λ n. record old { latest = n; loads = c.settle.new.self }) c.max-self.ensures)
+    (loads-left (under_way old.loads) (under_way c.settle.new.self) c.args.load c.settle.ensures.sent c.settle.ensures.pending)
+    (λ values held. subst (λ config. IsTrue (is_bounded config values)) was.sound.config (bounded_from old.store.config (part_by old.store.parts (hashed 0)) old.store.table old.store.kept values held))
+    (same-parts old.store.parts old.store.config old.config old.store.counted was.sound.config) s stands)
+    (record { outputs = quiet.outputs; notices = quiet.notices })

@@ -14,7 +14,7 @@ use Rattle.plain_store.specs.Standing as plain
 use Rattle.cache_spaces.specs.Spaces.{recency_of}
 use Rattle.cache_spaces.proofs.Knowing.{by-done, known-on, known-same}
 use Rattle.cache_spaces.proofs.Moving.{same-parts}
-use Rattle.cache_spaces.proofs.Outcomes.{orders-given-up, settles-by, with_values}
+use Rattle.cache_spaces.proofs.Outcomes.{orders-given-up, settles-by, settles-with, with_values}
 use Rattle.cache_spaces.proofs.space.Space.give_up.Goals as goal
 
 pub give_up_in-requires-clause-reads : goal.give_up_in-requires-clause-reads
@@ -44,10 +44,12 @@ returns-in-Ok-clause-settled c =
     record {
       settles = λ s stands.
           let x = c.in-Ok.ensures.ran stands.values stands.held in
-          settles-by was _ (record { part_of = part_by old.store.parts (hashed 0); made = old.store.made }) (record_given_up c.args.load c.args.moment x.steps) (max c.args.moment old.latest) stands.values x.held s
+          let entry = record_given_up c.args.load c.args.moment x.steps in
+          settles-with was _ entry s
+          (settles-by was _ (record { part_of = part_by old.store.parts (hashed 0); made = old.store.made }) entry (max c.args.moment old.latest) stands.values x.held s
           (same-parts old.store.parts old.store.config old.config old.store.counted was.sound.config) refl c.in-Ok.ensures.latest stands.same x.stands x.settles
           (subst (λ config. IsTrue (is_bounded config x.held)) (c.give_up_in.ensures.sound.config ∙ c.give_up_in.ensures.config) (bounded_from new.store.config (part_by new.store.parts (hashed 0)) new.store.table new.store.kept x.held x.stands))
-          (orders-given-up old.config _ (recency_of was) (plain.AreInOrder new.store.config new.store.table) (with_values was stands.values) _ c.args.load c.args.moment x.steps _ _ (c.if-not-is_waited_for.ensures.some refl) x.settles)
+          (orders-given-up old.config _ (recency_of was) (plain.AreInOrder new.store.config new.store.table) (with_values was stands.values) _ c.args.load c.args.moment entry _ _ (c.if-not-is_waited_for.ensures.some refl) refl x.settles))
           x.texts x.notes;
       config = c.give_up_in.ensures.config;
       made = ap (λ (f : Frame). f.made) c.in-Ok.ensures.made.rest;
