@@ -1,20 +1,13 @@
 -- What leaves a part that weighs too much.
-use Rattle.std.specs.Prelude.{◌≡◌, ℕ, ◌==◌, true, List, [], ◌∷◌, ◌++◌, Option, Some}
-use Rattle.std.specs.List.{list_all}
+use Rattle.std.specs.Prelude.{◌≡◌, ℕ, List, ◌++◌, Option, Some}
 use Rattle.audit_model.specs.Situation.{HeldValue}
 use Rattle.audit_model.specs.declared.config.Config.{Config}
 use Rattle.audit_model.specs.declared.transcript.Note.{Note}
-use Rattle.plain_sweep.specs.Swept.{exceeds, swept}
+use Rattle.plain_sweep.specs.Swept.{swept}
 
--- Values were visited, the least recently used first, each while the part weighed more than the limit: those of the part left, each told, and
--- the others went first. What stays of the part weighs so much; it weighed `start`.
+-- Of the values `all`, in their order of use, the least recently used of the part left, one after another, each while the part weighed more
+-- than the limit, and was told. All others stay in their order, those of other parts too. The part weighed `start`.
 pub record Evicts (config : Config) (now part : ℕ) (limit : Option ℕ) (start : ℕ) (all : List HeldValue) (old : List Note) (table : List HeldValue) (notes : List Note) (weight : ℕ) : Type 0 where
-  pub rest : List HeldValue
-  pub visited : List HeldValue
-  pub whole : all ≡ rest ++ visited
-  pub table_is : table ≡ (swept config now (Some part) limit start visited).kept ++ rest
-  pub notes_are : notes ≡ old ++ (swept config now (Some part) limit start visited).told
-  pub weight_is : weight ≡ (swept config now (Some part) limit start visited).weight
-  pub over : (h : HeldValue) (behind : List HeldValue) → visited ≡ h ∷ behind → exceeds limit (swept config now (Some part) limit start behind).weight ≡ true
-  -- where there is no other part, none of those visited stays
-  pub alone : list_all (λ h. h.value.part == part) all ≡ true → (swept config now (Some part) limit start visited).kept ≡ []
+  pub table_is : table ≡ (swept config now (Some part) limit start all).kept
+  pub notes_are : notes ≡ old ++ (swept config now (Some part) limit start all).told
+  pub weight_is : weight ≡ (swept config now (Some part) limit start all).weight
