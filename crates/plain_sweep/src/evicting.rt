@@ -3,7 +3,7 @@ ghost use Rattle.std.specs.Prelude.{◌≡◌, ◌≤◌, ◌+◌, List, ℕ, fa
 ghost use Rattle.std.specs.VecDeque.{deque_len, deque_capacity};
 ghost use Rattle.cache_store.specs.Running.{weight_in};
 ghost use Rattle.plain_table.specs.Items.{held_of};
-ghost use Rattle.plain_sweep.specs.Evicted.{Evicts};
+ghost use Rattle.plain_sweep.specs.Evicted.{Evicts, LeastUsedLeave};
 ghost use Rattle.plain_sweep.specs.Swept.{cause_evicted, exceeds};
 
 use crate::deadlines::is_dead;
@@ -26,7 +26,9 @@ pub fn evict(
 ) -> u64
     requires room { deque_len notes.old + length table.old ≤ deque_capacity notes.old }
     requires weight { weight ≡ weight_in part table.old }
-    // only the least recently used of the part go, and only while it is over its limit; the others stay in their order
+    // the shortest run of the least recently used of the part goes; the others stay in their order, those of other parts too
+    ensures least_used { LeastUsedLeave part limit table.old table.new }
+    // which go, one after another, why, and in which order they are told
     ensures evicts { Evicts config.now now part limit weight table.old notes.old.items table.new notes.new.items result }
     ensures weight { result ≡ weight_in part table.new }
     // what stays is within the limit

@@ -3,6 +3,7 @@ use Rattle.plain_table.specs.Items.{held_of}
 use Rattle.plain_sweep.specs.Evicted.{Evicts}
 use Rattle.plain_sweep.specs.Swept.{note_of}
 use Rattle.plain_sweep.proofs.Leavers.{evicting_start, evicting_more, evicts_within, evicts_none, evicts_all_gone, evicts_weight, evicts_limit, evicts_number}
+use Rattle.plain_sweep.proofs.Oldest.{least_used_leave}
 use Rattle.plain_sweep.proofs.evicting.evict.Goals as goal
 
 pub loop-place-init : goal.loop-place-init
@@ -97,3 +98,24 @@ returns-clause-number c =
     let t = c.loop-place-test.false in
     evicts_all_gone c.args.config.now c.args.now c.args.part c.args.limit c.args.weight c.args.table.now c.args.notes.now.items c.loop-place.table c.loop-place.notes.items c.loop-place.weight c.loop-place._place (omega arith) c.loop-place.invariant.0 in
     evicts_number c.args.config.now c.args.now c.args.part c.args.limit c.args.weight c.args.table.now c.args.notes.now.items c.loop-place.table c.loop-place.notes.items c.loop-place.weight v
+
+pub returns-then-not-exceeds-clause-least_used : goal.returns-then-not-exceeds-clause-least_used
+returns-then-not-exceeds-clause-least_used c =
+    let v : Evicts c.args.config.now c.args.now c.args.part c.args.limit c.args.weight c.args.table.now c.args.notes.now.items c.loop-place.table c.loop-place.notes.items c.loop-place.weight =
+    evicts_within c.args.config.now c.args.now c.args.part c.args.limit c.args.weight c.args.table.now c.args.notes.now.items c.loop-place.table c.loop-place.notes.items c.loop-place.weight c.loop-place._place (sym c.exceeds.ensures ∙ c.if-not-exceeds.true) c.loop-place.invariant.0 in
+    least_used_leave c.args.config.now c.args.now c.args.part c.args.limit c.args.weight c.args.table.now c.loop-place.table c.args.notes.now.items c.loop-place.notes.items c.loop-place.weight c.requires.weight v
+
+pub returns-in-None-clause-least_used : goal.returns-in-None-clause-least_used
+returns-in-None-clause-least_used c =
+    let v : Evicts c.args.config.now c.args.now c.args.part c.args.limit c.args.weight c.args.table.now c.args.notes.now.items c.pop_last_of.new.self c.loop-place.notes.items c.loop-place.weight =
+    let gone = c.in-None.ensures.none refl in
+    subst (λ t. Evicts c.args.config.now c.args.now c.args.part c.args.limit c.args.weight c.args.table.now c.args.notes.now.items t c.loop-place.notes.items c.loop-place.weight) (sym gone.1) (evicts_none c.args.config.now c.args.now c.args.part c.args.limit c.args.weight c.args.table.now c.args.notes.now.items c.loop-place.table c.loop-place.notes.items c.loop-place.weight c.loop-place._place gone.0 c.loop-place.invariant.0) in
+    least_used_leave c.args.config.now c.args.now c.args.part c.args.limit c.args.weight c.args.table.now c.pop_last_of.new.self c.args.notes.now.items c.loop-place.notes.items c.loop-place.weight c.requires.weight v
+
+pub returns-clause-least_used : goal.returns-clause-least_used
+returns-clause-least_used c =
+    let v : Evicts c.args.config.now c.args.now c.args.part c.args.limit c.args.weight c.args.table.now c.args.notes.now.items c.loop-place.table c.loop-place.notes.items c.loop-place.weight =
+    let n = c.len-place-end.ensures.number in
+    let t = c.loop-place-test.false in
+    evicts_all_gone c.args.config.now c.args.now c.args.part c.args.limit c.args.weight c.args.table.now c.args.notes.now.items c.loop-place.table c.loop-place.notes.items c.loop-place.weight c.loop-place._place (omega arith) c.loop-place.invariant.0 in
+    least_used_leave c.args.config.now c.args.now c.args.part c.args.limit c.args.weight c.args.table.now c.loop-place.table c.args.notes.now.items c.loop-place.notes.items c.loop-place.weight c.requires.weight v
