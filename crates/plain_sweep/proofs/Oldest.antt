@@ -1,12 +1,12 @@
 -- Of the part that is over its limit, the shortest run of the least recently used leaves.
-use Rattle.std.proofs.Common.{◌≡◌, ℕ, ◌+◌, ◌-◌, ◌≤◌, ◌==◌, Bool, cond, true, false, not, List, [], ◌∷◌, ◌++◌, Option, Some, None, refl, sym, ap, ◌∙◌, arith}
+use Rattle.std.proofs.Common.{◌≡◌, ℕ, ◌+◌, ◌-◌, ◌==◌, Bool, cond, true, false, not, List, [], ◌∷◌, ◌++◌, Option, Some, None, refl, sym, ap, ◌∙◌, arith}
 use Rattle.audit_model.specs.Situation.{HeldValue}
 use Rattle.audit_model.specs.declared.config.Config.{Config}
 use Rattle.audit_model.specs.declared.transcript.Note.{Note}
 use Rattle.audit_model.specs.declared.transcript.RemovalCause.{RemovalCause}
 use Rattle.cache_store.specs.Running.{weight_in}
 use Rattle.plain_sweep.specs.Evicted.{of_part, of_others, Evicts, LeastUsedLeave}
-use Rattle.plain_sweep.specs.Swept.{exceeds, cause_evicted, cause_at, left_by, weight_by, swept, Swept}
+use Rattle.plain_sweep.specs.Swept.{exceeds, cause_at, left_by, weight_by, swept, Swept}
 use Rattle.plain_sweep.proofs.Leavers.{evicts_weight}
 use Rattle.plain_sweep.proofs.Sweeping.{stays_elsewhere, stays_within, must_leave}
 use Rattle.plain_sweep.proofs.Weights.{exceeds-more}
