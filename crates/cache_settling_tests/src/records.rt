@@ -31,7 +31,9 @@ fn a_value(alloc: Global) -> Result<Outcome, AllocError> {
 fn says(step: &Step, conn: u64, line: &[u8], reply: &[u8]) -> bool {
     match &step.reply {
         Some(text) => {
-            step.conn == conn && step.line.as_slice() == line && text.as_slice() == reply
+            step.conn == conn
+                && step.line.as_slice() == line
+                && text.as_slice() == reply
                 && !step.held
         }
         None => false,
@@ -42,7 +44,8 @@ fn says(step: &Step, conn: u64, line: &[u8], reply: &[u8]) -> bool {
 fn are_told(steps: &[Step], told: &[u8], found: &[u8]) -> bool {
     match steps {
         [a, b, c, d] => {
-            says(a, 1, b"LOAD k", told) && says(b, 2, b"LOAD k", told)
+            says(a, 1, b"LOAD k", told)
+                && says(b, 2, b"LOAD k", told)
                 && says(c, 1, b"HAS k", found)
                 && says(d, 2, b"HAS k", found)
         }
@@ -64,8 +67,12 @@ fn keeps(
     match answer_kept(&mut namespace, alloc, 1, outcome, 7) {
         Ok(record) => {
             let silent = namespace.connections.iter().all(|c| c.output.is_empty());
-            Ok(silent && namespace.latest == 7 && record.own.is_some() == accepts
-                && are_told(record.steps.as_slice(), told, found))
+            Ok(
+                silent
+                    && namespace.latest == 7
+                    && record.own.is_some() == accepts
+                    && are_told(record.steps.as_slice(), told, found),
+            )
         }
         Err(_) => Ok(false),
     }
@@ -95,7 +102,7 @@ fn a_load_for_which_nobody_waits_is_given_up(rt: HostRuntime) -> Result<(), Fail
     let mut namespace = nobody_waits(alloc, store, PLAIN)?;
     match give_up_kept(&mut namespace, alloc, 1, 7) {
         Ok(record) => {
-            assert!(rt; record.steps.is_empty());
+            assert!(rt; record.steps.len() == 0);
             assert!(rt; record.own.is_none());
             assert!(rt; namespace.latest == 7);
             assert!(rt; namespace.loads.get(1).is_none());
