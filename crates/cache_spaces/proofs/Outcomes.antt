@@ -28,7 +28,7 @@ use Rattle.cache_namespace.specs.declared.connection.Connection.{Connection}
 use Rattle.cache_settling.proofs.Leading.{nothing}
 use Rattle.cache_settling.proofs.Settling.{give-up}
 use Rattle.cache_settling.specs.Answered.{answering, but_for, giving_up, knows_loads, waiting_for}
-use Rattle.cache_settling.specs.Laws.{record_answered, record_given_up}
+use Rattle.cache_settling.specs.Laws.{record_given_up}
 use Rattle.cache_settling.specs.Leads as settling
 use Rattle.cache_settling.specs.Leads.{Leads, LeavesUnknown}
 use Rattle.cache_settling.specs.Told.{WritesTo, replies_to}
