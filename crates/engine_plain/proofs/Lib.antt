@@ -4,3 +4,4 @@ pub mod Covering
 pub mod Applying
 pub mod Outcomes
 pub mod Unsettled
+pub mod Tables

@@ -17,6 +17,7 @@ ghost use Rattle.engine_rules.specs.declared.causes.RemovalCause.TheVariants as 
 ghost use Rattle.engine_lists.specs.Asking.{answers_of};
 ghost use Rattle.engine_looks.specs.Chains.{Chain, none_due, is_admitted};
 ghost use Rattle.engine_looks.specs.Displacing.{front_of, displaced};
+ghost use Rattle.engine_looks.specs.Tables.{lacks_table, LacksTableFor};
 
 use engine_lists::{
     Lists, MAX_READS, MAX_WRITES, Refusal, count_admitted, place_at, place_of_ticket,
@@ -26,7 +27,7 @@ use engine_looks::{
     Decision, beside, cause_of_removal, cause_of_write, clone_at, clone_entry, decide,
     displace_for, expires_after_use, find_due, find_excess, first_entry, first_write,
     has_predicates, has_reads, has_writes, is_admitted, is_due, is_held_at, look_up, next_entry,
-    policy_of, rooms_of_removal, upsert, use_found,
+    policy_of, rooms_of_removal, table_wanted, upsert, use_found,
 };
 use engine_reference::{Entry, Notice, Read, Record, Settings, Upsert, Write};
 use engine_rules::{Policy, RemovalCause, Rules};
@@ -709,6 +710,40 @@ impl<K: Eq, V, S, R: Rules<K, V>> BaseCache<K, V, S, R> {
         }
     }
 
+    /// For how many hashes the sketch's table is to be made, where it is.
+    fn table_wanted(&self) -> Option<u32>
+        ensures some { IfSome result (λ hashes. LacksTableFor hashes self.now) }
+        ensures none { IfNone result (lacks_table self.now ≡ false) }
+    {
+        table_wanted(&self.lists)
+    }
+
+    /// Makes the sketch's table for so many hashes.
+    fn make_table(&mut self, hashes: u32, _now: u64) -> Result<(), AllocError>
+        requires applied { IsApplied self.old }
+        requires lacks { LacksTableFor hashes self.old }
+        ensures chain { Chain (answers_of R.weight_of R.created R.read R.updated R.covers) _now self.old self.new }
+        ensures applied { IsApplied self.new }
+        ensures table { OnOk result (lacks_table self.new ≡ false) }
+        ensures err { OnErr result (self.new ≡ self.old) }
+    {
+        self.lists.make_table(hashes)?;
+        Ok(())
+    }
+
+    /// Makes the sketch's table, where half the capacity is held and there is none.
+    fn grow(&mut self, now: u64) -> Result<(), AllocError>
+        requires { IsApplied self.old }
+        ensures chain { Chain (answers_of R.weight_of R.created R.read R.updated R.covers) now self.old self.new }
+        ensures applied { IsApplied self.new }
+        ensures table { OnOk result (lacks_table self.new ≡ false) }
+    {
+        match self.table_wanted() {
+            Some(hashes) => self.make_table(hashes, now),
+            None => Ok(()),
+        }
+    }
+
     /// Takes down number and weight of the admitted records.
     fn finish_run(&mut self, now: u64)
         ensures { self.new ≡ record self.old { number = admitted_number self.old.records; weight = min (admitted_weight self.old.records) 18446744073709551615; ran = now } }
@@ -718,7 +753,7 @@ impl<K: Eq, V, S, R: Rules<K, V>> BaseCache<K, V, S, R> {
         self.lists.finish_run(number, weight, now);
     }
 
-    /// A run of what has no read and no write to apply.
+    /// A run of what has no read and no write to apply, once the sketch's table was tried.
     fn settle(&mut self, now: u64)
     where
         K: Drop,
@@ -726,6 +761,7 @@ impl<K: Eq, V, S, R: Rules<K, V>> BaseCache<K, V, S, R> {
         requires { IsApplied self.old }
         ensures runs { RunsToEnd (answers_of R.weight_of R.created R.read R.updated R.covers) now self.old self.new }
         ensures none { none_due (answers_of R.weight_of R.created R.read R.updated R.covers) self.new now self.new.records ≡ true }
+        ensures table { lacks_table self.old ≡ false → lacks_table self.new ≡ false }
     {
         self.sweep(now);
         self.end_predicates(now);
@@ -734,6 +770,24 @@ impl<K: Eq, V, S, R: Rules<K, V>> BaseCache<K, V, S, R> {
     }
 
     /// Runs maintenance to its end: all that is pending is applied, what is due leaves, and then the excess. Nothing that is held is then dead or covered.
+    /// Where half the capacity is held and the sketch has no table, it is made first; an error tells that there was no memory for it, and the run is as whole without.
+    pub fn try_run_pending_tasks(&mut self, now: Instant) -> Result<(), AllocError>
+    where
+        K: Drop,
+        V: Drop,
+        ensures runs { RunsToEnd (answers_of R.weight_of R.created R.read R.updated R.covers) now self.old self.new }
+        ensures none { none_due (answers_of R.weight_of R.created R.read R.updated R.covers) self.new now self.new.records ≡ true }
+        ensures table { OnOk result (lacks_table self.new ≡ false) }
+    {
+        let moment = now.as_nanos();
+        self.apply_reads(moment);
+        self.apply_writes(moment);
+        let grown = self.grow(moment);
+        self.settle(moment);
+        grown
+    }
+
+    /// Runs maintenance to its end, whether or not there is memory for the sketch's table.
     pub fn run_pending_tasks(&mut self, now: Instant)
     where
         K: Drop,
@@ -741,10 +795,7 @@ impl<K: Eq, V, S, R: Rules<K, V>> BaseCache<K, V, S, R> {
         ensures runs { RunsToEnd (answers_of R.weight_of R.created R.read R.updated R.covers) now self.old self.new }
         ensures none { none_due (answers_of R.weight_of R.created R.read R.updated R.covers) self.new now self.new.records ≡ true }
     {
-        let moment = now.as_nanos();
-        self.apply_reads(moment);
-        self.apply_writes(moment);
-        self.settle(moment);
+        let _grown = self.try_run_pending_tasks(now);
     }
 
     // ---- uses
