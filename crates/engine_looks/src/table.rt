@@ -9,6 +9,7 @@ use policy_sketch::FrequencySketch;
 
 /// The least and the most hashes for which a table is made.
 const LEAST_HASHES: u128 = 128;
+
 const MOST_HASHES: u128 = 4_294_967_295;
 
 /// For how many hashes the table is made: for the capacity, or where weight is held for as many of that weight as fit.

@@ -1,14 +1,13 @@
 -- The sketch's table: what is made where it is wanted, and that it is not wanted again.
-use Rattle.std.proofs.Common.{◌≡◌, refl, ap, sym, ◌∙◌, subst, ℕ, ◌<◌, ◌≤◌, ◌/◌, ◌^◌, arith, Bool, true, false, cond, not, ◌&&◌, List, [], ◌∷◌, Option, Some, None}
-use Rattle.std.specs.Prelude.{min, max, nat_lt, nat_le, ◌==◌}
+use Rattle.std.proofs.Common.{◌≡◌, refl, ap, sym, ◌∙◌, subst, ℕ, ◌<◌, ◌≤◌, ◌/◌, ◌^◌, arith, Bool, true, false, cond, ◌&&◌, List, [], ◌∷◌, Option, Some, None}
+use Rattle.std.specs.Prelude.{min, nat_lt, nat_le, ◌==◌}
 use Rattle.std.specs.Int.{IsNextPowerOfTwo}
 use Rattle.std.proofs.lemmas.Bool.{lt-ltb, leb-false, lt-leb, ne_eqb, eqb-true}
 use Rattle.policy_sketch.specs.Counts.{Sketch, fresh, grown}
 use Rattle.engine_rules.specs.declared.causes.RemovalCause.{RemovalCause}
-use Rattle.engine_reference.specs.declared.data.Read.{Read}
 use Rattle.engine_reference.specs.declared.data.Record.{Record}
 use Rattle.engine_reference.specs.Admission.{sketch_room, wants_table}
-use Rattle.engine_reference.specs.Records.{record_at, without_record, admitted_number, admitted_weight, weight_at}
+use Rattle.engine_reference.specs.Records.{record_at, without_record, admitted_number, admitted_weight}
 use Rattle.engine_reference.specs.Runs.{Step, reads, writes, grows, leaves, evicts, ends, Steps, IsApplied, left, with_left}
 use Rattle.engine_reference.specs.State.{State, Answers}
 use Rattle.engine_reference.proofs.Evicting.{weight-without}

@@ -50,7 +50,11 @@ fn put(cache: &mut Cache, key: u32, weight: u32, step: u64) -> Result<(), Refusa
 
 // Whether a look-up that is a use finds the key.
 fn is_got(cache: &mut Cache, key: u32) -> Result<bool, AllocError> {
-    Ok(cache.get_with_hash(&key, u64::from(key), moment())?.is_some())
+    Ok(
+        cache
+            .get_with_hash(&key, u64::from(key), moment())?
+            .is_some(),
+    )
 }
 
 // A run for which there is memory.
