@@ -5,3 +5,4 @@ pub mod Applying
 pub mod Outcomes
 pub mod Unsettled
 pub mod Tables
+pub mod Sweeping

@@ -1,9 +1,10 @@
 //! The cache.
-ghost use Rattle.std.specs.Prelude.{◌≡◌, ℕ, ◌+◌, ◌-◌, ◌<◌, ◌≤◌, ◌^◌, Bool, true, false, [], ◌∷◌, ◌⊎◌, ◌++◌, length, drop, min, remove, slice_get, slice_set, is_some, Some, None, IfSome, IfNone, IfOk, OnOk, OnErr, if◌then◌else◌, option_map};
+ghost use Rattle.std.specs.Prelude.{◌≡◌, ℕ, ◌+◌, ◌-◌, ◌<◌, ◌≤◌, ◌^◌, Bool, true, false, List, [], ◌∷◌, ◌⊎◌, ◌++◌, length, drop, min, remove, slice_get, slice_set, is_some, Some, None, IfSome, IfNone, IfOk, OnOk, OnErr, if◌then◌else◌, option_map};
 ghost use Rattle.std.specs.Duration.{as_nanos};
 ghost use Rattle.std.specs.Result.{IsErrOf};
 ghost use Rattle.engine_reference.specs.Admission.{Verdict, admit, displace, refuse, verdict, is_above, shortest_front, wants_table};
 ghost use Rattle.engine_reference.specs.Calls.{without_ticket, IsNew, written, with_written, sent, unsent_at, is_full, removed_by, removal_told, LooksUp, MaintainsIfDue, with_read, cleared_by, without_notice, with_room, used_entry};
+ghost use Rattle.engine_reference.specs.Laws.{CountsExactly};
 ghost use Rattle.engine_reference.specs.Records.{admitted_number, moved_to_back, held_at, record_at, held_weight, settled_in, admitted_weight, is_settled};
 ghost use Rattle.engine_reference.specs.Runs.{counting, put_off, is_due_for, Step, RunsToEnd, after_read, after_hit, after_write, after_put, IsApplied, next_to_evict, left, all_left, is_overtaken, is_due};
 ghost use Rattle.engine_reference.specs.Visible.{visible_record, visible_value, cause_of_write};
@@ -14,6 +15,7 @@ ghost use Rattle.engine_reference.specs.declared.data.Upsert.{Upsert};
 ghost use Rattle.engine_reference.specs.declared.data.Write.{Write};
 ghost use Rattle.engine_reference.specs.declared.data.Write.TheVariants.{Put, Removed};
 ghost use Rattle.engine_rules.specs.declared.causes.RemovalCause.TheVariants as cause;
+ghost use Rattle.engine_laws.specs.Sweeping.{IsSwept, LeavesNoneDue};
 ghost use Rattle.engine_lists.specs.Asking.{answers_of};
 ghost use Rattle.engine_looks.specs.Chains.{Chain, none_due, is_admitted};
 ghost use Rattle.engine_looks.specs.Displacing.{front_of, displaced};
@@ -770,6 +772,7 @@ impl<K: Eq, V, S, R: Rules<K, V>> BaseCache<K, V, S, R> {
     }
 
     /// Runs maintenance to its end: all that is pending is applied, what is due leaves, and then the excess. Nothing that is held is then dead or covered.
+    /// Where all tickets were sent as it began, the counts are exact, nothing that is kept is due, and the run did what laws on runs ask of one that looks at times.
     /// Where half the capacity is held and the sketch has no table, it is made first; an error tells that there was no memory for it, and the run is as whole without.
     pub fn try_run_pending_tasks(&mut self, now: Instant) -> Result<(), AllocError>
     where
@@ -777,8 +780,12 @@ impl<K: Eq, V, S, R: Rules<K, V>> BaseCache<K, V, S, R> {
         V: Drop,
         ensures runs { RunsToEnd (answers_of R.weight_of R.created R.read R.updated R.covers) now self.old self.new }
         ensures none { none_due (answers_of R.weight_of R.created R.read R.updated R.covers) self.new now self.new.records ≡ true }
+        ensures counts { self.old.unsent ≡ [] → CountsExactly K V R.Predicate S R (answers_of R.weight_of R.created R.read R.updated R.covers) self.new }
+        ensures due { self.old.unsent ≡ [] → LeavesNoneDue now self.new }
+        ensures swept { self.old.unsent ≡ [] → (order : List ℕ) → IsSwept now order self.old self.new }
         ensures table { OnOk result (lacks_table self.new ≡ false) }
     {
+        let _ = &self.lists;
         let moment = now.as_nanos();
         self.apply_reads(moment);
         self.apply_writes(moment);
@@ -794,6 +801,9 @@ impl<K: Eq, V, S, R: Rules<K, V>> BaseCache<K, V, S, R> {
         V: Drop,
         ensures runs { RunsToEnd (answers_of R.weight_of R.created R.read R.updated R.covers) now self.old self.new }
         ensures none { none_due (answers_of R.weight_of R.created R.read R.updated R.covers) self.new now self.new.records ≡ true }
+        ensures counts { self.old.unsent ≡ [] → CountsExactly K V R.Predicate S R (answers_of R.weight_of R.created R.read R.updated R.covers) self.new }
+        ensures due { self.old.unsent ≡ [] → LeavesNoneDue now self.new }
+        ensures swept { self.old.unsent ≡ [] → (order : List ℕ) → IsSwept now order self.old self.new }
     {
         let _grown = self.try_run_pending_tasks(now);
     }

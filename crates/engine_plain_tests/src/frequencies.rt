@@ -80,7 +80,7 @@ fn warm(rt: &impl Abort, cache: &mut Cache, weights: [u32; 3]) -> Result<(), Ref
     put(cache, 1, weights[1], 2)?;
     assert!(rt; is_got(cache, 0)?);
     assert!(rt; is_got(cache, 1)?);
-    run(rt, cache);
+    cache.run_pending_tasks(moment());
     put(cache, 2, weights[2], 3)?;
     assert!(rt; is_got(cache, 2)?);
     run(rt, cache);
