@@ -6,3 +6,5 @@ pub mod Outcomes
 pub mod Unsettled
 pub mod Tables
 pub mod Sweeping
+pub mod Registering
+pub mod Passing
