@@ -7,6 +7,7 @@ mod due;
 mod entries;
 mod looks;
 mod settings;
+mod table;
 mod uses;
 
 pub use deciding::{Decision, decide, is_above};
@@ -20,4 +21,5 @@ pub use looks::{
     clone_at, first_write, has_predicates, has_reads, has_writes, is_admitted, is_held_at, look_up,
 };
 pub use settings::policy_of;
+pub use table::table_wanted;
 pub use uses::{is_due, use_found};
