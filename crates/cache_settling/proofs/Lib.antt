@@ -3,6 +3,7 @@ pub mod Answered
 pub mod Chain
 pub mod GiveUps
 pub mod Leading
+pub mod Noting
 pub mod Outcomes
 pub mod Placed
 pub mod Stored
