@@ -11,7 +11,7 @@ mod uses;
 
 pub use deciding::{Decision, decide, is_above};
 pub use displacing::displace_for;
-pub use due::{find_due, find_excess};
+pub use due::{find_due, find_excess, record_in};
 pub use entries::{
     beside, cause_of_removal, cause_of_write, clone_entry, expires_after_use, first_entry,
     next_entry, rooms_of_removal, upsert,

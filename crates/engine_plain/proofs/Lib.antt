@@ -4,3 +4,5 @@ pub mod Covering
 pub mod Applying
 pub mod Outcomes
 pub mod Unsettled
+pub mod Registering
+pub mod Passing

@@ -34,6 +34,9 @@ use policy_base::Instant;
 use std::alloc::{AllocError, Global};
 use std::marker::Model;
 
+mod predicates;
+mod scans;
+
 /// A cache of one part. Steps rise from call to call; moments may be any.
 #[derive(Drop)]
 pub struct BaseCache<K: Eq, V, S, R: Rules<K, V>> {
