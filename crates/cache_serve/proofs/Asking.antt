@@ -55,6 +55,12 @@ pub asks-left : {E : Type 0} (i : Input) (a b : Lists) (r : Result Output E) →
 asks-left i a b (Ok output) g same = inr (asks-one i output a b g)
 asks-left i a b (Err e) g same = inl (asks-none (namespace_of i) a b same)
 
+-- so it is behind what asked nothing
+pub asks-after : {E : Type 0} (i : Input) (a b d : Lists) (r : Result Output E) → SameReceipts a b → IfOk r (λ output. (number : ℕ) × Gains b d (namespace_of i) (receipt_for i output number)) → OnErr r (SameReceipts b d)
+    → AsksOrNot (namespace_of i) a d i
+asks-after i a b d (Ok output) same g none = inr (asks-more (namespace_of i) a b d [] (i ∷ []) (asks-none (namespace_of i) a b same) (asks-one i output b d g))
+asks-after i a b d (Err e) same g none = inl (asks-none (namespace_of i) a d (λ n. none n ∙ same n))
+
 -- an opening that was taken
 pub opens-one : (n : ℕ) (output : Output) (conn : Conn) (a b : Lists) → output ≡ Opened conn → (number : ℕ) × Gains a b n (receipt_for (input.Open n) output number) → Opens n a b conn
 opens-one n output conn a b is g = record { first = receipt_for (input.Open n) output g.0; asked = refl; opened = is; grows = grows-one n a b (receipt_for (input.Open n) output g.0) g.1 }
