@@ -132,7 +132,7 @@ module _ {X : Type 0} where
       let rest = joined (drop (k + 1) lists) in
       append_assoc (joined (take k lists)) (take n x) (drop n x ++ rest)
       ∙ ap (λ l. joined (take k lists) ++ l) (sym (append_assoc (take n x) (drop n x) rest) ∙ ap (λ l. l ++ rest) (take-append-drop n x)
-          ∙ ap (λ m. x ++ joined (drop m lists)) (add-one k) ∙ sym (joined-from lists k))
+      ∙ ap (λ m. x ++ joined (drop m lists)) (add-one k) ∙ sym (joined-from lists k))
       ∙ joined-parts lists k
 
 -- the notes before a place, and those from there on, are all
@@ -144,14 +144,14 @@ all-notes records told =
     let whole : rest_in lists 0 0 ≡ before_in lists told.list told.note ++ rest_in lists told.list told.note = sym (joined-from lists 0) ∙ sym (parts-in lists told.list told.note) in
     ap notes_in (sym (take-append-drop k records)) ∙ flat_map-append (λ (entry : Record). joined (lists_of entry)) (take k records) (drop k records)
     ∙ ap (λ l. notes_in (take k records) ++ l) (records-from records k ∙ ap (λ m. rest_in lists 0 0 ++ notes_in (drop m records)) (sym (add-one k)) ∙ ap (λ l. l ++ rest) whole
-        ∙ append_assoc (before_in lists told.list told.note) (rest_in lists told.list told.note) rest)
+    ∙ append_assoc (before_in lists told.list told.note) (rest_in lists told.list told.note) rest)
     ∙ sym (append_assoc (notes_in (take k records)) (before_in lists told.list told.note) (rest_in lists told.list told.note ++ rest))
 
 -- so what was taken grows by what a taking gives
 pub told-grows : (records : List Record) (was is : Told) (given : List Note) → notes_from records was ≡ given ++ notes_from records is → notes_before records is ≡ notes_before records was ++ given
 told-grows records was is given e =
     append_cancel_right (notes_before records is) (notes_before records was ++ given) (notes_from records is)
-        (sym (all-notes records is) ∙ all-notes records was ∙ ap (λ l. notes_before records was ++ l) e ∙ sym (append_assoc (notes_before records was) given (notes_from records is)))
+    (sym (all-notes records is) ∙ all-notes records was ∙ ap (λ l. notes_before records was ++ l) e ∙ sym (append_assoc (notes_before records was) given (notes_from records is)))
 
 module _ {E : Type 0} where
   pub told-note : (records : List Record) (was is : Told) (r : Result (Option Note) E) → IfOk r (λ note. notes_from records was ≡ option_to_list note ++ notes_from records is)

@@ -140,6 +140,7 @@ module _ {K : Type 0} (reads : K → ℕ → K → Type 0) (conn : Conn) where
             told = f.feeds.told;
             few = f.few;
           }
+
       go : AsksOrNot conn.namespace c d (input.Close conn) → Attends reads a d r q k l n conn
       go (inl none) = whole false none
       go (inr asks) = whole true asks

@@ -36,13 +36,13 @@ comes (input.Close conn) opened happened steps e =
     subst (λ h. IsTrue (is_output_for (input.Close conn) (output_with conn.namespace h steps))) (chosen (conn.namespace == conn.namespace) (event.Close conn.number) happened e) refl
 comes (input.Feed conn piece moment) opened happened steps e =
     subst (λ h. IsTrue (is_output_for (input.Feed conn piece moment) (output_with conn.namespace h steps)))
-        (chosen (conn.namespace == conn.namespace) (event.Feed conn.number piece moment) happened e) (fed-so (last_is_held steps))
+    (chosen (conn.namespace == conn.namespace) (event.Feed conn.number piece moment) happened e) (fed-so (last_is_held steps))
 comes (input.Answer load outcome moment) opened happened steps e =
     subst (λ h. IsTrue (is_output_for (input.Answer load outcome moment) (output_with load.namespace h steps)))
-        (chosen (load.namespace == load.namespace) (event.Answer load.number outcome moment) happened e) refl
+    (chosen (load.namespace == load.namespace) (event.Answer load.number outcome moment) happened e) refl
 comes (input.GiveUp load moment) opened happened steps e =
     subst (λ h. IsTrue (is_output_for (input.GiveUp load moment) (output_with load.namespace h steps)))
-        (chosen (load.namespace == load.namespace) (event.GiveUp load.number moment) happened e) refl
+    (chosen (load.namespace == load.namespace) (event.GiveUp load.number moment) happened e) refl
 
 came : (i : Input) (output : Output) (old new : List Space) (events : ℕ) → Reached old events → Performs i output old new → IsTrue (is_output_for i output)
 came i output old new events r a =
