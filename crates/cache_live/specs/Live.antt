@@ -3,9 +3,10 @@ use Rattle.std.specs.Prelude.{ℕ, List, []}
 use Rattle.std.specs.List.{slice_get}
 use Rattle.std.specs.Option.{option_map_or}
 use Rattle.audit_model.specs.declared.input.Conn.{Conn}
+use Rattle.audit_model.specs.declared.transcript.Note.{Note}
 use Rattle.cache_live.specs.declared.live.LiveService.{LiveService}
 use Rattle.cache_spaces.specs.Services.{spaces_of}
-use Rattle.cache_spaces.specs.Spaces.{output_of}
+use Rattle.cache_spaces.specs.Spaces.{notices_of, output_of}
 use Rattle.cache_spaces.specs.declared.service.Service.{Service}
 
 abbrev pub service_of : LiveService → Service
@@ -18,3 +19,7 @@ events_of live = live.events
 -- the reply bytes of a connection that were not taken
 abbrev pub untaken_of : LiveService → Conn → List ℕ
 untaken_of live conn = option_map_or (λ space. output_of space conn.number) (slice_get (spaces_of live.service) conn.namespace) []
+
+-- the notes of a namespace that were told and not taken
+abbrev pub untold_of : LiveService → ℕ → List Note
+untold_of live namespace = option_map_or notices_of (slice_get (spaces_of live.service) namespace) []

@@ -35,9 +35,11 @@ impl Core for LiveService {
 }
 
 impl Takings for LiveService {
-    ghost use Rattle.cache_live.specs.Live.{service_of, untaken_of};
+    ghost use Rattle.cache_live.specs.Live.{service_of, untaken_of, untold_of};
 
     ghost untaken = { untaken_of };
+
+    ghost untold = { untold_of };
 
     fn take_output(&mut self, conn: Conn) -> Result<Vec<u8>, ServiceError> {
         LiveService::take_output(self, conn)
@@ -49,5 +51,9 @@ impl Takings for LiveService {
 
     fn closed(&self, conn: Conn) -> Result<Option<Closing>, ServiceError> {
         LiveService::closed(self, conn)
+    }
+
+    fn waiting(&self, conn: Conn) -> Result<bool, ServiceError> {
+        self.service().waiting(conn)
     }
 }

@@ -1,3 +1,4 @@
 pub mod Cursors
+pub mod Notes
 pub mod Replies
 pub mod Read

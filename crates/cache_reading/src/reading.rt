@@ -1,15 +1,17 @@
 //! A recording service, and how far it was read.
-ghost use Rattle.std.specs.Prelude.{◌≡◌, [], length, drop, IfOk};
+ghost use Rattle.std.specs.Prelude.{◌≡◌, ℕ, ◌<◌, ◌++◌, [], length, drop, vec_len, IsNone, IfOk, OnOk, OnErr};
+ghost use Rattle.std.specs.Option.{option_to_list};
 ghost use Rattle.cache_reading.specs.Cursors.{cursor_at};
+ghost use Rattle.cache_reading.specs.Notes.{notes_from, told_at};
 ghost use Rattle.cache_reading.specs.Replies.{records_at, replies_to};
 ghost use Rattle.cache_spaces.specs.Journals.{journals_of};
 
 use crate::cursors::{cursor_of, set_cursor};
 use crate::replies::gather_from;
 use crate::told::{Told, copy_note, find_note};
-use audit_model::{Conn, Note, ServiceError};
+use audit_model::{Conn, Note, Record, ServiceError};
 use cache_spaces::RecordedService;
-use std::alloc::Global;
+use std::alloc::{AllocError, Global};
 
 /// A service that keeps journals, whose replies and notes are taken from them. A taking is no event, and leaves the journals as they are.
 #[derive(Drop)]
@@ -23,7 +25,8 @@ pub struct ReadService {
 }
 
 impl ReadService {
-    ghost use Rattle.cache_reading.specs.Read.{recorded_of};
+    ghost use Rattle.cache_reading.specs.Notes.{notes_in};
+    ghost use Rattle.cache_reading.specs.Read.{journals_in, recorded_of, told_in, untold_in};
 
     /// The service, nothing of which was taken.
     pub fn new(alloc: Global, recorded: RecordedService) -> ReadService
@@ -42,6 +45,28 @@ impl ReadService {
         ensures { result.now ≡ recorded_of self.now }
     {
         &self.recorded
+    }
+
+    /// The oldest note of a namespace that was told and not taken. It is no event. The notes that were taken so far are a front of those
+    /// that the namespace's journal holds, in its order, and this is the one behind them.
+    ///
+    /// It is copied. Refused with `NoNamespace`, and with `OutOfMemory` where there is no memory for the copy; then nothing has changed.
+    pub fn next_notice(&mut self, namespace: u64) -> Result<Option<Note>, ServiceError>
+        ensures note { IfOk result (λ note. told_in self.new namespace ≡ told_in self.old namespace ++ option_to_list note) }
+        ensures none { IfOk result (λ note. IsNone note → told_in self.old namespace ≡ notes_in (records_at (journals_in self.old) namespace)) }
+        ensures rest { IfOk result (λ note. untold_in self.old namespace ≡ option_to_list note ++ untold_in self.new namespace) }
+        ensures last { IfOk result (λ note. IsNone note → untold_in self.old namespace ≡ []) }
+        ensures all { notes_in (records_at (journals_in self.new) namespace) ≡ told_in self.new namespace ++ untold_in self.new namespace }
+        ensures kept { OnErr result ((told_in self.new namespace ≡ told_in self.old namespace) × (untold_in self.new namespace ≡ untold_in self.old namespace)) }
+        ensures recorded { recorded_of self.new ≡ recorded_of self.old }
+    {
+        let ReadService {
+            alloc,
+            recorded,
+            told,
+            ..
+        } = self;
+        take_note(*alloc, recorded, told, namespace)
     }
 
     /// The recording service, moved out.
@@ -80,24 +105,42 @@ pub fn take_replies(
     }
 }
 
-/// The oldest note of a namespace that was told and not taken.
+/// The oldest note of a namespace that was told and not taken. It is copied: refused with `OutOfMemory` where there is no memory, and then
+/// it comes with the next taking.
 pub fn take_note(
     alloc: Global,
     recorded: &RecordedService,
     told: &mut Vec<Told>,
     namespace: u64,
-) -> Result<Option<Note>, ServiceError> {
+) -> Result<Option<Note>, ServiceError>
+    ensures note { IfOk result (λ note. notes_from (records_at (journals_of recorded.now) namespace) (told_at told.old.items namespace) ≡ option_to_list note ++ notes_from (records_at (journals_of recorded.now) namespace) (told_at told.new.items namespace)) }
+    ensures none { IfOk result (λ note. IsNone note → notes_from (records_at (journals_of recorded.now) namespace) (told_at told.old.items namespace) ≡ []) }
+    ensures kept { OnErr result (told_at told.new.items namespace ≡ told_at told.old.items namespace) }
+{
     let records = match recorded.journal(namespace) {
         Ok(journal) => journal.records.as_slice(),
         Err(error) => return Err(error),
     };
-    if make_places(told, namespace as usize).is_err() || told.len() <= namespace as usize {
-        return Err(ServiceError::OutOfMemory);
+    match make_places(told, namespace as usize) {
+        Ok(()) => take_at(alloc, records, &mut told[namespace as usize]),
+        Err(_) => Err(ServiceError::OutOfMemory),
     }
-    let place = &mut told[namespace as usize];
-    let Some((note, found)) = find_note(records, *place) else {
+}
+
+/// The first note from a place on, which moves behind it, or to the end where there is none.
+fn take_at(
+    alloc: Global,
+    records: &[Record],
+    place: &mut Told,
+) -> Result<Option<Note>, ServiceError>
+    ensures note { IfOk result (λ note. notes_from records.now place.old ≡ option_to_list note ++ notes_from records.now place.new) }
+    ensures none { IfOk result (λ note. IsNone note → notes_from records.now place.old ≡ []) }
+    ensures kept { OnErr result (place.new ≡ place.old) }
+{
+    let Some((note, behind)) = find_note(records, *place) else {
         *place = Told {
-            record: records.len(),
+            entry: records.len(),
+            list: 0,
             note: 0,
         };
         return Ok(None);
@@ -105,17 +148,29 @@ pub fn take_note(
     let Ok(copy) = copy_note(alloc, note) else {
         return Err(ServiceError::OutOfMemory);
     };
-    *place = Told {
-        record: found.record,
-        note: found.note.saturating_add(1),
-    };
+    *place = behind;
     Ok(Some(copy))
 }
 
 /// Makes places up to that namespace's.
-fn make_places(told: &mut Vec<Told>, namespace: usize) -> Result<(), std::alloc::AllocError> {
-    for _missing in told.len()..namespace.saturating_add(1) {
-        told.push(Told { record: 0, note: 0 })?;
+fn make_places(told: &mut Vec<Told>, namespace: usize) -> Result<(), AllocError>
+    ensures same { (other : ℕ) → told_at told.new.items other ≡ told_at told.old.items other }
+    ensures made { OnOk result (namespace < vec_len told.new) }
+{
+    if namespace < told.len() {
+        return Ok(());
     }
+    let missing = namespace - told.len();
+    for made in 0..missing {
+        told.push(FIRST)?;
+    }
+    told.push(FIRST)?;
     Ok(())
 }
+
+/// The place of a namespace's first note.
+const FIRST: Told = Told {
+    entry: 0,
+    list: 0,
+    note: 0,
+};

@@ -1,5 +1,5 @@
 //! The core that keeps its journals, and whose replies are taken.
-use crate::reading::{ReadService, take_note, take_replies};
+use crate::reading::{ReadService, take_replies};
 use audit_model::{Closing, Conn, Input, Note, ServiceError, Transcript};
 use cache_shared::{Core, Takings};
 use cache_spaces::{Output, RecordedService, Refusal};
@@ -37,9 +37,11 @@ impl Core for ReadService {
 }
 
 impl Takings for ReadService {
-    ghost use Rattle.cache_reading.specs.Read.{untaken_in};
+    ghost use Rattle.cache_reading.specs.Read.{untaken_in, untold_in};
 
     ghost untaken = { untaken_in };
+
+    ghost untold = { untold_in };
 
     fn take_output(&mut self, conn: Conn) -> Result<Vec<u8>, ServiceError> {
         let ReadService {
@@ -52,16 +54,14 @@ impl Takings for ReadService {
     }
 
     fn next_notice(&mut self, namespace: u64) -> Result<Option<Note>, ServiceError> {
-        let ReadService {
-            alloc,
-            recorded,
-            told,
-            ..
-        } = self;
-        take_note(*alloc, recorded, told, namespace)
+        ReadService::next_notice(self, namespace)
     }
 
     fn closed(&self, conn: Conn) -> Result<Option<Closing>, ServiceError> {
         self.recorded.service().closed(conn)
+    }
+
+    fn waiting(&self, conn: Conn) -> Result<bool, ServiceError> {
+        self.recorded.service().waiting(conn)
     }
 }

@@ -83,19 +83,20 @@ pub writes-these : {X : Type 0} (Q : X → List ℕ → Type 0) (mine own : X) (
     → Writes (Q own) 1 a b rest
 writes-these Q mine own a b held text rest taken same is s = writes-one (Q own) a b held rest (subst (λ x. Q x held) same taken) (subst (λ t. SentBut rest t a b) is s)
 
-module _ {C : Type 0} (service : C → Service) (events : C → ℕ) (untaken : C → Conn → List ℕ) where
+module _ {C : Type 0} (service : C → Service) (events : C → ℕ) (untaken : C → Conn → List ℕ) (namespace : ℕ) (Asked : Conn → Type 0) where
   -- nothing was written
-  pub serves-none : (i j namespace : ℕ) (a : Option (List ℕ)) → j ≤ i + 1 → (rest : List ℕ) × Serves service events untaken i j a a rest
-  serves-none i j namespace a few = ([], record { conn = record { namespace = namespace; number = 0 }; count = 0; counted = omega arith; writes = writes-none _ a })
+  pub serves-none : (i j : ℕ) (a : Option (List ℕ)) → j ≤ i + 1 → Asked (record { namespace = namespace; number = 0 }) → (rest : List ℕ) × Serves service events untaken namespace Asked i j a a rest
+  serves-none i j a few asked = ([], record { conn = record { namespace = namespace; number = 0 }; here = refl; asked = asked; count = 0; counted = omega arith; writes = writes-none _ a })
 
   -- a connection that was opened, served and closed
-  pub serves-so : (i j k l : ℕ) (conn : Conn) (a b : Option (List ℕ)) {T E : Type 0} (r : Result T E) → j ≡ i + 1 → l ≤ k + 1
-      → OnOk r (Answers (λ text. ∥ WereUntaken service events untaken conn text ∥₁) j k a b) → OnOk r (Serves service events untaken i l a b [])
-  serves-so i j k l conn a b (Ok u) opened closed x = record { conn = conn; count = x.count; counted = let p = x.counted in omega arith; writes = x.writes }
-  serves-so i j k l conn a b (Err e) opened closed x = x
+  pub serves-so : (i j k l : ℕ) (conn : Conn) (a b : Option (List ℕ)) {T E : Type 0} (r : Result T E) → conn.namespace ≡ namespace → Asked conn → j ≡ i + 1 → l ≤ k + 1
+      → OnOk r (Answers (λ text. ∥ WereUntaken service events untaken conn text ∥₁) j k a b) → OnOk r (Serves service events untaken namespace Asked i l a b [])
+  serves-so i j k l conn a b (Ok u) here asked opened closed x = record { conn = conn; here = here; asked = asked; count = x.count; counted = let p = x.counted in omega arith; writes = x.writes }
+  serves-so i j k l conn a b (Err e) here asked opened closed x = x
 
   -- one that was cut
-  pub serves-cut : (i j k l : ℕ) (conn : Conn) (a b : Option (List ℕ)) {T E : Type 0} (r : Result T E) → j ≡ i + 1 → l ≤ k + 1
-      → OnErr r (Breaks (λ text. ∥ WereUntaken service events untaken conn text ∥₁) j k a b) → OnErr r ((rest : List ℕ) × Serves service events untaken i l a b rest)
-  serves-cut i j k l conn a b (Ok u) opened closed x = x
-  serves-cut i j k l conn a b (Err e) opened closed x = (x.rest, record { conn = conn; count = x.count; counted = let p = x.counted in omega arith; writes = x.writes })
+  pub serves-cut : (i j k l : ℕ) (conn : Conn) (a b : Option (List ℕ)) {T E : Type 0} (r : Result T E) → conn.namespace ≡ namespace → Asked conn → j ≡ i + 1 → l ≤ k + 1
+      → OnErr r (Breaks (λ text. ∥ WereUntaken service events untaken conn text ∥₁) j k a b) → OnErr r ((rest : List ℕ) × Serves service events untaken namespace Asked i l a b rest)
+  serves-cut i j k l conn a b (Ok u) here asked opened closed x = x
+  serves-cut i j k l conn a b (Err e) here asked opened closed x =
+      (x.rest, record { conn = conn; here = here; asked = asked; count = x.count; counted = let p = x.counted in omega arith; writes = x.writes })

@@ -32,10 +32,13 @@ pub record Breaks (IsTaken : List ℕ → Type 0) (inputs later : ℕ) (before a
   pub writes : Writes IsTaken count before after rest
 
 module _ {C : Type 0} (service : C → Service) (events : C → ℕ) (untaken : C → Conn → List ℕ) where
-  -- The texts are the replies of one connection, each taken from a service to which some journals that obey lead. They are as many as the
-  -- inputs that the seat counts, but for those that open and close the connection, and one that was not answered.
-  pub record Serves (inputs later : ℕ) (before after : Option (List ℕ)) (rest : List ℕ) : Type 0 where
+  -- The texts are the replies of one connection of that namespace, each taken from a service to which some journals that obey lead. They
+  -- are as many as the inputs that the seat counts, but for those that open and close the connection, and one that was not answered. That
+  -- was asked for the connection.
+  pub record Serves (namespace : ℕ) (Asked : Conn → Type 0) (inputs later : ℕ) (before after : Option (List ℕ)) (rest : List ℕ) : Type 0 where
     pub conn : Conn
+    pub here : conn.namespace ≡ namespace
+    pub asked : Asked conn
     pub count : ℕ
     pub counted : later ≤ inputs + count + 3
     pub writes : Writes (λ text. ∥ WereUntaken service events untaken conn text ∥₁) count before after rest

@@ -1,9 +1,12 @@
 //! One connection of a shared service, from its opening to its closing.
-ghost use Rattle.std.specs.Prelude.{◌≡◌, ◌≢◌, ◌≤◌, ◌+◌, List, ℕ, [], IfErr, OnOk, OnErr, IsErrOf};
+ghost use Rattle.std.specs.Prelude.{◌≡◌, ◌≢◌, ◌≤◌, ◌+◌, List, ℕ, [], true, IfOk, IfErr, OnOk, OnErr, IsErrOf};
+ghost use Rattle.audit_model.specs.declared.input.Input.TheVariants as asked;
 ghost use Rattle.cache_devices.specs.Failures.{HasFailed};
 ghost use Rattle.cache_devices.specs.Watched.{device, failures};
 ghost use Rattle.cache_run.specs.Turns.{HasToldLate};
+ghost use Rattle.cache_serve.specs.Asked.{AsksOrNot, Attends, AttendsOrNot, FeedsMost, Opens};
 ghost use Rattle.cache_serve.specs.Written.{Answers, Breaks, Serves};
+ghost use Rattle.cache_shared.specs.Seats.{SameReceipts};
 ghost use Rattle.cache_shared.specs.Untaken.{WereUntaken};
 
 use crate::devices::{Teller, Untold};
@@ -32,16 +35,20 @@ fn open_connection<L: Seating, C: Takings>(
     ensures closed { OnErr result (seat.new.count ≤ seat.old.count + 1) }
     ensures count { seat.old.count ≤ seat.new.count }
     ensures causes { IfErr result (λ e. (e ≢ RunError.Read) × (e ≢ RunError.Write) × (e ≢ RunError.Moment)) }
+    ensures here { IfOk result (λ conn. conn.namespace ≡ namespace) }
+    ensures asked { C.KEEPS ≡ true → IfOk result (λ conn. Opens namespace seat.old.receipts.items seat.new.receipts.items conn) }
+    ensures same { C.KEEPS ≡ true → OnErr result (SameReceipts seat.old.receipts.items seat.new.receipts.items) }
 {
     match shared.step(rt, seat, Input::Open { namespace }) {
         Ok(Output::Opened { conn }) => Ok(conn),
+        Ok(_) => unreachable!(),
         Err(
             Refusal {
                 error: ServiceError::UsedUp,
                 ..
             },
         ) => Err(RunError::UsedUp),
-        _ => Err(RunError::OutOfMemory),
+        Err(_) => Err(RunError::OutOfMemory),
     }
 }
 
@@ -54,6 +61,7 @@ fn close_if_open<L: Seating, C: Takings>(
 )
     ensures one { seat.new.count ≤ seat.old.count + 1 }
     ensures count { seat.old.count ≤ seat.new.count }
+    ensures asked { C.KEEPS ≡ true → AsksOrNot conn.namespace seat.old.receipts.items seat.new.receipts.items (asked.Close conn) }
 {
     for _try in 0..u64::MAX {
         match shared.step(rt, seat, Input::Close { conn }) {
@@ -87,6 +95,7 @@ fn converse<L: Seating, C: Takings, I: Read, O: Write, K: Clock, T: Teller, R: W
     ensures read { IsErrOf result RunError.Read → HasFailed (failures reader.old) (failures reader.new) }
     ensures write { IsErrOf result RunError.Write → HasFailed (failures writer.old) (failures writer.new) }
     ensures moment { IsErrOf result RunError.Moment → HasToldLate K.reads clock.new }
+    ensures asked { C.KEEPS ≡ true → FeedsMost K.reads seat.old.receipts.items seat.new.receipts.items (I.remaining (device reader.old)) (I.remaining (device reader.new)) clock.old clock.new conn }
 {
     for _turn in 0..u64::MAX {
         match take_turn(
@@ -103,6 +112,9 @@ fn converse<L: Seating, C: Takings, I: Read, O: Write, K: Clock, T: Teller, R: W
 /// Serves one connection of a namespace that there is, from its opening to the end of its input, where it is closed, or until it has
 /// closed. Each of its events is one hold of the lock, and counted by the seat. While replies wait to be written, nothing is read.
 ///
+/// Where the service keeps journals, so that the seat has a receipt of each event, these are an opening, the pieces read with the clock's
+/// readings, and a closing, in this order. A last piece that was refused has none, and neither has a closing that was.
+///
 /// In this stage no load goes out, and the loader is not asked. The notes stay to be taken.
 pub fn serve<L: Seating, C: Takings, I: Read, O: Write, K: Clock, D: Loader, R: Wait>(
     rt: &R,
@@ -115,8 +127,8 @@ pub fn serve<L: Seating, C: Takings, I: Read, O: Write, K: Clock, D: Loader, R: 
     clock: &mut K,
     loader: &mut D,
 ) -> Result<(), RunError>
-    ensures wrote { OnOk result (Serves C.service C.events C.untaken seat.old.count seat.new.count (O.contents (device writer.old)) (O.contents (device writer.new)) []) }
-    ensures broke { OnErr result ((rest : List ℕ) × Serves C.service C.events C.untaken seat.old.count seat.new.count (O.contents (device writer.old)) (O.contents (device writer.new)) rest) }
+    ensures wrote { OnOk result (Serves C.service C.events C.untaken namespace (λ conn. C.KEEPS ≡ true → Attends K.reads seat.old.receipts.items seat.new.receipts.items (I.remaining (device reader.old)) (I.remaining (device reader.new)) clock.old clock.new namespace conn) seat.old.count seat.new.count (O.contents (device writer.old)) (O.contents (device writer.new)) []) }
+    ensures broke { OnErr result ((rest : List ℕ) × Serves C.service C.events C.untaken namespace (λ conn. C.KEEPS ≡ true → AttendsOrNot K.reads seat.old.receipts.items seat.new.receipts.items (I.remaining (device reader.old)) (I.remaining (device reader.new)) clock.old clock.new namespace conn) seat.old.count seat.new.count (O.contents (device writer.old)) (O.contents (device writer.new)) rest) }
     ensures count { seat.old.count ≤ seat.new.count }
     ensures read { IsErrOf result RunError.Read → HasFailed (failures reader.old) (failures reader.new) }
     ensures write { IsErrOf result RunError.Write → HasFailed (failures writer.old) (failures writer.new) }
@@ -162,8 +174,8 @@ pub fn serve_and_tell<
     loader: &mut D,
     teller: &mut T,
 ) -> Result<(), RunError>
-    ensures wrote { OnOk result (Serves C.service C.events C.untaken seat.old.count seat.new.count (O.contents (device writer.old)) (O.contents (device writer.new)) []) }
-    ensures broke { OnErr result ((rest : List ℕ) × Serves C.service C.events C.untaken seat.old.count seat.new.count (O.contents (device writer.old)) (O.contents (device writer.new)) rest) }
+    ensures wrote { OnOk result (Serves C.service C.events C.untaken namespace (λ conn. C.KEEPS ≡ true → Attends K.reads seat.old.receipts.items seat.new.receipts.items (I.remaining (device reader.old)) (I.remaining (device reader.new)) clock.old clock.new namespace conn) seat.old.count seat.new.count (O.contents (device writer.old)) (O.contents (device writer.new)) []) }
+    ensures broke { OnErr result ((rest : List ℕ) × Serves C.service C.events C.untaken namespace (λ conn. C.KEEPS ≡ true → AttendsOrNot K.reads seat.old.receipts.items seat.new.receipts.items (I.remaining (device reader.old)) (I.remaining (device reader.new)) clock.old clock.new namespace conn) seat.old.count seat.new.count (O.contents (device writer.old)) (O.contents (device writer.new)) rest) }
     ensures count { seat.old.count ≤ seat.new.count }
     ensures read { IsErrOf result RunError.Read → HasFailed (failures reader.old) (failures reader.new) }
     ensures write { IsErrOf result RunError.Write → HasFailed (failures writer.old) (failures writer.new) }

@@ -1,9 +1,10 @@
 //! One turn of a connection.
-ghost use Rattle.std.specs.Prelude.{◌≡◌, ◌≢◌, ◌≤◌, ◌+◌, ◌^◌, ℕ, List, [], Ok, IfOk, IfErr, OnOk, OnErr, IsErrOf};
+ghost use Rattle.std.specs.Prelude.{◌≡◌, ◌≢◌, ◌≤◌, ◌+◌, ◌^◌, ◌∷◌, ℕ, List, [], true, Ok, IfOk, IfErr, OnOk, OnErr, IsErrOf};
 ghost use Rattle.cache_devices.specs.Failures.{HasFailed};
 ghost use Rattle.cache_devices.specs.Sent.{SentBut};
 ghost use Rattle.cache_devices.specs.Watched.{device, failures};
 ghost use Rattle.cache_run.specs.Turns.{HasToldLate};
+ghost use Rattle.cache_serve.specs.Asked.{Asks, AsksOrNot, Feeds, FeedsMost, feed_of};
 ghost use Rattle.cache_serve.specs.Written.{Answers, Breaks, Writes};
 ghost use Rattle.cache_shared.specs.Untaken.{WereUntaken};
 
@@ -43,6 +44,8 @@ fn feed_piece<L: Seating, C: Takings>(
     ensures count { seat.old.count ≤ seat.new.count }
     ensures moment { IsErrOf result RunError.Moment → 2 ^ 63 ≤ moment }
     ensures causes { IfErr result (λ e. (e ≢ RunError.Read) × (e ≢ RunError.Write)) }
+    ensures asked { C.KEEPS ≡ true → result ≡ Ok Progress.More → Asks conn.namespace seat.old.receipts.items seat.new.receipts.items (feed_of conn (record { bytes = piece.now; moment = moment }) ∷ []) }
+    ensures left { C.KEEPS ≡ true → AsksOrNot conn.namespace seat.old.receipts.items seat.new.receipts.items (feed_of conn (record { bytes = piece.now; moment = moment })) }
 {
     let Ok(copy) = Vec::from_slice(alloc, piece) else {
         return Err(RunError::OutOfMemory);
@@ -160,6 +163,8 @@ pub fn take_turn<L: Seating, C: Takings, I: Read, O: Write, K: Clock, T: Teller,
     ensures moment { IsErrOf result RunError.Moment → HasToldLate K.reads clock.new }
     ensures reads { failures reader.old ≤ failures reader.new }
     ensures writes { failures writer.old ≤ failures writer.new }
+    ensures asked { C.KEEPS ≡ true → result ≡ Ok Progress.More → Feeds K.reads seat.old.receipts.items seat.new.receipts.items (I.remaining (device reader.old)) (I.remaining (device reader.new)) clock.old clock.new conn [] [] }
+    ensures left { C.KEEPS ≡ true → FeedsMost K.reads seat.old.receipts.items seat.new.receipts.items (I.remaining (device reader.old)) (I.remaining (device reader.new)) clock.old clock.new conn }
 {
     let count = match reader.read(buffer) {
         Ok(count) => count,

@@ -1,3 +1,4 @@
+pub mod Coming
 pub mod Agreeing
 pub mod Counting
 pub mod Keeping

@@ -1,5 +1,5 @@
 -- What inputs do to a service, and where it has come to.
-use Rattle.std.specs.Prelude.{◌≡◌, ℕ, ◌^◌, ◌-◌, ◌≤◌, List, length, Some, sum_by, ◌⊎◌, IsTrue}
+use Rattle.std.specs.Prelude.{◌≡◌, ℕ, ◌^◌, ◌-◌, ◌≤◌, ◌==◌, Bool, true, false, List, length, Some, sum_by, ◌⊎◌, IsTrue}
 use Rattle.std.specs.List.{slice_get}
 use Rattle.audit_model.specs.Belongs.{IsAdmitted, event_in}
 use Rattle.audit_model.specs.Follows.{Follows, after_event, tasks_in}
@@ -14,6 +14,7 @@ use Rattle.audit_model.specs.declared.transcript.Record.{Record}
 use Rattle.audit_model.specs.declared.transcript.Transcript.{Transcript}
 use Rattle.audit_receipts.specs.Answers.{output_of}
 use Rattle.audit_receipts.specs.declared.output.Output.{Output}
+use Rattle.audit_receipts.specs.declared.output.Output.TheVariants.{Opened, All, Held, Done}
 use Rattle.cache_spaces.specs.Journals.{LeadsSo}
 use Rattle.cache_namespace.specs.Ordered.{OrdersSteps}
 use Rattle.cache_spaces.specs.Moves.{At, are_timely_in}
@@ -93,3 +94,35 @@ IsLate (input.Close conn) = ⊥
 IsLate (input.Feed conn piece moment) = 2 ^ 63 ≤ moment.nanos
 IsLate (input.Answer load outcome moment) = 2 ^ 63 ≤ moment.nanos
 IsLate (input.GiveUp load moment) = 2 ^ 63 ≤ moment.nanos
+
+-- the count of a seat, or of all inputs, is used up
+abbrev pub IsUsedUp : ℕ → ℕ → Type 0
+IsUsedUp count events = (count ≡ 2 ^ 64 - 1) ⊎ (events ≡ 2 ^ 64 - 1)
+
+-- so it was of a service that some inputs had come to
+abbrev pub WasUsedUp : {C : Type 0} → (C → ℕ) → ℕ → Type 0
+WasUsedUp {C} events count = (core : C) × IsUsedUp count (events core)
+
+-- an opening comes to a connection of its namespace
+abbrev pub is_opened : ℕ → Output → Bool
+is_opened namespace (Opened conn) = conn.namespace == namespace
+is_opened namespace came = false
+
+-- a piece is taken, and a command of it may be held back
+abbrev pub is_fed : Output → Bool
+is_fed All = true
+is_fed Held = true
+is_fed came = false
+
+-- a closing, an answer or a give-up comes to nothing else
+abbrev pub is_done : Output → Bool
+is_done Done = true
+is_done came = false
+
+-- what an input may come to
+abbrev pub is_output_for : Input → Output → Bool
+is_output_for (input.Open namespace) output = is_opened namespace output
+is_output_for (input.Close conn) output = is_done output
+is_output_for (input.Feed conn piece moment) output = is_fed output
+is_output_for (input.Answer load outcome moment) output = is_done output
+is_output_for (input.GiveUp load moment) output = is_done output

@@ -1,8 +1,8 @@
 //! What lies under the lock.
-ghost use Rattle.std.specs.Prelude.{◌≡◌, ℕ, ◌+◌, ◌≤◌, ◌<◌, ◌++◌, ◌∷◌, [], true, false, Some, length, map, sum_by, vec_len, vec_capacity, IfOk, IfErr, OnOk, OnErr};
+ghost use Rattle.std.specs.Prelude.{◌≡◌, ℕ, ◌+◌, ◌≤◌, ◌<◌, ◌++◌, ◌∷◌, [], true, false, Some, length, map, sum_by, vec_len, vec_capacity, IfOk, IfErr, IsTrue, OnOk, OnErr};
 ghost use Rattle.std.specs.List.{slice_get};
 ghost use Rattle.audit_model.specs.declared.transcript.Transcript.{Transcript};
-ghost use Rattle.cache_shared.specs.Events.{IsLate, Performs, Reached, RefusesStep};
+ghost use Rattle.cache_shared.specs.Events.{IsLate, IsUsedUp, Performs, Reached, RefusesStep, is_output_for};
 ghost use Rattle.cache_shared.specs.Seats.{AgreeAll, Gains, SameReceipts, receipt_for};
 ghost use Rattle.cache_spaces.specs.Recorded.{namespace_of};
 ghost use Rattle.cache_spaces.specs.Services.{spaces_of};
@@ -106,6 +106,8 @@ impl<L: Seating, C: Core> Desk<L, C> {
         ensures uncounted { OnErr result ((C.events self.new.core ≡ C.events self.old.core) × (seat.new.count ≡ seat.old.count)) }
         ensures same { OnErr result (SameReceipts seat.old.receipts.items seat.new.receipts.items) }
         ensures back { IfErr result (λ refusal. refusal.input ≡ input) }
+        ensures output { IfOk result (λ output. IsTrue (is_output_for input output)) }
+        ensures used_up { IfErr result (λ refusal. refusal.error ≡ ServiceError.UsedUp → IsUsedUp seat.old.count (C.events self.old.core)) }
         ensures late { IfErr result (λ refusal. refusal.error ≡ ServiceError.Moment → IsLate input) }
     {
         if C::KEEPS {
@@ -124,6 +126,8 @@ impl<L: Seating, C: Core> Desk<L, C> {
         ensures refused { IfErr result (λ refusal. RefusesStep input refusal.error seat.old.count (C.events self.old.core) (spaces_of (C.service self.old.core)) (spaces_of (C.service self.new.core))) }
         ensures uncounted { OnErr result ((C.events self.new.core ≡ C.events self.old.core) × (seat.new.count ≡ seat.old.count)) }
         ensures back { IfErr result (λ refusal. refusal.input ≡ input) }
+        ensures output { IfOk result (λ output. IsTrue (is_output_for input output)) }
+        ensures used_up { IfErr result (λ refusal. refusal.error ≡ ServiceError.UsedUp → IsUsedUp seat.old.count (C.events self.old.core)) }
     {
         let Seat {
             share,
@@ -149,6 +153,8 @@ impl<L: Seating, C: Core> Desk<L, C> {
         ensures uncounted { OnErr result ((C.events self.new.core ≡ C.events self.old.core) × (seat.new.count ≡ seat.old.count)) }
         ensures same { OnErr result (SameReceipts seat.old.receipts.items seat.new.receipts.items) }
         ensures back { IfErr result (λ refusal. refusal.input ≡ input) }
+        ensures output { IfOk result (λ output. IsTrue (is_output_for input output)) }
+        ensures used_up { IfErr result (λ refusal. refusal.error ≡ ServiceError.UsedUp → IsUsedUp seat.old.count (C.events self.old.core)) }
     {
         let namespace = namespace_of(&input);
         match self.core.journal(namespace) {
@@ -194,6 +200,8 @@ impl<L: Seating, C: Core> Desk<L, C> {
         ensures uncounted { OnErr result ((C.events self.new.core ≡ C.events self.old.core) × (count.new ≡ count.old)) }
         ensures same { OnErr result (own.new.items ≡ own.old.items) }
         ensures back { IfErr result (λ refusal. refusal.input ≡ input) }
+        ensures output { IfOk result (λ output. IsTrue (is_output_for input output)) }
+        ensures used_up { IfErr result (λ refusal. refusal.error ≡ ServiceError.UsedUp → IsUsedUp count.old (C.events self.old.core)) }
     {
         if own.reserve(1).is_err() {
             return Err(Refusal {
@@ -246,8 +254,11 @@ impl<L: Seating, C: Core> Desk<L, C> {
         ensures refused { IfErr result (λ refusal. RefusesStep input refusal.error count.old (C.events self.old.core) (spaces_of (C.service self.old.core)) (spaces_of (C.service self.new.core))) }
         ensures uncounted { OnErr result ((C.events self.new.core ≡ C.events self.old.core) × (count.new ≡ count.old)) }
         ensures back { IfErr result (λ refusal. refusal.input ≡ input) }
+        ensures output { IfOk result (λ output. IsTrue (is_output_for input output)) }
+        ensures used_up { IfErr result (λ refusal. refusal.error ≡ ServiceError.UsedUp → IsUsedUp count.old (C.events self.old.core)) }
     {
         let Desk { core, book, .. } = self;
+        core.stands();
         let Some(next) = count.checked_add(1) else {
             return Err(Refusal {
                 error: ServiceError::UsedUp,
@@ -343,5 +354,10 @@ impl<L: Seating, C: Takings> Desk<L, C> {
     /// Why a connection is closed, if it is.
     pub fn closed(&self, conn: Conn) -> Result<Option<Closing>, ServiceError> {
         self.core.closed(conn)
+    }
+
+    /// Whether a `LOAD` of a connection waits for its load.
+    pub fn waiting(&self, conn: Conn) -> Result<bool, ServiceError> {
+        self.core.waiting(conn)
     }
 }

@@ -1,6 +1,7 @@
 //! The shared form.
-ghost use Rattle.std.specs.Prelude.{◌≡◌, ℕ, ◌+◌, ◌≤◌, [], true, false, map, sum_by, vec_len, vec_capacity, IfOk, IfErr, OnOk, OnErr};
-ghost use Rattle.cache_shared.specs.Events.{IsLate, Reached};
+ghost use Rattle.std.specs.Prelude.{◌≡◌, ℕ, ◌+◌, ◌≤◌, [], true, false, map, sum_by, vec_len, vec_capacity, IfOk, IfErr, IsSome, IsTrue, OnOk, OnErr};
+ghost use Rattle.std.specs.Arc.{arc_value};
+ghost use Rattle.cache_shared.specs.Events.{IsLate, Reached, WasUsedUp, is_output_for};
 ghost use Rattle.cache_shared.specs.Seats.{AgreeAll, Gains, SameReceipts, receipt_for};
 ghost use Rattle.cache_spaces.specs.Recorded.{namespace_of};
 ghost use Rattle.cache_spaces.specs.Services.{spaces_of};
@@ -19,7 +20,7 @@ use std::sync::{Arc, Condvar, Mutex, Wait};
 /// The lock, and what tells of changes.
 #[derive(Drop)]
 struct Inner<L: Seating, C: Core> {
-    desk: Mutex<Option<Desk<L, C>>>,
+    desk: Mutex<Desk<L, C>>,
     changed: Condvar,
 }
 
@@ -29,8 +30,9 @@ struct Inner<L: Seating, C: Core> {
 /// taken. `L` is the ledger of its seats.
 #[derive(Drop)]
 pub struct SharedService<L: Seating, C: Core = RecordedService> {
-    inner: Arc<Inner<L, C>>,
+    inner: Arc<Option<Inner<L, C>>>,
     alloc: Global,
+    ghost full: { IsSome (arc_value inner) },
 }
 
 impl<L: Seating, C: Core> Clone for SharedService<L, C> {
@@ -56,20 +58,25 @@ impl<L: Seating, C: Core> SharedService<L, C> {
         requires parts { (blank.parts ≡ L.parts) × (L.all ≡ L.parts) × (parts ≡ L.parts) }
         ensures back { IfErr result (λ both. (both.0 ≡ core) × (both.1 ≡ blank)) }
     {
-        let Ok(mut inner) = Arc::new(
-            alloc,
-            Inner {
-                desk: Mutex::new(None),
-                changed: Condvar::new(),
-            },
-        ) else {
+        let Ok(mut inner) = Arc::new(alloc, None) else {
             return Err((core, blank));
         };
-        match Arc::get_mut(&mut inner) {
-            Some(open) => *open.desk.get_mut() = Some(Desk::new(core, blank, parts)),
-            None => return Err((core, blank)),
-        }
+        let Some(open) = Arc::get_mut(&mut inner) else {
+            return Err((core, blank));
+        };
+        *open = Some(Inner {
+            desk: Mutex::new(Desk::new(core, blank, parts)),
+            changed: Condvar::new(),
+        });
         Ok(SharedService { inner, alloc })
+    }
+
+    /// The lock, and what tells of changes.
+    fn inner(&self) -> &Inner<L, C> {
+        match &*self.inner {
+            Some(inner) => inner,
+            None => unreachable!(),
+        }
     }
 
     /// A seat for one thread. Refused with `UsedUp` where the ledger has no part left. Takes no memory.
@@ -77,11 +84,9 @@ impl<L: Seating, C: Core> SharedService<L, C> {
         ensures seat { IfOk result (λ seat. (seat.count ≡ 0) × (seat.receipts.items ≡ [])) }
         ensures refused { IfErr result (λ e. e ≡ ServiceError.UsedUp) }
     {
-        let mut guard = self.inner.desk.lock(rt);
-        match &mut *guard {
-            Some(desk) => desk.seat(self.alloc),
-            None => Err(ServiceError::UsedUp),
-        }
+        let mut guard = self.inner().desk.lock(rt);
+        let desk = &mut *guard;
+        desk.seat(self.alloc)
     }
 
     /// Takes one input for a seat, in one hold of the lock. Where it is taken, the seat counts one more, and has one receipt more, of
@@ -96,17 +101,15 @@ impl<L: Seating, C: Core> SharedService<L, C> {
         ensures same { OnErr result (SameReceipts seat.old.receipts.items seat.new.receipts.items) }
         ensures back { IfErr result (λ refusal. refusal.input ≡ input) }
         ensures late { IfErr result (λ refusal. refusal.error ≡ ServiceError.Moment → IsLate input) }
+        ensures output { IfOk result (λ output. IsTrue (is_output_for input output)) }
+        ensures used_up { IfErr result (λ refusal. refusal.error ≡ ServiceError.UsedUp → WasUsedUp C.events seat.old.count) }
     {
-        let mut guard = self.inner.desk.lock(rt);
-        let taken = match &mut *guard {
-            Some(desk) => desk.step(self.alloc, seat, input),
-            None => Err(Refusal {
-                error: ServiceError::UsedUp,
-                input,
-            }),
-        };
+        let inner = self.inner();
+        let mut guard = inner.desk.lock(rt);
+        let desk = &mut *guard;
+        let taken = desk.step(self.alloc, seat, input);
         drop(guard);
-        self.inner.changed.notify_all();
+        inner.changed.notify_all();
         taken
     }
 
@@ -126,19 +129,18 @@ impl<L: Seating, C: Core> SharedService<L, C> {
         ensures reached { IfOk result (λ finished. ∥ Reached (spaces_of (C.service finished.service)) (C.events finished.service) ∥₁) }
         ensures back { IfErr result (λ both. both.1 ≡ seats) }
     {
-        let mut shared = self;
-        let alloc = shared.alloc;
+        let SharedService { mut inner, alloc } = self;
         let mut receipts = Vec::new(alloc);
         let Ok(()) = receipts.reserve(seats.len()) else {
-            return Err((shared, seats));
+            return Err((SharedService { inner, alloc }, seats));
         };
-        let closed = match Arc::get_mut(&mut shared.inner) {
-            Some(inner) => close_if_all(alloc, inner.desk.get_mut(), seats, receipts),
+        let closed = match Arc::get_mut(&mut inner) {
+            Some(slot) => close_if_all(alloc, slot, seats, receipts),
             None => Err(seats),
         };
         match closed {
             Ok(finished) => Ok(finished),
-            Err(seats) => Err((shared, seats)),
+            Err(seats) => Err((SharedService { inner, alloc }, seats)),
         }
     }
 }
@@ -148,11 +150,9 @@ impl<L: Seating, C: Takings> SharedService<L, C> {
     pub fn take_output(&self, rt: &impl Wait, conn: Conn) -> Result<Replies<C>, ServiceError>
         ensures conn { IfOk result (λ replies. replies.conn ≡ conn) }
     {
-        let mut guard = self.inner.desk.lock(rt);
-        match &mut *guard {
-            Some(desk) => desk.take_output(conn),
-            None => Err(ServiceError::NoNamespace),
-        }
+        let mut guard = self.inner().desk.lock(rt);
+        let desk = &mut *guard;
+        desk.take_output(conn)
     }
 
     /// The oldest note of a namespace that was told and not taken, in one hold of the lock. It is no event, and leaves no receipt.
@@ -161,19 +161,28 @@ impl<L: Seating, C: Takings> SharedService<L, C> {
         rt: &impl Wait,
         namespace: u64,
     ) -> Result<Option<Note>, ServiceError> {
-        let mut guard = self.inner.desk.lock(rt);
-        match &mut *guard {
-            Some(desk) => desk.next_notice(namespace),
-            None => Err(ServiceError::NoNamespace),
-        }
+        let mut guard = self.inner().desk.lock(rt);
+        let desk = &mut *guard;
+        desk.next_notice(namespace)
     }
 
     /// Why a connection is closed, if it is, in one hold of the lock.
     pub fn closed(&self, rt: &impl Wait, conn: Conn) -> Result<Option<Closing>, ServiceError> {
-        let guard = self.inner.desk.lock(rt);
-        match &*guard {
-            Some(desk) => desk.closed(conn),
-            None => Err(ServiceError::NoNamespace),
+        let guard = self.inner().desk.lock(rt);
+        guard.closed(conn)
+    }
+
+    /// Waits until no `LOAD` of a connection waits for its load. Each step of a seat lets those that wait look again. Nothing is promised
+    /// but that it returns as it may; where the connection is unknown it returns at once.
+    pub fn await_ready(&self, rt: &impl Wait, seat: &Seat<L>, conn: Conn) {
+        let _seat = seat;
+        let inner = self.inner();
+        let mut guard = inner.desk.lock(rt);
+        for _ in rt.forever() {
+            match guard.waiting(conn) {
+                Ok(true) => guard = inner.changed.wait(rt, guard),
+                _ => return,
+            }
         }
     }
 }
@@ -181,24 +190,31 @@ impl<L: Seating, C: Takings> SharedService<L, C> {
 /// Closes the desk, where these are all seats, and their receipts stand.
 fn close_if_all<L: Seating, C: Core>(
     alloc: Global,
-    slot: &mut Option<Desk<L, C>>,
+    slot: &mut Option<Inner<L, C>>,
     seats: Vec<Seat<L>>,
     receipts: Vec<Vec<Vec<Receipt>>>,
 ) -> Result<Finished<C>, Vec<Seat<L>>>
     requires ledger { L.all ≡ L.parts }
     requires none { receipts.items ≡ [] }
     requires room { vec_len seats ≤ vec_capacity receipts }
+    requires full { IsSome slot.old }
     ensures count { IfOk result (λ finished. C.events finished.service ≡ sum_by (λ seat. seat.count) seats.items) }
     ensures receipts { IfOk result (λ finished. finished.receipts.items ≡ map (λ seat. seat.receipts) seats.items) }
     ensures agree { IfOk result (λ finished. AgreeAll (C.journals finished.service) (λ seat. seat.receipts.items) seats.items) }
     ensures reached { IfOk result (λ finished. ∥ Reached (spaces_of (C.service finished.service)) (C.events finished.service) ∥₁) }
     ensures back { IfErr result (λ back. back ≡ seats) }
+    ensures full { OnErr result (IsSome slot.new) }
 {
-    let Some(desk) = slot.take() else {
-        return Err(seats);
+    let Some(inner) = slot.take() else {
+        unreachable!()
     };
+    let Inner { desk, changed } = inner;
+    let desk = desk.into_inner();
     if !desk.are_all(&seats) || !desk.agrees(alloc, seats.as_slice()) {
-        *slot = Some(desk);
+        *slot = Some(Inner {
+            desk: Mutex::new(desk),
+            changed,
+        });
         return Err(seats);
     }
     Ok(desk.close(seats, receipts))

@@ -1,8 +1,10 @@
 //! What a shared service needs of the service under its lock.
-ghost use Rattle.std.specs.Prelude.{◌≡◌, ℕ, ◌+◌, ◌≤◌, Bool, true, List, [], Some, length, IfOk, IfErr, OnOk, OnErr};
+ghost use Rattle.std.specs.Prelude.{◌≡◌, ℕ, ◌+◌, ◌++◌, ◌≤◌, Bool, true, List, [], Some, length, IsNone, IfOk, IfErr, OnOk, OnErr};
 ghost use Rattle.std.specs.List.{slice_get};
+ghost use Rattle.std.specs.Option.{option_to_list};
 ghost use Rattle.audit_model.specs.declared.input.Conn.{Conn};
 ghost use Rattle.audit_model.specs.declared.input.Input.{Input};
+ghost use Rattle.audit_model.specs.declared.transcript.Note.{Note as Told};
 ghost use Rattle.audit_model.specs.declared.transcript.Transcript.{Transcript};
 ghost use Rattle.audit_receipts.specs.declared.output.Output.{Output};
 ghost use Rattle.cache_shared.specs.Events.{Performs, Reached, RefusesEvent};
@@ -60,6 +62,9 @@ pub trait Takings: Core {
     /// The reply bytes of a connection that were not taken.
     ghost untaken: { Self → Conn → List ℕ };
 
+    /// The notes of a namespace that were told and not taken, in order.
+    ghost untold: { Self → ℕ → List Told };
+
     /// The reply bytes of a connection since the last taking, moved out.
     fn take_output(&mut self, conn: Conn) -> Result<Vec<u8>, ServiceError>
         ensures taken { IfOk result (λ text. text.items ≡ untaken self.old conn) }
@@ -68,8 +73,14 @@ pub trait Takings: Core {
 
     /// The oldest note of a namespace that was told and not taken.
     fn next_notice(&mut self, namespace: u64) -> Result<Option<Note>, ServiceError>
+        ensures note { IfOk result (λ note. untold self.old namespace ≡ option_to_list note ++ untold self.new namespace) }
+        ensures none { IfOk result (λ note. IsNone note → untold self.old namespace ≡ []) }
+        ensures kept { OnErr result (untold self.new namespace ≡ untold self.old namespace) }
         ensures events { Self.events self.new ≡ Self.events self.old };
 
     /// Why a connection is closed, if it is.
     fn closed(&self, conn: Conn) -> Result<Option<Closing>, ServiceError>;
+
+    /// Whether a `LOAD` of a connection waits for its load.
+    fn waiting(&self, conn: Conn) -> Result<bool, ServiceError>;
 }

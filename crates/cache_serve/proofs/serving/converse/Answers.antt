@@ -1,9 +1,11 @@
-use Rattle.std.proofs.Common.{refl, arith}
+use Rattle.std.proofs.Common.{refl, ap, ◌∙◌, Ok, arith}
+use Rattle.cache_run.proofs.Carrying.{same_consumes}
+use Rattle.cache_serve.proofs.Asking.{feeds-more, feeds-none, most-more, most-so}
 use Rattle.cache_serve.proofs.Writing.{answers-more, answers-none, breaks-more}
 use Rattle.cache_serve.proofs.serving.converse.Goals as goal
 
 pub loop-turn-init : goal.loop-turn-init
-loop-turn-init g c = record { count = omega arith; reads = omega arith; writes = omega arith; wrote = answers-none _ _ _ _ refl }
+loop-turn-init g c = record { count = omega arith; reads = omega arith; writes = omega arith; wrote = answers-none _ _ _ _ refl; asked = λ keeps. feeds-none g.K.Clock.reads _ _ _ _ _ _ (λ n. refl) (same_consumes _) }
 
 pub loop-turn-preserved : goal.loop-turn-preserved
 loop-turn-preserved g c = record {
@@ -11,6 +13,7 @@ loop-turn-preserved g c = record {
   reads = let before = c.loop-turn.invariant.reads in let after = c.take_turn.ensures.reads in omega arith;
   writes = let before = c.loop-turn.invariant.writes in let after = c.take_turn.ensures.writes in omega arith;
   wrote = answers-more _ _ _ _ _ _ _ c.loop-turn.invariant.wrote c.in-Ok-More.ensures.ok;
+  asked = λ keeps. feeds-more g.K.Clock.reads _ _ _ _ _ _ _ _ _ _ _ _ (c.loop-turn.invariant.asked keeps) (c.take_turn.ensures.asked keeps (c.in-Ok-More.is ∙ ap Ok c.in-Ok-More.field-0-is));
 }
 
 pub returns-in-Ok-Over-clause-ok : goal.returns-in-Ok-Over-clause-ok
@@ -18,3 +21,12 @@ returns-in-Ok-Over-clause-ok g c = answers-more _ _ _ _ _ _ _ c.loop-turn.invari
 
 pub returns-in-Err-clause-err : goal.returns-in-Err-clause-err
 returns-in-Err-clause-err g c = breaks-more _ _ _ _ _ _ _ c.loop-turn.invariant.wrote c.in-Err.ensures.err
+
+pub returns-in-Ok-Over-clause-asked : goal.returns-in-Ok-Over-clause-asked
+returns-in-Ok-Over-clause-asked g c = λ keeps. most-more g.K.Clock.reads _ _ _ _ _ _ _ _ _ _ (c.loop-turn.invariant.asked keeps) (c.take_turn.ensures.left keeps)
+
+pub returns-in-Err-clause-asked : goal.returns-in-Err-clause-asked
+returns-in-Err-clause-asked g c = λ keeps. most-more g.K.Clock.reads _ _ _ _ _ _ _ _ _ _ (c.loop-turn.invariant.asked keeps) (c.take_turn.ensures.left keeps)
+
+pub returns-clause-asked : goal.returns-clause-asked
+returns-clause-asked g c = λ keeps. most-so g.K.Clock.reads _ _ _ _ _ _ _ (c.loop-turn.invariant.asked keeps)
