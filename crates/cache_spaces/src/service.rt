@@ -18,7 +18,7 @@ use std::alloc::{AllocError, Global};
 /// Namespaces, each with its connections and values.
 ///
 /// Connection numbers count from 1 within each namespace. There are 1 to 16 namespaces, each with a generator and a latest moment
-/// of its own. In this stage each has one part.
+/// of its own.
 #[derive(Drop)]
 pub struct Service {
     pub(crate) alloc: Global,
