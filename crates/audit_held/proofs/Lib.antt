@@ -1,2 +1,2 @@
 pub mod Weighing
-mod Keeping
+pub mod Keeping

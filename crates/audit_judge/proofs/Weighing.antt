@@ -1,37 +1,19 @@
--- What the values of a part weigh, one after another.
-use Rattle.audit_model.specs.Bytewise.{same}
-use Rattle.audit_model.specs.History.{Value}
-use Rattle.audit_model.specs.Values.{without_key}
+-- What a part weighs where a newcomer has taken its key's place.
+use Rattle.std.proofs.Common.{◌≡◌, refl, ap, ◌∙◌, sym, ℕ, ◌+◌, ◌-◌, ◌≤◌, ◌&&◌, Bool, true, false, cond, List, [], ◌∷◌, ◌++◌, map, Option, Some, None, option_map, nat_lt, arith}
+use Rattle.std.specs.Prelude.{◌==◌, is_some}
+use Rattle.std.specs.List.{find}
 use Rattle.std.specs.Option.{option_map_or}
-use Rattle.std.proofs.Common.{◌≡◌, refl, ap, ◌∙◌, sym, ℕ, zero, suc, ◌+◌, ◌<◌, ◌≤◌, map, set, replicate, Bool, true, false, cond, List, [], ◌∷◌, ◌++◌, length, take, get_or, Some, arith, zero-add}
-use Rattle.std.specs.Prelude.{◌==◌}
-use Rattle.std.specs.List.{filter, find, sum_by}
-use Rattle.std.proofs.lemmas.List.Sums.{sum_by_more, sum_by-cons, sum_by_push}
-use Rattle.audit_model.specs.Situation.{HeldValue}
-use Rattle.std.proofs.lemmas.List.Elements.{filter-append}
-use Rattle.std.proofs.lemmas.List.{append-nil, map-append, take_more, length-set, get_or-set_same, get_or-set_other}
-use Rattle.std.proofs.lemmas.Bool.{eqb-true, eq-eqb}
-use Rattle.audit_judge.specs.Weights.{values_of, weight_in, weight_of_part, WeighsEach}
-
-by-value : (part : ℕ) (hs : List HeldValue) → weight_of_part part (values_of hs) ≡ sum_by (weight_in part) hs
-by-value part [] = refl
-by-value part (h ∷ hs) = go (h.value.part == part) (by-value part hs) ∙ sym (sum_by-cons (weight_in part) h hs)
-  where
-    go : (b : Bool) → weight_of_part part (values_of hs) ≡ sum_by (weight_in part) hs
-        → sum_by (λ v. v.weight) (cond b (h.value ∷ filter (λ v. v.part == part) (values_of hs)) (filter (λ v. v.part == part) (values_of hs))) ≡ cond b h.value.weight 0 + sum_by (weight_in part) hs
-    go true e = sum_by-cons (λ v. v.weight) h.value (filter (λ v. v.part == part) (values_of hs)) ∙ ap (λ n. h.value.weight + n) e
-    go false e = e ∙ sym (zero-add _)
-
-pub weight-more : (part : ℕ) (hs : List HeldValue) (i : ℕ) (d : HeldValue) → i < length hs
-    → weight_of_part part (values_of (take (i + 1) hs)) ≡ weight_of_part part (values_of (take i hs)) + weight_in part (get_or hs i d)
-weight-more part hs i d h = by-value part (take (i + 1) hs) ∙ sum_by_more (weight_in part) hs i d h ∙ ap (λ n. n + weight_in part (get_or hs i d)) (sym (by-value part (take i hs)))
-
-pub weight-cons : (part : ℕ) (v : Value) (vs : List Value) → weight_of_part part (v ∷ vs) ≡ cond (v.part == part) v.weight 0 + weight_of_part part vs
-weight-cons part v vs = go (v.part == part)
-  where
-    go : (b : Bool) → sum_by (λ w. w.weight) (cond b (v ∷ filter (λ w. w.part == part) vs) (filter (λ w. w.part == part) vs)) ≡ cond b v.weight 0 + weight_of_part part vs
-    go true = sum_by-cons (λ w. w.weight) v (filter (λ w. w.part == part) vs)
-    go false = sym (zero-add _)
+use Rattle.std.proofs.lemmas.Simd.{map-map}
+use Rattle.audit_model.specs.Bytewise.{same}
+use Rattle.audit_model.specs.Commands.{Deed}
+use Rattle.audit_model.specs.History.{Value, share}
+use Rattle.audit_model.specs.Notes.{is_over, just_accepted, overfills}
+use Rattle.audit_model.specs.Situation.{HeldValue, candidate_at}
+use Rattle.audit_model.specs.Values.{without_key}
+use Rattle.audit_model.specs.declared.config.Config.{Config}
+use Rattle.audit_held.specs.Weights.{weight_in, weight_of_part, values_of}
+use Rattle.audit_held.proofs.Weighing.{weight-cons, weight-push}
+use Rattle.audit_judge.specs.Weights.{AreOverfilled}
 
 swapped : (a w x y : ℕ) → a + x ≡ y → a + (w + x) ≡ w + y
 swapped a w x y e = omega arith
@@ -51,57 +33,35 @@ without-weighs key part (h ∷ hs) = go (same key h.value.key) (without-weighs k
         ap (λ n. option_map_or (weight_in part) (find (λ k. same key k.value.key) hs) 0 + n) (weight-cons part h.value (without_key (λ v. v.key) key (values_of hs)))
         ∙ swapped _ (weight_in part h) _ (weight_of_part part (values_of hs)) e
 
--- one more value
-pub weight-push : (part : ℕ) (vs : List Value) (v : Value) → weight_of_part part (vs ++ v ∷ []) ≡ weight_of_part part vs + cond (v.part == part) v.weight 0
-weight-push part vs v = ap (sum_by (λ w. w.weight)) (filter-append (λ w. w.part == part) vs (v ∷ [])) ∙ go (v.part == part)
+-- the same by numbers
+pub enough : (key : List ℕ) (part older : ℕ) (hs : List HeldValue) → older ≡ option_map_or (weight_in part) (find (λ h. same key h.value.key) hs) 0 → older ≤ weight_of_part part (values_of hs)
+enough key part older hs e = let w = without-weighs key part hs in omega arith
+
+pub accepted-weighs : (newcomer : HeldValue) (part older own all weight : ℕ) (hs : List HeldValue)
+    → older ≡ option_map_or (weight_in part) (find (λ h. same newcomer.value.key h.value.key) hs) 0 → own ≡ weight_in part newcomer → all ≡ weight_of_part part (values_of hs)
+    → weight ≡ (all - older) + own → weight ≡ weight_of_part part (just_accepted (values_of hs) (Some newcomer.value))
+accepted-weighs newcomer part older own all weight hs e f g is =
+    let w = without-weighs newcomer.value.key part hs in
+    let p = weight-push part (without_key (λ v. v.key) newcomer.value.key (values_of hs)) newcomer.value in
+    omega arith
+
+-- whether a part is over its share, by its share
+pub over-where : (config : Config) (part limit capacity : ℕ) (values : List Value) → config.capacity ≡ Some capacity → limit ≡ share config capacity
+    → nat_lt limit (weight_of_part part values) ≡ is_over config part values
+over-where config part limit capacity values e l = ap (λ n. nat_lt n (weight_of_part part values)) l ∙ sym (by_capacity config.capacity refl e)
   where
-    go : (b : Bool) → sum_by (λ w. w.weight) (filter (λ w. w.part == part) vs ++ cond b (v ∷ []) []) ≡ weight_of_part part vs + cond b v.weight 0
-    go true = sum_by_push (λ w. w.weight) (filter (λ w. w.part == part) vs) v
-    go false = ap (sum_by (λ w. w.weight)) (append-nil (filter (λ w. w.part == part) vs)) ∙ omega arith
+    by_capacity : (o : Option ℕ) → config.capacity ≡ o → o ≡ Some capacity → is_over config part values ≡ nat_lt (share config capacity) (weight_of_part part values)
+    by_capacity o f g = ap (λ x. is_over (record config { capacity = x }) part values) (f ∙ g)
 
--- ---- what each part weighs
+pub never-over : (config : Config) (part : ℕ) (values : List Value) → config.capacity ≡ None → is_over config part values ≡ false
+never-over config part values e = ap (λ x. is_over (record config { capacity = x }) part values) e
 
-pub none-weighs : (weights : List ℕ) → weights ≡ replicate 256 zero → WeighsEach weights []
-none-weighs weights e = λ part lt. ap (λ ws. get_or ws part 0) e ∙ zero-at 256 part
-  where
-    zero-at : (n part : ℕ) → get_or (replicate n zero) part 0 ≡ zero
-    zero-at zero part = refl
-    zero-at (suc n) zero = refl
-    zero-at (suc n) (suc part) = zero-at n part
+-- which parts are over their share, where a step accepts a newcomer
+pub overfilled-some : (config : Config) (now : ℕ) (hs : List HeldValue) (deed : Deed) (value : Value) (part : ℕ) → deed.value ≡ Some value
+    → is_over config part (just_accepted (values_of hs) (Some value)) ≡ overfills config (map (candidate_at config now) hs) deed part
+overfilled-some config now hs deed value part e =
+    ap (λ vs. is_over config part (just_accepted vs (Some value))) (sym (map-map (λ c. c.value) (candidate_at config now) hs))
+    ∙ sym (ap (λ o. is_some o && is_over config part (just_accepted (map (λ c. c.value) (map (candidate_at config now) hs)) o)) e)
 
--- a value of a part that is not among these
-pub weighs-beyond : (weights : List ℕ) (vs : List Value) (v : Value) → length weights ≤ v.part → WeighsEach weights vs → WeighsEach weights (vs ++ v ∷ [])
-weighs-beyond weights vs v beyond w = λ part lt.
-    w part lt ∙ plus_none (weight_of_part part vs) ∙ ap (λ b. weight_of_part part vs + cond b v.weight 0) (sym (differ part (v.part == part) refl lt)) ∙ sym (weight-push part vs v)
-  where
-    plus_none : (n : ℕ) → n ≡ n + 0
-    plus_none n = omega arith
-
-    differ : (part : ℕ) (b : Bool) → (v.part == part) ≡ b → part < length weights → b ≡ false
-    differ part false e lt = refl
-    differ part true e lt = let is = eqb-true v.part part e in absurd (omega arith)
-
--- a value of one of these
-pub weighs-more : (weights : List ℕ) (vs : List Value) (v : Value) (sum : ℕ) → v.part < length weights → sum ≡ get_or weights v.part 0 + v.weight → WeighsEach weights vs
-    → WeighsEach (set weights v.part sum) (vs ++ v ∷ [])
-weighs-more weights vs v sum inside is w = λ part lt. go part (v.part == part) refl (let l = length-set weights v.part sum in omega arith)
-  where
-    plus_none : (n : ℕ) → n ≡ n + 0
-    plus_none n = omega arith
-
-    go : (part : ℕ) (b : Bool) → (v.part == part) ≡ b → part < length weights → get_or (set weights v.part sum) part 0 ≡ weight_of_part part (vs ++ v ∷ [])
-    go part true h lt =
-        let e = eqb-true v.part part h in
-        ap (λ p. get_or (set weights v.part sum) p 0) (sym e) ∙ get_or-set_same weights v.part sum 0 inside ∙ is
-        ∙ ap (λ p. get_or weights p 0 + v.weight) e ∙ ap (λ n. n + v.weight) (w part lt)
-        ∙ ap (λ b. weight_of_part part vs + cond b v.weight 0) (sym h) ∙ sym (weight-push part vs v)
-    go part false h lt =
-        get_or-set_other weights v.part part sum 0 (λ same_part. differ (sym h ∙ eq-eqb v.part part (sym same_part)))
-        ∙ w part lt ∙ plus_none (weight_of_part part vs) ∙ ap (λ b. weight_of_part part vs + cond b v.weight 0) (sym h) ∙ sym (weight-push part vs v)
-      where
-        differ : false ≡ true → ⊥
-        differ x = let y : false ≡ true = x in cc
-
--- the first of them, and one more
-pub values-more : (hs : List HeldValue) (i : ℕ) (d : HeldValue) → i < length hs → values_of (take (i + 1) hs) ≡ values_of (take i hs) ++ (get_or hs i d).value ∷ []
-values-more hs i d lt = ap values_of (take_more hs i d lt) ∙ map-append (λ h. h.value) (take i hs) (get_or hs i d ∷ [])
+pub overfilled-none : (config : Config) (now : ℕ) (hs : List HeldValue) (deed : Deed) (part : ℕ) → deed.value ≡ None → false ≡ overfills config (map (candidate_at config now) hs) deed part
+overfilled-none config now hs deed part e = sym (ap (λ o. is_some o && is_over config part (just_accepted (map (λ c. c.value) (map (candidate_at config now) hs)) o)) e)

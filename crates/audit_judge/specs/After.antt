@@ -1,21 +1,21 @@
 -- What a step leaves held.
-use Rattle.std.specs.Prelude.{◌≡◌, ℕ, Bool, not, ◌&&◌, ◌||◌, ◌==◌, List, map, Option, true, false, Some, None, if◌then◌else◌}
+use Rattle.std.specs.Prelude.{◌≡◌, ℕ, Bool, not, ◌&&◌, ◌||◌, ◌==◌, ◌++◌, List, map, Option, true, false, Some, None, if◌then◌else◌}
 use Rattle.std.specs.List.{list_any, find}
-use Rattle.std.specs.Option.{option_map}
+use Rattle.std.specs.Option.{option_map, option_to_list}
 use Rattle.audit_model.specs.Changes.{newly_held, use_after}
-use Rattle.audit_model.specs.Commands.{Deed, covers_key}
+use Rattle.audit_model.specs.Commands.{Deed, Covering, covers_key, is_this}
 use Rattle.audit_model.specs.History.{Value}
 use Rattle.audit_model.specs.Notes.{is_over, same_cause, tells_size, candidates_of, are_true_notes}
-use Rattle.audit_model.specs.Situation.{HeldValue, candidate_at}
+use Rattle.audit_model.specs.Situation.{HeldValue, candidate_at, is_live_at}
 use Rattle.audit_model.specs.declared.config.Config.{Config}
 use Rattle.audit_model.specs.Bytewise.{same}
 use Rattle.audit_model.specs.declared.transcript.Note.{Note}
 use Rattle.audit_model.specs.declared.transcript.RemovalCause.TheVariants.{Size}
-use Rattle.audit_judge.specs.declared.notes.Candidate.{Candidate as Told}
+use Rattle.audit_held.specs.Weights.{values_of}
 
--- the values that may be told
-abbrev pub told_values : List Told → List Value
-told_values cs = map (λ c. c.held.now.value) cs
+-- the values that may be told: those held, and the newcomer
+abbrev pub held_values : List HeldValue → Option HeldValue → List Value
+held_values held newcomer = values_of (held ++ option_to_list newcomer)
 
 -- the part of which the note tells a value `Size`
 abbrev pub sized_part : List Value → Note → Option ℕ
@@ -25,14 +25,22 @@ sized_part values note = if same_cause note.cause Size then option_map (λ v. v.
 abbrev pub is_among : List ℕ → ℕ → Bool
 is_among parts part = list_any (λ p. p == part) parts
 
--- a value that stays, where its part is over its share or not, and where earlier points count no more or do
-abbrev pub passed_on : Config → ℕ → Deed → Bool → Bool → HeldValue → HeldValue
-passed_on config now deed over anew h =
-    record { value = h.value; last_use = use_after config now deed h; covered = h.covered || covers_key h.value.key deed.covers; evictable = over || (not anew && h.evictable) }
+-- a value that is used where it is live and of the key that is looked up
+abbrev pub used_in : Config → ℕ → Option (List ℕ) → HeldValue → HeldValue
+used_in config now uses h = record h { last_use = if is_this h.value.key uses && is_live_at config now h then now else h.last_use }
 
--- the same by the parts that told a value `Size`
+-- a value that is covered where its key is
+abbrev pub covered_in : Covering → HeldValue → HeldValue
+covered_in covering h = record h { covered = h.covered || covers_key h.value.key covering }
+
+-- a value whose part is over its share or not, among those values, where earlier points count no more or do
+abbrev pub marked_by : Config → Bool → List ℕ → List Value → HeldValue → HeldValue
+marked_by config syncs sized values h = record h { evictable = is_over config h.value.part values || (not (syncs || is_among sized h.value.part) && h.evictable) }
+
+-- a value that stays, by the parts that told a value `Size`
 abbrev pub passed_on_by : Config → ℕ → Deed → List ℕ → List Value → HeldValue → HeldValue
-passed_on_by config now deed sized values h = passed_on config now deed (is_over config h.value.part values) (deed.syncs || is_among sized h.value.part) h
+passed_on_by config now deed sized values h =
+    record { value = h.value; last_use = use_after config now deed h; covered = h.covered || covers_key h.value.key deed.covers; evictable = is_over config h.value.part values || (not (deed.syncs || is_among sized h.value.part) && h.evictable) }
 
 -- it was just accepted
 pub record IsNew (now : ℕ) (h : HeldValue) : Type 0 where
@@ -48,8 +56,3 @@ has_true_notes config now held deed notes =
 abbrev pub AreSized : Config → ℕ → List HeldValue → Deed → List Note → List ℕ → Type 0
 AreSized config now held deed notes parts =
     (part : ℕ) → is_among parts part ≡ tells_size part (map (λ c. c.value) (candidates_of config (map (candidate_at config now) held) deed)) notes
-
--- the parts of which true notes tell a value `Size`; none where the notes are not true
-abbrev pub Judges : Config → ℕ → List HeldValue → Deed → List Note → Option (List ℕ) → Type 0
-Judges config now held deed notes None = has_true_notes config now held deed notes ≡ false
-Judges config now held deed notes (Some parts) = (has_true_notes config now held deed notes ≡ true) × AreSized config now held deed notes parts

@@ -1,26 +1,15 @@
--- What parts weigh.
-use Rattle.std.specs.Prelude.{◌≡◌, ◌<◌, ℕ, ◌==◌, List, map, length, get_or, is_some, true, if◌then◌else◌}
-use Rattle.std.specs.List.{filter, sum_by}
-use Rattle.audit_model.specs.History.{Value}
-use Rattle.audit_model.specs.Situation.{HeldValue}
+-- What a part may weigh.
+use Rattle.std.specs.Prelude.{◌≡◌, ◌<◌, ℕ, Bool, List, Some, get_or, false}
+use Rattle.audit_model.specs.Commands.{Deed}
+use Rattle.audit_model.specs.History.{share}
+use Rattle.audit_model.specs.Notes.{overfills}
+use Rattle.audit_model.specs.View.{Candidate}
 use Rattle.audit_model.specs.declared.config.Config.{Config}
 
--- the values that are held
-abbrev pub values_of : List HeldValue → List Value
-values_of held = map (λ h. h.value) held
+-- it is a part's share of the capacity, where there is a capacity
+abbrev pub IsShare : Config → ℕ → Type 0
+IsShare config limit = (capacity : ℕ) → config.capacity ≡ Some capacity → limit ≡ share config capacity
 
--- what the values of a part weigh together
-abbrev pub weight_of_part : ℕ → List Value → ℕ
-weight_of_part part values = sum_by (λ v. v.weight) (filter (λ v. v.part == part) values)
-
--- what a held value weighs in that part
-abbrev pub weight_in : ℕ → HeldValue → ℕ
-weight_in part h = if h.value.part == part then h.value.weight else 0
-
--- each of these is what a part's values weigh
-abbrev pub WeighsEach : List ℕ → List Value → Type 0
-WeighsEach weights values = (part : ℕ) → part < length weights → get_or weights part 0 ≡ weight_of_part part values
-
--- the same, where there is a capacity
-abbrev pub WeighsWhere : Config → List ℕ → List Value → Type 0
-WeighsWhere config weights values = is_some config.capacity ≡ true → WeighsEach weights values
+-- these say which parts are over their share just after the step's acceptance
+abbrev pub AreOverfilled : Config → List Candidate → Deed → List Bool → Type 0
+AreOverfilled config held deed marks = (part : ℕ) → part < 256 → get_or marks part false ≡ overfills config held deed part

@@ -1,62 +1,39 @@
 //! What a step leaves held.
-ghost use Rattle.std.specs.Prelude.{◌||◌, ◌≡◌, ℕ, ◌<◌, false, true, map, length, position, Option, IfOk, ◌++◌, OnOk, IfSome};
-ghost use Rattle.std.specs.Option.{option_map, option_to_list};
+ghost use Rattle.std.specs.Prelude.{◌≡◌, ◌||◌, ◌<◌, ◌++◌, ℕ, List, Option, None, true, map, option_map, IfOk, OnOk, IfSome};
+ghost use Rattle.std.specs.Option.{option_to_list};
+ghost use Rattle.std.specs.List.{find};
 ghost use Rattle.audit_model.specs.Bytewise.{same};
-ghost use Rattle.audit_model.specs.Changes.{all_held_after};
-ghost use Rattle.audit_model.specs.Notes.{tells_size, candidates_of, are_true_notes};
-ghost use Rattle.audit_model.specs.Situation.{HeldValue, candidate_at};
-ghost use Rattle.audit_model.specs.Values.{untold, without_key};
-ghost use Rattle.audit_model.specs.declared.config.Config.{Config};
-ghost use Rattle.audit_judge.specs.After.{has_true_notes, Judges, sized_part, told_values, is_among, passed_on, passed_on_by, IsNew};
-ghost use Rattle.audit_judge.specs.Deeds.{deed_with};
-ghost use Rattle.audit_judge.specs.Scenes.{candidate_of, candidate_in, held_in, deed_in};
-ghost use Rattle.audit_judge.specs.Weights.{values_of, WeighsWhere};
+ghost use Rattle.audit_model.specs.Changes.{all_held_after, newly_held};
 ghost use Rattle.audit_model.specs.History.{Value};
+ghost use Rattle.audit_model.specs.Notes.{tells_size, are_true_notes};
+ghost use Rattle.audit_model.specs.Situation.{candidate_at};
+ghost use Rattle.audit_model.specs.Values.{untold};
+ghost use Rattle.audit_held.specs.Seeing.{held_of};
+ghost use Rattle.audit_held.specs.Weights.{values_of};
+ghost use Rattle.audit_judge.specs.After.{has_true_notes, sized_part, held_values, is_among, used_in, covered_in, marked_by, passed_on_by, IsNew};
+ghost use Rattle.audit_judge.specs.Deeds.{covering_of, deed_with};
+ghost use Rattle.audit_judge.specs.Scenes.{rest_of, may_be_told};
 
-use crate::deed::{Deed, covers_key, is_this};
-use crate::held::Held;
-use crate::notes::{Candidate, Scene, are_true_notes, position_of, same_cause};
-use crate::times::is_live;
-use crate::weights::{is_over_by, loads_of};
+use crate::deed::{Covering, Deed};
+use crate::notes::{Scene, are_true_notes, same_cause};
+use crate::times::live;
+use crate::weights::{PARTS, is_over, limit_of, overfilled};
+use audit_held::{Held, Holding, Seen};
 use audit_model::{Config, Note, RemovalCause};
 use std::alloc::{AllocError, Global};
 
-/// The values that a step may tell: those that are held, and the one that it accepts.
-fn gather<'a>(alloc: Global, scene: &Scene<'a>) -> Result<Vec<Candidate<'a>>, AllocError>
-    requires { IfSome scene.now.newcomer (λ h. IsNew scene.now.moment h.now) }
-    ensures { IfOk result (λ cs. map (candidate_in scene.entry.now) cs.items ≡ candidates_of scene.entry.now.config.now (held_in scene.entry.now) (deed_in scene.entry.now)) }
-{
-    let mut cs = old_candidates(alloc, scene.held)?;
-    if let Some(newcomer) = scene.newcomer {
-        cs.push(Candidate {
-            held: newcomer,
-            new: true,
-        })?;
-    }
-    Ok(cs)
-}
-
-/// Those that are held.
-fn old_candidates(alloc: Global, held: &[Held]) -> Result<Vec<Candidate<'_>>, AllocError>
-    ensures { IfOk result (λ cs. (config : Config) (now : ℕ) → map (candidate_of config now) cs.items ≡ map (candidate_at config now) held.entry.now) }
-{
-    let mut cs = Vec::with_capacity(alloc, held.len())?;
-    for h in held {
-        cs.push(Candidate {
-            held: h,
-            new: false,
-        })?;
-    }
-    Ok(cs)
-}
-
 /// The parts of which the notes tell a value `Size`.
-fn sized_parts(alloc: Global, cs: &[Candidate<'_>], notes: &[Note]) -> Result<Vec<u64>, AllocError>
-    ensures { IfOk result (λ parts. (part : ℕ) → is_among parts.items part ≡ tells_size part (told_values cs.entry.now) notes.now) }
+fn sized_parts(
+    alloc: Global,
+    held: &Holding,
+    newcomer: Option<&Held>,
+    notes: &[Note],
+) -> Result<Vec<u64>, AllocError>
+    ensures { IfOk result (λ parts. (part : ℕ) → is_among parts.items part ≡ tells_size part (held_values held.now (option_map (λ h. h.now) newcomer.entry)) notes.now) }
 {
     let mut parts = Vec::new(alloc);
     for note in notes {
-        if let Some(part) = sized_part(cs, note) {
+        if let Some(part) = sized_part(held, newcomer, note) {
             parts.push(part)?;
         }
     }
@@ -64,122 +41,140 @@ fn sized_parts(alloc: Global, cs: &[Candidate<'_>], notes: &[Note]) -> Result<Ve
 }
 
 /// The part of which the note tells a value `Size`.
-fn sized_part(cs: &[Candidate<'_>], note: &Note) -> Option<u64>
-    ensures { result ≡ sized_part (told_values cs.entry.now) note.now }
+fn sized_part(held: &Holding, newcomer: Option<&Held>, note: &Note) -> Option<u64>
+    ensures { result ≡ sized_part (held_values held.now (option_map (λ h. h.now) newcomer.entry)) note.now }
 {
     if !same_cause(note.cause, RemovalCause::Size) {
         return None;
     }
-    match position_of(cs, note.key.as_slice()) {
-        Some(at) => Some(cs[at].held.part()),
+    match held.get(note.key.as_slice()) {
+        Some(seen) => Some(part_of(seen)),
+        None => new_part(newcomer, note.key.as_slice()),
+    }
+}
+
+/// The part of a value.
+fn part_of(seen: Seen<'_>) -> u64
+    ensures { result ≡ (held_of seen.entry).value.part }
+{
+    seen.part
+}
+
+/// The part of the newcomer, if there is one, and it is of that key.
+fn new_part(newcomer: Option<&Held>, key: &[u8]) -> Option<u64>
+    ensures { result ≡ option_map (λ h. h.value.part) (find (λ h. same key.now h.value.key) (option_to_list (option_map (λ h. h.now) newcomer.entry))) }
+{
+    match newcomer {
+        Some(newcomer) => {
+            if key == newcomer.key() {
+                Some(newcomer.part())
+            } else {
+                None
+            }
+        }
         None => None,
     }
 }
 
-/// Lets each value go that is told.
-fn forget(held: &mut Vec<Held>, notes: &[Note])
-    ensures { held.new.items ≡ untold (λ h. h.value.key) notes.now held.old.items }
+/// Judges a step's notes, and lets the values go that they tell; whether the newcomer is left is answered beside.
+fn judge_notes(
+    alloc: Global,
+    config: &Config,
+    now: u64,
+    held: &mut Holding,
+    deed: Deed<'_>,
+    newcomer: Option<&Held>,
+    notes: &[Note],
+) -> Result<(bool, bool), AllocError>
+    requires { IfSome (option_map (λ h. h.now) newcomer) (λ h. h.value.part < 256) }
+    ensures right { IfOk result (λ r. let n = option_map (λ h. h.now) newcomer.entry in r.0 ≡ are_true_notes config.now (map (candidate_at config.now now) held.old) (deed_with deed.entry (option_map (λ h. h.value) n)) (may_be_told config.now now held.old (option_to_list n)) notes.now) }
+    ensures all { IfOk result (λ r. r.0 ≡ true → held.new ++ rest_of r.1 (option_map (λ h. h.now) newcomer.entry) ≡ untold (λ h. h.value.key) notes.now (held.old ++ option_to_list (option_map (λ h. h.now) newcomer.entry))) }
+    ensures absent { IfOk result (λ r. r.0 ≡ true → IfSome (option_map (λ h. h.now) newcomer.entry) (λ n. find (λ h. same n.value.key h.value.key) held.new ≡ None)) }
 {
-    for note in notes {
-        forget_one(held, note.key.as_slice());
+    let marks = overfilled(alloc, config, held, newcomer)?;
+    let scene = Scene {
+        config,
+        moment: now,
+        newcomer,
+        deed,
+        overfilled: marks.as_slice(),
+    };
+    let mut left = true;
+    let right = are_true_notes(&scene, held, &mut left, notes);
+    Ok((right, left))
+}
+
+/// Adds the newcomer, if there is one that is left.
+fn add(held: &mut Holding, newcomer: Option<Held>, left: bool) -> Result<(), AllocError>
+    requires small { IfSome newcomer (λ h. h.value.part < 256) }
+    requires new { IfSome newcomer (λ h. h ≡ newly_held h.value) }
+    requires absent { IfSome newcomer (λ n. find (λ h. same n.value.key h.value.key) held.old ≡ None) }
+    ensures { OnOk result (held.new ≡ held.old ++ rest_of left newcomer) }
+{
+    if let Some(newcomer) = newcomer {
+        if left {
+            held.add(newcomer)?;
+        }
+    }
+    Ok(())
+}
+
+/// Uses the value that a step looks up, where it is live.
+fn use_live(config: &Config, now: u64, uses: Option<&[u8]>, held: &mut Holding)
+    ensures { held.new ≡ map (used_in config.now now (option_map (λ k. k.now) uses.entry)) held.old }
+{
+    let _number = held.len();
+    if let Some(key) = uses {
+        if live(config, now, held, key).is_some() {
+            held.use_at(key, now);
+        }
     }
 }
 
-/// Lets the key's first value go.
-fn forget_one(held: &mut Vec<Held>, key: &[u8])
-    ensures { held.new.items ≡ without_key (λ h. h.value.key) key.now held.old.items }
+/// Covers the values that a step covers.
+fn cover(covers: Covering<'_>, held: &mut Holding) -> Result<(), AllocError>
+    ensures { OnOk result (held.new ≡ map (covered_in (covering_of covers.entry)) held.old) }
 {
-    if let Some(at) = position_in(held, key) {
-        let _told = held.remove(at);
+    match covers {
+        Covering::Nothing => Ok(()),
+        Covering::Everything => held.cover(b""),
+        Covering::Prefixed(prefix) => held.cover(prefix),
     }
-}
-
-/// Where the key's first value stands.
-fn position_in(held: &[Held], key: &[u8]) -> Option<usize>
-    ensures { result ≡ position (λ h. same key.now h.value.key) held.now }
-{
-    held.iter().position(|h| key == h.key())
-}
-
-/// Does to a value that stays what the step does to it.
-fn pass_on(config: &Config, now: u64, deed: &Deed<'_>, over: bool, anew: bool, held: &mut Held)
-    ensures { (value : Option Value) → held.new ≡ passed_on config.now now (deed_with deed.entry.now value) over anew held.old }
-{
-    let is_used = is_this(held.key(), deed.uses) && is_live(config, now, held);
-    let is_covered = covers_key(held.key(), deed.covers);
-    let evictable = over || (!anew && held.is_evictable());
-    if is_used {
-        held.use_at(now);
-    }
-    if is_covered {
-        held.cover();
-    }
-    held.mark(evictable);
 }
 
 /// Whether earlier points of a part count no more.
-fn is_anew(deed: &Deed<'_>, sized: &[u64], part: u64) -> bool
-    ensures { result ≡ (deed.entry.now.syncs || is_among sized.now part) }
+fn is_anew(syncs: bool, sized: &[u64], part: u64) -> bool
+    ensures { result ≡ (syncs || is_among sized.now part) }
 {
-    deed.syncs || sized.contains(&part)
+    syncs || sized.contains(&part)
 }
 
-/// Does to each value that stays what the step does to it, by what the parts weigh.
-fn pass_all_on(
+/// Marks each part by what it weighs.
+fn mark_all(config: &Config, syncs: bool, sized: &[u64], held: &mut Holding)
+    ensures { held.new ≡ map (marked_by config.now syncs sized.now (values_of held.old)) held.old }
+{
+    let limit = limit_of(config);
+    let _number = held.len();
+    for part in 0..PARTS {
+        let over = is_over(config, limit, held, part);
+        let anew = is_anew(syncs, sized, part as u64);
+        held.mark(part, over, anew);
+    }
+}
+
+/// Does to each value that stays what the step does to it.
+fn pass_on(
     config: &Config,
     now: u64,
     deed: &Deed<'_>,
     sized: &[u64],
-    weights: &[u128],
-    held: &mut [Held],
-)
-    requires { WeighsWhere config.now weights.now (values_of held.old) }
-    ensures { (value : Option Value) → held.new ≡ map (passed_on_by config.now now (deed_with deed.entry.now value) sized.now (values_of held.old)) held.old }
+    held: &mut Holding,
+) -> Result<(), AllocError>
+    ensures { OnOk result ((value : Option Value) → held.new ≡ map (passed_on_by config.now now (deed_with deed.entry.now value) sized.now (values_of held.old)) held.old) }
 {
-    for i in 0..held.len() {
-        let part = held[i].part();
-        let over = is_over_by(config, weights, held, part);
-        let anew = is_anew(deed, sized, part);
-        pass_on(config, now, deed, over, anew, &mut held[i]);
-    }
-}
-
-/// The parts of which a step's notes tell a value `Size`; none where the notes are not true.
-fn judge_notes<'a>(
-    alloc: Global,
-    config: &'a Config,
-    now: u64,
-    held: &'a [Held],
-    deed: Deed<'a>,
-    newcomer: Option<&'a Held>,
-    notes: &[Note],
-) -> Result<Option<Vec<u64>>, AllocError>
-    requires { IfSome newcomer (λ h. IsNew now h.now) }
-    ensures { IfOk result (λ sized. Judges config.entry.now now held.entry.now (deed_with deed.entry (option_map (λ h. h.now.value) newcomer.entry)) notes.now (option_map (λ v. v.items) sized)) }
-{
-    let scene = Scene {
-        config,
-        moment: now,
-        held,
-        newcomer,
-        deed,
-    };
-    let cs = gather(alloc, &scene)?;
-    let sized = sized_parts(alloc, cs.as_slice(), notes)?;
-    if are_true_notes(&scene, cs, notes) {
-        Ok(Some(sized))
-    } else {
-        Ok(None)
-    }
-}
-
-/// Adds the newcomer, if there is one.
-fn add(held: &mut Vec<Held>, newcomer: Option<Held>) -> Result<(), AllocError>
-    ensures { OnOk result (held.new.items ≡ held.old.items ++ option_to_list newcomer) }
-{
-    if let Some(newcomer) = newcomer {
-        held.push(newcomer)?;
-    }
+    use_live(config, now, deed.uses, held);
+    cover(deed.covers, held)?;
+    mark_all(config, deed.syncs, sized, held);
     Ok(())
 }
 
@@ -189,23 +184,22 @@ pub fn do_deed(
     alloc: Global,
     config: &Config,
     now: u64,
-    held: &mut Vec<Held>,
+    held: &mut Holding,
     deed: &Deed<'_>,
     newcomer: Option<Held>,
     notes: &[Note],
 ) -> Result<bool, AllocError>
-    requires { IfSome newcomer (IsNew now) }
-    ensures told { IfOk result (λ b. b ≡ has_true_notes config.now now held.old.items (deed_with deed.entry.now (option_map (λ h. h.value) newcomer)) notes.now) }
-    ensures left { IfOk result (λ b. b ≡ true → held.new.items ≡ all_held_after config.now now held.old.items (deed_with deed.entry.now (option_map (λ h. h.value) newcomer)) notes.now) }
+    requires new { IfSome newcomer (IsNew now) }
+    requires small { IfSome newcomer (λ h. h.value.part < 256) }
+    ensures told { IfOk result (λ b. b ≡ has_true_notes config.now now held.old (deed_with deed.entry.now (option_map (λ h. h.value) newcomer)) notes.now) }
+    ensures left { IfOk result (λ b. b ≡ true → held.new ≡ all_held_after config.now now held.old (deed_with deed.entry.now (option_map (λ h. h.value) newcomer)) notes.now) }
 {
-    match judge_notes(alloc, config, now, held, *deed, newcomer.as_ref(), notes)? {
-        Some(sized) => {
-            add(held, newcomer)?;
-            forget(held, notes);
-            let weights = loads_of(alloc, config, held)?;
-            pass_all_on(config, now, deed, &sized, &weights, held);
-            Ok(true)
-        }
-        None => Ok(false),
+    let sized = sized_parts(alloc, held, newcomer.as_ref(), notes)?;
+    let (right, left) = judge_notes(alloc, config, now, held, *deed, newcomer.as_ref(), notes)?;
+    if !right {
+        return Ok(false);
     }
+    add(held, newcomer, left)?;
+    pass_on(config, now, deed, &sized, held)?;
+    Ok(true)
 }

@@ -3,13 +3,11 @@
 
 mod after;
 mod deed;
-mod held;
 mod notes;
 mod times;
 mod weights;
 
 pub use after::do_deed;
 pub use deed::{Covering, Deed};
-pub use held::Held;
 pub use times::{is_live, live};
-pub use weights::{is_over, is_over_by, loads_of, part_count};
+pub use weights::{PARTS, is_over, limit_of, part_count};

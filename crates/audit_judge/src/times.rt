@@ -1,10 +1,11 @@
 //! When a deadline has come.
-ghost use Rattle.std.specs.Prelude.{◌≡◌, ◌*◌, ◌+◌, nat_le};
+ghost use Rattle.std.specs.Prelude.{◌≡◌, ◌*◌, ◌+◌, nat_le, Some, None, if◌then◌else◌};
 ghost use Rattle.audit_model.specs.Situation.{is_dead_at, is_live_at, live_at};
 ghost use Rattle.audit_model.specs.Values.{after_ms};
+ghost use Rattle.audit_held.specs.Seeing.{held_of};
 ghost use Rattle.std.specs.Option.{option_map};
 
-use crate::held::Held;
+use audit_held::{Holding, Seen};
 use audit_model::Config;
 
 const NANOS: u64 = 1_000_000;
@@ -23,35 +24,49 @@ fn is_past(moment: u64, ms: u64, now: u64) -> bool
 }
 
 /// Whether a held value's deadline has come.
-pub fn is_dead(config: &Config, now: u64, held: &Held) -> bool
-    ensures { result ≡ is_dead_at config.now now held.now }
+pub fn is_dead(config: &Config, now: u64, held: &Seen<'_>) -> bool
+    ensures { result ≡ is_dead_at config.now now (held_of held.entry.now) }
 {
-    let own = match held.own_deadline() {
+    let own = match held.own_deadline {
         Some(end) => end <= now,
         None => false,
     };
     let lived = match config.live_ms {
-        Some(ms) => is_past(held.accepted_at(), ms, now),
+        Some(ms) => is_past(held.accepted_at, ms, now),
         None => false,
     };
     let idle = match config.idle_ms {
-        Some(ms) => is_past(held.last_use(), ms, now),
+        Some(ms) => is_past(held.last_use, ms, now),
         None => false,
     };
     own || lived || idle
 }
 
 /// Whether a held value is live.
-pub fn is_live(config: &Config, now: u64, held: &Held) -> bool
-    ensures { result ≡ is_live_at config.now now held.now }
+pub fn is_live(config: &Config, now: u64, held: &Seen<'_>) -> bool
+    ensures { result ≡ is_live_at config.now now (held_of held.entry.now) }
 {
-    !held.is_covered() && !is_dead(config, now, held)
+    !held.covered && !is_dead(config, now, held)
 }
 
 /// The live value of a key.
-pub fn live<'a>(config: &Config, now: u64, held: &'a [Held], key: &[u8]) -> Option<&'a Held>
-    ensures { option_map (λ h. h.now.value) result ≡ live_at config.now now held.now key.now }
+pub fn live<'a>(config: &Config, now: u64, held: &'a Holding, key: &'a [u8]) -> Option<Seen<'a>>
+    ensures { option_map (λ s. (held_of s).value) result ≡ live_at config.now now held.now key.now }
 {
-    held.iter()
-        .find(|h| h.key() == key && is_live(config, now, h))
+    let _number = held.len();
+    match held.get(key) {
+        Some(seen) => if_live(config, now, seen),
+        None => None,
+    }
+}
+
+/// A value, where it is live.
+fn if_live<'a>(config: &Config, now: u64, seen: Seen<'a>) -> Option<Seen<'a>>
+    ensures { result ≡ (if is_live_at config.now now (held_of seen.entry) then Some seen.entry else None) }
+{
+    if is_live(config, now, &seen) {
+        Some(seen)
+    } else {
+        None
+    }
 }

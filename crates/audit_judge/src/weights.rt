@@ -1,19 +1,22 @@
 //! What parts weigh.
-ghost use Rattle.std.specs.Prelude.{◌≡◌, ◌+◌, ◌-◌, ◌*◌, ◌/◌, ◌≤◌, ◌==◌, ◌++◌, ◌∷◌, [], ℕ, List, map, length, nat_lt, Some, IfOk, OnOk};
+ghost use Rattle.std.specs.Prelude.{◌≡◌, ℕ, ◌+◌, ◌-◌, ◌*◌, ◌/◌, ◌≤◌, ◌<◌, ◌==◌, nat_lt, Some, IfOk, map, get_or, false};
 ghost use Rattle.std.specs.List.{find};
-ghost use Rattle.std.specs.Option.{option_map};
+ghost use Rattle.std.specs.Option.{option_map, option_map_or};
 ghost use Rattle.audit_model.specs.Bytewise.{same};
-ghost use Rattle.audit_model.specs.History.{Value, part_count, share};
-ghost use Rattle.audit_model.specs.Values.{without_key};
-ghost use Rattle.audit_model.specs.Notes.{is_over, just_accepted};
-ghost use Rattle.audit_judge.specs.Weights.{weight_in, weight_of_part, values_of, WeighsEach, WeighsWhere};
+ghost use Rattle.audit_model.specs.Commands.{Deed};
+ghost use Rattle.audit_model.specs.History.{part_count, share};
+ghost use Rattle.audit_model.specs.Notes.{is_over, just_accepted, overfills};
+ghost use Rattle.audit_model.specs.Situation.{candidate_at};
+ghost use Rattle.audit_held.specs.Seeing.{held_of};
+ghost use Rattle.audit_held.specs.Weights.{weight_in, weight_of_part, values_of};
+ghost use Rattle.audit_judge.specs.Weights.{IsShare, AreOverfilled};
 
-use crate::held::Held;
+use audit_held::{Held, Holding, Seen};
 use audit_model::Config;
 use std::alloc::{AllocError, Global};
 
 /// There are at most so many parts.
-const PARTS: usize = 256;
+pub const PARTS: usize = 256;
 
 /// How many parts there are: the next power of two.
 pub fn part_count(config: &Config) -> u64
@@ -44,131 +47,112 @@ pub fn part_count(config: &Config) -> u64
 }
 
 /// A part's share of the capacity, rounded up.
-pub fn share(config: &Config, capacity: u64) -> u128
+fn share(config: &Config, capacity: u64) -> u128
     ensures { result ≡ share config.now capacity }
 {
     let parts = u128::from(part_count(config));
     (u128::from(capacity) + (parts - 1)) / parts
 }
 
-/// What a value weighs in a part.
-fn weight_in(held: &Held, part: u64) -> u64
-    ensures { result ≡ weight_in part held.now }
-{
-    if held.part() == part {
-        held.weight()
-    } else {
-        0
-    }
-}
-
-/// What the values of a part weigh.
-fn weight_of_part(held: &[Held], part: u64) -> u128
-    ensures sum { result ≡ weight_of_part part (values_of held.now) }
-    ensures bounded { result ≤ 18446744073709551615 * 18446744073709551615 }
-{
-    let _number = held.len();
-    let mut sum: u128 = 0;
-    for h in held {
-        sum += u128::from(weight_in(h, part));
-    }
-    sum
-}
-
-/// Whether the values of a part weigh more than its share.
-pub fn is_over(config: &Config, held: &[Held], part: u64) -> bool
-    ensures { result ≡ is_over config.now part (values_of held.now) }
+/// A part's share of the capacity; nothing where there is no capacity.
+pub fn limit_of(config: &Config) -> u128
+    ensures { IsShare config.now result }
 {
     match config.capacity {
-        Some(capacity) => share(config, capacity) < weight_of_part(held, part),
-        None => false,
-    }
-}
-
-/// Whether the values of a part weigh more than its share where the newcomer has taken its key's place.
-pub fn is_over_with(config: &Config, held: &[Held], newcomer: &Held, part: u64) -> bool
-    ensures { result ≡ is_over config.now part (just_accepted (values_of held.now) (Some newcomer.now.value)) }
-{
-    match config.capacity {
-        Some(capacity) => { share(config, capacity) < weight_with(held, newcomer, part) }
-        None => false,
-    }
-}
-
-/// What the values of a part weigh where the newcomer has taken its key's place.
-fn weight_with(held: &[Held], newcomer: &Held, part: u64) -> u128
-    ensures { result ≡ weight_of_part part (just_accepted (values_of held.now) (Some newcomer.now.value)) }
-{
-    let _number = held.len();
-    let all = weight_of_part(held, part);
-    all - older_weight(held, newcomer.key(), part) + u128::from(weight_in(newcomer, part))
-}
-
-/// What the key's first value weighs in a part.
-fn older_weight(held: &[Held], key: &[u8], part: u64) -> u128
-    ensures { result + weight_of_part part (without_key (λ v. v.key) key.now (values_of held.now)) ≡ weight_of_part part (values_of held.now) }
-{
-    match first_of(held, key) {
-        Some(older) => u128::from(weight_in(older, part)),
+        Some(capacity) => share(config, capacity),
         None => 0,
     }
 }
 
-/// The key's first value.
-pub fn first_of<'a>(held: &'a [Held], key: &[u8]) -> Option<&'a Held>
-    ensures { option_map (λ h. h.now) result ≡ find (λ h. same key.now h.value.key) held.now }
+/// Whether the values of a part weigh more than its share.
+pub fn is_over(config: &Config, limit: u128, held: &Holding, part: usize) -> bool
+    requires { IsShare config.now limit }
+    ensures { result ≡ is_over config.now part (values_of held.now) }
 {
-    held.iter().find(|h| key == h.key())
+    match config.capacity {
+        Some(_) => limit < held.weight_of(part),
+        None => false,
+    }
 }
 
-/// What each part weighs, of those below 256.
-fn weights_of(alloc: Global, held: &[Held]) -> Result<Vec<u128>, AllocError>
-    ensures { IfOk result (λ weights. WeighsEach weights.items (values_of held.now)) }
+/// What a held value weighs in a part, if there is one.
+fn weight_seen(held: Option<Seen<'_>>, part: usize) -> u64
+    ensures { result ≡ option_map_or (weight_in part) (option_map held_of held.entry) 0 }
 {
-    let mut weights = vec![in alloc; 0; PARTS]?;
-    for h in held {
-        add_weight(&mut weights, h)?;
-    }
-    Ok(weights)
-}
-
-/// Adds what a value weighs to what its part weighs.
-fn add_weight(weights: &mut Vec<u128>, held: &Held) -> Result<(), AllocError>
-    ensures { OnOk result ((values : List Value) → WeighsEach weights.old.items values → WeighsEach weights.new.items (values ++ held.now.value ∷ [])) }
-{
-    let part = held.part() as usize;
-    if part >= weights.len() {
-        return Ok(());
-    }
-    match weights[part].checked_add(u128::from(held.weight())) {
-        Some(sum) => {
-            weights[part] = sum;
-            Ok(())
+    match held {
+        Some(held) => {
+            if held.part == part as u64 {
+                held.weight
+            } else {
+                0
+            }
         }
+        None => 0,
+    }
+}
+
+/// What the values of a part weigh where the newcomer has taken its key's place, which `older` has had.
+fn weight_with(
+    held: &Holding,
+    older: Option<Seen<'_>>,
+    newcomer: &Held,
+    part: usize,
+) -> Result<u128, AllocError>
+    requires { option_map held_of older ≡ find (λ h. same newcomer.now.value.key h.value.key) held.now }
+    ensures { IfOk result (λ weight. weight ≡ weight_of_part part (just_accepted (values_of held.now) (Some newcomer.now.value))) }
+{
+    let own = weight_seen(Some(newcomer.see()), part);
+    let left = held.weight_of(part) - u128::from(weight_seen(older, part));
+    match left.checked_add(u128::from(own)) {
+        Some(weight) => Ok(weight),
         None => Err(AllocError),
     }
 }
 
-/// What the parts below 256 weigh, where that matters: where there is a capacity.
-pub fn loads_of(alloc: Global, config: &Config, held: &[Held]) -> Result<Vec<u128>, AllocError>
-    ensures { IfOk result (λ weights. WeighsWhere config.now weights.items (values_of held.now)) }
+/// Which parts are over their share where the newcomer has taken its key's place, if there is a capacity.
+fn overfilled_by(
+    alloc: Global,
+    limit: u128,
+    held: &Holding,
+    newcomer: &Held,
+) -> Result<Vec<bool>, AllocError>
+    ensures { IfOk result (λ marks. (part : ℕ) → part < 256 → get_or marks.items part false ≡ nat_lt limit (weight_of_part part (just_accepted (values_of held.now) (Some newcomer.now.value)))) }
 {
-    match config.capacity {
-        Some(_) => weights_of(alloc, held),
+    let older = held.get(newcomer.key());
+    let mut marks = Vec::with_capacity(alloc, PARTS)?;
+    for part in 0..PARTS {
+        let weight = weight_with(held, older, newcomer, part)?;
+        marks.push(limit < weight)?;
+    }
+    Ok(marks)
+}
+
+/// Which parts are over their share just after a step has accepted the newcomer, if there is one.
+pub fn overfilled(
+    alloc: Global,
+    config: &Config,
+    held: &Holding,
+    newcomer: Option<&Held>,
+) -> Result<Vec<bool>, AllocError>
+    ensures { IfOk result (λ marks. (now : ℕ) (deed : Deed) → deed.value ≡ option_map (λ h. h.value) (option_map (λ h. h.now) newcomer.entry) → AreOverfilled config.now (map (candidate_at config.now now) held.now) deed marks.items) }
+{
+    match newcomer {
+        Some(newcomer) => Ok(overfilled_with(alloc, config, held, newcomer)?),
         None => Ok(Vec::new(alloc)),
     }
 }
 
-/// Whether the values of a part weigh more than its share, by what the parts weigh.
-pub fn is_over_by(config: &Config, weights: &[u128], held: &[Held], part: u64) -> bool
-    requires { WeighsWhere config.now weights.now (values_of held.now) }
-    ensures { result ≡ is_over config.now part (values_of held.now) }
+/// The same where there is one.
+fn overfilled_with(
+    alloc: Global,
+    config: &Config,
+    held: &Holding,
+    newcomer: &Held,
+) -> Result<Vec<bool>, AllocError>
+    ensures { IfOk result (λ marks. (part : ℕ) → part < 256 → get_or marks.items part false ≡ is_over config.now part (just_accepted (values_of held.now) (Some newcomer.now.value))) }
 {
     match config.capacity {
-        Some(capacity) => match weights.get(part as usize) {
-            Some(weight) => share(config, capacity) < *weight,
-            None => is_over(config, held, part),
-        },
-        None => false,
+        Some(_) => Ok(overfilled_by(alloc, limit_of(config), held, newcomer)?),
+        None => Ok(Vec::new(alloc)),
     }
 }

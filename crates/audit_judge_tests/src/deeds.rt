@@ -1,4 +1,5 @@
-use audit_judge::{Covering, Deed, Held, do_deed, live};
+use audit_held::{Held, Holding};
+use audit_judge::{Covering, Deed, do_deed, live};
 use audit_model::{Bytes, Config, EvictionPolicy, Note, RemovalCause, Seq, Weight};
 use std::alloc::{AllocError, Global};
 use std::test::Fail;
@@ -48,7 +49,7 @@ fn set(
     alloc: Global,
     config: &Config,
     now: u64,
-    held: &mut Vec<Held>,
+    held: &mut Holding,
     key: &[u8],
     value: &[u8],
     notes: &[Note],
@@ -64,7 +65,7 @@ fn run(
     alloc: Global,
     config: &Config,
     now: u64,
-    held: &mut Vec<Held>,
+    held: &mut Holding,
     deed: Deed<'_>,
     notes: &[Note],
 ) -> Result<bool, AllocError> {
@@ -79,7 +80,7 @@ fn an_older_value_is_told_once(rt: HostRuntime) -> Result<(), Fail> {
     let other_value = one(alloc, RemovalCause::Replaced, b"a", b"2")?;
     let other_cause = one(alloc, RemovalCause::Expired, b"a", b"1")?;
     for case in 0..5u8 {
-        let mut held = Vec::new(alloc);
+        let mut held = Holding::new(alloc)?;
         assert!(rt; set(alloc, &config, 5, &mut held, b"a", b"1", &[])?);
         let told = match case {
             0 => set(alloc, &config, 6, &mut held, b"a", b"2", &[])?,
@@ -90,7 +91,7 @@ fn an_older_value_is_told_once(rt: HostRuntime) -> Result<(), Fail> {
         };
         assert_eq!(rt; told, case == 4);
     }
-    let mut held = Vec::new(alloc);
+    let mut held = Holding::new(alloc)?;
     assert!(rt; set(alloc, &config, 5, &mut held, b"a", b"1", &[])?);
     let mut twice = one(alloc, RemovalCause::Replaced, b"a", b"1")?;
     twice.append(&mut one(alloc, RemovalCause::Replaced, b"a", b"1")?)?;
@@ -102,13 +103,13 @@ fn an_older_value_is_told_once(rt: HostRuntime) -> Result<(), Fail> {
 fn the_newer_value_is_live(rt: HostRuntime) -> Result<(), Fail> {
     let alloc = rt.alloc();
     let config = config(None, None);
-    let mut held = Vec::new(alloc);
+    let mut held = Holding::new(alloc)?;
     let notes = one(alloc, RemovalCause::Replaced, b"a", b"1")?;
     assert!(rt; set(alloc, &config, 5, &mut held, b"a", b"1", &[])?);
     assert!(rt; set(alloc, &config, 5, &mut held, b"a", b"2", &notes)?);
     assert_eq!(rt; held.len(), 1);
     match live(&config, 5, &held, b"a") {
-        Some(h) => assert!(rt; h.bytes() == b"2".as_slice()),
+        Some(h) => assert!(rt; h.bytes == b"2".as_slice()),
         None => assert!(rt; false),
     }
     Ok(())
@@ -119,18 +120,18 @@ fn size_needs_a_capacity_and_a_point(rt: HostRuntime) -> Result<(), Fail> {
     let alloc = rt.alloc();
     let size = one(alloc, RemovalCause::Size, b"a", b"1")?;
     let deleted = one(alloc, RemovalCause::Explicit, b"b", b"2")?;
-    let mut held = Vec::new(alloc);
+    let mut held = Holding::new(alloc)?;
     let unbounded = config(None, None);
     assert!(rt; set(alloc, &unbounded, 1, &mut held, b"a", b"1", &[])?);
     assert!(rt; !set(alloc, &unbounded, 1, &mut held, b"b", b"2", &size)?);
 
     let bounded = config(Some(1), None);
-    let mut held = Vec::new(alloc);
+    let mut held = Holding::new(alloc)?;
     assert!(rt; set(alloc, &bounded, 1, &mut held, b"a", b"1", &[])?);
     assert!(rt; set(alloc, &bounded, 1, &mut held, b"b", b"2", &size)?);
 
     for syncs in [false, true] {
-        let mut held = Vec::new(alloc);
+        let mut held = Holding::new(alloc)?;
         let deletes = Deed {
             deletes: Some(b"b"),
             ..idle()
@@ -151,7 +152,7 @@ fn covered_values_are_told_explicit(rt: HostRuntime) -> Result<(), Fail> {
     let explicit = one(alloc, RemovalCause::Explicit, b"ab", b"1")?;
     let prefixes: [&[u8]; 3] = [b"a", b"b", b"abc"];
     for prefix in prefixes {
-        let mut held = Vec::new(alloc);
+        let mut held = Holding::new(alloc)?;
         let drops = Deed {
             covers: Covering::Prefixed(prefix),
             ..idle()
@@ -167,7 +168,7 @@ fn covered_values_are_told_explicit(rt: HostRuntime) -> Result<(), Fail> {
             prefix.len() == 1 && prefix[0] == b'a'
         );
     }
-    let mut held = Vec::new(alloc);
+    let mut held = Holding::new(alloc)?;
     let clears = Deed {
         covers: Covering::Everything,
         ..idle()
@@ -175,7 +176,7 @@ fn covered_values_are_told_explicit(rt: HostRuntime) -> Result<(), Fail> {
     assert!(rt; set(alloc, &config, 1, &mut held, b"ab", b"1", &[])?);
     assert!(rt; run(alloc, &config, 2, &mut held, clears, &[])?);
     assert!(rt; run(alloc, &config, 3, &mut held, idle(), &explicit)?);
-    assert!(rt; held.is_empty());
+    assert!(rt; held.len() == 0);
     Ok(())
 }
 
@@ -185,7 +186,7 @@ fn a_deadline_comes_at_its_moment(rt: HostRuntime) -> Result<(), Fail> {
     let config = config(None, Some(1));
     let expired = one(alloc, RemovalCause::Expired, b"a", b"1")?;
     for now in [999_999u64, 1_000_000, u64::MAX] {
-        let mut held = Vec::new(alloc);
+        let mut held = Holding::new(alloc)?;
         assert!(rt; set(alloc, &config, 0, &mut held, b"a", b"1", &[])?);
         assert_eq!(rt; live(&config, now, &held, b"a").is_some(), now == 999_999);
         assert_eq!(rt;

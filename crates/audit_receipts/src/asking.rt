@@ -40,7 +40,7 @@ pub fn copy_input(alloc: Global, input: &Input) -> Result<Input, AllocError>
 }
 
 /// A copy of an outcome.
-fn copy_outcome(alloc: Global, outcome: &Outcome) -> Result<Outcome, AllocError>
+pub fn copy_outcome(alloc: Global, outcome: &Outcome) -> Result<Outcome, AllocError>
     ensures { IfOk result (λ copy. copy ≡ outcome.now) }
 {
     match outcome {

@@ -6,7 +6,7 @@ mod output;
 mod receipt;
 mod standing;
 
-pub use asking::copy_input;
+pub use asking::{copy_input, copy_outcome};
 pub use output::{Output, output_of};
 pub use receipt::Receipt;
 pub use standing::{are_of, receipts_stand, stands};

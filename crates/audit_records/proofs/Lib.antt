@@ -1,3 +1,4 @@
+mod Onward
 mod Parts
 mod Tidying
 mod Walking

@@ -283,7 +283,7 @@ fn audited(
 ) -> Result<Option<u64>, AllocError>
     ensures { IfOk result (λ n. n ≡ audited_from config.now [] (empty_situation made) 0 records.now) }
 {
-    let mut s = begin(alloc, made);
+    let mut s = begin(alloc, made)?;
     let mut parts = Parts::new(alloc)?;
     for (i, entry) in records.iter().enumerate() {
         if !judge_record(alloc, config, &mut s, &mut parts, entry)? {

@@ -8,7 +8,7 @@ use Rattle.std.proofs.lemmas.Bool.Decides.{nat_tests}
 use Rattle.std.proofs.lemmas.List.Quantifiers.{position-Some}
 use Rattle.audit_model.specs.Changes.{join_by}
 use Rattle.audit_model.specs.Situation.{Situation, Ready, Connection, connection_in, without_number, without_connection, with_connection, is_overlong, without_waiting}
-use Rattle.audit_judge.proofs.Passing.{done, get-done, set-done}
+use Rattle.audit_situation.proofs.Done.{done, get-done, set-done}
 use Rattle.audit_situation.specs.States.{are_apart, Changed, fed_to}
 
 -- one more is done

@@ -1,5 +1,5 @@
 //! The situation between two steps, and what changes it.
-ghost use Rattle.std.specs.Prelude.{◌≡◌, ◌&&◌, ◌||◌, ◌<◌, ◌++◌, ◌∷◌, [], OnOk, IsTrue, ℕ, suc, max, Some, None, map, not, ◌==◌, position, option_map, slice_index_or, vec_len};
+ghost use Rattle.std.specs.Prelude.{◌≡◌, ◌&&◌, ◌||◌, ◌<◌, ◌++◌, ◌∷◌, [], OnOk, IfOk, IsTrue, ℕ, suc, max, Some, None, map, not, ◌==◌, position, option_map, slice_index_or, vec_len};
 ghost use Rattle.std.specs.List.{filter, find};
 ghost use Rattle.std.specs.Option.{option_map_or};
 ghost use Rattle.audit_model.specs.Bytewise.{same};
@@ -11,7 +11,7 @@ ghost use Rattle.audit_situation.specs.Standings.{moved_on};
 
 use crate::link::{Link, Moving, first_line, is_overlong, move_on};
 use crate::pending::Pending;
-use audit_judge::Held;
+use audit_held::Holding;
 use audit_model::{Seq, copy_bytes};
 use std::alloc::{AllocError, Global};
 
@@ -24,23 +24,23 @@ pub struct State {
     pub sent: u64,
     pub connections: Vec<Link>,
     pub pending: Vec<Pending>,
-    pub held: Vec<Held>,
+    pub held: Holding,
     pub dropped: bool,
 }
 
 /// The situation of a namespace that was made at that moment, in nanoseconds.
-pub fn begin(alloc: Global, made: u64) -> State
-    ensures { situation_of result ≡ empty_situation made }
+pub fn begin(alloc: Global, made: u64) -> Result<State, AllocError>
+    ensures { IfOk result (λ s. situation_of s ≡ empty_situation made) }
 {
-    State {
+    Ok(State {
         latest: made,
         opened: 0,
         sent: 0,
         connections: Vec::new(alloc),
         pending: Vec::new(alloc),
-        held: Vec::new(alloc),
+        held: Holding::new(alloc)?,
         dropped: false,
-    }
+    })
 }
 
 /// The open connection of that number.

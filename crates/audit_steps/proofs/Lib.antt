@@ -1,2 +1,3 @@
 mod Sorting
 mod Judged
+mod Within

@@ -1,5 +1,5 @@
 //! Which value a step accepts, and into which part.
-ghost use Rattle.std.specs.Prelude.{◌≡◌, ◌++◌, ◌∷◌, [], IfOk, IfSome, ℕ, None, true, option_map, Some};
+ghost use Rattle.std.specs.Prelude.{◌≡◌, ◌<◌, ◌++◌, ◌∷◌, [], IfOk, IfSome, ℕ, None, true, option_map, Some};
 ghost use Rattle.audit_model.specs.Changes.{newly_held};
 ghost use Rattle.audit_model.specs.History.{Running, weight_of};
 ghost use Rattle.audit_model.specs.Replies.{offered, offer_of, value_with};
@@ -16,7 +16,8 @@ ghost use Rattle.audit_steps.specs.Judging.{offer_from, Takes, Accepts};
 use crate::doing::Doing;
 use crate::owing::found;
 use crate::replies::{accepts, digits_of, sum_with};
-use audit_judge::{Held, part_count};
+use audit_held::Held;
+use audit_judge::part_count;
 use audit_model::{Accepted, Bytes, Config, Outcome, Seq, Weight};
 use audit_parts::Parts;
 use audit_situation::State;
@@ -148,7 +149,8 @@ pub fn accept(
     doing: Doing<'_>,
     accepted: Option<Accepted>,
 ) -> Result<Option<Option<Held>>, AllocError>
-    ensures { IfOk result (Accepts config.now (situation_of s.now) (action_of doing.entry) (option_map (λ a. a.part) accepted)) }
+    ensures accepts { IfOk result (Accepts config.now (situation_of s.now) (action_of doing.entry) (option_map (λ a. a.part) accepted)) }
+    ensures small { IfOk result (λ taken. IfSome taken (λ newcomer. IfSome newcomer (λ h. h.value.part < 256))) }
 {
     let offer = offer_of(alloc, config, s, doing)?;
     match accepted {
@@ -159,7 +161,8 @@ pub fn accept(
 
 /// What a step accepts that shows no part.
 fn none_for(offer: Option<Proposal>) -> Option<Option<Held>>
-    ensures { (config : Config) (now : ℕ) → Takes config now None (option_map offer_from offer) result }
+    ensures takes { (config : Config) (now : ℕ) → Takes config now None (option_map offer_from offer) result }
+    ensures none { IfSome result (λ newcomer. newcomer ≡ None) }
 {
     match offer {
         Some(_) => None,
@@ -174,7 +177,8 @@ fn take(
     part: u64,
     offer: Option<Proposal>,
 ) -> Result<Option<Option<Held>>, AllocError>
-    ensures { IfOk result (Takes config.now now (Some part) (option_map offer_from offer)) }
+    ensures takes { IfOk result (Takes config.now now (Some part) (option_map offer_from offer)) }
+    ensures small { IfOk result (λ taken. IfSome taken (λ newcomer. IfSome newcomer (λ h. h.value.part < 256))) }
 {
     match offer {
         Some(offer) => {

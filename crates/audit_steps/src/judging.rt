@@ -1,17 +1,16 @@
 //! One step, judged and done.
-ghost use Rattle.std.specs.Prelude.{◌≡◌, ◌&&◌, ◌||◌, not, IfOk, OnOk, IfSome, IsTrue, Option, Some, None, true, option_map};
-ghost use Rattle.std.specs.List.{list_all};
+ghost use Rattle.std.specs.Prelude.{◌≡◌, ◌<◌, ◌&&◌, ◌||◌, not, IfOk, OnOk, IfSome, IsTrue, Option, Some, None, true, option_map};
 ghost use Rattle.std.specs.Option.{option_eq};
 ghost use Rattle.audit_model.specs.Bytewise.{same, is_empty};
 ghost use Rattle.audit_model.specs.Changes.{all_held_after, with_connection_after, after_step};
 ghost use Rattle.audit_model.specs.Commands.{deed_of, drops, is_sync};
 ghost use Rattle.audit_model.specs.Follows.{line_in, placed_step_in};
-ghost use Rattle.audit_model.specs.Notes.{is_silent, is_within, is_over};
+ghost use Rattle.audit_model.specs.Notes.{is_silent, is_within};
 ghost use Rattle.audit_model.specs.Situation.{connection_in, view_in};
 ghost use Rattle.audit_model.specs.Steps.{Task, RunHeld, has_right_notes};
 ghost use Rattle.audit_model.specs.View.{View};
 ghost use Rattle.audit_judge.specs.After.{IsNew};
-ghost use Rattle.audit_judge.specs.Weights.{values_of, WeighsWhere};
+ghost use Rattle.audit_held.specs.Weights.{values_of};
 ghost use Rattle.audit_situation.specs.States.{situation_of, are_apart};
 ghost use Rattle.audit_steps.specs.Doings.{action_of, acting};
 ghost use Rattle.audit_steps.specs.Judging.{placed_by, placed_with, is_fit, is_synced, reply_fits, IsJudged};
@@ -22,7 +21,8 @@ use crate::doing::{Doing, deed_of, is_drop, is_hold, is_silent, is_sync, key_loa
 use crate::owing::{loads_rightly, replies_rightly};
 use crate::replies::{counts_of, is_said};
 use crate::shown::{Duty, Shown, do_due, is_duty_of, is_held_rightly, is_run_lines, is_store};
-use audit_judge::{Held, do_deed, is_over_by, loads_of};
+use audit_held::{Held, Holding};
+use audit_judge::{PARTS, do_deed, is_over, limit_of};
 use audit_model::{Config, Note};
 use audit_parts::Parts;
 use audit_situation::{Link, Moved, Moving, State, find_link, first_line, pass, waited};
@@ -98,20 +98,13 @@ fn are_all(turn: bool, held: bool, line: bool, reply: bool, load: bool, quiet: b
 }
 
 /// Whether each part is within its share.
-fn are_within(alloc: Global, config: &Config, held: &[Held]) -> Result<bool, AllocError>
-    ensures { IfOk result (λ b. b ≡ is_within config.now (values_of held.now)) }
-{
-    let weights = loads_of(alloc, config, held)?;
-    Ok(are_within_by(config, &weights, held))
-}
-
-/// The same, by what the parts weigh.
-fn are_within_by(config: &Config, weights: &[u128], held: &[Held]) -> bool
-    requires { WeighsWhere config.now weights.now (values_of held.now) }
+fn are_within(config: &Config, held: &Holding) -> bool
     ensures { result ≡ is_within config.now (values_of held.now) }
 {
-    for h in held {
-        if is_over_by(config, weights, held, h.part()) {
+    let limit = limit_of(config);
+    let _number = held.len();
+    for part in 0..PARTS {
+        if is_over(config, limit, held, part) {
             return false;
         }
     }
@@ -122,7 +115,7 @@ fn are_within_by(config: &Config, weights: &[u128], held: &[Held]) -> bool
 fn is_synced(
     alloc: Global,
     config: &Config,
-    held: &[Held],
+    held: &Holding,
     doing: Doing<'_>,
     reply: Option<&[u8]>,
 ) -> Result<bool, AllocError>
@@ -131,7 +124,7 @@ fn is_synced(
     match doing {
         Doing::Sync => {
             let counts = counts_of(alloc, held)?;
-            let within = are_within(alloc, config, held)?;
+            let within = are_within(config, held);
             Ok(is_said(reply, Some(counts.as_slice())) && within)
         }
         Doing::Set { .. } | Doing::Get { .. } | Doing::Has { .. } | Doing::Load { .. } => Ok(true),
@@ -150,9 +143,10 @@ fn do_values(
     doing: Doing<'_>,
     newcomer: Option<Held>,
 ) -> Result<bool, AllocError>
-    requires { IfSome newcomer (IsNew s.old.latest) }
+    requires new { IfSome newcomer (IsNew s.old.latest) }
+    requires small { IfSome newcomer (λ h. h.value.part < 256) }
     ensures right { IfOk result (λ b. (task : Option Task) → let placed = placed_with config.now (situation_of s.old) task (action_of doing.entry) (step_of shown.entry) (option_map (λ h. h.value) newcomer) in b ≡ (has_right_notes config.now placed && is_synced config.now placed)) }
-    ensures left { IfOk result (λ b. b ≡ true → let effect = (placed_with config.now (situation_of s.old) None (action_of doing.entry) (step_of shown.entry) (option_map (λ h. h.value) newcomer)).effect in situation_of s.new ≡ record (situation_of s.old) { held = all_held_after config.now s.old.latest s.old.held.items (deed_of effect) effect.notes; dropped = s.old.dropped || drops effect }) }
+    ensures left { IfOk result (λ b. b ≡ true → let effect = (placed_with config.now (situation_of s.old) None (action_of doing.entry) (step_of shown.entry) (option_map (λ h. h.value) newcomer)).effect in situation_of s.new ≡ record (situation_of s.old) { held = all_held_after config.now s.old.latest s.old.held (deed_of effect) effect.notes; dropped = s.old.dropped || drops effect }) }
 {
     let deed = deed_of(doing, shown.reply);
     if !do_deed(
@@ -217,6 +211,7 @@ fn finish(
 ) -> Result<bool, AllocError>
     requires apart { IsTrue (are_apart s.old.connections.items) }
     requires new { IfSome newcomer (IsNew s.old.latest) }
+    requires small { IfSome newcomer (λ h. h.value.part < 256) }
     ensures right { IfOk result (λ b. let placed = placed_with config.now (situation_of s.old) (option_map task_of duty.entry) (action_of doing.entry) (step_of shown.entry) (option_map (λ h. h.value) newcomer) in b ≡ (has_right_notes config.now placed && is_synced config.now placed)) }
     ensures left { IfOk result (λ b. b ≡ true → situation_of s.new ≡ after_step config.now (situation_of s.old) (option_map task_of duty.entry) (step_of shown.entry) (placed_with config.now (situation_of s.old) (option_map task_of duty.entry) (action_of doing.entry) (step_of shown.entry) (option_map (λ h. h.value) newcomer)).effect) }
 {

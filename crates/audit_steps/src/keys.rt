@@ -1,12 +1,14 @@
 //! The live keys in byte order.
-ghost use Rattle.std.specs.Prelude.{◌≡◌, ◌≤◌, ◌++◌, IfOk, OnOk, map, length, position};
+ghost use Rattle.std.specs.Prelude.{◌≡◌, ◌<◌, ◌≤◌, ◌++◌, IfOk, OnOk, map, reverse, length, get_or, position};
 ghost use Rattle.std.specs.List.{concat, position_or_len};
+ghost use Rattle.audit_held.specs.Seeing.{held_of};
 ghost use Rattle.audit_model.specs.Bytewise.{is_before, text_line};
 ghost use Rattle.audit_model.specs.Replies.{keys_listed};
 ghost use Rattle.audit_model.specs.Situation.{live_keys_at};
 ghost use Rattle.audit_model.specs.Values.{put_sorted};
 
-use audit_judge::{Held, is_live};
+use audit_held::{Holding, Seen};
+use audit_judge::is_live;
 use audit_model::Config;
 use itoa::Buffer;
 use std::alloc::{AllocError, Global};
@@ -45,22 +47,31 @@ fn position_before(keys: &[&[u8]], key: &[u8]) -> Option<usize>
     keys.iter().position(|k| is_before(key, k))
 }
 
-/// The keys of the live values, in byte order.
+/// The keys of the live values, in byte order; the newest value comes first.
 fn live_keys<'a>(
     alloc: Global,
     config: &Config,
     now: u64,
-    held: &'a [Held],
+    held: &[Seen<'a>],
 ) -> Result<Vec<&'a [u8]>, AllocError>
-    ensures { IfOk result (λ keys. map (λ k. k.now) keys.items ≡ live_keys_at config.now now held.now) }
+    ensures { IfOk result (λ keys. map (λ k. k.now) keys.items ≡ live_keys_at config.now now (reverse (map held_of held.entry.now))) }
 {
     let mut keys = Vec::new(alloc);
-    for h in held {
-        if is_live(config, now, h) {
-            put(&mut keys, h.key())?;
+    for at in 0..held.len() {
+        let h = seen_at(held, at);
+        if is_live(config, now, &h) {
+            put(&mut keys, h.key)?;
         }
     }
     Ok(keys)
+}
+
+/// The value at a place.
+fn seen_at<'a>(held: &[Seen<'a>], at: usize) -> Seen<'a>
+    requires { at < length held.now }
+    ensures { get_or held.entry.now at result ≡ result }
+{
+    held[at]
 }
 
 /// Writes each key on a line of its own.
@@ -87,11 +98,12 @@ pub fn keys_listed(
     alloc: Global,
     config: &Config,
     now: u64,
-    held: &[Held],
+    held: &Holding,
 ) -> Result<Vec<u8>, AllocError>
     ensures { IfOk result (λ text. text.items ≡ keys_listed (live_keys_at config.now now held.now)) }
 {
-    let keys = live_keys(alloc, config, now, held)?;
+    let all = held.lent()?;
+    let keys = live_keys(alloc, config, now, &all)?;
     let mut number = Buffer::new();
     let mut text = Vec::from_slice(alloc, b"KEYS ")?;
     text.extend_from_slice(number.format(keys.len()).as_bytes())?;

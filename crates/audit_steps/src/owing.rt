@@ -8,6 +8,7 @@ ghost use Rattle.audit_model.specs.declared.command.Command.TheVariants as says;
 ghost use Rattle.audit_model.specs.Replies.{reply_of, may_refuse, load_sent_by};
 ghost use Rattle.audit_model.specs.Situation.{live_at, view_in, load_in};
 ghost use Rattle.audit_model.specs.declared.config.Config.{Config};
+ghost use Rattle.audit_held.specs.Seeing.{held_of};
 ghost use Rattle.audit_situation.specs.States.{situation_of};
 ghost use Rattle.audit_steps.specs.Doings.{action_of};
 ghost use Rattle.audit_steps.specs.Judging.{reply_fits};
@@ -18,14 +19,15 @@ use crate::replies::{
     accepts, fault_text, is_said, ok_or_off, outcome_text, sum_or_error, sum_with, value_or_none,
     value_reply, yes_or_no,
 };
-use audit_judge::{Held, live};
+use audit_held::Seen;
+use audit_judge::live;
 use audit_model::Config;
 use audit_situation::{State, find_load};
 use std::alloc::{AllocError, Global};
 
 /// The live value of a key.
-pub fn found<'a>(config: &Config, s: &'a State, key: &[u8]) -> Option<&'a Held>
-    ensures { option_map (λ h. h.now.value) result ≡ live_at config.now s.now.latest s.now.held.items key.now }
+pub fn found<'a>(config: &Config, s: &'a State, key: &'a [u8]) -> Option<Seen<'a>>
+    ensures { option_map (λ h. (held_of h).value) result ≡ live_at config.now s.now.latest s.now.held key.now }
 {
     live(config, s.latest, &s.held, key)
 }
@@ -57,7 +59,7 @@ fn load_reply(
     ensures { IfOk result (λ r. (values : List Value) → option_map (λ t. t.items) r ≡ reply_of config.now (view_in config.now (situation_of s.now)) values (Running (says.Load key.now))) }
 {
     match found(config, s, key) {
-        Some(held) => Ok(Some(value_reply(alloc, held.bytes())?)),
+        Some(held) => Ok(Some(value_reply(alloc, held.bytes)?)),
         None => Ok(None),
     }
 }
@@ -142,7 +144,7 @@ fn is_next(sent: u64, load: Option<u64>) -> bool
 
 /// Whether a `LOAD` needs no load of its own.
 fn needs_none(config: &Config, s: &State, key: &[u8]) -> bool
-    ensures { result ≡ (is_some (live_at config.now s.now.latest s.now.held.items key.now) || is_some (load_in (situation_of s.now) key.now)) }
+    ensures { result ≡ (is_some (live_at config.now s.now.latest s.now.held key.now) || is_some (load_in (situation_of s.now) key.now)) }
 {
     found(config, s, key).is_some() || find_load(&s.pending, key).is_some()
 }

@@ -1,13 +1,13 @@
 //! The replies that steps owe.
-ghost use Rattle.std.specs.Prelude.{◌≡◌, ◌≤◌, ◌*◌, ◌++◌, IfOk, option_map, decimal};
-ghost use Rattle.std.specs.List.{sum_by};
+ghost use Rattle.std.specs.Prelude.{◌≡◌, ◌++◌, IfOk, option_map, decimal};
 ghost use Rattle.std.specs.Option.{option_eq};
 ghost use Rattle.audit_model.specs.Bytewise.{same, text_line};
 ghost use Rattle.audit_model.specs.History.{accepts_values};
 ghost use Rattle.audit_model.specs.Replies.{value_reply, value_or_none, yes_or_no, ok_or_off, sum_with, sum_or_error, fault_text, outcome_text, counts_of};
-ghost use Rattle.audit_judge.specs.Weights.{values_of};
+ghost use Rattle.audit_held.specs.Seeing.{held_of};
+ghost use Rattle.audit_held.specs.Weights.{values_of};
 
-use audit_judge::Held;
+use audit_held::{Holding, Seen};
 use audit_model::{Config, LineError, Outcome};
 use cache_numbers::number;
 use itoa::Buffer;
@@ -31,18 +31,18 @@ pub fn value_reply(alloc: Global, bytes: &[u8]) -> Result<Vec<u8>, AllocError>
 }
 
 /// The value, or `NONE`.
-pub fn value_or_none(alloc: Global, found: Option<&Held>) -> Result<Vec<u8>, AllocError>
-    ensures { IfOk result (λ line. line.items ≡ value_or_none (option_map (λ h. h.now.value) found.entry)) }
+pub fn value_or_none(alloc: Global, found: Option<Seen<'_>>) -> Result<Vec<u8>, AllocError>
+    ensures { IfOk result (λ line. line.items ≡ value_or_none (option_map (λ h. (held_of h).value) found.entry)) }
 {
     match found {
-        Some(held) => value_reply(alloc, held.bytes()),
+        Some(held) => value_reply(alloc, held.bytes),
         None => Vec::from_slice(alloc, b"NONE\n"),
     }
 }
 
 /// `YES` where there is a live value.
-pub fn yes_or_no(found: Option<&Held>) -> &'static [u8]
-    ensures { result.now ≡ yes_or_no (option_map (λ h. h.now.value) found.entry) }
+pub fn yes_or_no(found: Option<Seen<'_>>) -> &'static [u8]
+    ensures { result.now ≡ yes_or_no (option_map (λ h. (held_of h).value) found.entry) }
 {
     match found {
         Some(_) => b"YES\n",
@@ -68,11 +68,11 @@ pub fn ok_or_off(config: &Config) -> &'static [u8]
 }
 
 /// The sum that an `ADD` stores; none where the value is no number or the sum is too large.
-pub fn sum_with(found: Option<&Held>, added: u64) -> Option<u64>
-    ensures { result ≡ sum_with (option_map (λ h. h.now.value) found.entry) added }
+pub fn sum_with(found: Option<Seen<'_>>, added: u64) -> Option<u64>
+    ensures { result ≡ sum_with (option_map (λ h. (held_of h).value) found.entry) added }
 {
     match found {
-        Some(held) => match number(held.bytes()) {
+        Some(held) => match number(held.bytes) {
             Some(old) => old.checked_add(added),
             None => None,
         },
@@ -125,31 +125,17 @@ pub fn outcome_text(alloc: Global, outcome: &Outcome) -> Result<Vec<u8>, AllocEr
 }
 
 /// How many values there are, and what they weigh together.
-pub fn counts_of(alloc: Global, held: &[Held]) -> Result<Vec<u8>, AllocError>
+pub fn counts_of(alloc: Global, held: &Holding) -> Result<Vec<u8>, AllocError>
     ensures { IfOk result (λ line. line.items ≡ counts_of (values_of held.now)) }
 {
     let mut number = Buffer::new();
     let mut weight = Buffer::new();
-    let all = weight_of_all(held);
     let mut line = Vec::from_slice(alloc, b"SYNC ")?;
     line.extend_from_slice(number.format(held.len()).as_bytes())?;
     line.extend_from_slice(b" ")?;
-    line.extend_from_slice(weight.format(all).as_bytes())?;
+    line.extend_from_slice(weight.format(held.total()).as_bytes())?;
     line.push(b'\n')?;
     Ok(line)
-}
-
-/// What all values weigh together.
-fn weight_of_all(held: &[Held]) -> u128
-    ensures sum { result ≡ sum_by (λ v. v.weight) (values_of held.now) }
-    ensures bounded { result ≤ 18446744073709551615 * 18446744073709551615 }
-{
-    let _number = held.len();
-    let mut sum: u128 = 0;
-    for h in held {
-        sum += u128::from(h.weight());
-    }
-    sum
 }
 
 /// Whether the two are the same bytes, or neither is there.

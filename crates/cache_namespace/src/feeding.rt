@@ -1,14 +1,14 @@
 //! A piece of a connection's bytes, and the lines that it lets run.
-ghost use Rattle.std.specs.Prelude.{◌≡◌, ◌<◌, ◌≤◌, ◌^◌, ◌++◌, ◌∷◌, ◌||◌, [], true, not, Bool, List, ℕ, IfOk, OnErr, IsErrOf, IsTrue, length, vec_len, vec_capacity};
+ghost use Rattle.std.specs.Prelude.{◌≡◌, ◌<◌, ◌≤◌, ◌^◌, ◌++◌, ◌∷◌, ◌||◌, [], MatchOption, None, Some, true, not, Bool, List, ℕ, IfOk, OnErr, IsErrOf, IsTrue, length, vec_len, vec_capacity};
 ghost use Rattle.audit_model.specs.Situation.{Situation, HeldValue};
 ghost use Rattle.audit_model.specs.declared.transcript.Note.{Note};
 ghost use Rattle.cache_store.specs.Identifiers.{DrawsAlone};
 ghost use Rattle.cache_store.specs.Promises.{IsUnchanged};
 ghost use Rattle.cache_store.specs.Recency.{KeepsRecency};
 ghost use Rattle.cache_namespace.specs.Drawing.{workings};
-ghost use Rattle.cache_steps.specs.Right.{KeepsFrame};
+ghost use Rattle.cache_steps.specs.Right.{KeepsFrame, step_saying};
 ghost use Rattle.cache_namespace.specs.Gathered.{IsFresh, gather};
-ghost use Rattle.cache_namespace.specs.Kept.{IsReadyToHold, gathered};
+ghost use Rattle.cache_namespace.specs.Kept.{IsReadyToHold, KeepsRoom, gathered, more_in, steps_of};
 ghost use Rattle.cache_namespace.specs.Making.{making_of};
 ghost use Rattle.cache_namespace.specs.Lines.{IsThere, held_step};
 ghost use Rattle.cache_namespace.specs.Ends.{left_by};
@@ -16,13 +16,13 @@ ghost use Rattle.cache_namespace.specs.Waiting.{loads_in, under_way};
 ghost use Rattle.cache_loads.specs.Pending.{SameLoads};
 ghost use Rattle.cache_namespace.specs.Ran.{RanReady, RanFeed};
 ghost use Rattle.cache_namespace.specs.Stops.{EndsFor, ends_by_quit, holds_back, standing_at};
-ghost use Rattle.cache_namespace.specs.Whole.{has_line, has_room, waits};
+ghost use Rattle.cache_namespace.specs.Whole.{has_line, has_room, held_line, waits};
 
 use crate::joining::join_first;
 use crate::kept::Kept;
 use crate::lines::{Done, Stop, release, run_lines};
 use audit_model::Config;
-use cache_lines::Buffer;
+use cache_lines::{Buffer, Next};
 use cache_loads::Loads;
 use cache_store::Store;
 use std::alloc::Global;
@@ -55,11 +55,63 @@ pub enum FeedError {
 fn hold_back(kept: &mut Option<Kept>, alloc: Global, number: u64, line: &[u8])
     requires ready { IsReadyToHold kept.old }
     requires short { length line.now ≤ 8192 }
-    ensures { (text : List ℕ) (waiting : List Note) → gathered text kept.new waiting ≡ gather (gathered text kept.old waiting) (held_step number line.now ∷ []) }
+    ensures step { (text : List ℕ) (waiting : List Note) → gathered text kept.new waiting ≡ gather (gathered text kept.old waiting) (held_step number line.now ∷ []) }
+    ensures room { KeepsRoom kept.new }
+    ensures more { more_in kept.new ≡ more_in kept.old }
 {
     match kept {
         None => {}
         Some(kept) => kept.hold(alloc, number, line),
+    }
+}
+
+/// Adds a step that holds the first line back, where a record is made.
+pub fn hold_first(kept: &mut Option<Kept>, alloc: Global, number: u64, unread: &Buffer)
+    requires ready { IsReadyToHold kept.old }
+    requires whole { IsTrue (has_line unread.now.bytes) }
+    ensures step { (text : List ℕ) (waiting : List Note) → gathered text kept.new waiting ≡ gather (gathered text kept.old waiting) (held_step number (held_line unread.now.bytes) ∷ []) }
+    ensures room { KeepsRoom kept.new }
+    ensures more { more_in kept.new ≡ more_in kept.old }
+{
+    match unread.next() {
+        Next::Line(len) => hold_back(kept, alloc, number, unread.line(len)),
+        Next::More => unreachable!(),
+        Next::TooLong => unreachable!(),
+    }
+}
+
+/// Adds a step of the line with what was written as its reply, where a record is made.
+fn say(kept: &mut Option<Kept>, alloc: Global, number: u64, line: &[u8], text: &mut Vec<u8>)
+    requires ready { IsReadyToHold kept.old }
+    requires short { length line.now ≤ 8192 }
+    ensures step { MatchOption kept.old (text.new ≡ text.old) (λ k. (text.new.items ≡ []) × (steps_of kept.new ≡ Some (k.steps.items ++ step_saying number line.now text.old.items None [] ∷ []))) }
+    ensures room { KeepsRoom kept.new }
+    ensures more { more_in kept.new ≡ more_in kept.old }
+{
+    match kept {
+        None => {}
+        Some(kept) => kept.say(alloc, number, line, text),
+    }
+}
+
+/// Adds a step of the first line with what was written as its reply, where a record is made.
+pub fn say_first(
+    kept: &mut Option<Kept>,
+    alloc: Global,
+    number: u64,
+    unread: &Buffer,
+    text: &mut Vec<u8>,
+)
+    requires ready { IsReadyToHold kept.old }
+    requires whole { IsTrue (has_line unread.now.bytes) }
+    ensures step { MatchOption kept.old (text.new ≡ text.old) (λ k. (text.new.items ≡ []) × (steps_of kept.new ≡ Some (k.steps.items ++ step_saying number (held_line unread.now.bytes) text.old.items None [] ∷ []))) }
+    ensures room { KeepsRoom kept.new }
+    ensures more { more_in kept.new ≡ more_in kept.old }
+{
+    match unread.next() {
+        Next::Line(len) => say(kept, alloc, number, unread.line(len), text),
+        Next::More => unreachable!(),
+        Next::TooLong => unreachable!(),
     }
 }
 
@@ -89,6 +141,8 @@ pub fn run_ready<S: Store>(
     ensures room { waits (standing_at result) ≡ true → IsTrue (has_room (vec_len text.new) (vec_capacity text.new) (vec_len spare.new) (vec_capacity spare.new)) }
     ensures frame { KeepsFrame (S.frame store.old) (S.frame store.new) now }
     ensures fresh { IsFresh (gathered text.new.items kept.new (S.untaken store.new)) }
+    ensures keeps_room { KeepsRoom kept.new }
+    ensures more { more_in kept.new ≡ more_in kept.old }
 {
     unread.append(piece);
     match run_lines(store, alloc, config, now, number, unread, text, kept) {

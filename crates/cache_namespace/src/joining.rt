@@ -5,7 +5,7 @@ ghost use Rattle.audit_model.specs.declared.command.Command.TheVariants as says;
 ghost use Rattle.audit_model.specs.declared.transcript.Note.{Note};
 ghost use Rattle.cache_loads.specs.Pending.{SameLoads};
 ghost use Rattle.cache_namespace.specs.Gathered.{gather};
-ghost use Rattle.cache_namespace.specs.Kept.{IsReadyToHold, gathered, steps_of};
+ghost use Rattle.cache_namespace.specs.Kept.{IsReadyToHold, gathered, more_in, steps_of};
 ghost use Rattle.cache_namespace.specs.Waiting.{is_load, sent_by, under_way, when_waiting};
 ghost use Rattle.cache_namespace.specs.Whole.{has_line, has_room, held_line};
 ghost use Rattle.cache_steps.specs.Loading.{step_silent};
@@ -46,6 +46,7 @@ fn wait_for(
     ensures joined { OnOk result (under_way loads.new ≡ when_waiting number key.now (under_way loads.old)) }
     ensures step { OnOk result ((text : List ℕ) (waiting : List Note) → gathered text kept.new waiting ≡ gather (gathered text kept.old waiting) (step_silent number line.now (sent_by key.now (under_way loads.old)) None [] ∷ [])) }
     ensures ready { IsReadyToHold kept.new }
+    ensures more { more_in kept.new ≡ more_in kept.old }
     ensures same { OnErr result (SameLoads loads.old loads.new) }
     ensures kept { OnErr result (steps_of kept.new ≡ steps_of kept.old) }
 {
@@ -82,6 +83,7 @@ fn join_load(
     ensures room { OnOk result (IsTrue (has_room (vec_len output.new) (vec_capacity output.new) (vec_len spare.new) (vec_capacity spare.new))) }
     ensures output { output.new.items ≡ output.old.items }
     ensures ready { IsReadyToHold kept.new }
+    ensures more { more_in kept.new ≡ more_in kept.old }
     ensures same { OnErr result (SameLoads loads.old loads.new) }
     ensures kept { OnErr result (steps_of kept.new ≡ steps_of kept.old) }
 {
@@ -121,6 +123,7 @@ pub fn join_first(
     ensures room { OnOk result (IsTrue (has_room (vec_len output.new) (vec_capacity output.new) (vec_len spare.new) (vec_capacity spare.new))) }
     ensures output { output.new.items ≡ output.old.items }
     ensures ready { IsReadyToHold kept.new }
+    ensures more { more_in kept.new ≡ more_in kept.old }
     ensures same { OnErr result (SameLoads loads.old loads.new) }
     ensures kept { OnErr result (steps_of kept.new ≡ steps_of kept.old) }
 {

@@ -16,7 +16,7 @@ ghost use Rattle.cache_steps.specs.Order.{MovesOrder};
 ghost use Rattle.cache_steps.specs.Right.{Answers, KeepsFrame};
 ghost use Rattle.cache_namespace.specs.Drawing.{workings, says_drop};
 ghost use Rattle.cache_namespace.specs.Gathered.{IsFresh};
-ghost use Rattle.cache_namespace.specs.Kept.{IsReadyToHold, gathered};
+ghost use Rattle.cache_namespace.specs.Kept.{IsReadyToHold, gathered, more_in};
 ghost use Rattle.cache_namespace.specs.Making.{making_of};
 ghost use Rattle.cache_namespace.specs.Lines.{IsThere, says_quit};
 ghost use Rattle.cache_namespace.specs.Ran.{RanOne, RanLines, IsPlainLine, HasItsPart, Misses};
@@ -183,7 +183,7 @@ fn run_line<S: Store>(
 }
 
 /// Takes all notes that the store has.
-fn drain<S: Store>(store: &mut S, notes: &mut Vec<Note>)
+pub fn drain<S: Store>(store: &mut S, notes: &mut Vec<Note>)
     requires { vec_len notes.old + length (S.untaken store.old) ≤ vec_capacity notes.old }
     ensures drained { notes.new.items ≡ notes.old.items ++ S.untaken store.old }
     ensures none { S.untaken store.new ≡ [] }
@@ -262,6 +262,7 @@ fn run_one<S: Store>(
     ensures ok { IfOk result (λ done. misses_now done ≡ false → (s : Situation) → s.latest ≡ now → s.dropped ≡ (S.frame store.old).dropped → S.stands store.old s.held → RanOne config.now s number (making_of (S.frame store.old)) line.now (quits_now done) (S.stands store.new) (S.frame store.new).dropped (workings (S.stream store.old) (S.registered store.old) (S.recency store.old)) (workings (S.stream store.new) (S.registered store.new) (S.recency store.new)) (gathered text.old.items kept.old (S.untaken store.old)) (gathered text.new.items kept.new (S.untaken store.new))) }
     ensures fresh { IsFresh (gathered text.new.items kept.new (S.untaken store.new)) }
     ensures ready { IsReadyToHold kept.new }
+    ensures more { more_in kept.new ≡ more_in kept.old }
     ensures frame { OnOk result (KeepsFrame (S.frame store.old) (S.frame store.new) now) }
     ensures unmoved { OnErr result (KeepsRecency (S.recency store.old) (S.recency store.new)) }
     ensures unchanged { OnErr result (IsUnchanged (S.stands store.old) (S.stands store.new) (S.frame store.old) (S.frame store.new) (S.untaken store.old) (S.untaken store.new)) }
@@ -324,6 +325,7 @@ pub fn run_lines<S: Store>(
     ensures frame { KeepsFrame (S.frame store.old) (S.frame store.new) now }
     ensures fresh { IsFresh (gathered text.new.items kept.new (S.untaken store.new)) }
     ensures ready { IsReadyToHold kept.new }
+    ensures more { more_in kept.new ≡ more_in kept.old }
 {
     loop {
         match unread.next() {
@@ -367,6 +369,7 @@ pub fn release<S: Store>(
     ensures room { unread.new.room ≡ unread.old.room }
     ensures fresh { IsFresh (gathered text.new.items kept.new (S.untaken store.new)) }
     ensures ready { IsReadyToHold kept.new }
+    ensures more { more_in kept.new ≡ more_in kept.old }
     ensures frame { OnOk result (KeepsFrame (S.frame store.old) (S.frame store.new) now) }
     ensures unread { OnErr result (unread.new ≡ unread.old) }
     ensures unmoved { OnErr result (KeepsRecency (S.recency store.old) (S.recency store.new)) }

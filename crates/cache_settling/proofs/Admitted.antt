@@ -1,9 +1,9 @@
 -- What is known of an answer and of a give-up that are not refused.
-use Rattle.std.proofs.Common.{◌≡◌, ◌<◌, ◌+◌, ◌≤◌, ℕ, ◌^◌, Bool, true, false, not, List, [], ◌∷◌, ◌++◌, Option, Some, None, refl, sym, ap, ◌∙◌, subst, arith, length, length-append}
+use Rattle.std.proofs.Common.{◌≡◌, ◌<◌, ◌+◌, ◌≤◌, ℕ, ◌^◌, Bool, true, false, not, List, [], ◌∷◌, Option, Some, None, refl, sym, subst, arith, length, length-append}
 use Rattle.std.specs.Prelude.{is_some, nat_le, nat_lt}
 use Rattle.std.specs.Option.{option_map, option_or}
 use Rattle.std.proofs.lemmas.Bool.{leb-false, ltb-false, not-false}
-use Rattle.audit_model.specs.Belongs.{Known, refusal_of, refusal_of_bytes, refusal_of_ms, refusal_of_outcome, refusal_where}
+use Rattle.audit_model.specs.Belongs.{refusal_of, refusal_of_bytes, refusal_of_ms, refusal_of_outcome, refusal_where}
 use Rattle.audit_model.specs.Grammar.{is_value}
 use Rattle.audit_model.specs.Replies.{outcome_text}
 use Rattle.audit_model.specs.Situation.{PendingLoad}
@@ -14,10 +14,10 @@ use Rattle.audit_model.specs.declared.input.ServiceError.{ServiceError}
 use Rattle.audit_model.specs.declared.input.ServiceError.TheVariants as error
 use Rattle.cache_loads.specs.Pending.{load_numbered}
 use Rattle.cache_namespace.specs.Shown.{situation}
-use Rattle.cache_namespace.specs.Taken.{SameConnections, text_at}
+use Rattle.cache_namespace.specs.Taken.{SameConnections}
 use Rattle.cache_namespace.specs.Waiting.{UnderWay, no_loads}
 use Rattle.cache_namespace.specs.declared.connection.Connection.{Connection}
-use Rattle.load_laws.specs.Tidy.{Tidy, times_in, times_waiting}
+use Rattle.load_laws.specs.Tidy.{Tidy}
 use Rattle.load_laws.proofs.Records.{settled-tidy}
 use Rattle.cache_settling.specs.Answered.{answering, giving_up, knows_loads, waiting_for}
 

@@ -1,17 +1,16 @@
 -- Given-up `LOAD`s that run again, one connection after another.
-use Rattle.std.proofs.Common.{◌≡◌, ℕ, max, Option, not, suc, ◌+◌, ◌-◌, ◌<◌, ◌≤◌, Bool, true, false, ◌==◌, List, [], ◌∷◌, ◌++◌, map, length, Some, None, if◌then◌else◌, refl, sym, ap, ◌∙◌, subst, arith}
-use Rattle.std.specs.Prelude.{is_none, slice_set}
+use Rattle.std.proofs.Common.{◌≡◌, ℕ, max, Option, not, suc, ◌-◌, ◌≤◌, Bool, true, false, ◌==◌, List, [], ◌∷◌, ◌++◌, length, Some, None, if◌then◌else◌, refl, sym, ap, ◌∙◌, subst, arith}
+use Rattle.std.specs.Prelude.{is_none, slice_set, unwrap_or}
 use Rattle.std.specs.List.{flat_map, slice_get}
 use Rattle.std.specs.Option.{option_map_or}
 use Rattle.std.proofs.lemmas.Bool.{and_parts, eq-eqb}
-use Rattle.std.proofs.lemmas.Grind.{flat_map-append}
-use Rattle.std.proofs.lemmas.List.{append-nil, append_assoc}
+use Rattle.std.proofs.lemmas.List.{append-nil}
 use Rattle.std.proofs.lemmas.Option.{get_or_from_slice_get, same_Some, slice_get_within}
 use Rattle.audit_model.specs.Places.{tasks_to_give_up}
 use Rattle.audit_model.specs.Belongs.{refusal_of}
 use Rattle.audit_model.specs.Situation as model
 use Rattle.audit_model.specs.Situation.{HeldValue, connection_in, is_overlong, is_waiting_now}
-use Rattle.audit_model.specs.Steps.{Task, RunAgain, RunLines}
+use Rattle.audit_model.specs.Steps.{RunAgain, RunLines}
 use Rattle.audit_model.specs.declared.config.Config.{Config}
 use Rattle.audit_model.specs.declared.transcript.Note.{Note}
 use Rattle.audit_model.specs.declared.transcript.Step.{Step}
@@ -20,24 +19,27 @@ use Rattle.cache_namespace.specs.Gathered.{reply_in}
 use Rattle.cache_namespace.specs.Lines.{with_drops}
 use Rattle.cache_namespace.specs.Making.{Making}
 use Rattle.cache_namespace.specs.Shown.{put_in, shown, situation, stands_before}
-use Rattle.cache_namespace.specs.Taken.{ReplacedAt, text_at}
+use Rattle.cache_namespace.specs.Taken.{ReplacedAt}
 use Rattle.cache_namespace.specs.Waiting.{UnderWay, no_loads, when_left, with_under_way}
-use Rattle.cache_namespace.specs.Whole.{held_line}
+use Rattle.cache_namespace.specs.Whole.{has_line, held_line}
 use Rattle.cache_namespace.specs.declared.connection.Connection.{Connection}
 use Rattle.cache_namespace.proofs.Following.{listed-open, put-situation}
+use Rattle.cache_namespace.proofs.Receiving.{whole-line}
 use Rattle.load_laws.specs.Tidy.{Tidy, times_in}
 use Rattle.load_laws.proofs.Counts.{one_if}
-use Rattle.cache_settling.specs.Answered.{but_for, giving_up, knows_loads, waiting_for}
+use Rattle.cache_settling.specs.Answered.{KeepsRecord, but_for, giving_up, knows_loads, waiting_for}
 use Rattle.cache_settling.specs.GivenUp.{GivesUp, GivesUpLoad, HaveLoads, IsWaitingLoad, RunsAgain, WaitForLoads}
-use Rattle.cache_settling.specs.Leads.{BeginsUnknown, Leads}
+use Rattle.cache_settling.specs.Leads.{BeginsUnknown, Leads, Settles}
 use Rattle.cache_settling.specs.Resumed.{RunsThem}
-use Rattle.cache_settling.specs.Told.{replies_to}
-use Rattle.cache_settling.proofs.Chain.{same-place}
+use Rattle.cache_settling.specs.Laws.{record_given_up}
+use Rattle.cache_settling.specs.Noted.{Noted, is_loose}
+use Rattle.cache_settling.specs.Told.{HaveLines}
 use Rattle.cache_settling.proofs.Leading.{nothing, on}
 use Rattle.cache_settling.proofs.Placed.{found-back, open-so, waits-so}
 use Rattle.cache_settling.proofs.Settling.{give-up}
 use Rattle.cache_settling.proofs.Turns.{counted}
-use Rattle.cache_settling.proofs.Resumes.{own-joined, replies-both, text-ran}
+use Rattle.cache_settling.proofs.Noting.{noted-both, noted-by, noted-none, writes-none, writes-on, wrote-by}
+use Rattle.cache_settling.proofs.Resumes.{own-joined, text-wrote}
 
 -- ---- one of them
 
@@ -53,16 +55,8 @@ no-replies : (b : Bool) → [] ≡ (if b then flat_map reply_in [] else [])
 no-replies true = refl
 no-replies false = refl
 
--- the text of one step
-again-text : (cs after : List Connection) (m i place : ℕ) (step : Step) → m ≡ suc i → (p : ReplacedAt cs after i) → step.conn ≡ m → p.is.output.items ≡ p.was.output.items ++ reply_in step
-    → text_at after place ≡ text_at cs place ++ replies_to (suc place) (step ∷ [])
-again-text cs after m i place step e p own output =
-    text-ran cs after m i place (step ∷ []) e p (output ∙ ap (λ t. p.was.output.items ++ t) (sym (append-nil (reply_in step)))) (i == place) refl
-    ∙ ap (λ b. text_at cs place ++ (if b then flat_map reply_in (step ∷ []) else [])) (sym (same-place m i place e))
-    ∙ ap (λ t. text_at cs place ++ t) (sym (own-joined m (suc place) step [] own (m == suc place) refl (no-replies (m == suc place))))
-
 -- its `LOAD`, and its lines behind that
-pub again-resumed : (config : Config) (making : Making) (latest m i : ℕ) (l k j : UnderWay) (cs after new : List Connection) (dropped dropping last : Bool) (values : List HeldValue) (Stood Stands : List HeldValue → Type 0) (a b c : Identifiers) (told telling tells : List Note)
+pub again-resumed : (config : Config) (making : Making) (latest m i : ℕ) (l k j : UnderWay) (cs after new : List Connection) (dropped dropping last : Bool) (values : List HeldValue) (Stood Stands : List HeldValue → Type 0) (a b c : Identifiers) (told telling tells : Noted)
     → m ≡ suc i → (p : ReplacedAt cs after i) → p.was.closing ≡ None → p.is.closing ≡ None
     → (x : RunsAgain config making (situation latest l cs dropped values) m Stood k dropping a b p.was p.is told telling)
     → RunsThem config making latest x.held (m ∷ []) [] Stands k j dropping last b c after new telling tells
@@ -75,25 +69,25 @@ again-resumed config making latest m i l k j cs after new dropped dropping last 
       on config making (situation latest l cs dropped values) (situation latest k after dropping x.held) (situation latest j new last r.held) (RunAgain m ∷ RunLines m ∷ tasks) (RunLines m ∷ tasks) tasks (x.step ∷ []) r.steps a b c
       (subst (λ t. Leads config making (situation latest l cs dropped values) (RunAgain m ∷ RunLines m ∷ tasks) (x.step ∷ []) t (RunLines m ∷ tasks) a b) (again-target latest m i l k cs after dropped dropping values x.held e p was_open is_open) (x.leads (RunLines m ∷ tasks)))
       (r.leads tasks);
-  texts = λ place.
-      r.texts place ∙ ap (λ t. t ++ replies_to (suc place) r.steps) (again-text cs after m i place x.step e p x.own x.output) ∙ append_assoc (text_at cs place) (replies_to (suc place) (x.step ∷ [])) (replies_to (suc place) r.steps)
-      ∙ ap (λ t. text_at cs place ++ t) (sym (replies-both (suc place) (x.step ∷ []) r.steps));
-  notes = r.notes ∙ ap (λ t. t ++ flat_map (λ (y : Step). y.notices) r.steps) x.notes ∙ append_assoc told x.step.notices (flat_map (λ (y : Step). y.notices) r.steps);
+  texts = writes-on told telling (x.step ∷ []) r.steps cs after new (noted-by p.was.output.items p.is.output.items told telling (x.step ∷ []) x.gathered)
+      (text-wrote cs after m i (x.step ∷ []) (is_loose told) e p (wrote-by p.was.output.items p.is.output.items told telling (x.step ∷ []) x.gathered)
+      (λ number. own-joined m number x.step [] x.own (m == number) refl (no-replies (m == number)))) r.texts;
+  notes = noted-both told telling tells (x.step ∷ []) r.steps (noted-by p.was.output.items p.is.output.items told telling (x.step ∷ []) x.gathered) r.notes;
   begins = x.unknown;
 }
 
 -- ---- one after another
 
 -- none ran yet
-pub gives-first : (config : Config) (making : Making) (latest : ℕ) (conns : List ℕ) (l : UnderWay) (cs : List Connection) (dropped : Bool) (values : List HeldValue) (Stands : List HeldValue → Type 0) (drawn : Identifiers) (told : List Note) → Stands values
+pub gives-first : (config : Config) (making : Making) (latest : ℕ) (conns : List ℕ) (l : UnderWay) (cs : List Connection) (dropped : Bool) (values : List HeldValue) (Stands : List HeldValue → Type 0) (drawn : Identifiers) (told : Noted) → Stands values
     → GivesUp config making latest values conns conns Stands l l dropped dropped drawn drawn cs cs told told
 gives-first config making latest conns l cs dropped values Stands drawn told stands = record {
   steps = [];
   held = values;
   stands = stands;
   leads = λ more. nothing config making (situation latest l cs dropped values) (tasks_to_give_up conns ++ more) drawn;
-  texts = λ place. sym (append-nil (text_at cs place));
-  notes = sym (append-nil told);
+  texts = writes-none (is_loose told) cs;
+  notes = sym (noted-none told);
   begins = tt;
 }
 
@@ -102,7 +96,7 @@ begins-on config [] ys a b = b
 begins-on config (x ∷ xs) ys a b = a
 
 -- one more of them
-pub gives-next : (config : Config) (making : Making) (latest n : ℕ) (conns rest : List ℕ) (l j k : UnderWay) (old mid new : List Connection) (dropped dropping last : Bool) (values : List HeldValue) (Stood Stands : List HeldValue → Type 0) (a b c : Identifiers) (told telling tells : List Note)
+pub gives-next : (config : Config) (making : Making) (latest n : ℕ) (conns rest : List ℕ) (l j k : UnderWay) (old mid new : List Connection) (dropped dropping last : Bool) (values : List HeldValue) (Stood Stands : List HeldValue → Type 0) (a b c : Identifiers) (told telling tells : Noted)
     → (r : GivesUp config making latest values conns (n ∷ rest) Stood l j dropped dropping a b old mid told telling)
     → GivesUp config making latest r.held (n ∷ []) [] Stands j k dropping last b c mid new telling tells
     → GivesUp config making latest values conns rest Stands l k dropped last a c old new told tells
@@ -113,12 +107,8 @@ gives-next config making latest n conns rest l j k old mid new dropped dropping 
   leads = λ more.
       on config making (situation latest l old dropped values) (situation latest j mid dropping r.held) (situation latest k new last q.held) (tasks_to_give_up conns ++ more) (RunAgain n ∷ RunLines n ∷ (tasks_to_give_up rest ++ more)) (tasks_to_give_up rest ++ more) r.steps q.steps a b c
       (r.leads more) (q.leads (tasks_to_give_up rest ++ more));
-  texts = λ place.
-      q.texts place ∙ ap (λ t. t ++ replies_to (suc place) q.steps) (r.texts place) ∙ append_assoc (text_at old place) (replies_to (suc place) r.steps) (replies_to (suc place) q.steps)
-      ∙ ap (λ t. text_at old place ++ t) (sym (replies-both (suc place) r.steps q.steps));
-  notes =
-      q.notes ∙ ap (λ t. t ++ flat_map (λ (x : Step). x.notices) q.steps) r.notes ∙ append_assoc told (flat_map (λ (x : Step). x.notices) r.steps) (flat_map (λ (x : Step). x.notices) q.steps)
-      ∙ ap (λ t. told ++ t) (sym (flat_map-append (λ (x : Step). x.notices) r.steps q.steps));
+  texts = writes-on told telling r.steps q.steps old mid new r.notes r.texts q.texts;
+  notes = noted-both told telling tells r.steps q.steps r.notes q.notes;
   begins = begins-on config r.steps q.steps r.begins q.begins;
 }
 
@@ -173,13 +163,25 @@ told-loads config told cs tidy reads n some =
     let there : IsWaitingLoad config f.is = (waits, is_open, reads n c.0 line c.1 stands) in
     (omega arith, omega arith, λ k at. subst (IsWaitingLoad config) (same_Some f.is k (sym f.at ∙ ap (slice_get cs) here ∙ at)) there)
 
+-- a whole line of each has come
+pub have-lines : (told : List ℕ) (cs : List Connection) → Tidy told (situation 0 no_loads cs false []) → HaveLines cs told
+have-lines told cs tidy n some k at =
+    let once = tidy.once n in
+    let c = counted (connection_in n (situation 0 no_loads cs false [])) (omega arith) in
+    let f = found-back n 1 c.0 cs c.1 in
+    let place = f.place in
+    let here : f.index ≡ n - 1 = omega arith in
+    let waits = waits-so f.is.standing (held_line f.is.unread.bytes) (ap (λ (x : model.Connection). is_waiting_now x.standing) f.shows ∙ c.2) in
+    let same = same_Some f.is k (sym f.at ∙ ap (slice_get cs) here ∙ at) in
+    subst (λ (x : Connection). has_line x.unread.bytes ≡ true) same (whole-line f.is.standing f.is.unread.bytes waits f.is.whole)
+
 -- ---- the record
 
-pub given-up : (config : Config) (making : Making) (load latest moment : ℕ) (values : List HeldValue) (Stands : List HeldValue → Type 0) (l k : UnderWay) (dropped dropping : Bool) (a c : Identifiers) (cs new : List Connection) (told telling : List Note)
+pub given-up : (config : Config) (making : Making) (load latest moment : ℕ) (values : List HeldValue) (Stands : List HeldValue → Type 0) (l k : UnderWay) (dropped dropping : Bool) (a c : Identifiers) (cs new : List Connection) (told telling : List Note) (keeping : Option (List Step))
     → refusal_of config (knows_loads l) (giving_up load moment) ≡ None
-    → GivesUp config making (max moment latest) values (waiting_for load l) [] Stands (but_for load l) k dropped dropping a c cs new told telling
+    → GivesUp config making (max moment latest) values (waiting_for load l) [] Stands (but_for load l) k dropped dropping a c cs new (record { kept = None; waiting = told }) (record { kept = keeping; waiting = telling })
     → GivesUpLoad config making load latest moment values Stands l k dropped dropping a c cs new told telling
-given-up config making load latest moment values Stands l k dropped dropping a c cs new told telling admitted g = record {
+given-up config making load latest moment values Stands l k dropped dropping a c cs new told telling keeping admitted g = record {
   steps = g.steps;
   held = g.held;
   stands = g.stands;
@@ -187,5 +189,24 @@ given-up config making load latest moment values Stands l k dropped dropping a c
       (subst (λ tasks. Leads config making (situation (max moment latest) (but_for load l) cs dropped values) tasks g.steps (situation (max moment latest) k new dropping g.held) [] a c) (append-nil (tasks_to_give_up (waiting_for load l))) (g.leads []))
       g.begins;
   texts = g.texts;
-  notes = g.notes;
+  notes = ap (λ (n : Noted). n.waiting) g.notes;
 }
+
+-- the same, where its steps were kept
+pub give-up-kept : (config : Config) (making : Making) (load latest moment : ℕ) (values : List HeldValue) (Stands : List HeldValue → Type 0) (l k : UnderWay) (dropped dropping : Bool) (a c : Identifiers) (cs new : List Connection) (steps : List Step) (keeping : Noted)
+    → refusal_of config (knows_loads l) (giving_up load moment) ≡ None
+    → GivesUp config making (max moment latest) values (waiting_for load l) [] Stands (but_for load l) k dropped dropping a c cs new (record { kept = Some []; waiting = [] }) keeping
+    → steps ≡ unwrap_or keeping.kept []
+    → KeepsRecord config making (record_given_up load moment steps) latest moment values Stands l k dropped dropping a c cs new
+give-up-kept config making load latest moment values Stands l k dropped dropping a c cs new steps keeping admitted g is =
+    let s = situation latest l cs dropped values in
+    let t = situation (max moment latest) k new dropping g.held in
+    let whole : g.steps ≡ steps = sym (is ∙ ap (λ (n : Noted). unwrap_or n.kept []) g.notes) in
+    record {
+      held = g.held;
+      stands = g.stands;
+      settles = subst (λ ss. Settles config making s (record_given_up load moment ss) t a c) whole
+          (give-up config making s t load moment g.steps a c admitted
+          (subst (λ tasks. Leads config making (situation (max moment latest) (but_for load l) cs dropped values) tasks g.steps t [] a c) (append-nil (tasks_to_give_up (waiting_for load l))) (g.leads []))
+          g.begins);
+    }

@@ -3,6 +3,7 @@ pub mod Answered
 pub mod Chain
 pub mod GiveUps
 pub mod Leading
+pub mod Noting
 pub mod Outcomes
 pub mod Placed
 pub mod Stored
@@ -11,3 +12,4 @@ pub mod Reruns
 pub mod Resumes
 pub mod Rooms
 pub mod Settling
+pub mod Waits

@@ -4,9 +4,7 @@ use Rattle.std.specs.Prelude.{is_none, is_some, slice_set, ◌⊎◌}
 use Rattle.std.specs.List.{filter, flat_map, slice_get}
 use Rattle.std.specs.Option.{option_map_or}
 use Rattle.std.proofs.lemmas.Bool.{and_parts, eq-eqb, eqb-true}
-use Rattle.std.proofs.lemmas.Grind.{flat_map-append}
-use Rattle.std.proofs.lemmas.List.{append-nil, append_assoc, set-get_or}
-use Rattle.std.proofs.lemmas.List.Elements.{filter-append}
+use Rattle.std.proofs.lemmas.List.{append-nil, set-get_or}
 use Rattle.std.proofs.lemmas.Option.{get_or_from_slice_get, slice_get_within}
 use Rattle.audit_model.specs.Changes.{after_step}
 use Rattle.audit_model.specs.Follows.{after_steps, placed_step_in}
@@ -20,7 +18,7 @@ use Rattle.audit_model.specs.declared.config.Config.{Config}
 use Rattle.audit_model.specs.declared.transcript.Note.{Note}
 use Rattle.audit_model.specs.declared.transcript.Step.{Step}
 use Rattle.cache_namespace.specs.Drawing.{Identifiers, Workings, identifiers_in}
-use Rattle.cache_namespace.specs.Gathered.{Gathered, gather, reply_in}
+use Rattle.cache_namespace.specs.Gathered.{Gathered, reply_in}
 use Rattle.cache_namespace.specs.Kept.{gathered}
 use Rattle.cache_namespace.specs.Lines.{ArePartedIn, IsThere, are_timely, set_in, with_drops}
 use Rattle.cache_namespace.specs.Making.{Making}
@@ -37,9 +35,11 @@ use Rattle.cache_namespace.proofs.Following.{found-open, listed-open, put-situat
 use Rattle.cache_namespace.proofs.Places.{replaced-is, replaced-others, text-is}
 use Rattle.cache_namespace.proofs.Putting.{feeds-to}
 use Rattle.cache_settling.specs.Resumed.{RunsThem, runs_at, runs_with}
-use Rattle.cache_settling.specs.Told.{replies_to}
+use Rattle.cache_settling.specs.Noted.{Noted, gathered_with, is_loose}
+use Rattle.cache_settling.specs.Told.{WritesTo, replies_to}
 use Rattle.cache_settling.proofs.Chain.{same-place}
 use Rattle.cache_settling.proofs.Leading.{lines, no-lines, nothing, on}
+use Rattle.cache_settling.proofs.Noting.{noted-both, noted-by, noted-none, writes-none, writes-on, wrote-by}
 use Rattle.cache_settling.proofs.Placed.{found-back, open-so}
 
 -- ---- whose steps they are
@@ -105,19 +105,14 @@ ready-feeds config base number making values old new quit is_held target Stands 
     (subst (λ h. RanFeed config base number making values h old.waited old.unread.bytes [] quit is_held target Stands drawn drawing was is) (sym (ap holds e))
     (record { steps = r.steps; left = r.left; stands = r.stands; after = r.after; parted = r.parted; timely = r.timely; ends = r.ends; quits = r.quits; draws = r.draws; ordered = r.ordered; gathered = r.gathered })) puts ends
 
--- where no record is made, none is kept
-loose : (kept : Option Kept) (text old_text : List ℕ) (told telling : List Note) (steps : List Step) → gathered text kept telling ≡ gather (gathered old_text None told) steps → gathered text None telling ≡ gather (gathered old_text None told) steps
-loose kept text old_text told telling steps e = ap (λ k. record { text = text; kept = k; waiting = telling }) (sym (ap (λ (g : Gathered). g.kept) e)) ∙ e
-
--- lines of a connection that is ready, of which no record is made
-pub resumed : (config : Config) (base : Situation) (number : ℕ) (making : Making) (values : List HeldValue) (old new : Connection) (quit is_held : Bool) (target : List HeldValue → Situation) (Stands : List HeldValue → Type 0) (dropped : Bool) (loads : UnderWay) (drawn drawing : Workings) (kept : Option Kept) (old_text text : List ℕ) (told telling : List Note)
-    → old.standing ≡ now.Ready → RanReady config base number making values (old.unread.bytes ++ []) quit is_held target Stands drawn drawing (gathered old_text None told) (gathered text kept telling)
+-- lines of a connection that is ready
+pub resumed : (config : Config) (base : Situation) (number : ℕ) (making : Making) (values : List HeldValue) (old new : Connection) (quit is_held : Bool) (target : List HeldValue → Situation) (Stands : List HeldValue → Type 0) (dropped : Bool) (loads : UnderWay) (drawn drawing : Workings) (old_kept kept : Option Kept) (old_text text : List ℕ) (told telling : List Note)
+    → old.standing ≡ now.Ready → RanReady config base number making values (old.unread.bytes ++ []) quit is_held target Stands drawn drawing (gathered old_text old_kept told) (gathered text kept telling)
     → ((left : List HeldValue) → target left ≡ put_in (with_under_way loads (with_drops dropped base)) left number new) → quit ≡ is_quit new.closing
-    → (held : Bool) × FeedsConnection config base number making values old [] new held Stands dropped loads drawn drawing (gathered old_text None told) (gathered text None telling)
-resumed config base number making values old new quit is_held target Stands dropped loads drawn drawing kept old_text text told telling e r puts ends = (
+    → (held : Bool) × FeedsConnection config base number making values old [] new held Stands dropped loads drawn drawing (gathered old_text old_kept told) (gathered text kept telling)
+resumed config base number making values old new quit is_held target Stands dropped loads drawn drawing old_kept kept old_text text told telling e r puts ends = (
   is_held,
-  ready-feeds config base number making values old new quit is_held target Stands dropped loads drawn drawing (gathered old_text None told) (gathered text None telling) e
-      (record { steps = r.steps; left = r.left; stands = r.stands; after = r.after; parted = r.parted; timely = r.timely; ends = r.ends; quits = r.quits; draws = r.draws; ordered = r.ordered; gathered = loose kept text old_text told telling r.steps r.gathered }) puts ends,
+  ready-feeds config base number making values old new quit is_held target Stands dropped loads drawn drawing (gathered old_text old_kept told) (gathered text kept telling) e r puts ends,
 )
 
 -- what is put where it stands changes nothing
@@ -145,10 +140,17 @@ text-ran cs after m i place steps e p output false at =
     ap (λ o. option_map_or (λ (c : Connection). c.output.items) o []) (replaced-others cs after i p place differs) ∙ sym (append-nil (text_at cs place))
     ∙ sym (ap (λ b. text_at cs place ++ (if b then flat_map reply_in steps else [])) at)
 
+-- the texts, where its steps are its own
+pub text-wrote : (cs after : List Connection) (m i : ℕ) (steps : List Step) (writes : Bool) → m ≡ suc i → (p : ReplacedAt cs after i) → p.is.output.items ≡ p.was.output.items ++ (if writes then flat_map reply_in steps else [])
+    → ((number : ℕ) → replies_to number steps ≡ (if m == number then flat_map reply_in steps else [])) → WritesTo writes steps cs after
+text-wrote cs after m i steps true e p output own = λ place.
+    text-ran cs after m i place steps e p output (i == place) refl ∙ ap (λ b. text_at cs place ++ (if b then flat_map reply_in steps else [])) (sym (same-place m i place e)) ∙ ap (λ text. text_at cs place ++ text) (sym (own (suc place)))
+text-wrote cs after m i steps false e p output own = λ place. text-ran cs after m i place [] e p output (i == place) refl ∙ ap (λ text. text_at cs place ++ text) (sym (same-if (i == place) []))
+
 -- what lines of a connection at its place lead to
-pub runs-placed : (config : Config) (making : Making) (latest m i : ℕ) (l j : UnderWay) (cs after : List Connection) (dropped dropping is_held : Bool) (values : List HeldValue) (Stands : List HeldValue → Type 0) (drawn drawing : Workings) (told telling : List Note)
+pub runs-placed : (config : Config) (making : Making) (latest m i : ℕ) (l j : UnderWay) (cs after : List Connection) (dropped dropping is_held : Bool) (values : List HeldValue) (Stands : List HeldValue → Type 0) (drawn drawing : Workings) (told telling : Noted)
     → m ≡ suc i → (p : ReplacedAt cs after i) → p.was.standing ≡ now.Ready → p.was.closing ≡ None
-    → FeedsConnection config (situation latest l cs dropped values) m making values p.was [] p.is is_held Stands dropping j drawn drawing (gathered p.was.output.items None told) (gathered p.is.output.items None telling)
+    → FeedsConnection config (situation latest l cs dropped values) m making values p.was [] p.is is_held Stands dropping j drawn drawing (gathered_with p.was.output.items told) (gathered_with p.is.output.items telling)
     → RunsThem config making latest values (m ∷ []) [] Stands l (when_left (is_none p.is.closing) m j) dropped dropping (identifiers_in drawn) (identifiers_in drawing) cs after told telling
 runs-placed config making latest m i l j cs after dropped dropping is_held values Stands drawn drawing told telling e p was_ready was_open f =
     let s = situation latest l cs dropped values in
@@ -172,11 +174,8 @@ runs-placed config making latest m i l j cs after dropped dropping is_held value
       held = f.left;
       stands = f.stands;
       leads = λ more. lines config making s t m f.steps more (identifiers_in drawn) (identifiers_in drawing) ran parted timely f.draws;
-      texts = λ place.
-          text-ran cs after m i place f.steps e p (ap (λ (g : Gathered). g.text) f.gathered) (i == place) refl
-          ∙ ap (λ b. text_at cs place ++ (if b then flat_map reply_in f.steps else [])) (sym (same-place m i place e))
-          ∙ ap (λ text. text_at cs place ++ text) (sym (own-replies config s t m (suc place) f.steps ran));
-      notes = ap (λ (g : Gathered). g.waiting) f.gathered;
+      texts = text-wrote cs after m i f.steps (is_loose told) e p (wrote-by p.was.output.items p.is.output.items told telling f.steps f.gathered) (λ number. own-replies config s t m number f.steps ran);
+      notes = noted-by p.was.output.items p.is.output.items told telling f.steps f.gathered;
     }
 
 -- ---- a connection of which no line may run
@@ -208,7 +207,7 @@ may-not latest l cs dropped values m none = go (connection_in m (situation lates
         ∙ ap (λ b. b && is_some (first_line (shown m f.is).unread)) stays
 
 -- no line of it runs
-pub runs-none : (config : Config) (making : Making) (latest m : ℕ) (l : UnderWay) (cs : List Connection) (dropped : Bool) (values : List HeldValue) (Stands : List HeldValue → Type 0) (drawn : Identifiers) (told : List Note)
+pub runs-none : (config : Config) (making : Making) (latest m : ℕ) (l : UnderWay) (cs : List Connection) (dropped : Bool) (values : List HeldValue) (Stands : List HeldValue → Type 0) (drawn : Identifiers) (told : Noted)
     → ((i : ℕ) (c : Connection) → m ≡ suc i → slice_get cs i ≡ Some c → runs_at (Some c) ≡ false) → Stands values
     → RunsThem config making latest values (m ∷ []) [] Stands l l dropped dropped drawn drawn cs cs told told
 runs-none config making latest m l cs dropped values Stands drawn told none stands = record {
@@ -216,30 +215,26 @@ runs-none config making latest m l cs dropped values Stands drawn told none stan
   held = values;
   stands = stands;
   leads = λ more. no-lines config making (situation latest l cs dropped values) m more drawn (may-not latest l cs dropped values m none);
-  texts = λ place. sym (append-nil (text_at cs place));
-  notes = sym (append-nil told);
+  texts = writes-none (is_loose told) cs;
+  notes = sym (noted-none told);
 }
 
 -- ---- one after another
 
 -- none ran yet
-pub runs-first : (config : Config) (making : Making) (latest : ℕ) (conns : List ℕ) (l : UnderWay) (cs : List Connection) (dropped : Bool) (values : List HeldValue) (Stands : List HeldValue → Type 0) (drawn : Identifiers) (told : List Note) → Stands values
+pub runs-first : (config : Config) (making : Making) (latest : ℕ) (conns : List ℕ) (l : UnderWay) (cs : List Connection) (dropped : Bool) (values : List HeldValue) (Stands : List HeldValue → Type 0) (drawn : Identifiers) (told : Noted) → Stands values
     → RunsThem config making latest values conns conns Stands l l dropped dropped drawn drawn cs cs told told
 runs-first config making latest conns l cs dropped values Stands drawn told stands = record {
   steps = [];
   held = values;
   stands = stands;
   leads = λ more. nothing config making (situation latest l cs dropped values) (map RunLines conns ++ more) drawn;
-  texts = λ place. sym (append-nil (text_at cs place));
-  notes = sym (append-nil told);
+  texts = writes-none (is_loose told) cs;
+  notes = sym (noted-none told);
 }
 
-pub replies-both : (number : ℕ) (xs ys : List Step) → replies_to number (xs ++ ys) ≡ replies_to number xs ++ replies_to number ys
-replies-both number xs ys =
-    ap (flat_map reply_in) (filter-append (λ (x : Step). x.conn == number) xs ys) ∙ flat_map-append reply_in (filter (λ (x : Step). x.conn == number) xs) (filter (λ (x : Step). x.conn == number) ys)
-
 -- those of one more ran
-pub runs-next : (config : Config) (making : Making) (latest n : ℕ) (conns rest : List ℕ) (l j k : UnderWay) (old mid new : List Connection) (dropped dropping last : Bool) (values : List HeldValue) (Stood Stands : List HeldValue → Type 0) (a b c : Identifiers) (told telling tells : List Note)
+pub runs-next : (config : Config) (making : Making) (latest n : ℕ) (conns rest : List ℕ) (l j k : UnderWay) (old mid new : List Connection) (dropped dropping last : Bool) (values : List HeldValue) (Stood Stands : List HeldValue → Type 0) (a b c : Identifiers) (told telling tells : Noted)
     → (r : RunsThem config making latest values conns (n ∷ rest) Stood l j dropped dropping a b old mid told telling)
     → RunsThem config making latest r.held (n ∷ []) [] Stands j k dropping last b c mid new telling tells
     → RunsThem config making latest values conns rest Stands l k dropped last a c old new told tells
@@ -250,12 +245,8 @@ runs-next config making latest n conns rest l j k old mid new dropped dropping l
   leads = λ more.
       on config making (situation latest l old dropped values) (situation latest j mid dropping r.held) (situation latest k new last q.held) (map RunLines conns ++ more) (RunLines n ∷ (map RunLines rest ++ more)) (map RunLines rest ++ more) r.steps q.steps a b c
       (r.leads more) (q.leads (map RunLines rest ++ more));
-  texts = λ place.
-      q.texts place ∙ ap (λ t. t ++ replies_to (suc place) q.steps) (r.texts place) ∙ append_assoc (text_at old place) (replies_to (suc place) r.steps) (replies_to (suc place) q.steps)
-      ∙ ap (λ t. text_at old place ++ t) (sym (replies-both (suc place) r.steps q.steps));
-  notes =
-      q.notes ∙ ap (λ t. t ++ flat_map (λ (x : Step). x.notices) q.steps) r.notes ∙ append_assoc told (flat_map (λ (x : Step). x.notices) r.steps) (flat_map (λ (x : Step). x.notices) q.steps)
-      ∙ ap (λ t. told ++ t) (sym (flat_map-append (λ (x : Step). x.notices) r.steps q.steps));
+  texts = writes-on told telling r.steps q.steps old mid new r.notes r.texts q.texts;
+  notes = noted-both told telling tells r.steps q.steps r.notes q.notes;
 }
 
 -- ---- what the code asks
@@ -285,9 +276,9 @@ not-some None = refl
 not-some (Some x) = refl
 
 -- the lines of one connection, in all that the code knows
-pub runs-resumed : (config : Config) (making : Making) (latest m i : ℕ) (l j left : UnderWay) (cs after : List Connection) (dropped dropping closed is_held : Bool) (values : List HeldValue) (Stands : List HeldValue → Type 0) (drawn drawing : Workings) (told telling : List Note)
+pub runs-resumed : (config : Config) (making : Making) (latest m i : ℕ) (l j left : UnderWay) (cs after : List Connection) (dropped dropping closed is_held : Bool) (values : List HeldValue) (Stands : List HeldValue → Type 0) (drawn drawing : Workings) (told telling : Noted)
     → m ≡ suc i → (p : ReplacedAt cs after i) → runs_at (slice_get cs i) ≡ true → closed ≡ is_some p.is.closing → left ≡ when_left (not closed) m j
-    → FeedsConnection config (situation latest l cs dropped values) m making values p.was [] p.is is_held Stands dropping j drawn drawing (gathered p.was.output.items None told) (gathered p.is.output.items None telling)
+    → FeedsConnection config (situation latest l cs dropped values) m making values p.was [] p.is is_held Stands dropping j drawn drawing (gathered_with p.was.output.items told) (gathered_with p.is.output.items telling)
     → RunsThem config making latest values (m ∷ []) [] Stands l left dropped dropping (identifiers_in drawn) (identifiers_in drawing) cs after told telling
 runs-resumed config making latest m i l j left cs after dropped dropping closed is_held values Stands drawn drawing told telling e p runs closes leaves f =
     let so = runs-here cs i p.was p.at runs in

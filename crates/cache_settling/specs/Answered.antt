@@ -12,6 +12,7 @@ use Rattle.audit_model.specs.declared.event.Event.TheVariants as event
 use Rattle.audit_model.specs.declared.event.Outcome.{Outcome}
 use Rattle.audit_model.specs.declared.transcript.Accepted.{Accepted}
 use Rattle.audit_model.specs.declared.transcript.Note.{Note}
+use Rattle.audit_model.specs.declared.transcript.Record.{Record}
 use Rattle.audit_model.specs.declared.transcript.Step.{Step}
 use Rattle.cache_loads.specs.Pending.{load_numbered}
 use Rattle.cache_namespace.specs.Drawing.{Identifiers}
@@ -21,16 +22,17 @@ use Rattle.cache_namespace.specs.Waiting.{UnderWay}
 use Rattle.cache_namespace.specs.declared.connection.Connection.{Connection}
 use Rattle.cache_settling.specs.Laws.{record_answered}
 use Rattle.cache_settling.specs.Leads.{Leads, Settles}
+use Rattle.cache_settling.specs.Noted.{Noted, is_loose, with_steps}
 use Rattle.cache_settling.specs.Told.{WritesTo}
 
--- Those that waited were handed the outcome in order, and then their lines ran in the same order; replies and notes were gathered.
-pub record HandsOut (config : Config) (making : Making) (outcome : Outcome) (latest : ℕ) (values : List HeldValue) (waiting : List ℕ) (Stands : List HeldValue → Type 0) (was_under is_under : UnderWay) (dropped dropping : Bool) (drawn drawing : Identifiers) (old new : List Connection) (told telling : List Note) : Type 0 where
+-- Those that waited were handed the outcome in order, and then their lines ran in the same order; replies and notes were gathered, or the steps kept.
+pub record HandsOut (config : Config) (making : Making) (outcome : Outcome) (latest : ℕ) (values : List HeldValue) (waiting : List ℕ) (Stands : List HeldValue → Type 0) (was_under is_under : UnderWay) (dropped dropping : Bool) (drawn drawing : Identifiers) (old new : List Connection) (told telling : Noted) : Type 0 where
   pub steps : List Step
   pub held : List HeldValue
   pub stands : Stands held
   pub leads : Leads config making (situation latest was_under old dropped values) (map (λ conn. Deliver conn outcome) waiting ++ map RunLines waiting) steps (situation latest is_under new dropping held) [] drawn drawing
-  pub texts : WritesTo true steps old new
-  pub notes : telling ≡ told ++ flat_map (λ step. step.notices) steps
+  pub texts : WritesTo (is_loose told) steps old new
+  pub notes : telling ≡ with_steps steps told
 
 -- an answer, and a give-up
 abbrev pub answering : ℕ → Outcome → ℕ → Event
@@ -60,3 +62,9 @@ pub record AnswersLoad (config : Config) (making : Making) (load : ℕ) (outcome
   pub settles : Settles config making (situation latest was_under old dropped values) (record_answered load outcome moment accepted own steps) (situation (max moment latest) is_under new dropping held) drawn drawing
   pub texts : WritesTo true steps old new
   pub notes : telling ≡ (told ++ own) ++ flat_map (λ step. step.notices) steps
+
+-- The record of a load that was settled follows, as it was kept: the outcome was stored, or none, and lines ran.
+pub record KeepsRecord (config : Config) (making : Making) (entry : Record) (latest moment : ℕ) (values : List HeldValue) (Stands : List HeldValue → Type 0) (was_under is_under : UnderWay) (dropped dropping : Bool) (drawn drawing : Identifiers) (old new : List Connection) : Type 0 where
+  pub held : List HeldValue
+  pub stands : Stands held
+  pub settles : Settles config making (situation latest was_under old dropped values) entry (situation (max moment latest) is_under new dropping held) drawn drawing

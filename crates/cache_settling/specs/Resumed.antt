@@ -1,11 +1,9 @@
 -- The lines of connections that were told of their load.
 use Rattle.std.specs.Prelude.{◌≡◌, ℕ, Bool, true, false, List, ◌++◌, map, Option, Some, None}
-use Rattle.std.specs.List.{flat_map}
 use Rattle.audit_model.specs.Situation.{HeldValue}
 use Rattle.audit_model.specs.Steps.{Task, RunLines}
 use Rattle.audit_model.specs.declared.command.Closing.{Closing}
 use Rattle.audit_model.specs.declared.config.Config.{Config}
-use Rattle.audit_model.specs.declared.transcript.Note.{Note}
 use Rattle.audit_model.specs.declared.transcript.Step.{Step}
 use Rattle.cache_namespace.specs.Drawing.{Identifiers}
 use Rattle.cache_namespace.specs.Making.{Making}
@@ -15,16 +13,17 @@ use Rattle.cache_namespace.specs.declared.connection.Connection.{Connection}
 use Rattle.cache_namespace.specs.declared.standing.Standing.{Standing}
 use Rattle.cache_namespace.specs.declared.standing.Standing.TheVariants as now
 use Rattle.cache_settling.specs.Leads.{Leads}
+use Rattle.cache_settling.specs.Noted.{Noted, is_loose, with_steps}
 use Rattle.cache_settling.specs.Told.{WritesTo}
 
--- Lines of some of those connections ran, those of the others are left; their replies and notes were gathered.
-pub record RunsThem (config : Config) (making : Making) (latest : ℕ) (values : List HeldValue) (conns left : List ℕ) (Stands : List HeldValue → Type 0) (was_under is_under : UnderWay) (dropped dropping : Bool) (drawn drawing : Identifiers) (old new : List Connection) (told telling : List Note) : Type 0 where
+-- Lines of some of those connections ran, those of the others are left; their replies and notes were gathered, or they were kept.
+pub record RunsThem (config : Config) (making : Making) (latest : ℕ) (values : List HeldValue) (conns left : List ℕ) (Stands : List HeldValue → Type 0) (was_under is_under : UnderWay) (dropped dropping : Bool) (drawn drawing : Identifiers) (old new : List Connection) (told telling : Noted) : Type 0 where
   pub steps : List Step
   pub held : List HeldValue
   pub stands : Stands held
   pub leads : (tasks : List Task) → Leads config making (situation latest was_under old dropped values) (map RunLines conns ++ tasks) steps (situation latest is_under new dropping held) (map RunLines left ++ tasks) drawn drawing
-  pub texts : WritesTo true steps old new
-  pub notes : telling ≡ told ++ flat_map (λ step. step.notices) steps
+  pub texts : WritesTo (is_loose told) steps old new
+  pub notes : telling ≡ with_steps steps told
 
 -- it is open, and runs lines
 abbrev pub runs_with : Option Closing → Standing → Bool

@@ -1,5 +1,5 @@
 -- The connections of a namespace that are told of their load.
-use Rattle.std.specs.Prelude.{◌≡◌, ℕ, zero, suc, ◌-◌, ◌+◌, ◌≤◌, ◌==◌, Bool, List, [], ◌++◌, map, Some, None, if◌then◌else◌, vec_len, vec_capacity}
+use Rattle.std.specs.Prelude.{◌≡◌, ℕ, zero, suc, ◌-◌, ◌+◌, ◌≤◌, ◌==◌, Bool, List, [], ◌++◌, map, Some, None, IsTrue, if◌then◌else◌, vec_len, vec_capacity}
 use Rattle.std.specs.List.{filter, flat_map, slice_get}
 use Rattle.std.specs.Option.{option_map_or}
 use Rattle.audit_model.specs.Changes.{all_held_after}
@@ -17,7 +17,7 @@ use Rattle.cache_namespace.specs.Making.{Making}
 use Rattle.cache_namespace.specs.Shown.{situation}
 use Rattle.cache_namespace.specs.Taken.{text_at}
 use Rattle.cache_namespace.specs.Waiting.{UnderWay}
-use Rattle.cache_namespace.specs.Whole.{held_line}
+use Rattle.cache_namespace.specs.Whole.{has_line, held_line}
 use Rattle.cache_namespace.specs.declared.connection.Connection.{Connection}
 use Rattle.load_laws.specs.Tidy.{times_in}
 use Rattle.cache_settling.specs.Leads.{Leads}
@@ -56,3 +56,7 @@ HaveRoom connections size conns =
 -- the replies of these steps stand behind what was written to each connection, where no record is made
 abbrev pub WritesTo : Bool → List Step → List Connection → List Connection → Type 0
 WritesTo writes steps old new = (place : ℕ) → text_at new place ≡ text_at old place ++ (if writes then replies_to (suc place) steps else [])
+
+-- a whole line has come of each of those connections that is there
+abbrev pub HaveLines : List Connection → List ℕ → Type 0
+HaveLines connections conns = (n : ℕ) → 1 ≤ times_in n conns → (c : Connection) → slice_get connections (n - 1) ≡ Some c → IsTrue (has_line c.unread.bytes)

@@ -1,5 +1,5 @@
 //! An answer, from the room for its replies to the lines behind it.
-ghost use Rattle.std.specs.Prelude.{◌≡◌, ◌<◌, ◌≤◌, ◌^◌, ◌||◌, ℕ, [], true, None, Some, is_some, IfOk, IfSome, OnErr, OnOk, List, length};
+ghost use Rattle.std.specs.Prelude.{◌≡◌, ◌<◌, ◌≤◌, ◌^◌, ◌+◌, ◌||◌, ℕ, [], true, None, Some, is_some, IfOk, IfSome, OnErr, OnOk, List, length};
 ghost use Rattle.std.specs.Option.{option_map};
 ghost use Rattle.audit_model.specs.Belongs.{refusal_of_outcome};
 ghost use Rattle.audit_model.specs.Bytewise.{is_empty};
@@ -56,6 +56,7 @@ pub fn store_for<S: Store>(
     requires fit { refusal_of_outcome (S.frame store.old).config outcome.now ≡ None }
     requires under { is_some (load_numbered load (pending_of loads.now)) ≡ true }
     ensures ok { IfOk result (λ accepted. (key : List ℕ) × (option_map (λ l. l.key) (load_numbered load (pending_of loads.now)) ≡ Some key) × IfSome accepted (λ a. a.part ≡ (S.frame store.old).part_of key) × ((s : Situation) → s.latest ≡ now → S.stands store.old s.held → (x : Stores (S.frame store.old).config s key outcome.now accepted (S.stands store.new) (Hands (S.frame store.old).part_of (S.untaken store.old) (S.untaken store.new))) × ((is_some accepted || is_empty x.told) ≡ true))) }
+    ensures few { length (S.untaken store.new) ≤ length (S.untaken store.old) + S.count store.old + 1 }
     ensures frame { OnOk result (KeepsFrame (S.frame store.old) (S.frame store.new) now) }
     ensures dropped { (S.frame store.new).dropped ≡ (S.frame store.old).dropped }
     ensures identifiers { KeepsIdentifiers (S.stream store.old) (S.stream store.new) (S.registered store.old) (S.registered store.new) }

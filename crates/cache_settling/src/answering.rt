@@ -1,26 +1,35 @@
 //! Answering a load: its outcome is handed out, and then lines run.
-ghost use Rattle.std.specs.Prelude.{◌≡◌, ◌<◌, ◌≤◌, ◌^◌, [], false, true, is_some, List, length};
+ghost use Rattle.std.specs.Prelude.{◌≡◌, ◌<◌, ◌≤◌, ◌^◌, [], IsTrue, MatchOption, false, true, is_none, is_some, List, length};
 ghost use Rattle.audit_model.specs.Replies.{outcome_text};
 ghost use Rattle.audit_model.specs.Situation.{HeldValue};
 ghost use Rattle.cache_steps.specs.Right.{KeepsFrame};
 ghost use Rattle.cache_namespace.specs.Drawing.{identifiers};
+ghost use Rattle.cache_namespace.specs.Kept.{HasMore, steps_of};
 ghost use Rattle.cache_namespace.specs.Making.{making_of};
 ghost use Rattle.cache_namespace.specs.Shown.{situation};
 ghost use Rattle.cache_namespace.specs.Waiting.{no_loads, under_way};
 ghost use Rattle.load_laws.specs.Tidy.{Tidy};
 ghost use Rattle.cache_loads.specs.Pending.{load_numbered, pending_of};
 ghost use Rattle.cache_settling.specs.Answered.{HandsOut, but_for, waiting_for};
-ghost use Rattle.cache_settling.specs.Told.{HaveRoom};
+ghost use Rattle.cache_settling.specs.Noted.{NothingWaits, none_noted, noted_in};
+ghost use Rattle.cache_settling.specs.Told.{HaveRoom, steps_told};
 
 use crate::resuming::resume_all;
 use crate::telling::tell_all;
 use audit_model::{Config, Outcome};
 use cache_loads::Loads;
-use cache_namespace::Connection;
+use cache_namespace::{Connection, Kept};
 use cache_store::Store;
 use std::alloc::Global;
 
-/// Hands the outcome to the connections that wait for it, in order, and then runs each one's lines in the same order; no record is made.
+/// Whether replies are written to connections: no record is made.
+fn writes_replies(kept: &Option<Kept>) -> bool
+    ensures { result ≡ is_none kept.now }
+{
+    kept.is_none()
+}
+
+/// Hands the outcome to the connections that wait for it, in order, and then runs each one's lines in the same order.
 pub fn hand_out<S: Store>(
     store: &mut S,
     alloc: Global,
@@ -30,21 +39,29 @@ pub fn hand_out<S: Store>(
     connections: &mut Vec<Connection>,
     waiting: &[u64],
     outcome: &Outcome,
+    kept: &mut Option<Kept>,
 )
     requires config { (S.frame store.old).config ≡ config.now }
     requires in_time { (S.frame store.old).latest ≤ now }
     requires moment { now < 2 ^ 63 }
     requires tidy { Tidy waiting.now (situation 0 no_loads connections.old.items false []) }
-    requires room { HaveRoom connections.old.items (length (outcome_text outcome.now)) waiting.now }
-    ensures out { (values : List HeldValue) → S.stands store.old values → HandsOut config.now (making_of (S.frame store.old)) outcome.now now values waiting.now (S.stands store.new) (under_way loads.old) (under_way loads.new) (S.frame store.old).dropped (S.frame store.new).dropped (identifiers (S.stream store.old) (S.registered store.old)) (identifiers (S.stream store.new) (S.registered store.new)) connections.old.items connections.new.items (S.untaken store.old) (S.untaken store.new) }
+    requires room { IsTrue (is_none kept.old) → HaveRoom connections.old.items (length (outcome_text outcome.now)) waiting.now }
+    // where a record is made, its first steps are those in which the outcome is handed out
+    requires begun { MatchOption (steps_of kept.old) (Unit {0}) (λ steps. steps ≡ steps_told outcome.now connections.old.items waiting.now) }
+    requires fresh { NothingWaits (noted_in kept.old (S.untaken store.old)) connections.old.items }
+    requires stocked { HasMore (length waiting.now) kept.old }
+    ensures out { (values : List HeldValue) → S.stands store.old values → HandsOut config.now (making_of (S.frame store.old)) outcome.now now values waiting.now (S.stands store.new) (under_way loads.old) (under_way loads.new) (S.frame store.old).dropped (S.frame store.new).dropped (identifiers (S.stream store.old) (S.registered store.old)) (identifiers (S.stream store.new) (S.registered store.new)) connections.old.items connections.new.items (none_noted kept.old (S.untaken store.old)) (noted_in kept.new (S.untaken store.new)) }
     ensures frame { KeepsFrame (S.frame store.old) (S.frame store.new) now }
     ensures count { length connections.new.items ≡ length connections.old.items }
+    ensures fresh { NothingWaits (noted_in kept.new (S.untaken store.new)) connections.new.items }
+    ensures made { is_some kept.new ≡ is_some kept.old }
 {
-    tell_all(config, connections, waiting, outcome, true);
-    resume_all(store, alloc, config, now, loads, connections, waiting);
+    let writes = writes_replies(kept);
+    tell_all(config, connections, waiting, outcome, writes);
+    resume_all(store, alloc, config, now, loads, connections, waiting, kept);
 }
 
-/// Takes the load out, whose answer was stored, and hands its outcome out; no record is made.
+/// Takes the load out, whose answer was stored, and hands its outcome out.
 pub fn settle_answer<S: Store>(
     store: &mut S,
     alloc: Global,
@@ -54,16 +71,22 @@ pub fn settle_answer<S: Store>(
     connections: &mut Vec<Connection>,
     load: u64,
     outcome: &Outcome,
+    kept: &mut Option<Kept>,
 )
     requires config { (S.frame store.old).config ≡ config.now }
     requires in_time { (S.frame store.old).latest ≤ now }
     requires moment { now < 2 ^ 63 }
     requires under { is_some (load_numbered load (pending_of loads.old)) ≡ true }
     requires tidy { Tidy (waiting_for load (under_way loads.old)) (situation 0 no_loads connections.old.items false []) }
-    requires room { HaveRoom connections.old.items (length (outcome_text outcome.now)) (waiting_for load (under_way loads.old)) }
-    ensures out { (values : List HeldValue) → S.stands store.old values → HandsOut config.now (making_of (S.frame store.old)) outcome.now now values (waiting_for load (under_way loads.old)) (S.stands store.new) (but_for load (under_way loads.old)) (under_way loads.new) (S.frame store.old).dropped (S.frame store.new).dropped (identifiers (S.stream store.old) (S.registered store.old)) (identifiers (S.stream store.new) (S.registered store.new)) connections.old.items connections.new.items (S.untaken store.old) (S.untaken store.new) }
+    requires room { IsTrue (is_none kept.old) → HaveRoom connections.old.items (length (outcome_text outcome.now)) (waiting_for load (under_way loads.old)) }
+    requires begun { MatchOption (steps_of kept.old) (Unit {0}) (λ steps. steps ≡ steps_told outcome.now connections.old.items (waiting_for load (under_way loads.old))) }
+    requires fresh { NothingWaits (noted_in kept.old (S.untaken store.old)) connections.old.items }
+    requires stocked { HasMore (length (waiting_for load (under_way loads.old))) kept.old }
+    ensures out { (values : List HeldValue) → S.stands store.old values → HandsOut config.now (making_of (S.frame store.old)) outcome.now now values (waiting_for load (under_way loads.old)) (S.stands store.new) (but_for load (under_way loads.old)) (under_way loads.new) (S.frame store.old).dropped (S.frame store.new).dropped (identifiers (S.stream store.old) (S.registered store.old)) (identifiers (S.stream store.new) (S.registered store.new)) connections.old.items connections.new.items (none_noted kept.old (S.untaken store.old)) (noted_in kept.new (S.untaken store.new)) }
     ensures frame { KeepsFrame (S.frame store.old) (S.frame store.new) now }
     ensures count { length connections.new.items ≡ length connections.old.items }
+    ensures fresh { NothingWaits (noted_in kept.new (S.untaken store.new)) connections.new.items }
+    ensures made { is_some kept.new ≡ is_some kept.old }
 {
     let Some(settled) = loads.settle(load) else {
         unreachable!();
@@ -78,5 +101,6 @@ pub fn settle_answer<S: Store>(
         connections,
         waiting,
         outcome,
+        kept,
     );
 }

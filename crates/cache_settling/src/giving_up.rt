@@ -1,25 +1,28 @@
 //! Giving a load up: each `LOAD` that waits for it runs again, followed by its connection's lines.
-ghost use Rattle.std.specs.Prelude.{◌≡◌, ◌≢◌, ◌-◌, ◌<◌, ◌≤◌, ◌^◌, ◌∷◌, [], None, Some, List, ℕ, false, is_some, length, max, true};
+ghost use Rattle.std.specs.Prelude.{◌≡◌, ◌≢◌, ◌-◌, ◌<◌, ◌≤◌, ◌^◌, ◌∷◌, ◌+◌, [], None, Some, List, ℕ, suc, false, is_some, length, max, true};
 ghost use Rattle.std.specs.List.{slice_get};
 ghost use Rattle.audit_model.specs.Belongs.{refusal_of};
 ghost use Rattle.cache_loads.specs.Pending.{load_numbered, pending_of};
 ghost use Rattle.audit_model.specs.Situation.{Situation, HeldValue, connection_in};
 ghost use Rattle.cache_steps.specs.Right.{KeepsFrame};
 ghost use Rattle.cache_namespace.specs.Drawing.{identifiers};
+ghost use Rattle.cache_namespace.specs.Gathered.{IsFresh};
+ghost use Rattle.cache_namespace.specs.Kept.{HasMore, IsReadyToHold, KeepsRoom, gathered, more_in};
 ghost use Rattle.cache_namespace.specs.Making.{making_of};
 ghost use Rattle.cache_namespace.specs.Shown.{shown, situation};
-ghost use Rattle.cache_namespace.specs.Taken.{IsSound, ReplacedAt};
+ghost use Rattle.cache_namespace.specs.Taken.{IsSound, ReplacedAt, text_at};
 ghost use Rattle.cache_namespace.specs.Waiting.{loads_in, under_way};
 ghost use Rattle.cache_namespace.specs.declared.connection.Connection.{Connection as Waiter};
 ghost use Rattle.load_laws.specs.Tidy.{Tidy, times_in};
 ghost use Rattle.cache_settling.specs.Answered.{but_for, giving_up, knows_loads, waiting_for};
+ghost use Rattle.cache_settling.specs.Noted.{NothingWaits, noted_in};
 ghost use Rattle.cache_settling.specs.GivenUp.{GivesUp, GivesUpLoad, HaveLoads, IsWaitingLoad, RunsAgain, WaitForLoads};
 
 use crate::again::run_again;
-use crate::resuming::resume_at;
+use crate::resuming::{restock_where, resume_at};
 use audit_model::Config;
 use cache_loads::Loads;
-use cache_namespace::Connection;
+use cache_namespace::{Connection, Kept};
 use cache_store::Store;
 use std::alloc::Global;
 
@@ -33,16 +36,22 @@ fn run_again_there<S: Store>(
     loads: &mut Loads,
     connections: &mut Vec<Connection>,
     index: usize,
+    kept: &mut Option<Kept>,
 )
     requires config { (S.frame store.old).config ≡ config.now }
     requires in_time { (S.frame store.old).latest ≤ now }
+    requires moment { now < 2 ^ 63 }
     requires inside { index < length connections.old.items }
     requires waits { (c : Waiter) → slice_get connections.old.items index ≡ Some c → IsWaitingLoad config.now c }
-    ensures ran { (p : ReplacedAt connections.old.items connections.new.items index) × (p.was.closing ≡ None) × (p.is.closing ≡ None) × ((s : Situation) → s.latest ≡ now → s.dropped ≡ (S.frame store.old).dropped → loads_in s ≡ under_way loads.old → connection_in number s ≡ Some (shown number p.was) → S.stands store.old s.held → RunsAgain config.now (making_of (S.frame store.old)) s number (S.stands store.new) (under_way loads.new) (S.frame store.new).dropped (identifiers (S.stream store.old) (S.registered store.old)) (identifiers (S.stream store.new) (S.registered store.new)) p.was p.is (S.untaken store.old) (S.untaken store.new)) }
+    requires fresh { IsFresh (gathered (text_at connections.old.items index) kept.old (S.untaken store.old)) }
+    requires room { IsReadyToHold kept.old }
+    ensures ran { (p : ReplacedAt connections.old.items connections.new.items index) × (p.was.closing ≡ None) × (p.is.closing ≡ None) × ((s : Situation) → s.latest ≡ now → s.dropped ≡ (S.frame store.old).dropped → loads_in s ≡ under_way loads.old → connection_in number s ≡ Some (shown number p.was) → S.stands store.old s.held → RunsAgain config.now (making_of (S.frame store.old)) s number (S.stands store.new) (under_way loads.new) (S.frame store.new).dropped (identifiers (S.stream store.old) (S.registered store.old)) (identifiers (S.stream store.new) (S.registered store.new)) p.was p.is (noted_in kept.old (S.untaken store.old)) (noted_in kept.new (S.untaken store.new))) × IsFresh (gathered p.is.output.items kept.new (S.untaken store.new)) }
     ensures frame { KeepsFrame (S.frame store.old) (S.frame store.new) now }
+    ensures keeps_room { KeepsRoom kept.new }
+    ensures more { more_in kept.new ≡ more_in kept.old }
 {
     let connection = &mut connections[index];
-    run_again(store, alloc, config, now, number, loads, connection);
+    run_again(store, alloc, config, now, number, loads, connection, kept);
 }
 
 /// Runs the waiting `LOAD` of a connection again, and then its lines.
@@ -54,6 +63,7 @@ fn give_up_one<S: Store>(
     number: u64,
     loads: &mut Loads,
     connections: &mut Vec<Connection>,
+    kept: &mut Option<Kept>,
 )
     requires config { (S.frame store.old).config ≡ config.now }
     requires in_time { (S.frame store.old).latest ≤ now }
@@ -61,17 +71,33 @@ fn give_up_one<S: Store>(
     requires above { 1 ≤ number }
     requires inside { number - 1 < length connections.old.items }
     requires waits { (c : Waiter) → slice_get connections.old.items (number - 1) ≡ Some c → IsWaitingLoad config.now c }
-    ensures ran { (values : List HeldValue) → S.stands store.old values → GivesUp config.now (making_of (S.frame store.old)) now values (number ∷ []) [] (S.stands store.new) (under_way loads.old) (under_way loads.new) (S.frame store.old).dropped (S.frame store.new).dropped (identifiers (S.stream store.old) (S.registered store.old)) (identifiers (S.stream store.new) (S.registered store.new)) connections.old.items connections.new.items (S.untaken store.old) (S.untaken store.new) }
+    requires fresh { NothingWaits (noted_in kept.old (S.untaken store.old)) connections.old.items }
+    requires stocked { HasMore 2 kept.old }
+    ensures ran { (values : List HeldValue) → S.stands store.old values → GivesUp config.now (making_of (S.frame store.old)) now values (number ∷ []) [] (S.stands store.new) (under_way loads.old) (under_way loads.new) (S.frame store.old).dropped (S.frame store.new).dropped (identifiers (S.stream store.old) (S.registered store.old)) (identifiers (S.stream store.new) (S.registered store.new)) connections.old.items connections.new.items (noted_in kept.old (S.untaken store.old)) (noted_in kept.new (S.untaken store.new)) }
     ensures others { (place : ℕ) → place ≢ number - 1 → slice_get connections.new.items place ≡ slice_get connections.old.items place }
     ensures frame { KeepsFrame (S.frame store.old) (S.frame store.new) now }
     ensures count { length connections.new.items ≡ length connections.old.items }
+    ensures fresh { NothingWaits (noted_in kept.new (S.untaken store.new)) connections.new.items }
+    ensures made { is_some kept.new ≡ is_some kept.old }
+    ensures stocked { (count : ℕ) → HasMore (suc (suc count)) kept.old → HasMore count kept.new }
 {
     let index = (number - 1) as usize;
-    run_again_there(store, alloc, config, now, number, loads, connections, index);
-    resume_at(store, alloc, config, now, number, loads, connections);
+    restock_where(kept);
+    run_again_there(
+        store,
+        alloc,
+        config,
+        now,
+        number,
+        loads,
+        connections,
+        index,
+        kept,
+    );
+    resume_at(store, alloc, config, now, number, loads, connections, kept);
 }
 
-/// Runs the waiting `LOAD`s of those connections again, one after another, each followed by its connection's lines; no record is made.
+/// Runs the waiting `LOAD`s of those connections again, one after another, each followed by its connection's lines.
 pub fn give_up_all<S: Store>(
     store: &mut S,
     alloc: Global,
@@ -80,23 +106,28 @@ pub fn give_up_all<S: Store>(
     loads: &mut Loads,
     connections: &mut Vec<Connection>,
     waiting: &[u64],
+    kept: &mut Option<Kept>,
 )
     requires config { (S.frame store.old).config ≡ config.now }
     requires in_time { (S.frame store.old).latest ≤ now }
     requires moment { now < 2 ^ 63 }
     requires once { (n : ℕ) → times_in n waiting.now ≤ 1 }
     requires waits { HaveLoads config.now connections.old.items waiting.now }
-    ensures ran { (values : List HeldValue) → S.stands store.old values → GivesUp config.now (making_of (S.frame store.old)) now values waiting.now [] (S.stands store.new) (under_way loads.old) (under_way loads.new) (S.frame store.old).dropped (S.frame store.new).dropped (identifiers (S.stream store.old) (S.registered store.old)) (identifiers (S.stream store.new) (S.registered store.new)) connections.old.items connections.new.items (S.untaken store.old) (S.untaken store.new) }
+    requires fresh { NothingWaits (noted_in kept.old (S.untaken store.old)) connections.old.items }
+    requires stocked { HasMore (length waiting.now + length waiting.now) kept.old }
+    ensures ran { (values : List HeldValue) → S.stands store.old values → GivesUp config.now (making_of (S.frame store.old)) now values waiting.now [] (S.stands store.new) (under_way loads.old) (under_way loads.new) (S.frame store.old).dropped (S.frame store.new).dropped (identifiers (S.stream store.old) (S.registered store.old)) (identifiers (S.stream store.new) (S.registered store.new)) connections.old.items connections.new.items (noted_in kept.old (S.untaken store.old)) (noted_in kept.new (S.untaken store.new)) }
     ensures frame { KeepsFrame (S.frame store.old) (S.frame store.new) now }
     ensures count { length connections.new.items ≡ length connections.old.items }
+    ensures fresh { NothingWaits (noted_in kept.new (S.untaken store.new)) connections.new.items }
+    ensures made { is_some kept.new ≡ is_some kept.old }
 {
     for number in waiting {
-        give_up_one(store, alloc, config, now, *number, loads, connections);
+        give_up_one(store, alloc, config, now, *number, loads, connections, kept);
     }
 }
 
-/// Takes a load out that is given up, and runs the `LOAD`s that wait for it again; no record is made.
-fn settle_give_up<S: Store>(
+/// Takes a load out that is given up, and runs the `LOAD`s that wait for it again.
+pub fn settle_give_up<S: Store>(
     store: &mut S,
     alloc: Global,
     config: &Config,
@@ -104,6 +135,7 @@ fn settle_give_up<S: Store>(
     loads: &mut Loads,
     connections: &mut Vec<Connection>,
     load: u64,
+    kept: &mut Option<Kept>,
 )
     requires config { (S.frame store.old).config ≡ config.now }
     requires in_time { (S.frame store.old).latest ≤ now }
@@ -111,19 +143,23 @@ fn settle_give_up<S: Store>(
     requires under { is_some (load_numbered load (pending_of loads.old)) ≡ true }
     requires once { (n : ℕ) → times_in n (waiting_for load (under_way loads.old)) ≤ 1 }
     requires waits { HaveLoads config.now connections.old.items (waiting_for load (under_way loads.old)) }
-    ensures ran { (values : List HeldValue) → S.stands store.old values → GivesUp config.now (making_of (S.frame store.old)) now values (waiting_for load (under_way loads.old)) [] (S.stands store.new) (but_for load (under_way loads.old)) (under_way loads.new) (S.frame store.old).dropped (S.frame store.new).dropped (identifiers (S.stream store.old) (S.registered store.old)) (identifiers (S.stream store.new) (S.registered store.new)) connections.old.items connections.new.items (S.untaken store.old) (S.untaken store.new) }
+    requires fresh { NothingWaits (noted_in kept.old (S.untaken store.old)) connections.old.items }
+    requires stocked { HasMore (length (waiting_for load (under_way loads.old)) + length (waiting_for load (under_way loads.old))) kept.old }
+    ensures ran { (values : List HeldValue) → S.stands store.old values → GivesUp config.now (making_of (S.frame store.old)) now values (waiting_for load (under_way loads.old)) [] (S.stands store.new) (but_for load (under_way loads.old)) (under_way loads.new) (S.frame store.old).dropped (S.frame store.new).dropped (identifiers (S.stream store.old) (S.registered store.old)) (identifiers (S.stream store.new) (S.registered store.new)) connections.old.items connections.new.items (noted_in kept.old (S.untaken store.old)) (noted_in kept.new (S.untaken store.new)) }
     ensures frame { KeepsFrame (S.frame store.old) (S.frame store.new) now }
     ensures count { length connections.new.items ≡ length connections.old.items }
+    ensures fresh { NothingWaits (noted_in kept.new (S.untaken store.new)) connections.new.items }
+    ensures made { is_some kept.new ≡ is_some kept.old }
 {
     let Some(settled) = loads.settle(load) else {
         unreachable!();
     };
     let waiting = settled.waiting.as_slice();
-    give_up_all(store, alloc, config, now, loads, connections, waiting);
+    give_up_all(store, alloc, config, now, loads, connections, waiting, kept);
 }
 
 /// Gives up a load that is under way: each `LOAD` that waits for it runs again, in order, as a whole command, followed by its connection's
-/// lines. A `LOAD` that finds no memory in it is held back, so that nothing is refused.
+/// lines. No record is made. A `LOAD` that finds no memory in it is held back, so that nothing is refused.
 pub fn give_up_load<S: Store>(
     store: &mut S,
     alloc: Global,
@@ -143,5 +179,15 @@ pub fn give_up_load<S: Store>(
     ensures count { length connections.new.items ≡ length connections.old.items }
 {
     let now = moment.max(latest);
-    settle_give_up(store, alloc, config, now, loads, connections, load);
+    let mut kept: Option<Kept> = None;
+    settle_give_up(
+        store,
+        alloc,
+        config,
+        now,
+        loads,
+        connections,
+        load,
+        &mut kept,
+    );
 }

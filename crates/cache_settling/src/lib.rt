@@ -5,21 +5,27 @@ mod again;
 mod answer;
 mod answering;
 mod calls;
+mod drafting;
 mod giving_up;
+mod keeping;
 mod loading;
+mod recording;
 mod refusing;
 mod reserving;
 mod resuming;
 mod storing;
 mod telling;
 
+ghost use Rattle.cache_settling.specs.GivenUp.{RecordsWaitForLoads};
 ghost use Rattle.cache_settling.specs.Laws.{AbandonedLeads, AnswerSettles, AnswerTidy, AnsweredLeads, DeliveredLeads, GiveUpSettles, GiveUpTidy, HeldBackLeads, LeadsOn, LinesLead, NoLinesLead, NothingLeads, ToldWaits, WaitsAgainLeads};
 
 pub use answer::{reserve_for, store_for};
 pub use answering::{hand_out, settle_answer};
 pub use calls::{answer_in, give_up_in};
 pub use giving_up::{give_up_all, give_up_load};
+pub use keeping::{answer_kept, give_up_kept};
 pub use loading::answer_load;
+pub use recording::{Settled, record_answer, record_give_up};
 pub use refusing::{refuse_answer, refuse_load};
 pub use reserving::reserve_all;
 pub use resuming::resume_all;
@@ -66,4 +72,9 @@ pub fn answer_settles()
 /// The record of a give-up follows, whose waiting `LOAD`s ran again in order, each followed by its connection's lines.
 pub fn give_up_settles()
     ensures { GiveUpSettles }
+{}
+
+/// A record that follows keeps it so that what waits for a load is a `LOAD`.
+pub fn records_wait_for_loads()
+    ensures { RecordsWaitForLoads }
 {}

@@ -19,12 +19,12 @@ use crate::answer::{reserve_for, store_for};
 use crate::answering::settle_answer;
 use audit_model::{Accepted, Config, Outcome};
 use cache_loads::Loads;
-use cache_namespace::Connection;
+use cache_namespace::{Connection, Kept};
 use cache_store::Store;
 use std::alloc::{AllocError, Global};
 
 /// How many bytes the reply has to a waiting `LOAD` that is handed this outcome.
-fn reply_len(outcome: &Outcome) -> usize
+pub fn reply_len(outcome: &Outcome) -> usize
     requires { length (outcome_text outcome.now) ≤ 8202 }
     ensures { result ≡ length (outcome_text outcome.now) }
 {
@@ -64,6 +64,17 @@ pub fn answer_load<S: Store>(
     let now = moment.max(latest);
     reserve_for(loads, connections, load, size)?;
     let accepted = store_for(store, config.capacity, loads, load, outcome, now)?;
-    settle_answer(store, alloc, config, now, loads, connections, load, outcome);
+    let mut kept: Option<Kept> = None;
+    settle_answer(
+        store,
+        alloc,
+        config,
+        now,
+        loads,
+        connections,
+        load,
+        outcome,
+        &mut kept,
+    );
     Ok(accepted)
 }

@@ -1,15 +1,17 @@
 //! Running the lines of connections that were told of their load.
-ghost use Rattle.std.specs.Prelude.{◌≡◌, ◌≢◌, ◌-◌, ◌<◌, ◌≤◌, ◌^◌, ◌∷◌, [], None, Some, List, ℕ, Bool, true, length, not, is_some};
+ghost use Rattle.std.specs.Prelude.{◌≡◌, ◌≢◌, ◌-◌, ◌<◌, ◌≤◌, ◌^◌, ◌∷◌, [], Some, List, ℕ, Bool, suc, true, length, not, is_some};
 ghost use Rattle.std.specs.List.{slice_get};
 ghost use Rattle.audit_model.specs.Situation.{Situation, HeldValue};
 ghost use Rattle.cache_steps.specs.Right.{KeepsFrame};
 ghost use Rattle.cache_namespace.specs.Drawing.{identifiers, workings};
-ghost use Rattle.cache_namespace.specs.Kept.{gathered};
+ghost use Rattle.cache_namespace.specs.Kept.{HasMore, IsReadyToHold, KeepsRoom, gathered, more_in, steps_of};
+ghost use Rattle.cache_namespace.specs.Gathered.{IsFresh};
 ghost use Rattle.cache_namespace.specs.Lines.{IsThere};
 ghost use Rattle.cache_namespace.specs.Making.{making_of};
-ghost use Rattle.cache_namespace.specs.Taken.{FeedsConnection, ReplacedAt};
+ghost use Rattle.cache_namespace.specs.Taken.{FeedsConnection, ReplacedAt, text_at};
 ghost use Rattle.cache_namespace.specs.Waiting.{loads_in, under_way, when_left};
 ghost use Rattle.cache_namespace.specs.declared.standing.Standing.TheVariants as stands;
+ghost use Rattle.cache_settling.specs.Noted.{NothingWaits, noted_in};
 ghost use Rattle.cache_settling.specs.Resumed.{RunsThem, runs_at};
 
 use audit_model::{Closing, Config};
@@ -18,7 +20,7 @@ use cache_namespace::{Connection, End, Kept, Standing, close_where_behind, run_r
 use cache_store::Store;
 use std::alloc::Global;
 
-/// Runs the lines of an open connection that runs lines, and answers whether it closed; no record is made.
+/// Runs the lines of an open connection that runs lines, and answers whether it closed.
 fn resume<S: Store>(
     store: &mut S,
     alloc: Global,
@@ -27,17 +29,22 @@ fn resume<S: Store>(
     number: u64,
     loads: &mut Loads,
     connection: &mut Connection,
+    kept: &mut Option<Kept>,
 ) -> bool
     requires config { (S.frame store.old).config ≡ config.now }
     requires in_time { (S.frame store.old).latest ≤ now }
     requires moment { now < 2 ^ 63 }
     requires ready { connection.old.standing ≡ stands.Ready }
     requires open { connection.old.closing ≡ None }
-    ensures ran { (base : Situation) (values : List HeldValue) → base.latest ≡ now → base.dropped ≡ (S.frame store.old).dropped → loads_in base ≡ under_way loads.old → IsThere number base → S.stands store.old values → (is_held : Bool) × FeedsConnection config.now base number (making_of (S.frame store.old)) values connection.old [] connection.new is_held (S.stands store.new) (S.frame store.new).dropped (under_way loads.new) (workings (S.stream store.old) (S.registered store.old) (S.recency store.old)) (workings (S.stream store.new) (S.registered store.new) (S.recency store.new)) (gathered connection.old.output.items None (S.untaken store.old)) (gathered connection.new.output.items None (S.untaken store.new)) }
+    requires fresh { IsFresh (gathered connection.old.output.items kept.old (S.untaken store.old)) }
+    requires room { IsReadyToHold kept.old }
+    ensures ran { (base : Situation) (values : List HeldValue) → base.latest ≡ now → base.dropped ≡ (S.frame store.old).dropped → loads_in base ≡ under_way loads.old → IsThere number base → S.stands store.old values → (is_held : Bool) × FeedsConnection config.now base number (making_of (S.frame store.old)) values connection.old [] connection.new is_held (S.stands store.new) (S.frame store.new).dropped (under_way loads.new) (workings (S.stream store.old) (S.registered store.old) (S.recency store.old)) (workings (S.stream store.new) (S.registered store.new) (S.recency store.new)) (gathered connection.old.output.items kept.old (S.untaken store.old)) (gathered connection.new.output.items kept.new (S.untaken store.new)) }
     ensures frame { KeepsFrame (S.frame store.old) (S.frame store.new) now }
     ensures closes { result ≡ is_some connection.new.closing }
+    ensures fresh { IsFresh (gathered connection.new.output.items kept.new (S.untaken store.new)) }
+    ensures keeps_room { KeepsRoom kept.new }
+    ensures more { more_in kept.new ≡ more_in kept.old }
 {
-    let mut kept: Option<Kept> = None;
     match run_ready(
         store,
         alloc,
@@ -49,7 +56,7 @@ fn resume<S: Store>(
         &mut connection.output,
         &mut connection.spare,
         &[],
-        &mut kept,
+        kept,
     ) {
         End::More => {
             connection.standing = Standing::Ready;
@@ -122,17 +129,22 @@ fn resume_there<S: Store>(
     loads: &mut Loads,
     connections: &mut Vec<Connection>,
     index: usize,
+    kept: &mut Option<Kept>,
 ) -> bool
     requires config { (S.frame store.old).config ≡ config.now }
     requires in_time { (S.frame store.old).latest ≤ now }
     requires moment { now < 2 ^ 63 }
     requires inside { index < length connections.old.items }
     requires runs { runs_at (slice_get connections.old.items index) ≡ true }
-    ensures ran { (p : ReplacedAt connections.old.items connections.new.items index) × (result ≡ is_some p.is.closing) × ((base : Situation) (values : List HeldValue) → base.latest ≡ now → base.dropped ≡ (S.frame store.old).dropped → loads_in base ≡ under_way loads.old → IsThere number base → S.stands store.old values → (is_held : Bool) × FeedsConnection config.now base number (making_of (S.frame store.old)) values p.was [] p.is is_held (S.stands store.new) (S.frame store.new).dropped (under_way loads.new) (workings (S.stream store.old) (S.registered store.old) (S.recency store.old)) (workings (S.stream store.new) (S.registered store.new) (S.recency store.new)) (gathered p.was.output.items None (S.untaken store.old)) (gathered p.is.output.items None (S.untaken store.new))) }
+    requires fresh { IsFresh (gathered (text_at connections.old.items index) kept.old (S.untaken store.old)) }
+    requires room { IsReadyToHold kept.old }
+    ensures ran { (p : ReplacedAt connections.old.items connections.new.items index) × (result ≡ is_some p.is.closing) × ((base : Situation) (values : List HeldValue) → base.latest ≡ now → base.dropped ≡ (S.frame store.old).dropped → loads_in base ≡ under_way loads.old → IsThere number base → S.stands store.old values → (is_held : Bool) × FeedsConnection config.now base number (making_of (S.frame store.old)) values p.was [] p.is is_held (S.stands store.new) (S.frame store.new).dropped (under_way loads.new) (workings (S.stream store.old) (S.registered store.old) (S.recency store.old)) (workings (S.stream store.new) (S.registered store.new) (S.recency store.new)) (gathered p.was.output.items kept.old (S.untaken store.old)) (gathered p.is.output.items kept.new (S.untaken store.new))) × IsFresh (gathered p.is.output.items kept.new (S.untaken store.new)) }
     ensures frame { KeepsFrame (S.frame store.old) (S.frame store.new) now }
+    ensures keeps_room { KeepsRoom kept.new }
+    ensures more { more_in kept.new ≡ more_in kept.old }
 {
     let connection = &mut connections[index];
-    resume(store, alloc, config, now, number, loads, connection)
+    resume(store, alloc, config, now, number, loads, connection, kept)
 }
 
 /// Takes a connection that closed out of those that wait.
@@ -144,7 +156,21 @@ fn leave_where(loads: &mut Loads, number: u64, closed: bool)
     }
 }
 
-/// Runs the lines of a connection, where it is open and runs lines; no record is made.
+/// Makes ready to hold one more line back, where a record is made.
+pub fn restock_where(kept: &mut Option<Kept>)
+    requires stocked { HasMore 1 kept.old }
+    ensures steps { steps_of kept.new ≡ steps_of kept.old }
+    ensures ready { IsReadyToHold kept.new }
+    ensures made { is_some kept.new ≡ is_some kept.old }
+    ensures more { (count : ℕ) → HasMore (suc count) kept.old → HasMore count kept.new }
+{
+    match kept {
+        None => {}
+        Some(kept) => kept.restock(),
+    }
+}
+
+/// Runs the lines of a connection, where it is open and runs lines.
 pub fn resume_at<S: Store>(
     store: &mut S,
     alloc: Global,
@@ -153,15 +179,22 @@ pub fn resume_at<S: Store>(
     number: u64,
     loads: &mut Loads,
     connections: &mut Vec<Connection>,
+    kept: &mut Option<Kept>,
 )
     requires config { (S.frame store.old).config ≡ config.now }
     requires in_time { (S.frame store.old).latest ≤ now }
     requires moment { now < 2 ^ 63 }
-    ensures ran { (values : List HeldValue) → S.stands store.old values → RunsThem config.now (making_of (S.frame store.old)) now values (number ∷ []) [] (S.stands store.new) (under_way loads.old) (under_way loads.new) (S.frame store.old).dropped (S.frame store.new).dropped (identifiers (S.stream store.old) (S.registered store.old)) (identifiers (S.stream store.new) (S.registered store.new)) connections.old.items connections.new.items (S.untaken store.old) (S.untaken store.new) }
+    requires fresh { NothingWaits (noted_in kept.old (S.untaken store.old)) connections.old.items }
+    requires stocked { HasMore 1 kept.old }
+    ensures ran { (values : List HeldValue) → S.stands store.old values → RunsThem config.now (making_of (S.frame store.old)) now values (number ∷ []) [] (S.stands store.new) (under_way loads.old) (under_way loads.new) (S.frame store.old).dropped (S.frame store.new).dropped (identifiers (S.stream store.old) (S.registered store.old)) (identifiers (S.stream store.new) (S.registered store.new)) connections.old.items connections.new.items (noted_in kept.old (S.untaken store.old)) (noted_in kept.new (S.untaken store.new)) }
     ensures others { (place : ℕ) → place ≢ number - 1 → slice_get connections.new.items place ≡ slice_get connections.old.items place }
     ensures frame { KeepsFrame (S.frame store.old) (S.frame store.new) now }
     ensures count { length connections.new.items ≡ length connections.old.items }
+    ensures fresh { NothingWaits (noted_in kept.new (S.untaken store.new)) connections.new.items }
+    ensures made { is_some kept.new ≡ is_some kept.old }
+    ensures stocked { (count : ℕ) → HasMore (suc count) kept.old → HasMore count kept.new }
 {
+    restock_where(kept);
     if number == 0 || number > connections.len() as u64 {
         return;
     }
@@ -169,11 +202,21 @@ pub fn resume_at<S: Store>(
     if !runs_there(connections, index) {
         return;
     }
-    let closed = resume_there(store, alloc, config, now, number, loads, connections, index);
+    let closed = resume_there(
+        store,
+        alloc,
+        config,
+        now,
+        number,
+        loads,
+        connections,
+        index,
+        kept,
+    );
     leave_where(loads, number, closed);
 }
 
-/// Runs the lines of those connections, one after another, as far as they are open and run lines; no record is made.
+/// Runs the lines of those connections, one after another, as far as they are open and run lines.
 pub fn resume_all<S: Store>(
     store: &mut S,
     alloc: Global,
@@ -182,15 +225,20 @@ pub fn resume_all<S: Store>(
     loads: &mut Loads,
     connections: &mut Vec<Connection>,
     told: &[u64],
+    kept: &mut Option<Kept>,
 )
     requires config { (S.frame store.old).config ≡ config.now }
     requires in_time { (S.frame store.old).latest ≤ now }
     requires moment { now < 2 ^ 63 }
-    ensures ran { (values : List HeldValue) → S.stands store.old values → RunsThem config.now (making_of (S.frame store.old)) now values told.now [] (S.stands store.new) (under_way loads.old) (under_way loads.new) (S.frame store.old).dropped (S.frame store.new).dropped (identifiers (S.stream store.old) (S.registered store.old)) (identifiers (S.stream store.new) (S.registered store.new)) connections.old.items connections.new.items (S.untaken store.old) (S.untaken store.new) }
+    requires fresh { NothingWaits (noted_in kept.old (S.untaken store.old)) connections.old.items }
+    requires stocked { HasMore (length told.now) kept.old }
+    ensures ran { (values : List HeldValue) → S.stands store.old values → RunsThem config.now (making_of (S.frame store.old)) now values told.now [] (S.stands store.new) (under_way loads.old) (under_way loads.new) (S.frame store.old).dropped (S.frame store.new).dropped (identifiers (S.stream store.old) (S.registered store.old)) (identifiers (S.stream store.new) (S.registered store.new)) connections.old.items connections.new.items (noted_in kept.old (S.untaken store.old)) (noted_in kept.new (S.untaken store.new)) }
     ensures frame { KeepsFrame (S.frame store.old) (S.frame store.new) now }
     ensures count { length connections.new.items ≡ length connections.old.items }
+    ensures fresh { NothingWaits (noted_in kept.new (S.untaken store.new)) connections.new.items }
+    ensures made { is_some kept.new ≡ is_some kept.old }
 {
     for number in told {
-        resume_at(store, alloc, config, now, *number, loads, connections);
+        resume_at(store, alloc, config, now, *number, loads, connections, kept);
     }
 }

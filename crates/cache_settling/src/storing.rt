@@ -1,5 +1,5 @@
 //! Storing an answer's value.
-ghost use Rattle.std.specs.Prelude.{◌≡◌, ◌<◌, ◌≤◌, ◌^◌, ◌||◌, IfSome, IfOk, OnOk, OnErr, None, is_some, true};
+ghost use Rattle.std.specs.Prelude.{◌≡◌, ◌<◌, ◌≤◌, ◌^◌, ◌+◌, ◌||◌, length, IfSome, IfOk, OnOk, OnErr, None, is_some, true};
 ghost use Rattle.audit_model.specs.Belongs.{refusal_of_outcome};
 ghost use Rattle.audit_model.specs.Bytewise.{is_empty};
 ghost use Rattle.audit_model.specs.History.{accepts_values};
@@ -40,6 +40,7 @@ pub fn store_answer<S: Store>(
     requires fit { refusal_of_outcome (S.frame store.old).config outcome.now ≡ None }
     ensures ok { IfOk result (λ accepted. (s : Situation) → s.latest ≡ now → S.stands store.old s.held → (x : Stores (S.frame store.old).config s key.now outcome.now accepted (S.stands store.new) (Hands (S.frame store.old).part_of (S.untaken store.old) (S.untaken store.new))) × ((is_some accepted || is_empty x.told) ≡ true)) }
     ensures part { IfOk result (λ accepted. IfSome accepted (λ a. a.part ≡ (S.frame store.old).part_of key.now)) }
+    ensures few { length (S.untaken store.new) ≤ length (S.untaken store.old) + S.count store.old + 1 }
     ensures frame { OnOk result (KeepsFrame (S.frame store.old) (S.frame store.new) now) }
     ensures dropped { (S.frame store.new).dropped ≡ (S.frame store.old).dropped }
     ensures identifiers { KeepsIdentifiers (S.stream store.old) (S.stream store.new) (S.registered store.old) (S.registered store.new) }

@@ -1,5 +1,5 @@
 -- Two connections that wait for one load.
-use Rattle.std.proofs.Common.{◌≡◌, ℕ, ◌+◌, ◌≤◌, Bool, true, false, ◌==◌, cond, List, [], ◌∷◌, Option, Some, None, if◌then◌else◌, refl, sym, ap, ◌∙◌, subst, arith}
+use Rattle.std.proofs.Common.{◌≡◌, ℕ, zero, suc, ◌+◌, ◌≤◌, Bool, true, false, ◌==◌, cond, List, [], ◌∷◌, Option, Some, None, if◌then◌else◌, refl, sym, ap, ◌∙◌, subst, arith}
 use Rattle.std.specs.Prelude.{is_none}
 use Rattle.std.specs.List.{find}
 use Rattle.std.specs.Option.{option_map_or}
@@ -8,13 +8,16 @@ use Rattle.audit_model.specs.Bytewise.{same}
 use Rattle.audit_model.specs.Situation as model
 use Rattle.audit_model.specs.Situation.{PendingLoad, is_waiting_now}
 use Rattle.cache_namespace.specs.Shown.{is_listed, open_from, shown, situation, stands_before}
+use Rattle.cache_namespace.specs.Taken.{text_at}
 use Rattle.cache_namespace.specs.Waiting.{UnderWay}
+use Rattle.audit_model.specs.declared.config.Config.{Config}
+use Rattle.cache_settling.specs.GivenUp.{WaitForLoads}
 use Rattle.cache_namespace.specs.Whole.{held_line}
 use Rattle.cache_namespace.specs.declared.connection.Connection.{Connection}
 use Rattle.cache_namespace.specs.declared.standing.Standing.TheVariants as now
 use Rattle.cache_namespace.proofs.Following.{listed-open}
 use Rattle.load_laws.specs.Tidy.{Tidy, times_loaded, times_waiting, waits_now}
-use Rattle.cache_settling_tests.specs.Both.{both}
+use Rattle.cache_settling_tests.specs.Both.{both, left}
 
 -- 1 where a connection that may be there waits
 abbrev wait_of : Option model.Connection → ℕ
@@ -48,3 +51,26 @@ tidy-both l cs c d pending are cw co dw do_ = record {
       (counted-both n c d cw dw (1 == n) (2 == n) refl refl));
   keys = λ key. subst (λ ps. times_loaded key ps ≤ 1) (sym pending) (few-keys (same (107 ∷ []) key));
 }
+
+-- nothing was written to either
+pub untold-both : (cs : List Connection) (c d : Connection) → cs ≡ c ∷ d ∷ [] → c.output.items ≡ [] → d.output.items ≡ [] → (place : ℕ) → text_at cs place ≡ []
+untold-both cs c d are first second place = ap (λ ks. text_at ks place) are ∙ go place
+  where
+    go : (n : ℕ) → text_at (c ∷ d ∷ []) n ≡ []
+    go zero = first
+    go (suc zero) = second
+    go (suc (suc n)) = refl
+
+-- ---- nobody waits
+
+pub tidy-none : (l : UnderWay) (cs : List Connection) → l.pending ≡ left → cs ≡ [] → Tidy [] (situation 0 l cs false [])
+tidy-none l cs pending are = record {
+  once = λ n. subst (λ ps. 0 + times_waiting n ps ≤ wait_of (find (λ (k : model.Connection). k.number == n) (open_from 1 cs))) (sym pending) (omega arith);
+  keys = λ key. subst (λ ps. times_loaded key ps ≤ 1) (sym pending) (few-keys (same (107 ∷ []) key));
+}
+
+pub reads-none : (config : Config) (l : UnderWay) (cs : List Connection) → cs ≡ [] → WaitForLoads config (situation 0 l cs false [])
+reads-none config l cs are = subst (λ ks. WaitForLoads config (situation 0 l ks false [])) (sym are) (λ n c line found stands. let no : None ≡ Some c = found in cc)
+
+pub untold-none : (cs : List Connection) → cs ≡ [] → (place : ℕ) → text_at cs place ≡ []
+untold-none cs are place = ap (λ ks. text_at ks place) are

@@ -3,6 +3,8 @@
 
 #[cfg(test)]
 mod answers;
+#[cfg(test)]
+mod records;
 mod waiting;
 
-pub use waiting::two_wait;
+pub use waiting::{nobody_waits, two_wait};

@@ -21,7 +21,7 @@ use Rattle.cache_namespace.specs.Taken.{record_of}
 use Rattle.cache_namespace.specs.declared.connection.Connection.{Connection}
 use Rattle.cache_namespace.specs.declared.kept.Kept.{Kept}
 use Rattle.cache_spaces.specs.Moves.{Moves, are_parted_in, are_timely_in}
-use Rattle.cache_spaces.specs.Recorded.{IsQuiet, Records, RecordsInput, Refused, RefusedInput, namespace_of}
+use Rattle.cache_spaces.specs.Recorded.{IsQuiet, LeadsOnIn, Records, RecordsInput, Refused, RefusedInput, namespace_of}
 use Rattle.cache_spaces.specs.Spaces.{Stands, config_of, connections_of, workings_of, made_of, notices_of, output_of, recency_of, gathered_in}
 use Rattle.cache_spaces.specs.declared.space.Space.{Space}
 
@@ -105,12 +105,22 @@ recorded-fed was is conn happened is_held quit before after old new quiet starte
     output-at n (inl e) none = ap (λ k. option_map_or (λ (c : Connection). c.output.items) (slice_get (connections_of is) k) []) e ∙ none
     output-at n (inr ne) none = ap (λ o. option_map_or (λ (c : Connection). c.output.items) o []) (others (n - 1) ne) ∙ quiet.outputs n
 
+-- a load that was settled, with the record that was handed out
+pub recorded-settled : (was is : Space) (happened : Event) (before after : List Record) (entry : Record) → entry.event ≡ happened → ((s : Situation) → Stands was s → LeadsOnIn was is s entry) → config_of is ≡ config_of was → made_of is ≡ made_of was
+    → after ≡ before ++ entry ∷ [] → Records happened before after was is
+recorded-settled was is happened before after entry event leads config made added = record { entry = entry; event = event; added = added; leads = leads; config = config; made = made }
+
 -- why a feed is refused
 pub refused-as : (o : Option ServiceError) (held : Bool) (e : ServiceError)
     → MatchOption o ((e ≡ error.OutOfMemory) ⊎ ((e ≡ error.HeldAgain) × (held ≡ true))) (λ r. e ≡ r) → (o ≡ Some e) ⊎ ((e ≡ error.OutOfMemory) ⊎ (e ≡ error.HeldAgain))
 refused-as None held e (inl m) = inr (inl m)
 refused-as None held e (inr h) = inr (inr h.0)
 refused-as (Some r) held e same = inl (ap Some (sym same))
+
+-- why a settled load is refused
+pub refused-settling : (o : Option ServiceError) (e : ServiceError) → MatchOption o (e ≡ error.OutOfMemory) (λ r. e ≡ r) → (o ≡ Some e) ⊎ ((e ≡ error.OutOfMemory) ⊎ (e ≡ error.HeldAgain))
+refused-settling None e m = inr (inl m)
+refused-settling (Some r) e same = inl (ap Some (sym same))
 
 -- a namespace's number is its own
 pub own-number : (n : ℕ) (o : Option Event) → (if n == n then o else None) ≡ o

@@ -8,8 +8,9 @@ ghost use Rattle.cache_spaces.specs.Spaces.{connections_of};
 
 use crate::space::Space;
 use audit_model::{
-    Bytes, Event, Input, Instant, Record, Seq, ServiceError, Step, Transcript, copy_bytes,
+    Bytes, Event, Input, Instant, Outcome, Record, Seq, ServiceError, Step, Transcript, copy_bytes,
 };
+use audit_receipts::copy_outcome;
 use cache_namespace::Kept;
 use std::alloc::{AllocError, Global};
 use std::mem;
@@ -53,8 +54,14 @@ fn record_in(
             piece,
             moment,
         } => record_feed(space, alloc, records, conn.number, piece, *moment),
-        Input::Answer { .. } => Err(ServiceError::NoLoad),
-        Input::GiveUp { .. } => Err(ServiceError::NoLoad),
+        Input::Answer {
+            load,
+            outcome,
+            moment,
+        } => record_answer(space, alloc, records, load.number, outcome, *moment),
+        Input::GiveUp { load, moment } => {
+            record_give_up(space, alloc, records, load.number, *moment)
+        }
     }
 }
 
@@ -139,6 +146,72 @@ fn record_feed(
     }
 }
 
+/// Answers a load under way, and adds its record.
+fn record_answer(
+    space: &mut Space,
+    alloc: Global,
+    records: &mut Vec<Record>,
+    load: u64,
+    outcome: &Outcome,
+    moment: Instant,
+) -> Result<(), ServiceError>
+    requires quiet { IsQuiet space.old }
+    ensures ok { OnOk result (Records (event.Answer load outcome.now moment) records.old.items records.new.items space.old space.new) }
+    ensures err { OnErr result (Stays records.old.items records.new.items space.old space.new) }
+    ensures refused { IfErr result (λ e. Refused (event.Answer load outcome.now moment) e space.old) }
+{
+    let Ok(copy) = room_to_answer(alloc, records, outcome) else {
+        return Err(ServiceError::OutOfMemory);
+    };
+    match space.answer_kept(alloc, load, copy, moment.nanos) {
+        Ok(entry) => {
+            push(records, entry);
+            Ok(())
+        }
+        Err((error, _)) => Err(error),
+    }
+}
+
+/// Gives a load under way up, and adds its record.
+fn record_give_up(
+    space: &mut Space,
+    alloc: Global,
+    records: &mut Vec<Record>,
+    load: u64,
+    moment: Instant,
+) -> Result<(), ServiceError>
+    requires quiet { IsQuiet space.old }
+    ensures ok { OnOk result (Records (event.GiveUp load moment) records.old.items records.new.items space.old space.new) }
+    ensures err { OnErr result (Stays records.old.items records.new.items space.old space.new) }
+    ensures refused { IfErr result (λ e. Refused (event.GiveUp load moment) e space.old) }
+{
+    match records.try_reserve(1) {
+        Ok(()) => {}
+        Err(_) => return Err(ServiceError::OutOfMemory),
+    }
+    match space.give_up_kept(alloc, load, moment.nanos) {
+        Ok(entry) => {
+            push(records, entry);
+            Ok(())
+        }
+        Err(error) => Err(error),
+    }
+}
+
+/// What the record of an answer needs: a copy of the outcome. An `Err` adds nothing.
+fn room_to_answer(
+    alloc: Global,
+    records: &mut Vec<Record>,
+    outcome: &Outcome,
+) -> Result<Outcome, AllocError>
+    ensures records { records.new.items ≡ records.old.items }
+    ensures room { OnOk result (vec_len records.new < vec_capacity records.new) }
+    ensures copy { IfOk result (λ copy. copy ≡ outcome.now) }
+{
+    records.try_reserve(1)?;
+    copy_outcome(alloc, outcome)
+}
+
 /// What the record of a piece needs: a copy of the piece, and where its steps are kept. An `Err` adds nothing.
 fn room_to_feed(
     alloc: Global,
@@ -171,13 +244,21 @@ fn push_record(records: &mut Vec<Record>, alloc: Global, event: Event, steps: Se
     requires room { vec_len records.old < vec_capacity records.old }
     ensures added { records.new.items ≡ records.old.items ++ record_of event steps ∷ [] }
 {
-    let record = Record {
+    let entry = Record {
         event,
         own: None,
         notices: Seq::new(alloc),
         steps,
     };
-    let Ok(()) = records.push(record) else {
+    push(records, entry);
+}
+
+/// Adds a record; there is room for it.
+fn push(records: &mut Vec<Record>, entry: Record)
+    requires room { vec_len records.old < vec_capacity records.old }
+    ensures added { records.new.items ≡ records.old.items ++ entry ∷ [] }
+{
+    let Ok(()) = records.push(entry) else {
         unreachable!();
     };
 }

@@ -2,13 +2,17 @@
 ghost use Rattle.std.specs.Prelude.{◌-◌, ◌≡◌, ◌≢◌, ◌≤◌, ◌<◌, ◌^◌, ◌+◌, ◌++◌, ◌∷◌, [], None, Some, ℕ, Bool, true, false, IfOk, IfErr, OnOk, OnErr, IsErr, IfNone, IfSome, IsTrue, length, ◌↔◌};
 ghost use Rattle.plain_store.specs.Hashing.{hashed};
 ghost use Rattle.plain_store.specs.Parting.{part_by};
-ghost use Rattle.plain_store.specs.Standing.{frame_of};
+ghost use Rattle.plain_store.specs.Standing.{frame_of, Stands as AreHeld};
+ghost use Rattle.cache_spaces.specs.Knowing.{KnowsWaiting};
 ghost use Rattle.cache_spaces.specs.Served.{is_served};
 ghost use Rattle.cache_namespace.specs.Taken.{IsSound};
+ghost use Rattle.cache_namespace.specs.Waiting.{under_way};
 
-use audit_model::{Bytes, Closing, Config, LoadId, Note, ServiceError};
+use crate::settling::{given_up, is_waited_for};
+use audit_model::{Bytes, Closing, Config, LoadId, Note, Outcome, Record, ServiceError};
 use cache_loads::Loads;
 use cache_namespace::{Kept, Namespace};
+use cache_settling::{answer_in, answer_kept, give_up_in, give_up_kept, refuse_load};
 use cache_store::Store;
 use plain_store::{FixedHasher, PlainStore};
 use rand_xoshiro::Xoshiro256PlusPlus;
@@ -19,6 +23,7 @@ use std::alloc::{AllocError, Global};
 pub struct Space {
     inner: Namespace<PlainStore<Xoshiro256PlusPlus, FixedHasher>>,
     ghost sound: { IsSound inner.config (frame_of inner.store.config (part_by inner.store.parts (hashed 0)) inner.store.made inner.store.dropped inner.store.latest) inner.latest },
+    ghost waiting: { ∥ KnowsWaiting inner.config (AreHeld inner.store.config inner.store.table) (under_way inner.loads) inner.connections.items ∥₁ },
 }
 
 impl Space {
@@ -32,8 +37,11 @@ impl Space {
     ghost use Rattle.cache_namespace.specs.declared.connection.Connection.{Connection};
     ghost use Rattle.cache_store.specs.Recency.{KeepsRecency};
     ghost use Rattle.cache_spaces.specs.Moves.{Moves};
-    ghost use Rattle.cache_spaces.specs.Serves.{Serves, Takes, SameSpace};
-    ghost use Rattle.cache_spaces.specs.Spaces.{Stands, config_of, connections_of, generator_of, notices_of, outgoing_of, output_of, closing_of, gathered_in, made_of, recency_of, workings_of};
+    ghost use Rattle.cache_settling.specs.Answered.{answering, giving_up, waiting_for};
+    ghost use Rattle.cache_settling.specs.Laws.{record_given_up};
+    ghost use Rattle.cache_spaces.specs.Recorded.{IsQuiet, LeadsOnIn};
+    ghost use Rattle.cache_spaces.specs.Serves.{Serves, Settled, Takes, RefusedAnswer, SameSpace, known_of};
+    ghost use Rattle.cache_spaces.specs.Spaces.{Stands, config_of, connections_of, generator_of, loads_of, notices_of, outgoing_of, output_of, closing_of, gathered_in, made_of, recency_of, workings_of};
 
     /// A namespace without connections, loads and values, with a generator of its own; its place in the service.
     pub fn new(
@@ -221,6 +229,108 @@ impl Space {
         let mut kept = None;
         match self.feed(alloc, number, piece, moment, &mut kept) {
             Ok(is_held) => Ok(is_held),
+            Err(error) => Err(error),
+        }
+    }
+
+    /// Answers a load under way; no record is made of it. An `Err` hands the outcome back.
+    pub fn answer(
+        &mut self,
+        alloc: Global,
+        load: u64,
+        outcome: Outcome,
+        moment: u64,
+    ) -> Result<(), (ServiceError, Outcome)>
+        ensures settled { OnOk result (Settled self.old self.new (answering load outcome moment)) }
+        ensures refused { IfErr result (λ e. RefusedAnswer self.old (answering load outcome moment) e.0) }
+        ensures back { IfErr result (λ e. e.1 ≡ outcome) }
+        ensures same { OnErr result (SameSpace self.old self.new) }
+    {
+        match answer_in(&mut self.inner, alloc, load, outcome, moment) {
+            Ok(_) => Ok(()),
+            Err(refused) => Err(refused),
+        }
+    }
+
+    /// Gives a load under way up; no record is made of it.
+    pub fn give_up(&mut self, alloc: Global, load: u64, moment: u64) -> Result<(), ServiceError>
+        ensures settled { OnOk result (Settled self.old self.new (giving_up load moment)) }
+        ensures refused { IfErr result (λ e. refusal_of (config_of self.old) (known_of self.old) (giving_up load moment) ≡ Some e) }
+        ensures err { OnErr result (self.new ≡ self.old) }
+    {
+        if !is_waited_for(&self.inner.loads, load) {
+            return self.drop_load(load, moment);
+        }
+        match give_up_in(&mut self.inner, alloc, load, moment) {
+            Ok(()) => Ok(()),
+            Err(error) => Err(error),
+        }
+    }
+
+    /// Gives a load up for which nobody waits.
+    fn drop_load(&mut self, load: u64, moment: u64) -> Result<(), ServiceError>
+        requires unwaited { waiting_for load (loads_of self.old) ≡ [] }
+        ensures settled { OnOk result (Settled self.old self.new (giving_up load moment)) }
+        ensures kept { OnOk result (IsQuiet self.old → (s : Situation) → Stands self.old s → LeadsOnIn self.old self.new s (record_given_up load moment [])) }
+        ensures config { config_of self.new ≡ config_of self.old }
+        ensures made { made_of self.new ≡ made_of self.old }
+        ensures refused { IfErr result (λ e. refusal_of (config_of self.old) (known_of self.old) (giving_up load moment) ≡ Some e) }
+        ensures err { OnErr result (self.new ≡ self.old) }
+    {
+        match refuse_load(&self.inner.config, &self.inner.loads, load, moment) {
+            Some(error) => return Err(error),
+            None => {}
+        }
+        let _ = self.inner.loads.settle(load);
+        self.inner.latest = moment.max(self.inner.latest);
+        Ok(())
+    }
+
+    /// Answers a load under way, and hands out its record, which holds its replies and notes. An `Err` hands the outcome back.
+    pub fn answer_kept(
+        &mut self,
+        alloc: Global,
+        load: u64,
+        outcome: Outcome,
+        moment: u64,
+    ) -> Result<Record, (ServiceError, Outcome)>
+        requires quiet { IsQuiet self.old }
+        ensures leads { IfOk result (λ entry. (s : Situation) → Stands self.old s → LeadsOnIn self.old self.new s entry) }
+        ensures happened { IfOk result (λ entry. entry.event ≡ answering load outcome moment) }
+        ensures config { config_of self.new ≡ config_of self.old }
+        ensures made { OnOk result (made_of self.new ≡ made_of self.old) }
+        ensures refused { IfErr result (λ e. RefusedAnswer self.old (answering load outcome moment) e.0) }
+        ensures same { OnErr result (SameSpace self.old self.new) }
+    {
+        match answer_kept(&mut self.inner, alloc, load, outcome, moment) {
+            Ok(entry) => Ok(entry),
+            Err(refused) => Err(refused),
+        }
+    }
+
+    /// Gives a load under way up, and hands out its record, which holds its replies and notes.
+    pub fn give_up_kept(
+        &mut self,
+        alloc: Global,
+        load: u64,
+        moment: u64,
+    ) -> Result<Record, ServiceError>
+        requires quiet { IsQuiet self.old }
+        ensures leads { IfOk result (λ entry. (s : Situation) → Stands self.old s → LeadsOnIn self.old self.new s entry) }
+        ensures happened { IfOk result (λ entry. entry.event ≡ giving_up load moment) }
+        ensures config { config_of self.new ≡ config_of self.old }
+        ensures made { OnOk result (made_of self.new ≡ made_of self.old) }
+        ensures refused { IfErr result (λ e. RefusedAnswer self.old (giving_up load moment) e) }
+        ensures err { OnErr result (self.new ≡ self.old) }
+    {
+        if !is_waited_for(&self.inner.loads, load) {
+            return match self.drop_load(load, moment) {
+                Ok(()) => Ok(given_up(alloc, load, moment)),
+                Err(error) => Err(error),
+            };
+        }
+        match give_up_kept(&mut self.inner, alloc, load, moment) {
+            Ok(entry) => Ok(entry),
             Err(error) => Err(error),
         }
     }

@@ -26,7 +26,8 @@ use Rattle.engine_reference.proofs.HeldRecords.{record_at-number}
 use Rattle.engine_reference.proofs.SoundCalls.{calls_stay_sound, held_at-only, each-push, used-sound}
 use Rattle.engine_reference.proofs.SoundSteps.{IsCounted, counted, step-sound, run-sound, left-each, all_left-sound}
 use Rattle.engine_reference.proofs.TellingSteps.{run_tells}
-use Rattle.engine_laws.specs.Sweeping.{order_after, with_admitted, admitted_in, InOrderBy, IsWrittenBefore, IsUsedBefore, IsSwept, LeavesNoneDue, IsTimely, SweptRunsLeaveNoneDue, SweptRunsStayTimely, CallsStayTimely, LookingAtAllSweeps}
+use Rattle.engine_laws.specs.Sweeping.{order_after, with_admitted, admitted_in, InOrderBy, IsWrittenBefore, IsUsedBefore, IsSwept, LeavesNoneDue, IsTimely, SweptRunsLeaveNoneDue, SweptRunsStayTimely, CallsStayTimely, LookingAtAllSweeps, LookingAtAllLeavesNoneDue}
+use Rattle.engine_laws.specs.Fronts.{NothingIsDue}
 use Rattle.engine_laws.proofs.Fronting.{each-at, or_right}
 use Rattle.engine_laws.proofs.Rising.{each-own, ComesFrom}
 use Rattle.engine_laws.proofs.Ticking.{own-tick, changed-tick, end-later, end-after, tick-not_reached, lt-false-up, earlier-not_reached}
@@ -493,6 +494,21 @@ module _ {K V P S R : Type 0} where
           omega arith;
     }
 
+-- a run that looks at everything leaves none that is due
+module _ {K V P S R : Type 0} (answers : Answers K V P R) (now : ℕ) (s : State K V P S R) (quiet : NothingIsDue answers now s) (counted : Each IsCounted s.records) where
+  all-alive : (r : Record K V) → record_at s.records r.number ≡ Some r
+      → (is_reached r.entry.expires now ≡ false) × (is_reached (end_of r.entry.written s.settings.live) now ≡ false) × (is_reached (end_of r.entry.used s.settings.idle) now ≡ false)
+  all-alive r there =
+      let held = (each-at IsCounted s.records r.number r counted there).held in
+      let one = earlier-not_reached r.entry.expires (earlier_of (end_of r.entry.written s.settings.live) (end_of r.entry.used s.settings.idle)) now (quiet.alive r there held) in
+      let two = earlier-not_reached (end_of r.entry.written s.settings.live) (end_of r.entry.used s.settings.idle) now one.1 in
+      (one.0, two.0, two.1)
+
+  all-clear : (r : Record K V) → record_at s.records r.number ≡ Some r → nat_lt r.entry.step s.cleared ≡ false
+  all-clear r there =
+      let held = (each-at IsCounted s.records r.number r counted there).held in
+      (or_right (nat_lt r.entry.step s.cleared) (list_any (λ p. is_covered_by answers s.rules p r.entry) s.predicates) (quiet.uncovered r there held)).0
+
 module _ (K V P S R : Type 0) where
   pub swept_runs_leave_none_due : SweptRunsLeaveNoneDue K V P S R
   swept_runs_leave_none_due answers moment step now order old new h less range run swept =
@@ -551,21 +567,20 @@ module _ (K V P S R : Type 0) where
   looking_at_all_sweeps answers now order old new sound sent run quiet =
       let k = run-leaves answers now old new sound sent run in
       record {
-        live = λ r first. (dead r (first-found new.records order r first) k.counted).1;
-        clear = λ r first. clear r (first-found new.records order r first) k.counted;
-        idle = λ r first. (dead r (first-found new.records new.access r first) k.counted).2;
-        own = λ later r there. (dead r there k.counted).0;
+        live = λ r first. (all-alive answers now new quiet k.counted r (first-found new.records order r first)).1;
+        clear = λ r first. all-clear answers now new quiet k.counted r (first-found new.records order r first);
+        idle = λ r first. (all-alive answers now new quiet k.counted r (first-found new.records new.access r first)).2;
+        own = λ later r there. (all-alive answers now new quiet k.counted r there).0;
       }
-    where
-      dead : (r : Record K V) → record_at new.records r.number ≡ Some r → Each IsCounted new.records
-          → (is_reached r.entry.expires now ≡ false) × (is_reached (end_of r.entry.written new.settings.live) now ≡ false) × (is_reached (end_of r.entry.used new.settings.idle) now ≡ false)
-      dead r there counted =
-          let held = (each-at IsCounted new.records r.number r counted there).held in
-          let one = earlier-not_reached r.entry.expires (earlier_of (end_of r.entry.written new.settings.live) (end_of r.entry.used new.settings.idle)) now (quiet.alive r there held) in
-          let two = earlier-not_reached (end_of r.entry.written new.settings.live) (end_of r.entry.used new.settings.idle) now one.1 in
-          (one.0, two.0, two.1)
 
-      clear : (r : Record K V) → record_at new.records r.number ≡ Some r → Each IsCounted new.records → nat_lt r.entry.step new.cleared ≡ false
-      clear r there counted =
-          let held = (each-at IsCounted new.records r.number r counted there).held in
-          (or_right (nat_lt r.entry.step new.cleared) (list_any (λ p. is_covered_by answers new.rules p r.entry) new.predicates) (quiet.uncovered r there held)).0
+  pub looking_at_all_leaves_none_due : LookingAtAllLeavesNoneDue K V P S R
+  looking_at_all_leaves_none_due answers now old new sound sent run quiet =
+      let k = run-leaves answers now old new sound sent run in
+      record {
+        live = λ r there. (all-alive answers now new quiet k.counted r there).1;
+        clear = λ r there. all-clear answers now new quiet k.counted r there;
+        own = λ r there expires is_set. tick-not_reached new.settings r.entry.expires expires now (all-alive answers now new quiet k.counted r there).0 is_set;
+        idle = λ ordered r there time is_set.
+            let left = end-after r.entry.used time now (ap (λ o. is_reached (end_of r.entry.used o) now) (sym is_set) ∙ (all-alive answers now new quiet k.counted r there).2) in
+            omega arith;
+      }

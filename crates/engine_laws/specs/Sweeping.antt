@@ -101,6 +101,11 @@ module _ (K V P S R : Type 0) where
   LookingAtAllSweeps =
       (answers : Answers K V P R) (now : ℕ) (order : List ℕ) (old new : State K V P S R) → IsSound old → old.unsent ≡ [] → Runs answers now old new → NothingIsDue answers now new → IsSwept now order old new
 
+  -- and leaves none that is due, whatever moments and tickets came before
+  abbrev pub LookingAtAllLeavesNoneDue : Type 0
+  LookingAtAllLeavesNoneDue =
+      (answers : Answers K V P R) (now : ℕ) (old new : State K V P S R) → IsSound old → old.unsent ≡ [] → Runs answers now old new → NothingIsDue answers now new → LeavesNoneDue now new
+
   -- as an empty cache is, and calls keep it, each at a moment and a step not before the last, with its ticket sent at once
   pub record CallsStayTimely : Type 0 where
     pub empty : (s : State K V P S R) → s.records ≡ [] → s.access ≡ [] → s.unsent ≡ [] → s.writes ≡ [] → s.ran ≤ 9223372036854775807 → IsTimely s.ran 0 [] s

@@ -1,7 +1,7 @@
 //! Laws of the reference cache over whole runs. Each function does nothing: its contract is the law.
 ghost use Rattle.engine_laws.specs.Fronts.{RunsEvictShortestFront};
 ghost use Rattle.engine_laws.specs.Points.{SizeHasPoint, CallsStayInOrder, RunsStayInOrder};
-ghost use Rattle.engine_laws.specs.Sweeping.{LookingAtAllSweeps, SweptRunsLeaveNoneDue, SweptRunsStayTimely, CallsStayTimely};
+ghost use Rattle.engine_laws.specs.Sweeping.{LookingAtAllSweeps, LookingAtAllLeavesNoneDue, SweptRunsLeaveNoneDue, SweptRunsStayTimely, CallsStayTimely};
 ghost use Rattle.engine_laws.specs.Showing.{OnlyWritesShow, CallsKeepApart};
 
 /// Where tickets were sent in the order in which they were made, each removal for weight within a run has a capacity and a *point*: a write that was in the queue as the run began, made not before the last write of the removed record, right after which all that was held weighed more than the capacity.
@@ -37,6 +37,11 @@ pub fn swept_runs_stay_timely<K, V, P, S, R>()
 /// A run that began with all tickets sent and leaves nothing dead or covered did all that `IsSwept` asks, whatever the write list.
 pub fn looking_at_all_sweeps<K, V, P, S, R>()
     ensures { LookingAtAllSweeps K V P S R }
+{}
+
+/// Such a run leaves none that is due, whatever moments and steps came before it.
+pub fn looking_at_all_leaves_none_due<K, V, P, S, R>()
+    ensures { LookingAtAllLeavesNoneDue K V P S R }
 {}
 
 /// An empty cache is timely, and each call at a moment and a step not before the last keeps it so, where its ticket is sent at once.

@@ -1,5 +1,5 @@
 //! The lists, and one change of them for each method.
-ghost use Rattle.std.specs.Prelude.{◌≡◌, ℕ, ◌+◌, ◌-◌, ◌<◌, ◌≤◌, ◌^◌, Bool, true, false, [], ◌∷◌, ◌++◌, length, vec_len, vec_capacity, drop, min, remove, slice_get, slice_set, is_some, Some, None, IfSome, IfNone, IfOk, OnOk, OnErr, if◌then◌else◌};
+ghost use Rattle.std.specs.Prelude.{◌≡◌, ℕ, ◌+◌, ◌-◌, ◌<◌, ◌≤◌, ◌^◌, Bool, true, false, [], ◌∷◌, ◌⊎◌, ◌++◌, length, vec_len, vec_capacity, drop, min, remove, slice_get, slice_set, is_some, Some, None, IfSome, IfNone, IfOk, OnOk, OnErr, if◌then◌else◌};
 ghost use Rattle.std.specs.Result.{IsErrOf};
 ghost use Rattle.std.specs.Int.{IsNextPowerOfTwo};
 ghost use Rattle.policy_sketch.specs.Counts.{incremented, grown};
@@ -79,12 +79,13 @@ impl<K: Eq, V, S, R: Rules<K, V>> Model for Lists<K, V, S, R> {
       rules = c.rules;
     } };
 
-    // each record has room for its notice, each write for its place on the access list
+    // each record has room for its notice, each write for its place on the access list, and what is reserved serves a write or a predicate
     ghost invariant = { λ c. record {
       records : vec_len c.records + c.reserved ≤ vec_capacity c.records;
       unsent : vec_len c.unsent + c.reserved ≤ vec_capacity c.unsent;
       notices : vec_len c.notices + vec_len c.records + c.reserved ≤ vec_capacity c.notices;
       access : vec_len c.access + vec_len c.unsent + vec_len c.writes + c.reserved ≤ vec_capacity c.access;
+      predicates : vec_len c.predicates + c.reserved ≤ vec_capacity c.predicates;
       reads : 64 ≤ vec_capacity c.reads;
       writes : 128 ≤ vec_capacity c.writes;
       tickets : c.next_ticket + c.reserved < 2 ^ 64;
@@ -217,6 +218,11 @@ impl<K: Eq, V, S, R: Rules<K, V>> Lists<K, V, S, R> {
         self.settings
     }
 
+    /// Where the lists get their memory.
+    pub fn alloc(&self) -> Global {
+        *self.records.allocator()
+    }
+
     /// What hashes keys.
     pub fn hasher(&self) -> &S
         ensures { result.now ≡ self.now.hasher }
@@ -275,11 +281,12 @@ impl<K: Eq, V, S, R: Rules<K, V>> Lists<K, V, S, R> {
         place_of(self.records.as_slice(), key)
     }
 
-    /// Makes room for so many more writes.
+    /// Makes room for so many more writes, or predicates.
     pub fn make_room(&mut self, by: u64) -> Result<(), Refusal>
         ensures ok { OnOk result (self.new ≡ record self.old { reserved = self.old.reserved + by }) }
         ensures err { OnErr result (self.new ≡ self.old) }
         ensures used_up { IsErrOf result Refusal.UsedUp → 2 ^ 64 ≤ self.old.next_ticket + self.old.reserved + by }
+        ensures only { OnErr result ((IsErrOf result Refusal.OutOfMemory) ⊎ (IsErrOf result Refusal.UsedUp)) }
     {
         let free = (u64::MAX - self.next_ticket).saturating_sub(self.reserved);
         if free < by {
@@ -296,8 +303,17 @@ impl<K: Eq, V, S, R: Rules<K, V>> Lists<K, V, S, R> {
             .saturating_add(self.writes.len())
             .saturating_add(more as usize);
         self.access.reserve(listed)?;
+        self.predicates.reserve(more as usize)?;
         self.reserved = more;
         Ok(())
+    }
+
+    /// Gives up the room for one write.
+    pub fn release_room(&mut self)
+        requires { 0 < self.old.reserved }
+        ensures { self.new ≡ record self.old { reserved = self.old.reserved - 1 } }
+    {
+        self.reserved -= 1;
     }
 
     /// Which of its writes the next write of a record is.
@@ -511,14 +527,13 @@ impl<K: Eq, V, S, R: Rules<K, V>> Lists<K, V, S, R> {
         take_out(&mut self.access, gone.number);
     }
 
-    /// Registers a predicate.
-    pub fn register(&mut self, registered: Registered<R::Predicate>) -> Result<(), AllocError>
-        ensures ok { OnOk result (self.new ≡ record self.old { predicates = self.old.predicates ++ registered ∷ [] }) }
-        ensures err { OnErr result (self.new ≡ self.old) }
+    /// Registers a predicate, for which there is room.
+    pub fn register(&mut self, registered: Registered<R::Predicate>)
+        requires { 0 < self.old.reserved }
+        ensures { self.new ≡ record self.old { predicates = self.old.predicates ++ registered ∷ []; reserved = self.old.reserved - 1 } }
     {
-        self.predicates.reserve(1)?;
         self.predicates.push_reserved(registered);
-        Ok(())
+        self.reserved -= 1;
     }
 
     /// The predicate at a place goes.

@@ -1,11 +1,11 @@
 -- What the decision about a write comes to.
-use Rattle.std.proofs.Common.{◌≡◌, refl, ap, sym, ◌∙◌, ℕ, ◌<◌, ◌≤◌, arith, Bool, true, false, cond, List, Option, Some, None}
+use Rattle.std.proofs.Common.{◌≡◌, refl, ap, sym, ◌∙◌, ℕ, ◌<◌, ◌≤◌, arith, true, false, cond, List, Option, Some, None}
 use Rattle.std.specs.Prelude.{nat_lt, is_some, option_map}
 use Rattle.std.proofs.lemmas.Bool.{lt-ltb, le-ltb}
 use Rattle.policy_sketch.specs.Counts.{Sketch, frequency_of}
 use Rattle.engine_reference.specs.declared.data.Record.{Record}
 use Rattle.engine_reference.specs.declared.data.Upsert.{Upsert}
-use Rattle.engine_reference.specs.Admission.{Verdict, admit, displace, refuse, verdict, contest, shortest_front, frequencies}
+use Rattle.engine_reference.specs.Admission.{displace, refuse, verdict, contest, frequencies}
 use Rattle.engine_reference.specs.State.{State}
 use Rattle.engine_looks.specs.declared.deciding.Decision.{Decision}
 use Rattle.engine_looks.specs.declared.deciding.Decision.TheVariants as decide

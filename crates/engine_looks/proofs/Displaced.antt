@@ -1,13 +1,13 @@
 -- Records that go for a newcomer, one after another, and then its write.
-use Rattle.std.proofs.Common.{◌≡◌, refl, ap, sym, ◌∙◌, subst, ℕ, ◌-◌, ◌<◌, arith, Bool, true, false, cond, List, [], ◌∷◌, Option, Some, None, drop}
+use Rattle.std.proofs.Common.{◌≡◌, refl, ap, sym, ◌∙◌, subst, ℕ, ◌-◌, ◌<◌, arith, true, false, cond, List, [], ◌∷◌, Option, Some, None, drop}
 use Rattle.std.specs.Prelude.{slice_get, slice_set, is_some}
-use Rattle.std.proofs.lemmas.Bool.{eq-eqb, ne_eqb}
+use Rattle.std.proofs.lemmas.Bool.{ne_eqb}
 use Rattle.engine_rules.specs.declared.causes.RemovalCause.{RemovalCause}
 use Rattle.engine_rules.specs.declared.causes.RemovalCause.TheVariants as cause
 use Rattle.engine_reference.specs.declared.data.Record.{Record}
 use Rattle.engine_reference.specs.declared.data.Upsert.{Upsert}
 use Rattle.engine_reference.specs.Admission.{shortest_front, with_first}
-use Rattle.engine_reference.specs.Records.{record_at, changed_at, moved_to_back, settled_in, is_settled, weight_at}
+use Rattle.engine_reference.specs.Records.{record_at, changed_at, moved_to_back, settled_in, weight_at}
 use Rattle.engine_reference.specs.Runs.{left, with_left, all_left, first_of, counting}
 use Rattle.engine_reference.specs.Soundness.{AreNumbered}
 use Rattle.engine_reference.specs.State.{State}

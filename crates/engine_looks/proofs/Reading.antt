@@ -1,5 +1,5 @@
 -- Records that a look-up uses.
-use Rattle.std.proofs.Common.{◌≡◌, ap, sym, ◌∙◌, ℕ, Option, Some, None}
+use Rattle.std.proofs.Common.{◌≡◌, ap, sym, ◌∙◌, ℕ, Some, None}
 use Rattle.std.specs.Prelude.{slice_get, slice_set}
 use Rattle.engine_reference.specs.declared.data.Record.{Record}
 use Rattle.engine_reference.specs.Records.{record_at, changed_at}

@@ -1,3 +1,4 @@
 pub mod Chains
 pub mod Deciding
 pub mod Displacing
+pub mod Tables

@@ -7,11 +7,12 @@ mod due;
 mod entries;
 mod looks;
 mod settings;
+mod table;
 mod uses;
 
 pub use deciding::{Decision, decide, is_above};
 pub use displacing::displace_for;
-pub use due::{find_due, find_excess};
+pub use due::{find_due, find_excess, record_in};
 pub use entries::{
     beside, cause_of_removal, cause_of_write, clone_entry, expires_after_use, first_entry,
     next_entry, rooms_of_removal, upsert,
@@ -20,4 +21,5 @@ pub use looks::{
     clone_at, first_write, has_predicates, has_reads, has_writes, is_admitted, is_held_at, look_up,
 };
 pub use settings::policy_of;
+pub use table::table_wanted;
 pub use uses::{is_due, use_found};

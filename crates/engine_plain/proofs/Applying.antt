@@ -4,10 +4,10 @@ use Rattle.std.specs.Prelude.{slice_get, slice_set, remove}
 use Rattle.engine_reference.specs.declared.data.Record.{Record}
 use Rattle.engine_reference.specs.declared.data.Upsert.{Upsert}
 use Rattle.engine_reference.specs.declared.data.Write.{Write}
-use Rattle.engine_reference.specs.Records.{changed_at, moved_to_back, record_at, without_record, without}
+use Rattle.engine_reference.specs.Records.{changed_at, record_at, without_record, without}
 use Rattle.engine_rules.specs.declared.causes.RemovalCause.TheVariants as cause
 use Rattle.engine_reference.specs.Visible.{told}
-use Rattle.engine_reference.specs.Runs.{after_write, after_removal, counting, put_off}
+use Rattle.engine_reference.specs.Runs.{after_write, after_removal, put_off}
 use Rattle.engine_reference.specs.Soundness.{AreNumbered, IsSound}
 use Rattle.engine_reference.specs.State.{State}
 use Rattle.engine_reference.proofs.SoundSteps.{popped-is_sound}

@@ -4,3 +4,7 @@ pub mod Covering
 pub mod Applying
 pub mod Outcomes
 pub mod Unsettled
+pub mod Tables
+pub mod Sweeping
+pub mod Registering
+pub mod Passing

@@ -1,9 +1,10 @@
 //! The cache.
-ghost use Rattle.std.specs.Prelude.{◌≡◌, ℕ, ◌+◌, ◌-◌, ◌<◌, ◌≤◌, ◌^◌, Bool, true, false, [], ◌∷◌, ◌⊎◌, ◌++◌, length, drop, min, remove, slice_get, slice_set, is_some, Some, None, IfSome, IfNone, IfOk, OnOk, OnErr, if◌then◌else◌, option_map};
+ghost use Rattle.std.specs.Prelude.{◌≡◌, ℕ, ◌+◌, ◌-◌, ◌<◌, ◌≤◌, ◌^◌, Bool, true, false, List, [], ◌∷◌, ◌⊎◌, ◌++◌, length, drop, min, remove, slice_get, slice_set, is_some, Some, None, IfSome, IfNone, IfOk, OnOk, OnErr, if◌then◌else◌, option_map};
 ghost use Rattle.std.specs.Duration.{as_nanos};
 ghost use Rattle.std.specs.Result.{IsErrOf};
 ghost use Rattle.engine_reference.specs.Admission.{Verdict, admit, displace, refuse, verdict, is_above, shortest_front, wants_table};
 ghost use Rattle.engine_reference.specs.Calls.{without_ticket, IsNew, written, with_written, sent, unsent_at, is_full, removed_by, removal_told, LooksUp, MaintainsIfDue, with_read, cleared_by, without_notice, with_room, used_entry};
+ghost use Rattle.engine_reference.specs.Laws.{CountsExactly};
 ghost use Rattle.engine_reference.specs.Records.{admitted_number, moved_to_back, held_at, record_at, held_weight, settled_in, admitted_weight, is_settled};
 ghost use Rattle.engine_reference.specs.Runs.{counting, put_off, is_due_for, Step, RunsToEnd, after_read, after_hit, after_write, after_put, IsApplied, next_to_evict, left, all_left, is_overtaken, is_due};
 ghost use Rattle.engine_reference.specs.Visible.{visible_record, visible_value, cause_of_write};
@@ -14,9 +15,11 @@ ghost use Rattle.engine_reference.specs.declared.data.Upsert.{Upsert};
 ghost use Rattle.engine_reference.specs.declared.data.Write.{Write};
 ghost use Rattle.engine_reference.specs.declared.data.Write.TheVariants.{Put, Removed};
 ghost use Rattle.engine_rules.specs.declared.causes.RemovalCause.TheVariants as cause;
+ghost use Rattle.engine_laws.specs.Sweeping.{IsSwept, LeavesNoneDue};
 ghost use Rattle.engine_lists.specs.Asking.{answers_of};
 ghost use Rattle.engine_looks.specs.Chains.{Chain, none_due, is_admitted};
 ghost use Rattle.engine_looks.specs.Displacing.{front_of, displaced};
+ghost use Rattle.engine_looks.specs.Tables.{lacks_table, LacksTableFor};
 
 use engine_lists::{
     Lists, MAX_READS, MAX_WRITES, Refusal, count_admitted, place_at, place_of_ticket,
@@ -26,13 +29,16 @@ use engine_looks::{
     Decision, beside, cause_of_removal, cause_of_write, clone_at, clone_entry, decide,
     displace_for, expires_after_use, find_due, find_excess, first_entry, first_write,
     has_predicates, has_reads, has_writes, is_admitted, is_due, is_held_at, look_up, next_entry,
-    policy_of, rooms_of_removal, upsert, use_found,
+    policy_of, rooms_of_removal, table_wanted, upsert, use_found,
 };
 use engine_reference::{Entry, Notice, Read, Record, Settings, Upsert, Write};
 use engine_rules::{Policy, RemovalCause, Rules};
 use policy_base::Instant;
 use std::alloc::{AllocError, Global};
 use std::marker::Model;
+
+mod predicates;
+mod scans;
 
 /// A cache of one part. Steps rise from call to call; moments may be any.
 #[derive(Drop)]
@@ -709,6 +715,40 @@ impl<K: Eq, V, S, R: Rules<K, V>> BaseCache<K, V, S, R> {
         }
     }
 
+    /// For how many hashes the sketch's table is to be made, where it is.
+    fn table_wanted(&self) -> Option<u32>
+        ensures some { IfSome result (λ hashes. LacksTableFor hashes self.now) }
+        ensures none { IfNone result (lacks_table self.now ≡ false) }
+    {
+        table_wanted(&self.lists)
+    }
+
+    /// Makes the sketch's table for so many hashes.
+    fn make_table(&mut self, hashes: u32, _now: u64) -> Result<(), AllocError>
+        requires applied { IsApplied self.old }
+        requires lacks { LacksTableFor hashes self.old }
+        ensures chain { Chain (answers_of R.weight_of R.created R.read R.updated R.covers) _now self.old self.new }
+        ensures applied { IsApplied self.new }
+        ensures table { OnOk result (lacks_table self.new ≡ false) }
+        ensures err { OnErr result (self.new ≡ self.old) }
+    {
+        self.lists.make_table(hashes)?;
+        Ok(())
+    }
+
+    /// Makes the sketch's table, where half the capacity is held and there is none.
+    fn grow(&mut self, now: u64) -> Result<(), AllocError>
+        requires { IsApplied self.old }
+        ensures chain { Chain (answers_of R.weight_of R.created R.read R.updated R.covers) now self.old self.new }
+        ensures applied { IsApplied self.new }
+        ensures table { OnOk result (lacks_table self.new ≡ false) }
+    {
+        match self.table_wanted() {
+            Some(hashes) => self.make_table(hashes, now),
+            None => Ok(()),
+        }
+    }
+
     /// Takes down number and weight of the admitted records.
     fn finish_run(&mut self, now: u64)
         ensures { self.new ≡ record self.old { number = admitted_number self.old.records; weight = min (admitted_weight self.old.records) 18446744073709551615; ran = now } }
@@ -718,7 +758,7 @@ impl<K: Eq, V, S, R: Rules<K, V>> BaseCache<K, V, S, R> {
         self.lists.finish_run(number, weight, now);
     }
 
-    /// A run of what has no read and no write to apply.
+    /// A run of what has no read and no write to apply, once the sketch's table was tried.
     fn settle(&mut self, now: u64)
     where
         K: Drop,
@@ -726,6 +766,7 @@ impl<K: Eq, V, S, R: Rules<K, V>> BaseCache<K, V, S, R> {
         requires { IsApplied self.old }
         ensures runs { RunsToEnd (answers_of R.weight_of R.created R.read R.updated R.covers) now self.old self.new }
         ensures none { none_due (answers_of R.weight_of R.created R.read R.updated R.covers) self.new now self.new.records ≡ true }
+        ensures table { lacks_table self.old ≡ false → lacks_table self.new ≡ false }
     {
         self.sweep(now);
         self.end_predicates(now);
@@ -734,17 +775,40 @@ impl<K: Eq, V, S, R: Rules<K, V>> BaseCache<K, V, S, R> {
     }
 
     /// Runs maintenance to its end: all that is pending is applied, what is due leaves, and then the excess. Nothing that is held is then dead or covered.
+    /// Where all tickets were sent as it began, the counts are exact, nothing that is kept is due, and the run did what laws on runs ask of one that looks at times.
+    /// Where half the capacity is held and the sketch has no table, it is made first; an error tells that there was no memory for it, and the run is as whole without.
+    pub fn try_run_pending_tasks(&mut self, now: Instant) -> Result<(), AllocError>
+    where
+        K: Drop,
+        V: Drop,
+        ensures runs { RunsToEnd (answers_of R.weight_of R.created R.read R.updated R.covers) now self.old self.new }
+        ensures none { none_due (answers_of R.weight_of R.created R.read R.updated R.covers) self.new now self.new.records ≡ true }
+        ensures counts { self.old.unsent ≡ [] → CountsExactly K V R.Predicate S R (answers_of R.weight_of R.created R.read R.updated R.covers) self.new }
+        ensures due { self.old.unsent ≡ [] → LeavesNoneDue now self.new }
+        ensures swept { self.old.unsent ≡ [] → (order : List ℕ) → IsSwept now order self.old self.new }
+        ensures table { OnOk result (lacks_table self.new ≡ false) }
+    {
+        let _ = &self.lists;
+        let moment = now.as_nanos();
+        self.apply_reads(moment);
+        self.apply_writes(moment);
+        let grown = self.grow(moment);
+        self.settle(moment);
+        grown
+    }
+
+    /// Runs maintenance to its end, whether or not there is memory for the sketch's table.
     pub fn run_pending_tasks(&mut self, now: Instant)
     where
         K: Drop,
         V: Drop,
         ensures runs { RunsToEnd (answers_of R.weight_of R.created R.read R.updated R.covers) now self.old self.new }
         ensures none { none_due (answers_of R.weight_of R.created R.read R.updated R.covers) self.new now self.new.records ≡ true }
+        ensures counts { self.old.unsent ≡ [] → CountsExactly K V R.Predicate S R (answers_of R.weight_of R.created R.read R.updated R.covers) self.new }
+        ensures due { self.old.unsent ≡ [] → LeavesNoneDue now self.new }
+        ensures swept { self.old.unsent ≡ [] → (order : List ℕ) → IsSwept now order self.old self.new }
     {
-        let moment = now.as_nanos();
-        self.apply_reads(moment);
-        self.apply_writes(moment);
-        self.settle(moment);
+        let _grown = self.try_run_pending_tasks(now);
     }
 
     // ---- uses

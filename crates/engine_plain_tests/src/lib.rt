@@ -3,3 +3,7 @@
 
 #[cfg(test)]
 mod calls;
+#[cfg(test)]
+mod frequencies;
+#[cfg(test)]
+mod refusals;

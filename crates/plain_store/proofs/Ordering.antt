@@ -26,7 +26,7 @@ use Rattle.plain_sweep.specs.Swept.{exceeds, cause_at, left_by, swept}
 use Rattle.plain_sweep.proofs.Leavers.{evicts_all, evicts_cut}
 use Rattle.plain_store.specs.Standing.{limit_of, is_proper, AreKept, AreInOrder, HasParts}
 use Rattle.plain_store.specs.Putting.{live_in, if_live}
-use Rattle.plain_store.specs.Laws.{parted_from}
+use Rattle.plain_store.specs.Laws.{all_so, parted_from}
 use Rattle.plain_store.proofs.Calls.{looked_up}
 use Rattle.plain_store.proofs.Keeping.{first_weight}
 
@@ -145,6 +145,15 @@ module _ (config : Config) (part_of : List ℕ → ℕ) (n : ℕ) (p : IsPlainLr
               ∙ ap (λ ks. key ∷ ks) (sym (keys-without key items k.apart)) ∙ ap (λ q. q ∷ keys_of (without key items)) (sym (key_from_some key items h e)) in
               record { cut = λ m q. ap (take (suc m)) is; whole = λ e. is; uncovered = and_from _ _ uncovered (all-without_key is_uncovered key_of key items o.uncovered) }
 
+  weighs_one : (h : HeldValue) → is_proper config part_of h ≡ true → (h.value.weight == 1) ≡ true
+  weighs_one h proper =
+      let both = and_parts (h.value.part == part_of h.value.key) (h.value.weight == weight_of config.weight h.value.bytes)
+      (and_parts (h.value.part == part_of h.value.key && h.value.weight == weight_of config.weight h.value.bytes) (config.own_deadlines || is_none h.value.own_deadline) proper).0 in
+      eq-eqb h.value.weight 1 (eqb-true h.value.weight (weight_of config.weight h.value.bytes) both.1 ∙ ap (λ x. weight_of x h.value.bytes) p.weight)
+
+  weigh_one : (items : List HeldValue) → list_all (is_proper config part_of) items ≡ true → list_all (λ (h : HeldValue). h.value.weight == 1) items ≡ true
+  weigh_one items all = all_so (is_proper config part_of) (λ h. h.value.weight == 1) weighs_one items all
+
   all_here : HasParts config part_of → (part : ℕ) → part ≡ 0 → (items : List HeldValue) → list_all (is_proper config part_of) items ≡ true → list_all (λ (g : HeldValue). g.value.part == part) items ≡ true
   all_here served part zeroth items all = go items (parted_from config part_of items all)
     where
@@ -176,7 +185,7 @@ module _ (config : Config) (part_of : List ℕ → ℕ) (n : ℕ) (p : IsPlainLr
         cut = λ m q.
             ap (take (suc m)) is ∙ take-map (λ (g : HeldValue). g.value.key) (suc m) all
             ∙ ap keys_of
-            (sym (evicts_cut config now part (limit_of config) start all old (is_proper config part_of) table notes weight (suc m) (limit_is m q) weighs here (ones k.served part zeroth) propers v))
+            (sym (evicts_cut config now part (limit_of config) start all old table notes weight (suc m) (limit_is m q) weighs here (weigh_one all propers) v))
             ∙ sym (take-map (λ (g : HeldValue). g.value.key) (suc m) table);
         whole = λ e. absurd (cc);
         uncovered = evicts_all config now part (limit_of config) start all old is_uncovered table notes weight

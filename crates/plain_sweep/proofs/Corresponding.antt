@@ -1,7 +1,7 @@
 -- Values held that are those of a table's items.
 use Rattle.std.proofs.Common.{◌≡◌, ℕ, suc, Bool, cond, true, false, not, ◌&&◌, List, [], ◌∷◌, ◌++◌, map, length, Option, option_map, Some, None, IsPermutation, refl, sym, ap, ◌∙◌, subst, arith}
 use Rattle.std.proofs.lemmas.Bool.{not-true, not_from_false, and_parts, and_from}
-use Rattle.std.proofs.lemmas.List.{append-nil, length-append, length-map}
+use Rattle.std.proofs.lemmas.List.{length-append, length-map}
 use Rattle.std.proofs.lemmas.List.Folds.{list_all-append}
 use Rattle.std.proofs.lemmas.List.Sorted.{IsPermutation-refl, IsPermutation-cons, IsPermutation-trans, IsPermutation-map, IsPermutation-middle}
 use Rattle.std.proofs.lemmas.Option.{none-some}
@@ -213,56 +213,3 @@ permutation (t ∷ items) held a c =
         (IsPermutation-map plain held (h ∷ without t.value.key held) (taken t.value.key held h e))
         (subst (λ x. IsPermutation (plain h ∷ map plain (without t.value.key held)) (x ∷ items)) is_plain
         (IsPermutation-cons (plain h) (map plain (without t.value.key held)) items less))
-
--- ---- two lists the other way round
-
-absent-middle : (key : List ℕ) (xs ys : List HeldValue) (x : HeldValue) → is_absent key (ys ++ xs) ≡ true → same key x.value.key ≡ false → is_absent key (ys ++ x ∷ xs) ≡ true
-absent-middle key xs [] x a other = and_from _ _ (not_from_false _ other) a
-absent-middle key xs (y ∷ ys) x a other =
-    let parts = and_parts (not (same key y.value.key)) (is_absent key (ys ++ xs)) a in and_from _ _ parts.0 (absent-middle key xs ys x parts.1 other)
-
-apart-middle : (xs ys : List HeldValue) (x : HeldValue) → are_apart (ys ++ xs) ≡ true → is_absent x.value.key (ys ++ xs) ≡ true → are_apart (ys ++ x ∷ xs) ≡ true
-apart-middle xs [] x a absent = and_from _ _ absent a
-apart-middle xs (y ∷ ys) x a absent =
-    let parts = and_parts (is_absent y.value.key (ys ++ xs)) (are_apart (ys ++ xs)) a in
-    let others = and_parts (not (same x.value.key y.value.key)) (is_absent x.value.key (ys ++ xs)) absent in
-    and_from _ _ (absent-middle y.value.key xs ys x parts.0 (same-flip_false x.value.key y.value.key (not-true _ others.0))) (apart-middle xs ys x parts.1 others.1)
-
-absent-swapped : (key : List ℕ) (xs ys : List HeldValue) → is_absent key (xs ++ ys) ≡ true → is_absent key (ys ++ xs) ≡ true
-absent-swapped key xs ys a =
-    let both = and_parts (is_absent key xs) (is_absent key ys) (sym (list_all-append (λ (h : HeldValue). not (same key h.value.key)) xs ys) ∙ a) in
-    list_all-append (λ (h : HeldValue). not (same key h.value.key)) ys xs ∙ and_from _ _ both.1 both.0
-
-pub apart-swapped : (xs ys : List HeldValue) → are_apart (xs ++ ys) ≡ true → are_apart (ys ++ xs) ≡ true
-apart-swapped [] ys a = ap are_apart (append-nil ys) ∙ a
-apart-swapped (x ∷ xs) ys a =
-    let parts = and_parts (is_absent x.value.key (xs ++ ys)) (are_apart (xs ++ ys)) a in
-    apart-middle xs ys x (apart-swapped xs ys parts.1) (absent-swapped x.value.key xs ys parts.0)
-
-value_at-middle : (xs ys : List HeldValue) (x : HeldValue) (q : List ℕ) → is_absent x.value.key ys ≡ true → value_at (ys ++ x ∷ xs) q ≡ cond (same q x.value.key) (Some x) (value_at (ys ++ xs) q)
-value_at-middle xs [] x q absent = refl
-value_at-middle xs (y ∷ ys) x q absent =
-    let others = and_parts (not (same x.value.key y.value.key)) (is_absent x.value.key ys) absent in
-    ap (cond (same q y.value.key) (Some y)) (value_at-middle xs ys x q others.1)
-    ∙ in_turn (same q y.value.key) (same q x.value.key) refl refl (not-true (same x.value.key y.value.key) others.0)
-  where
-    in_turn : (b c : Bool) → same q y.value.key ≡ b → same q x.value.key ≡ c → same x.value.key y.value.key ≡ false
-        → cond b (Some y) (cond c (Some x) (value_at (ys ++ xs) q)) ≡ cond c (Some x) (cond b (Some y) (value_at (ys ++ xs) q))
-    in_turn true true e f g = absurd (let same_key : same x.value.key y.value.key ≡ true = ap (λ k. same k y.value.key) (sym (equal_from_same q x.value.key f)) ∙ e in let no : true ≡ false = sym same_key ∙ g in cc)
-    in_turn true false e f g = refl
-    in_turn false true e f g = refl
-    in_turn false false e f g = refl
-
-value_at-swapped : (xs ys : List HeldValue) (q : List ℕ) → are_apart (xs ++ ys) ≡ true → value_at (ys ++ xs) q ≡ value_at (xs ++ ys) q
-value_at-swapped [] ys q a = ap (λ zs. value_at zs q) (append-nil ys)
-value_at-swapped (x ∷ xs) ys q a =
-    let parts = and_parts (is_absent x.value.key (xs ++ ys)) (are_apart (xs ++ ys)) a in
-    let both = and_parts (is_absent x.value.key xs) (is_absent x.value.key ys) (sym (list_all-append (λ (h : HeldValue). not (same x.value.key h.value.key)) xs ys) ∙ parts.0) in
-    value_at-middle xs ys x q both.1 ∙ ap (cond (same q x.value.key) (Some x)) (value_at-swapped xs ys q parts.1)
-
-pub corresponds-swapped : (xs ys held : List HeldValue) → are_apart (xs ++ ys) ≡ true → Corresponds (xs ++ ys) held → Corresponds (ys ++ xs) held
-corresponds-swapped xs ys held a c = record {
-  found = λ q. c.found q ∙ sym (value_at-swapped xs ys q a);
-  number = let n : length held ≡ length (xs ++ ys) = c.number in let l = length-append xs ys in let m = length-append ys xs in omega arith;
-  apart = c.apart;
-}

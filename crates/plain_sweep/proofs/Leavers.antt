@@ -1,43 +1,60 @@
 -- What eviction leaves and tells.
-use Rattle.std.proofs.Common.{◌≡◌, ◌≢◌, ℕ, ◌+◌, ◌≤◌, ◌<◌, ◌==◌, Bool, cond, true, false, not, ◌&&◌, List, [], ◌∷◌, ◌++◌, take, length, Option, Some, None, if◌then◌else◌, refl, sym, ap, ◌∙◌, subst, arith}
+use Rattle.std.proofs.Common.{◌≡◌, ◌≢◌, ℕ, ◌+◌, ◌-◌, ◌≤◌, ◌<◌, ◌==◌, Bool, cond, true, false, not, List, [], ◌∷◌, ◌++◌, take, length, Option, Some, None, refl, sym, ap, ◌∙◌, subst, arith}
 use Rattle.std.specs.List.{list_all}
-use Rattle.std.proofs.lemmas.Bool.{and_parts, and_from, ltb-true, eqb-true, false_from_ne_true}
+use Rattle.std.proofs.lemmas.Bool.{and_parts, not-true, ltb-true, eqb-true, eq-eqb, false_from_ne_true, both_ways}
 use Rattle.std.proofs.lemmas.List.{append-nil, append_assoc, length-append, take-append-le}
-use Rattle.std.proofs.lemmas.List.Folds.{list_all-append}
-use Rattle.audit_model.specs.Bytewise.{same}
-use Rattle.audit_model.specs.Situation.{HeldValue, is_dead_at}
+use Rattle.audit_model.specs.Situation.{HeldValue}
 use Rattle.audit_model.specs.declared.config.Config.{Config}
 use Rattle.audit_model.specs.declared.transcript.Note.{Note}
 use Rattle.audit_model.specs.declared.transcript.RemovalCause.{RemovalCause}
-use Rattle.audit_model.specs.declared.transcript.RemovalCause.TheVariants.{Expired, Explicit, Size}
 use Rattle.cache_store.specs.Running.{weight_in}
-use Rattle.plain_table.specs.Items.{is_absent, are_apart}
-use Rattle.plain_table.proofs.Held.{all_last}
+use Rattle.plain_table.specs.Items.{are_apart, are_elsewhere, IsLastOf}
 use Rattle.plain_sweep.specs.Evicted.{Evicts}
-use Rattle.plain_sweep.specs.Swept.{exceeds, cause_at, left_by, told_by, weight_by, swept, Swept}
-use Rattle.plain_sweep.proofs.Rotating.{ends, weight_in-cons}
-use Rattle.plain_sweep.proofs.Sweeping.{Tells, left, left-cons, kept_is, swept_tells, swept_number, kept_all, stays_elsewhere, tells-cons, tells_not-absent}
-use Rattle.plain_sweep.proofs.Weights.{weigh_swept, swept_within}
-use Rattle.plain_sweep.proofs.Corresponding.{apart-left, apart-swapped, corresponds-swapped}
 use Rattle.plain_sweep.specs.Holding.{Corresponds}
+use Rattle.plain_sweep.specs.Swept.{note_of, exceeds, cause_evicted, cause_at, left_by, weight_by, visited, swept, Swept}
+use Rattle.plain_sweep.proofs.Corresponding.{apart-left}
+use Rattle.plain_sweep.proofs.Rotating.{weight_in-cons}
+use Rattle.plain_sweep.proofs.Sweeping.{Tells, left, kept_is, swept_tells, swept_number, kept_all, stays_elsewhere, stays_within, must_leave}
+use Rattle.plain_sweep.proofs.Weights.{weigh_swept, swept_within}
 
-pub weight_in-append : (part : ℕ) (xs ys : List HeldValue) → weight_in part (xs ++ ys) ≡ weight_in part xs + weight_in part ys
-weight_in-append part [] ys = let z : weight_in part [] ≡ 0 = refl in omega arith
-weight_in-append part (x ∷ xs) ys =
-    let n = weight_in-append part xs ys in let a = weight_in-cons part x (xs ++ ys) in let b = weight_in-cons part x xs in omega arith
+-- ---- one that leaves
 
--- some cause is there, of a value of the part
-some_cause : (here dead covered : Bool) → here ≡ true
-    → (c : RemovalCause) × ((if here then (if dead then Some Expired else (if covered then Some Explicit else (if true then Some Size else None))) else None) ≡ Some c)
-some_cause true true covered e = (Expired, refl)
-some_cause true false true e = (Explicit, refl)
-some_cause true false false e = (Size, refl)
-some_cause false dead covered e = absurd (cc)
+module _ (config : Config) (now part : ℕ) (limit : Option ℕ) where
+  abbrev from : ℕ → List HeldValue → Swept
+  from weight items = swept config now (Some part) limit weight items
 
-pub must_leave : (config : Config) (now part : ℕ) (over : Bool) (h : HeldValue) → over ≡ true → (h.value.part == part) ≡ true → (c : RemovalCause) × (cause_at config now (Some part) over h ≡ Some c)
-must_leave config now part over h o e =
-    let s = some_cause (h.value.part == part) (is_dead_at config now h) h.covered e in
-    (s.0, ap (λ b. cause_at config now (Some part) b h) o ∙ s.1)
+  -- all stay
+  abbrev all_kept : ℕ → List HeldValue → Swept
+  all_kept weight items = record { kept = items; told = []; weight = weight }
+
+  -- one more was told first
+  abbrev first_told : HeldValue → Swept → Swept
+  first_told h s = record { kept = s.kept; told = note_of (cause_evicted config now h) h ∷ s.told; weight = s.weight }
+
+  abbrev looked_at : HeldValue → Swept → Swept
+  looked_at h s = visited (cause_at config now (Some part) (exceeds limit s.weight) h) h s
+
+  -- values of other parts stay
+  pub all_elsewhere : (weight : ℕ) (items : List HeldValue) → are_elsewhere part items ≡ true → from weight items ≡ all_kept weight items
+  all_elsewhere weight [] away = refl
+  all_elsewhere weight (h ∷ items) away =
+      let parts = and_parts (not (h.value.part == part)) (are_elsewhere part items) away in
+      ap (looked_at h) (all_elsewhere weight items parts.1) ∙ ap (λ c. visited c h (all_kept weight items)) (stays_elsewhere config now part (exceeds limit weight) h (not-true _ parts.0))
+
+  -- all stay where the part is within its limit
+  pub all_within : (weight : ℕ) (items : List HeldValue) → exceeds limit weight ≡ false → from weight items ≡ all_kept weight items
+  all_within weight [] fits = refl
+  all_within weight (h ∷ items) fits =
+      ap (looked_at h) (all_within weight items fits) ∙ ap (λ c. visited c h (all_kept weight items)) (stays_within config now part (exceeds limit weight) h fits)
+
+  -- the last of the part leaves, and the rest are gone through as if it had not been there
+  pub last_leaves : (weight : ℕ) (front behind : List HeldValue) (h : HeldValue) → exceeds limit weight ≡ true → h.value.part ≡ part → are_elsewhere part behind ≡ true
+      → from weight (front ++ h ∷ behind) ≡ first_told h (from (weight - h.value.weight) (front ++ behind))
+  last_leaves weight [] behind h over here away =
+      ap (looked_at h) (all_elsewhere weight behind away)
+      ∙ ap (λ c. visited c h (all_kept weight behind)) (must_leave config now part (exceeds limit weight) h over (eq-eqb h.value.part part here))
+      ∙ ap (first_told h) (sym (all_elsewhere (weight - h.value.weight) behind away))
+  last_leaves weight (g ∷ front) behind h over here away = ap (looked_at g) (last_leaves weight front behind h over here away)
 
 module _ (config : Config) (now part : ℕ) (limit : Option ℕ) (start : ℕ) (all : List HeldValue) (old : List Note) where
   abbrev sw : List HeldValue → Swept
@@ -46,146 +63,100 @@ module _ (config : Config) (now part : ℕ) (limit : Option ℕ) (start : ℕ) (
   abbrev Ev : List HeldValue → List Note → ℕ → Type 0
   Ev table notes weight = Evicts config now part limit start all old table notes weight
 
-  no_first : (h : HeldValue) (behind : List HeldValue) → [] ≡ h ∷ behind → ⊥
-  no_first h behind e = cc
+  -- some have left, and what will have left in the end is the same
+  pub record Evicting (table : List HeldValue) (notes : List Note) (weight place : ℕ) : Type 0 where
+    pub kept : (swept config now (Some part) limit weight table).kept ≡ (sw all).kept
+    pub told : notes ++ (swept config now (Some part) limit weight table).told ≡ old ++ (sw all).told
+    pub weighs : (swept config now (Some part) limit weight table).weight ≡ (sw all).weight
+    pub count : place + length table ≡ length all
 
-  pub evicts_start : (v : Ev all old start) × (0 ≡ length v.visited)
-  evicts_start =
-      let v : Ev all old start = record {
-        rest = all;
-        visited = [];
-        whole = sym (append-nil all);
-        table_is = refl;
-        notes_are = sym (append-nil old);
-        weight_is = refl;
-        over = λ h behind e. absurd (no_first h behind e);
-        alone = λ e. refl;
-      } in
-      (v, refl)
+  pub evicting_start : Evicting all old start 0
+  evicting_start = record { kept = refl; told = refl; weighs = refl; count = omega arith }
+
+  pub evicting_more : (table new : List HeldValue) (notes new_notes : List Note) (weight new_weight place : ℕ) (h : HeldValue) → exceeds limit weight ≡ true → (l : IsLastOf part table h) → new ≡ l.front ++ l.behind
+      → length table ≡ length new + 1 → new_notes ≡ notes ++ note_of (cause_evicted config now h) h ∷ [] → new_weight ≡ weight - h.value.weight → Evicting table notes weight place
+      → Evicting new new_notes new_weight (place + 1)
+  evicting_more table new notes new_notes weight new_weight place h over l is number told weighs e =
+      let rest = swept config now (Some part) limit new_weight new in
+      let one : swept config now (Some part) limit weight table ≡ first_told config now part limit h rest =
+      ap (swept config now (Some part) limit weight) l.is ∙ last_leaves config now part limit weight l.front l.behind h over l.here l.others
+      ∙ ap (λ xs. first_told config now part limit h (swept config now (Some part) limit (weight - h.value.weight) xs)) (sym is)
+      ∙ ap (λ w. first_told config now part limit h (swept config now (Some part) limit w new)) (sym weighs) in
+      record {
+        kept = sym (ap (λ s. s.kept) one) ∙ e.kept;
+        told =
+            ap (λ ns. ns ++ rest.told) told ∙ append_assoc notes (note_of (cause_evicted config now h) h ∷ []) rest.told ∙ ap (λ s. notes ++ s.told) (sym one) ∙ e.told;
+        weighs = sym (ap (λ s. s.weight) one) ∙ e.weighs;
+        count = let c = e.count in let n = number in omega arith;
+      }
+
+  evicting_end : (table : List HeldValue) (notes : List Note) (weight place : ℕ) → swept config now (Some part) limit weight table ≡ all_kept config now part limit weight table → Evicting table notes weight place
+      → Ev table notes weight
+  evicting_end table notes weight place none e = record {
+    table_is = sym (ap (λ s. s.kept) none) ∙ e.kept;
+    notes_are = sym (append-nil notes) ∙ ap (λ s. notes ++ s.told) (sym none) ∙ e.told;
+    weight_is = sym (ap (λ s. s.weight) none) ∙ e.weighs;
+  }
+
+  -- the part is within its limit
+  pub evicts_within : (table : List HeldValue) (notes : List Note) (weight place : ℕ) → exceeds limit weight ≡ false → Evicting table notes weight place → Ev table notes weight
+  evicts_within table notes weight place fits e = evicting_end table notes weight place (all_within config now part limit weight table fits) e
+
+  -- nothing of the part is there
+  pub evicts_none : (table : List HeldValue) (notes : List Note) (weight place : ℕ) → are_elsewhere part table ≡ true → Evicting table notes weight place → Ev table notes weight
+  evicts_none table notes weight place away e = evicting_end table notes weight place (all_elsewhere config now part limit weight table away) e
+
+  -- nothing is there
+  pub evicts_all_gone : (table : List HeldValue) (notes : List Note) (weight place : ℕ) → length all ≤ place → Evicting table notes weight place → Ev table notes weight
+  evicts_all_gone table notes weight place beyond e =
+      evicts_none table notes weight place (ap (are_elsewhere part) (empty table (let c = e.count in omega arith))) e
+    where
+      empty : (xs : List HeldValue) → length xs ≤ 0 → xs ≡ []
+      empty [] l = refl
+      empty (x ∷ xs) l = absurd (omega arith)
+
+  -- ---- what weighs how much
 
   -- what stays of the part weighs what is left
   pub evicts_weight : (table : List HeldValue) (notes : List Note) (weight : ℕ) → start ≡ weight_in part all → Ev table notes weight → weight ≡ weight_in part table
   evicts_weight table notes weight is v =
-      let split = ap (weight_in part) v.whole ∙ weight_in-append part v.rest v.visited in
-      let s = weigh_swept config now part limit start v.visited (let i = is in omega arith) in
-      let t = ap (weight_in part) v.table_is ∙ weight_in-append part (sw v.visited).kept v.rest in
-      let w : weight ≡ (sw v.visited).weight = v.weight_is in
+      let s = weigh_swept config now part limit start all (let i = is in omega arith) in
+      let t = ap (weight_in part) v.table_is in
+      let w : weight ≡ (sw all).weight = v.weight_is in
       let i = is in
       omega arith
+
+  -- the part is within its limit
+  pub evicts_limit : (table : List HeldValue) (notes : List Note) (weight : ℕ) → start ≡ weight_in part all → Ev table notes weight → exceeds limit weight ≡ false
+  evicts_limit table notes weight is v =
+      ap (exceeds limit) (evicts_weight table notes weight is v ∙ ap (weight_in part) v.table_is) ∙ swept_within config now part limit start all (sym is)
 
   -- each that went is told
   pub evicts_number : (table : List HeldValue) (notes : List Note) (weight : ℕ) → Ev table notes weight → length notes + length table ≡ length old + length all
   evicts_number table notes weight v =
-      let told = ap length v.notes_are ∙ length-append old (sw v.visited).told in
-      let split = ap length v.whole ∙ length-append v.rest v.visited in
-      let t = ap length v.table_is ∙ length-append (sw v.visited).kept v.rest in
-      let n = swept_number config now (Some part) limit start v.visited in
+      let told = ap length v.notes_are ∙ length-append old (sw all).told in
+      let t = ap length v.table_is in
+      let n = swept_number config now (Some part) limit start all in
       omega arith
-
-  left_by-append : (c : Option RemovalCause) (h : HeldValue) (kept front : List HeldValue) → left_by c h (kept ++ front) ≡ left_by c h kept ++ front
-  left_by-append None h kept front = refl
-  left_by-append (Some cause) h kept front = refl
-
-  pub evicts_more : (table new : List HeldValue) (notes new_notes : List Note) (weight new_weight place : ℕ) → place < length all
-      → exceeds limit weight ≡ true → (v : Ev table notes weight) → place ≡ length v.visited
-      → ((front : List HeldValue) (h : HeldValue) → table ≡ front ++ h ∷ [] → new ≡ left_by (cause_at config now (Some part) (exceeds limit weight) h) h front)
-      → ((front : List HeldValue) (h : HeldValue) → table ≡ front ++ h ∷ [] → new_notes ≡ notes ++ told_by (cause_at config now (Some part) (exceeds limit weight) h) h)
-      → ((front : List HeldValue) (h : HeldValue) → table ≡ front ++ h ∷ [] → new_weight ≡ weight_by (cause_at config now (Some part) (exceeds limit weight) h) h weight)
-      → (n : Ev new new_notes new_weight) × (place + 1 ≡ length n.visited)
-  evicts_more table new notes new_notes weight new_weight place within over v count moved told weighed =
-      let long : length all ≡ length v.rest + length v.visited = ap length v.whole ∙ length-append v.rest v.visited in
-      let at = count in
-      let e = ends v.rest (omega arith) in
-      let h = e.0 in
-      let front = e.1.0 in
-      let s = sw v.visited in
-      let c = cause_at config now (Some part) (exceeds limit s.weight) h in
-      let is : table ≡ (s.kept ++ front) ++ h ∷ [] = v.table_is ∙ ap (λ xs. s.kept ++ xs) e.1.1 ∙ sym (append_assoc s.kept front (h ∷ [])) in
-      let here : list_all (λ (g : HeldValue). g.value.part == part) all ≡ true → (h.value.part == part) ≡ true = λ parted.
-      all_last (λ (g : HeldValue). g.value.part == part) front h
-      (subst (λ xs. list_all (λ (g : HeldValue). g.value.part == part) xs ≡ true) e.1.1
-      (and_parts (list_all (λ (g : HeldValue). g.value.part == part) v.rest) (list_all (λ (g : HeldValue). g.value.part == part) v.visited)
-      (sym (list_all-append (λ (g : HeldValue). g.value.part == part) v.rest v.visited) ∙ ap (list_all (λ (g : HeldValue). g.value.part == part)) (sym v.whole) ∙ parted)).0) in (
-        record {
-          rest = front;
-          visited = h ∷ v.visited;
-          whole = v.whole ∙ ap (λ xs. xs ++ v.visited) e.1.1 ∙ append_assoc front (h ∷ []) v.visited;
-          table_is = moved (s.kept ++ front) h is ∙ ap (λ w. left_by (cause_at config now (Some part) (exceeds limit w) h) h (s.kept ++ front)) v.weight_is ∙ left_by-append c h s.kept front;
-          notes_are =
-              told (s.kept ++ front) h is ∙ ap (λ w. notes ++ told_by (cause_at config now (Some part) (exceeds limit w) h) h) v.weight_is
-              ∙ ap (λ ns. ns ++ told_by c h) v.notes_are ∙ append_assoc old s.told (told_by c h);
-          weight_is = weighed (s.kept ++ front) h is ∙ ap (λ w. weight_by (cause_at config now (Some part) (exceeds limit w) h) h w) v.weight_is;
-          over = λ g behind f. let same_rest : v.visited ≡ behind = cc in ap (λ xs. exceeds limit (sw xs).weight) (sym same_rest) ∙ ap (exceeds limit) (sym v.weight_is) ∙ over;
-          alone = λ parted.
-              let m = must_leave config now part (exceeds limit s.weight) h (ap (exceeds limit) (sym v.weight_is) ∙ over) (here parted) in
-              ap (λ o. left_by o h s.kept) m.1 ∙ v.alone parted;
-        },
-        omega arith,
-      )
-
-  -- where all were visited, nothing is over
-  pub none_over : (table : List HeldValue) (notes : List Note) (weight place : ℕ) → start ≡ weight_in part all → length all ≤ place → (v : Ev table notes weight) → place ≡ length v.visited
-      → exceeds limit weight ≡ false
-  none_over table notes weight place is beyond v count =
-      let long : length all ≡ length v.rest + length v.visited = ap length v.whole ∙ length-append v.rest v.visited in
-      let at = count in
-      let none : v.rest ≡ [] = is_nil v.rest (omega arith) in
-      let whole : all ≡ v.visited = v.whole ∙ ap (λ xs. xs ++ v.visited) none in
-      let table_is : table ≡ (sw v.visited).kept = v.table_is ∙ ap (λ xs. (sw v.visited).kept ++ xs) none ∙ append-nil (sw v.visited).kept in
-      ap (exceeds limit) (evicts_weight table notes weight is v ∙ ap (weight_in part) table_is)
-      ∙ swept_within config now part limit start v.visited (ap (weight_in part) (sym whole) ∙ sym is)
-    where
-      is_nil : (xs : List HeldValue) → length xs ≤ 0 → xs ≡ []
-      is_nil [] l = refl
-      is_nil (x ∷ xs) l = absurd (omega arith)
 
   -- ---- what was told
 
-  absent-behind : (key : List ℕ) (table gone : List HeldValue) → is_absent key (table ++ gone) ≡ true → is_absent key gone ≡ true
-  absent-behind key table gone a =
-      (and_parts (is_absent key table) (is_absent key gone) (sym (list_all-append (λ (h : HeldValue). not (same key h.value.key)) table gone) ∙ a)).1
-
-  pub tells_behind : (table gone : List HeldValue) → are_apart (table ++ gone) ≡ true → Tells config now (Some part) limit start (table ++ gone) (sw gone).told
-  tells_behind [] gone a = swept_tells config now (Some part) limit start gone a
-  tells_behind (h ∷ table) gone a =
-      let parts = and_parts (is_absent h.value.key (table ++ gone)) (are_apart (table ++ gone)) a in
-      tells-cons config now (Some part) limit start h (table ++ gone) (sw gone).told
-      (tells_not-absent config now (Some part) limit start h.value.key gone (absent-behind h.value.key table gone parts.0))
-      (tells_behind table gone parts.1)
-
-  pub left_behind : (table gone : List HeldValue) → are_apart (table ++ gone) ≡ true → left (sw gone).told (table ++ gone) ≡ table ++ (sw gone).kept
-  left_behind [] gone a = kept_is config now (Some part) limit start gone a
-  left_behind (h ∷ table) gone a =
-      let parts = and_parts (is_absent h.value.key (table ++ gone)) (are_apart (table ++ gone)) a in
-      left-cons (sw gone).told h (table ++ gone) (tells_not-absent config now (Some part) limit start h.value.key gone (absent-behind h.value.key table gone parts.0))
-      ∙ ap (λ xs. h ∷ xs) (left_behind table gone parts.1)
-
   -- the notes are just
-  pub evicts_tells : (table : List HeldValue) (notes : List Note) (weight : ℕ) → are_apart all ≡ true → (v : Ev table notes weight) → Tells config now (Some part) limit start all (sw v.visited).told
-  evicts_tells table notes weight a v =
-      subst (λ xs. Tells config now (Some part) limit start xs (sw v.visited).told) (sym v.whole) (tells_behind v.rest v.visited (ap are_apart (sym v.whole) ∙ a))
-
-  left_is : (table : List HeldValue) (notes : List Note) (weight : ℕ) → are_apart all ≡ true → (v : Ev table notes weight) → left (sw v.visited).told all ≡ v.rest ++ (sw v.visited).kept
-  left_is table notes weight a v = ap (left (sw v.visited).told) v.whole ∙ left_behind v.rest v.visited (ap are_apart (sym v.whole) ∙ a)
-
-  apart_left : (table : List HeldValue) (notes : List Note) (weight : ℕ) → are_apart all ≡ true → (v : Ev table notes weight) → are_apart (v.rest ++ (sw v.visited).kept) ≡ true
-  apart_left table notes weight a v = subst (λ xs. are_apart xs ≡ true) (left_is table notes weight a v) (apart-left (sw v.visited).told all a)
+  pub evicts_tells : are_apart all ≡ true → Tells config now (Some part) limit start all (sw all).told
+  evicts_tells a = swept_tells config now (Some part) limit start all a
 
   -- what stays is what is not told
-  pub evicts_left : (table : List HeldValue) (notes : List Note) (weight : ℕ) (held : List HeldValue) → are_apart all ≡ true → (v : Ev table notes weight)
-      → Corresponds (left (sw v.visited).told all) held → Corresponds table held
-  evicts_left table notes weight held a v c =
-      subst (λ xs. Corresponds xs held) (sym v.table_is)
-      (corresponds-swapped v.rest (sw v.visited).kept held (apart_left table notes weight a v) (subst (λ xs. Corresponds xs held) (left_is table notes weight a v) c))
+  pub evicts_left : (table : List HeldValue) (notes : List Note) (weight : ℕ) (held : List HeldValue) → are_apart all ≡ true → Ev table notes weight → Corresponds (left (sw all).told all) held
+      → Corresponds table held
+  evicts_left table notes weight held a v c = subst (λ xs. Corresponds xs held) (kept_is config now (Some part) limit start all a ∙ sym v.table_is) c
 
   -- what is true of all is true of those that stay
   pub evicts_all : (p : HeldValue → Bool) (table : List HeldValue) (notes : List Note) (weight : ℕ) → list_all p all ≡ true → Ev table notes weight → list_all p table ≡ true
-  evicts_all p table notes weight every v =
-      let both = and_parts (list_all p v.rest) (list_all p v.visited) (sym (list_all-append p v.rest v.visited) ∙ ap (list_all p) (sym v.whole) ∙ every) in
-      ap (list_all p) v.table_is ∙ list_all-append p (sw v.visited).kept v.rest ∙ and_from _ _ (kept_all config now (Some part) limit start p v.visited both.1) both.0
+  evicts_all p table notes weight every v = ap (list_all p) v.table_is ∙ kept_all config now (Some part) limit start p all every
 
   pub evicts_apart : (table : List HeldValue) (notes : List Note) (weight : ℕ) → are_apart all ≡ true → Ev table notes weight → are_apart table ≡ true
-  evicts_apart table notes weight a v = ap are_apart v.table_is ∙ apart-swapped v.rest (sw v.visited).kept (apart_left table notes weight a v)
+  evicts_apart table notes weight a v =
+      ap are_apart v.table_is ∙ subst (λ xs. are_apart xs ≡ true) (kept_is config now (Some part) limit start all a) (apart-left (sw all).told all a)
 
   other_by : (part' : ℕ) (c : Option RemovalCause) (here : Bool) (h : HeldValue) (kept : List HeldValue) (n : ℕ) → (h.value.part == part') ≡ here → (here ≡ true → c ≡ None)
       → weight_in part' kept ≡ n → weight_in part' (left_by c h kept) ≡ cond here h.value.weight 0 + n
@@ -198,42 +169,77 @@ module _ (config : Config) (now part : ℕ) (limit : Option ℕ) (start : ℕ) (
   kept_elsewhere part' [] other = refl
   kept_elsewhere part' (h ∷ items) other =
       other_by part' (cause_at config now (Some part) (exceeds limit (sw items).weight) h) (h.value.part == part') h (sw items).kept (weight_in part' items) refl
-      (λ e. stays_elsewhere config now (Some part) (exceeds limit (sw items).weight) h (false_from_ne_true _ (λ f. other (sym (eqb-true h.value.part part' e) ∙ eqb-true h.value.part part f))))
+      (λ e. stays_elsewhere config now part (exceeds limit (sw items).weight) h (false_from_ne_true _ (λ f. other (sym (eqb-true h.value.part part' e) ∙ eqb-true h.value.part part f))))
       (kept_elsewhere part' items other)
       ∙ sym (weight_in-cons part' h items)
 
   -- other parts weigh what they did
   pub evicts_elsewhere : (part' : ℕ) (table : List HeldValue) (notes : List Note) (weight : ℕ) → part' ≢ part → Ev table notes weight → weight_in part' table ≡ weight_in part' all
-  evicts_elsewhere part' table notes weight other v =
-      let t = ap (weight_in part') v.table_is ∙ weight_in-append part' (sw v.visited).kept v.rest in
-      let k = kept_elsewhere part' v.visited other in
-      let s = ap (weight_in part') v.whole ∙ weight_in-append part' v.rest v.visited in
-      omega arith
+  evicts_elsewhere part' table notes weight other v = ap (weight_in part') v.table_is ∙ kept_elsewhere part' all other
 
-  -- what stays of the ones behind, where none stays
-  none_behind : (c : Option RemovalCause) (h : HeldValue) (kept : List HeldValue) → left_by c h kept ≡ [] → kept ≡ []
-  none_behind None h kept e = absurd (cc)
-  none_behind (Some cause) h kept e = e
+  -- ---- where all are of the part
+
+  -- where the part is still over, none is kept
+  none_kept : (items : List HeldValue) → list_all (λ h. h.value.part == part) items ≡ true → exceeds limit (sw items).weight ≡ true → (sw items).kept ≡ []
+  none_kept [] parted x = refl
+  none_kept (h ∷ items) parted x =
+      let parts = and_parts (h.value.part == part) (list_all (λ (g : HeldValue). g.value.part == part) items) parted in
+      go (exceeds limit (sw items).weight) refl parts.0 (λ (o : exceeds limit (sw items).weight ≡ true). none_kept items parts.1 o)
+    where
+      go : (over : Bool) → exceeds limit (sw items).weight ≡ over → (h.value.part == part) ≡ true → (exceeds limit (sw items).weight ≡ true → (sw items).kept ≡ []) → (sw (h ∷ items)).kept ≡ []
+      go true o here less = ap (λ c. left_by c h (sw items).kept) (must_leave config now part (exceeds limit (sw items).weight) h o here) ∙ less o
+      go false o here less =
+          absurd (both_ways _ o (ap (λ c. exceeds limit (weight_by c h (sw items).weight)) (sym (stays_within config now part (exceeds limit (sw items).weight) h o)) ∙ x))
+
+  -- those that leave stand behind those that stay, and as many stay as the limit
+  record Cut (n : ℕ) (items : List HeldValue) : Type 0 where
+    gone : List HeldValue
+    whole : items ≡ (sw items).kept ++ gone
+    full : 0 < length gone → n ≤ (sw items).weight
+
+  cut : (n : ℕ) (items : List HeldValue) → limit ≡ Some n → list_all (λ h. h.value.part == part) items ≡ true → list_all (λ h. h.value.weight == 1) items ≡ true → Cut n items
+  cut n [] is parted ones = record { gone = []; whole = refl; full = λ l. absurd (omega (arith, l)) }
+  cut n (h ∷ items) is parted ones =
+      let parts = and_parts (h.value.part == part) (list_all (λ (g : HeldValue). g.value.part == part) items) parted in
+      let each = and_parts (h.value.weight == 1) (list_all (λ (g : HeldValue). g.value.weight == 1) items) ones in
+      go (exceeds limit (sw items).weight) refl parts.0 parts.1 (eqb-true h.value.weight 1 each.0) (cut n items is parts.1 each.1)
+    where
+      go : (over : Bool) → exceeds limit (sw items).weight ≡ over → (h.value.part == part) ≡ true → list_all (λ (g : HeldValue). g.value.part == part) items ≡ true → h.value.weight ≡ 1 → Cut n items → Cut n (h ∷ items)
+      go true o here rest one less =
+          let leaves = must_leave config now part (exceeds limit (sw items).weight) h o here in
+          let x = ltb-true n (sw items).weight (ap (λ l. exceeds l (sw items).weight) (sym is) ∙ o) in
+          let w : (sw (h ∷ items)).weight ≡ (sw items).weight - h.value.weight = ap (λ c. weight_by c h (sw items).weight) leaves in
+          let k : (sw (h ∷ items)).kept ≡ [] = ap (λ c. left_by c h (sw items).kept) leaves ∙ none_kept items rest o in
+          record { gone = h ∷ items; whole = ap (λ xs. xs ++ h ∷ items) (sym k); full = λ _. omega (arith, x, w, one) }
+      go false o here rest one less =
+          let stays = stays_within config now part (exceeds limit (sw items).weight) h o in
+          let w : (sw (h ∷ items)).weight ≡ (sw items).weight = ap (λ c. weight_by c h (sw items).weight) stays in
+          record {
+            gone = less.gone;
+            whole = ap (λ xs. h ∷ xs) less.whole ∙ ap (λ c. left_by c h (sw items).kept ++ less.gone) (sym stays);
+            full = λ l. let f = less.full l in omega (arith, f, w);
+          }
 
   -- where each value is of the part and weighs one, as many as the limit stay
-  pub evicts_cut : (p : HeldValue → Bool) (table : List HeldValue) (notes : List Note) (weight n : ℕ) → limit ≡ Some n → start ≡ weight_in part all
-      → list_all (λ h. h.value.part == part) all ≡ true
-      → ((xs : List HeldValue) → list_all p xs ≡ true → weight_in part xs ≡ length xs) → list_all p all ≡ true → Ev table notes weight → take n table ≡ take n all
-  evicts_cut p table notes weight n is weighs parted ones every v =
-      ap (take n) (v.table_is ∙ ap (λ xs. xs ++ v.rest) (v.alone parted)) ∙ go v.visited v.whole (v.alone parted) v.over
+  pub evicts_cut : (table : List HeldValue) (notes : List Note) (weight n : ℕ) → limit ≡ Some n → start ≡ weight_in part all
+      → list_all (λ h. h.value.part == part) all ≡ true → list_all (λ h. h.value.weight == 1) all ≡ true → Ev table notes weight → take n table ≡ take n all
+  evicts_cut table notes weight n is weighs parted ones v = let c = cut n all is parted ones in ap (take n) v.table_is ∙ go c.gone c.whole c.full
     where
-      go : (gone : List HeldValue) → all ≡ v.rest ++ gone → (sw gone).kept ≡ []
-          → ((h : HeldValue) (behind : List HeldValue) → gone ≡ h ∷ behind → exceeds limit (sw behind).weight ≡ true) → take n v.rest ≡ take n all
-      go [] whole stays over = ap (take n) (sym (whole ∙ append-nil v.rest))
-      go (h ∷ behind) whole stays over =
-          let parts = and_parts (list_all p v.rest) (list_all p (h ∷ behind)) (sym (list_all-append p v.rest (h ∷ behind)) ∙ ap (list_all p) (sym whole) ∙ every) in
-          let others = and_parts (p h) (list_all p behind) parts.1 in
-          let x = ltb-true n (sw behind).weight (ap (λ l. exceeds l (sw behind).weight) (sym is) ∙ over h behind refl) in
-          let split = ap (weight_in part) whole ∙ weight_in-append part v.rest (h ∷ behind) in
-          let a = ones v.rest parts.0 in
-          let b = ones (h ∷ behind) parts.1 in
-          let d = ones behind others.1 in
-          let s = weigh_swept config now part limit start behind (let w = weighs in omega arith) in
-          let k : weight_in part (sw behind).kept ≡ 0 = ap (weight_in part) (none_behind (cause_at config now (Some part) (exceeds limit (sw behind).weight) h) h (sw behind).kept stays) in
-          let w = weighs in
-          sym (ap (take n) whole ∙ take-append-le n v.rest (h ∷ behind) (omega arith))
+      counted : (xs : List HeldValue) → list_all (λ h. h.value.part == part) xs ≡ true → list_all (λ h. h.value.weight == 1) xs ≡ true → weight_in part xs ≡ length xs
+      counted [] a b = refl
+      counted (h ∷ xs) a b =
+          let parts = and_parts (h.value.part == part) (list_all (λ (g : HeldValue). g.value.part == part) xs) a in
+          let each = and_parts (h.value.weight == 1) (list_all (λ (g : HeldValue). g.value.weight == 1) xs) b in
+          let next = counted xs parts.1 each.1 in
+          let one = eqb-true h.value.weight 1 each.0 in
+          let f = weight_in-cons part h xs ∙ ap (λ b. cond b h.value.weight 0 + weight_in part xs) parts.0 in
+          omega arith
+
+      go : (gone : List HeldValue) → all ≡ (sw all).kept ++ gone → (0 < length gone → n ≤ (sw all).weight) → take n (sw all).kept ≡ take n all
+      go [] whole full = ap (take n) (sym (whole ∙ append-nil (sw all).kept))
+      go (g ∷ gone) whole full =
+          let f = full (omega arith) in
+          let s = weigh_swept config now part limit start all (let i = weighs in omega arith) in
+          let k = counted (sw all).kept (kept_all config now (Some part) limit start (λ (h : HeldValue). h.value.part == part) all parted) (kept_all config now (Some part) limit start (λ (h : HeldValue). h.value.weight == 1) all ones) in
+          let i = weighs in
+          sym (ap (take n) whole ∙ take-append-le n (sw all).kept (g ∷ gone) (omega arith))

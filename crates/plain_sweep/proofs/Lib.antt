@@ -4,3 +4,4 @@ pub mod Rotating
 pub mod Truth
 pub mod Weights
 pub mod Leavers
+pub mod Oldest

@@ -10,7 +10,7 @@ use Rattle.audit_model.specs.declared.transcript.Note.{Note}
 use Rattle.audit_model.specs.declared.transcript.RemovalCause.{RemovalCause}
 use Rattle.cache_store.specs.Running.{weight_in}
 use Rattle.plain_table.specs.Items.{are_light, EndsWith, AreSound}
-use Rattle.plain_sweep.specs.Swept.{exceeds, cause_at, left_by, told_by, weight_by, swept, Swept}
+use Rattle.plain_sweep.specs.Swept.{cause_gone, left_by, told_by, swept, Swept}
 
 -- a list of some length has a last one
 pub ends : (xs : List HeldValue) → 0 < length xs → (h : HeldValue) × EndsWith xs h
@@ -61,56 +61,50 @@ turned_end change all table place beyond t =
 
 -- ---- a sweep
 
-module _ (config : Config) (now : ℕ) (part limit : Option ℕ) (start : ℕ) (all : List HeldValue) (old : List Note) where
+module _ (config : Config) (now : ℕ) (all : List HeldValue) (old : List Note) where
   abbrev sw : List HeldValue → Swept
-  sw items = swept config now part limit start items
+  sw items = swept config now None None 0 items
 
   -- the last ones were visited
-  pub record Visited (table : List HeldValue) (notes : List Note) (weight place : ℕ) : Type 0 where
+  pub record Visited (table : List HeldValue) (notes : List Note) (place : ℕ) : Type 0 where
     pub rest : List HeldValue
     pub done : List HeldValue
     pub whole : all ≡ rest ++ done
     pub count : place ≡ length done
     pub table_is : table ≡ (sw done).kept ++ rest
     pub notes_are : notes ≡ old ++ (sw done).told
-    pub weight_is : weight ≡ (sw done).weight
 
-  pub visited_start : Visited all old start 0
-  visited_start = record { rest = all; done = []; whole = sym (append-nil all); count = refl; table_is = refl; notes_are = sym (append-nil old); weight_is = refl }
+  pub visited_start : Visited all old 0
+  visited_start = record { rest = all; done = []; whole = sym (append-nil all); count = refl; table_is = refl; notes_are = sym (append-nil old) }
 
   left_by-append : (c : Option RemovalCause) (h : HeldValue) (kept front : List HeldValue) → left_by c h (kept ++ front) ≡ left_by c h kept ++ front
   left_by-append None h kept front = refl
   left_by-append (Some cause) h kept front = refl
 
-  pub visited_more : (table new : List HeldValue) (notes new_notes : List Note) (weight new_weight place : ℕ) → place < length all → Visited table notes weight place
-      → ((front : List HeldValue) (h : HeldValue) → table ≡ front ++ h ∷ [] → new ≡ left_by (cause_at config now part (exceeds limit weight) h) h front)
-      → ((front : List HeldValue) (h : HeldValue) → table ≡ front ++ h ∷ [] → new_notes ≡ notes ++ told_by (cause_at config now part (exceeds limit weight) h) h)
-      → ((front : List HeldValue) (h : HeldValue) → table ≡ front ++ h ∷ [] → new_weight ≡ weight_by (cause_at config now part (exceeds limit weight) h) h weight)
-      → Visited new new_notes new_weight (place + 1)
-  visited_more table new notes new_notes weight new_weight place within v moved told weighed =
+  pub visited_more : (table new : List HeldValue) (notes new_notes : List Note) (place : ℕ) → place < length all → Visited table notes place
+      → ((front : List HeldValue) (h : HeldValue) → table ≡ front ++ h ∷ [] → new ≡ left_by (cause_gone config now h) h front)
+      → ((front : List HeldValue) (h : HeldValue) → table ≡ front ++ h ∷ [] → new_notes ≡ notes ++ told_by (cause_gone config now h) h)
+      → Visited new new_notes (place + 1)
+  visited_more table new notes new_notes place within v moved told =
       let long : length all ≡ length v.rest + length v.done = ap length v.whole ∙ length-append v.rest v.done in
       let count : place ≡ length v.done = v.count in
       let e = ends v.rest (omega arith) in
       let h = e.0 in
       let front = e.1.0 in
       let s = sw v.done in
-      let c = cause_at config now part (exceeds limit s.weight) h in
+      let c = cause_gone config now h in
       let is : table ≡ (s.kept ++ front) ++ h ∷ [] = v.table_is ∙ ap (λ xs. s.kept ++ xs) e.1.1 ∙ sym (append_assoc s.kept front (h ∷ [])) in
       record {
         rest = front;
         done = h ∷ v.done;
         whole = v.whole ∙ ap (λ xs. xs ++ v.done) e.1.1 ∙ append_assoc front (h ∷ []) v.done;
         count = omega arith;
-        table_is = moved (s.kept ++ front) h is ∙ ap (λ w. left_by (cause_at config now part (exceeds limit w) h) h (s.kept ++ front)) v.weight_is ∙ left_by-append c h s.kept front;
-        notes_are =
-            told (s.kept ++ front) h is ∙ ap (λ w. notes ++ told_by (cause_at config now part (exceeds limit w) h) h) v.weight_is
-            ∙ ap (λ ns. ns ++ told_by c h) v.notes_are ∙ append_assoc old s.told (told_by c h);
-        weight_is = weighed (s.kept ++ front) h is ∙ ap (λ w. weight_by (cause_at config now part (exceeds limit w) h) h w) v.weight_is;
+        table_is = moved (s.kept ++ front) h is ∙ left_by-append c h s.kept front;
+        notes_are = told (s.kept ++ front) h is ∙ ap (λ ns. ns ++ told_by c h) v.notes_are ∙ append_assoc old s.told (told_by c h);
       }
 
-  pub visited_end : (table : List HeldValue) (notes : List Note) (weight place : ℕ) → length all ≤ place → Visited table notes weight place
-      → (table ≡ (sw all).kept) × (notes ≡ old ++ (sw all).told)
-  visited_end table notes weight place beyond v =
+  pub visited_end : (table : List HeldValue) (notes : List Note) (place : ℕ) → length all ≤ place → Visited table notes place → (table ≡ (sw all).kept) × (notes ≡ old ++ (sw all).told)
+  visited_end table notes place beyond v =
       let long : length all ≡ length v.rest + length v.done = ap length v.whole ∙ length-append v.rest v.done in
       let count : place ≡ length v.done = v.count in
       let none : v.rest ≡ [] = empty v.rest (omega arith) in

@@ -1,5 +1,5 @@
 -- What a sweep tells and leaves.
-use Rattle.std.proofs.Common.{◌≡◌, ℕ, suc, ◌+◌, ◌≤◌, Bool, cond, true, false, not, ◌||◌, List, [], ◌∷◌, ◌++◌, length, Option, Some, None, if◌then◌else◌, refl, sym, ap, ◌∙◌, subst, arith}
+use Rattle.std.proofs.Common.{◌≡◌, ℕ, suc, ◌+◌, ◌≤◌, Bool, cond, true, false, not, ◌&&◌, ◌||◌, ◌==◌, List, [], ◌∷◌, ◌++◌, length, Option, Some, None, if◌then◌else◌, refl, sym, ap, ◌∙◌, subst, arith}
 use Rattle.std.specs.List.{list_all}
 use Rattle.std.proofs.lemmas.Bool.{not-true, and_parts, and_from}
 use Rattle.std.proofs.lemmas.List.{append-nil, length-append}
@@ -14,7 +14,7 @@ use Rattle.audit_model.specs.declared.transcript.RemovalCause.{RemovalCause}
 use Rattle.plain_table.specs.Items.{value_at, without, is_absent, are_apart, covered_if}
 use Rattle.plain_table.proofs.Keys.{same-refl, same-flip_false}
 use Rattle.plain_table.proofs.Held.{key_of}
-use Rattle.plain_sweep.specs.Swept.{note_of, exceeds, is_in, cause_at, left_by, told_by, weight_by, swept, Swept}
+use Rattle.plain_sweep.specs.Swept.{note_of, exceeds, cause_gone, cause_evicted, cause_at, left_by, told_by, weight_by, swept, Swept}
 
 -- none of the notes tells the key
 abbrev pub tells_not : List ℕ → List Note → Bool
@@ -154,13 +154,17 @@ module _ (config : Config) (now : ℕ) (part limit : Option ℕ) (weight : ℕ) 
       let parts = and_parts (p h) (list_all p items) all in
       kept-visit p (cause_at config now part (exceeds limit (sw items).weight) h) h (sw items).kept parts.0 (kept_all p items parts.1)
 
--- why a value of the part leaves
-pub causes : (config : Config) (now : ℕ) (part : Option ℕ) (over dead covered : Bool) (h : HeldValue) → is_in part h.value.part ≡ true → is_dead_at config now h ≡ dead → h.covered ≡ covered
-    → cause_at config now part over h ≡ (if dead then Some Expired else (if covered then Some Explicit else (if over then Some Size else None)))
-causes config now part over dead covered h e d c =
-    ap (λ b. if b then (if is_dead_at config now h then Some Expired else (if h.covered then Some Explicit else (if over then Some Size else None))) else None) e
-    ∙ ap (λ b. if b then Some Expired else (if h.covered then Some Explicit else (if over then Some Size else None))) d
-    ∙ ap (λ b. if dead then Some Expired else (if b then Some Explicit else (if over then Some Size else None))) c
+-- why a value leaves that is dead or covered
+pub gone_is : (config : Config) (now : ℕ) (dead covered : Bool) (h : HeldValue) → is_dead_at config now h ≡ dead → h.covered ≡ covered
+    → cause_gone config now h ≡ (if dead then Some Expired else (if covered then Some Explicit else None))
+gone_is config now dead covered h d c =
+    ap (λ b. if b then Some Expired else (if h.covered then Some Explicit else None)) d ∙ ap (λ b. if dead then Some Expired else (if b then Some Explicit else None)) c
+
+-- why a value leaves whose part is over its share
+pub evicted_is : (config : Config) (now : ℕ) (dead covered : Bool) (h : HeldValue) → is_dead_at config now h ≡ dead → h.covered ≡ covered
+    → cause_evicted config now h ≡ (if dead then Expired else (if covered then Explicit else Size))
+evicted_is config now dead covered h d c =
+    ap (λ b. if b then Expired else (if h.covered then Explicit else Size)) d ∙ ap (λ b. if dead then Expired else (if b then Explicit else Size)) c
 
 -- turning a value round leaves it as it is
 pub uncovered : (h : HeldValue) → covered_if false h ≡ h
@@ -175,6 +179,18 @@ no_last [] h e = cc
 no_last (g ∷ front) h e = cc
 
 -- a value of another part stays
-pub stays_elsewhere : (config : Config) (now : ℕ) (part : Option ℕ) (over : Bool) (h : HeldValue) → is_in part h.value.part ≡ false → cause_at config now part over h ≡ None
-stays_elsewhere config now part over h e =
-    ap (λ b. if b then (if is_dead_at config now h then Some Expired else (if h.covered then Some Explicit else (if over then Some Size else None))) else None) e
+pub stays_elsewhere : (config : Config) (now part : ℕ) (over : Bool) (h : HeldValue) → (h.value.part == part) ≡ false → cause_at config now (Some part) over h ≡ None
+stays_elsewhere config now part over h e = ap (λ b. if b && over then Some (cause_evicted config now h) else None) e
+
+-- so does each where the part is not over its share
+pub stays_within : (config : Config) (now part : ℕ) (over : Bool) (h : HeldValue) → over ≡ false → cause_at config now (Some part) over h ≡ None
+stays_within config now part over h e = ap (λ b. if h.value.part == part && b then Some (cause_evicted config now h) else None) e ∙ go (h.value.part == part)
+  where
+    go : (here : Bool) → (if here && false then Some (cause_evicted config now h) else None) ≡ None
+    go true = refl
+    go false = refl
+
+-- one of the part leaves where it is over its share
+pub must_leave : (config : Config) (now part : ℕ) (over : Bool) (h : HeldValue) → over ≡ true → (h.value.part == part) ≡ true → cause_at config now (Some part) over h ≡ Some (cause_evicted config now h)
+must_leave config now part over h o e =
+    ap (λ b. if b && over then Some (cause_evicted config now h) else None) e ∙ ap (λ b. if b then Some (cause_evicted config now h) else None) o

@@ -19,7 +19,7 @@ use Rattle.plain_table.specs.Items.{value_at, without, are_apart}
 use Rattle.plain_table.proofs.Keys.{same-refl, same_from_equal, equal_from_same}
 use Rattle.plain_table.proofs.Held.{key_of, all_found, all-without_key, apart-without}
 use Rattle.plain_sweep.specs.Holding.{plain, Corresponds}
-use Rattle.plain_sweep.specs.Swept.{note_of, exceeds, is_in, cause_at, cause_of_replaced, cause_of_deleted}
+use Rattle.plain_sweep.specs.Swept.{note_of, exceeds, is_in, cause_evicted, cause_at, cause_of_replaced, cause_of_deleted}
 use Rattle.plain_sweep.proofs.Sweeping.{Just, Tells, left}
 use Rattle.plain_sweep.proofs.Corresponding.{corresponds-without}
 
@@ -32,27 +32,37 @@ Says dead covered over Explicit = covered ≡ true
 Says dead covered over Replaced = ⊥
 Says dead covered over Size = over ≡ true
 
-judged : (here dead covered over : Bool) (cause : RemovalCause)
-    → (if here then (if dead then Some Expired else (if covered then Some Explicit else (if over then Some Size else None))) else None) ≡ Some cause
-    → (here ≡ true) × Says dead covered over cause
-judged true true covered over Expired e = (refl, refl)
-judged true true covered over Explicit e = cc
-judged true true covered over Replaced e = cc
-judged true true covered over Size e = cc
-judged true false true over Expired e = cc
-judged true false true over Explicit e = (refl, refl)
-judged true false true over Replaced e = cc
-judged true false true over Size e = cc
-judged true false false true Expired e = cc
-judged true false false true Explicit e = cc
-judged true false false true Replaced e = cc
-judged true false false true Size e = (refl, refl)
-judged true false false false cause e = cc
-judged false dead covered over cause e = cc
+judged_gone : (dead covered over : Bool) (cause : RemovalCause) → (if dead then Some Expired else (if covered then Some Explicit else None)) ≡ Some cause → Says dead covered over cause
+judged_gone true covered over Expired e = refl
+judged_gone true covered over Explicit e = cc
+judged_gone true covered over Replaced e = cc
+judged_gone true covered over Size e = cc
+judged_gone false true over Expired e = cc
+judged_gone false true over Explicit e = refl
+judged_gone false true over Replaced e = cc
+judged_gone false true over Size e = cc
+judged_gone false false over cause e = cc
+
+judged_evicted : (dead covered over : Bool) → over ≡ true → Says dead covered over (if dead then Expired else (if covered then Explicit else Size))
+judged_evicted true covered over o = refl
+judged_evicted false true over o = refl
+judged_evicted false false over o = o
 
 pub says_from : (config : Config) (now : ℕ) (part : Option ℕ) (over : Bool) (h : HeldValue) (cause : RemovalCause) → cause_at config now part over h ≡ Some cause
     → (is_in part h.value.part ≡ true) × Says (is_dead_at config now h) h.covered over cause
-says_from config now part over h cause e = judged (is_in part h.value.part) (is_dead_at config now h) h.covered over cause e
+says_from config now None over h cause e = (refl, judged_gone (is_dead_at config now h) h.covered over cause e)
+says_from config now (Some part) over h cause e = go (h.value.part == part) over refl e
+  where
+    go : (here o : Bool) → over ≡ o → (if here && o then Some (cause_evicted config now h) else None) ≡ Some cause → (here ≡ true) × Says (is_dead_at config now h) h.covered over cause
+    go true true is e =
+        let same_one : cause_evicted config now h ≡ cause = cc in (refl, subst (Says (is_dead_at config now h) h.covered over) same_one (judged_evicted (is_dead_at config now h) h.covered over is))
+    go true false is e = absurd (none-some cause e)
+    go false o is e = absurd (none-some cause e)
+
+-- why a value leaves is the same whether or not it may be evicted
+cause_plain : (config : Config) (now : ℕ) (part : Option ℕ) (over : Bool) (h : HeldValue) → cause_at config now part over (plain h) ≡ cause_at config now part over h
+cause_plain config now None over h = refl
+cause_plain config now (Some part) over h = refl
 
 -- ---- candidates
 
@@ -104,7 +114,7 @@ module _ (cand : HeldValue → Candidate) (same_value : (h : HeldValue) → (can
         ∙ subst (λ (m : Note). is_true_note config before deed m (Some (cand s.value)) ≡ true)
         (sym (j.note ∙ ap (note_of n.cause) (sym s.is)))
         (ok s.value n.cause j.then_weight (all_found p n.key held s.value all s.found) j.at_most
-        (ap (cause_at config now part (exceeds limit j.then_weight)) s.is ∙ j.cause))
+        (sym (cause_plain config now part (exceeds limit j.then_weight) s.value) ∙ ap (cause_at config now part (exceeds limit j.then_weight)) s.is ∙ j.cause))
 
     -- where the notes are just, they are true, if those that come behind them are
     pub tell_truly : (notes tail : List Note) (items held : List HeldValue) → are_apart items ≡ true → Corresponds items held → list_all p held ≡ true

@@ -1,21 +1,22 @@
 -- What the values of a part weigh.
-use Rattle.std.proofs.Common.{◌≡◌, ℕ, ◌+◌, ◌-◌, ◌≤◌, ◌==◌, Bool, cond, true, false, nat_lt, List, [], ◌∷◌, map, Option, option_map, Some, None, if◌then◌else◌, refl, sym, ap, ◌∙◌, arith}
+use Rattle.std.proofs.Common.{◌≡◌, ℕ, ◌+◌, ◌-◌, ◌≤◌, ◌==◌, Bool, cond, true, false, ◌&&◌, nat_lt, List, [], ◌∷◌, map, Option, option_map, Some, None, if◌then◌else◌, refl, sym, ap, ◌∙◌, arith}
 use Rattle.std.specs.List.{filter, sum_by}
 use Rattle.std.proofs.lemmas.Bool.{lt-ltb, ltb-true}
 use Rattle.std.proofs.lemmas.List.Sums.{sum_by-cons}
 use Rattle.std.proofs.lemmas.List.Sorted.{sum_by-IsPermutation}
 use Rattle.audit_model.specs.History.{Value, share}
 use Rattle.audit_model.specs.Notes.{is_over}
-use Rattle.audit_model.specs.Situation.{HeldValue, is_dead_at}
+use Rattle.audit_model.specs.Situation.{HeldValue}
 use Rattle.audit_model.specs.declared.config.Config.{Config}
 use Rattle.audit_model.specs.declared.transcript.RemovalCause.{RemovalCause}
-use Rattle.audit_model.specs.declared.transcript.RemovalCause.TheVariants.{Expired, Explicit, Size}
 use Rattle.cache_store.specs.Running.{weight_in}
 use Rattle.plain_table.specs.Items.{are_apart}
 use Rattle.plain_sweep.specs.Holding.{plain, Corresponds}
-use Rattle.plain_sweep.specs.Swept.{exceeds, cause_at, left_by, weight_by, swept, Swept}
+use Rattle.plain_sweep.specs.Swept.{exceeds, cause_evicted, cause_at, left_by, weight_by, swept, Swept}
 use Rattle.plain_sweep.proofs.Corresponding.{permutation}
+use Rattle.std.proofs.lemmas.Option.{none-some}
 use Rattle.plain_sweep.proofs.Rotating.{weight_in-cons}
+use Rattle.plain_sweep.proofs.Sweeping.{stays_elsewhere}
 
 -- what a value adds to the weight of a part
 abbrev pub adds : ℕ → HeldValue → ℕ
@@ -82,7 +83,7 @@ module _ (config : Config) (now part : ℕ) (limit : Option ℕ) (start : ℕ) w
   weigh-visit (Some cause) false h s items is none le e = let n : Some cause ≡ None = none refl in cc
 
   elsewhere : (here : Bool) (over : Bool) (h : HeldValue) → (h.value.part == part) ≡ here → here ≡ false → cause_at config now (Some part) over h ≡ None
-  elsewhere here over h is away = ap (λ b. if b then (if is_dead_at config now h then Some Expired else (if h.covered then Some Explicit else (if over then Some Size else None))) else None) (is ∙ away)
+  elsewhere here over h is away = stays_elsewhere config now part over h (is ∙ away)
 
   -- what was told and what is kept weigh together what the items did
   pub weigh_swept : (items : List HeldValue) → weight_in part items ≤ start → (sw items).weight + weight_in part items ≡ start + weight_in part (sw items).kept
@@ -94,24 +95,21 @@ module _ (config : Config) (now part : ℕ) (limit : Option ℕ) (start : ℕ) w
       ap (λ n. weight_by c h s.weight + n) w
       ∙ weigh-visit c (h.value.part == part) h s (weight_in part items) refl (elsewhere (h.value.part == part) (exceeds limit s.weight) h refl) (omega arith) (weigh_swept items (omega arith))
 
-  nothing-visit : (here over dead covered : Bool) (h : HeldValue) (s : Swept) → (h.value.part == part) ≡ here
-      → (exceeds limit s.weight ≡ true → weight_in part s.kept ≡ 0) → exceeds limit s.weight ≡ over
-      → (c : Option RemovalCause) → c ≡ (if here then (if dead then Some Expired else (if covered then Some Explicit else (if over then Some Size else None))) else None)
+  nothing-visit : (here over : Bool) (h : HeldValue) (s : Swept) → (h.value.part == part) ≡ here → (exceeds limit s.weight ≡ true → weight_in part s.kept ≡ 0) → exceeds limit s.weight ≡ over
+      → (c : Option RemovalCause) → c ≡ (if here && over then Some (cause_evicted config now h) else None)
       → exceeds limit (weight_by c h s.weight) ≡ true → weight_in part (left_by c h s.kept) ≡ 0
-  nothing-visit here over dead covered h s is next o (Some cause) e x = next (exceeds-more limit (s.weight - h.value.weight) s.weight (omega arith) x)
-  nothing-visit false over dead covered h s is next o None e x =
+  nothing-visit here over h s is next o (Some cause) e x = next (exceeds-more limit (s.weight - h.value.weight) s.weight (omega arith) x)
+  nothing-visit false over h s is next o None e x =
       let w = weight_in-cons part h s.kept ∙ ap (λ b. cond b h.value.weight 0 + weight_in part s.kept) is in let n = next x in omega arith
-  nothing-visit true over true covered h s is next o None e x = cc
-  nothing-visit true over false true h s is next o None e x = cc
-  nothing-visit true true false false h s is next o None e x = cc
-  nothing-visit true false false false h s is next o None e x = let n : true ≡ false = sym x ∙ o in cc
+  nothing-visit true true h s is next o None e x = absurd (none-some (cause_evicted config now h) e)
+  nothing-visit true false h s is next o None e x = let n : true ≡ false = sym x ∙ o in cc
 
   -- where the part is still over, nothing of it is kept
   pub nothing_kept : (items : List HeldValue) → exceeds limit (sw items).weight ≡ true → weight_in part (sw items).kept ≡ 0
   nothing_kept [] x = refl
   nothing_kept (h ∷ items) x =
       let s = sw items in
-      nothing-visit (h.value.part == part) (exceeds limit s.weight) (is_dead_at config now h) h.covered h s refl (nothing_kept items) refl (cause_at config now (Some part) (exceeds limit s.weight) h) refl x
+      nothing-visit (h.value.part == part) (exceeds limit s.weight) h s refl (nothing_kept items) refl (cause_at config now (Some part) (exceeds limit s.weight) h) refl x
 
   -- so the part is within the limit
   pub swept_within : (items : List HeldValue) → weight_in part items ≡ start → exceeds limit (weight_in part (sw items).kept) ≡ false

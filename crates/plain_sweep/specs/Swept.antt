@@ -1,5 +1,5 @@
--- What maintenance of a part, or of all, leaves and tells.
-use Rattle.std.specs.Prelude.{ℕ, ◌-◌, ◌==◌, Bool, true, false, nat_lt, nat_eq, List, [], ◌∷◌, ◌++◌, Option, Some, None, if◌then◌else◌}
+-- What a sweep of all values, or an eviction from a part, leaves and tells.
+use Rattle.std.specs.Prelude.{ℕ, ◌-◌, ◌==◌, Bool, true, false, ◌&&◌, nat_lt, nat_eq, List, [], ◌∷◌, ◌++◌, Option, Some, None, if◌then◌else◌}
 use Rattle.std.specs.List.{starts_with}
 use Rattle.audit_model.specs.Situation.{HeldValue, is_dead_at}
 use Rattle.audit_model.specs.declared.config.Config.{Config}
@@ -26,14 +26,20 @@ abbrev pub is_in : Option ℕ → ℕ → Bool
 is_in None of = true
 is_in (Some part) of = of == part
 
--- why a value leaves the part, if it does; `over`: the part weighs more than its share
-abbrev pub cause_at : Config → ℕ → Option ℕ → Bool → HeldValue → Option RemovalCause
-cause_at config now part over h =
-    if is_in part h.value.part
-    then (if is_dead_at config now h then Some Expired else (if h.covered then Some Explicit else (if over then Some Size else None)))
-    else None
+-- why a value leaves that is dead or covered
+abbrev pub cause_gone : Config → ℕ → HeldValue → Option RemovalCause
+cause_gone config now h = if is_dead_at config now h then Some Expired else (if h.covered then Some Explicit else None)
 
--- the value goes, or comes first
+-- why a value leaves whose part weighs more than its share
+abbrev pub cause_evicted : Config → ℕ → HeldValue → RemovalCause
+cause_evicted config now h = if is_dead_at config now h then Expired else (if h.covered then Explicit else Size)
+
+-- why a value leaves, if it does. Where no part is named, the dead and covered ones leave; of a part, each while it weighs more than its share
+abbrev pub cause_at : Config → ℕ → Option ℕ → Bool → HeldValue → Option RemovalCause
+cause_at config now None over h = cause_gone config now h
+cause_at config now (Some part) over h = if h.value.part == part && over then Some (cause_evicted config now h) else None
+
+-- the value goes, or stays before the others
 abbrev pub left_by : Option RemovalCause → HeldValue → List HeldValue → List HeldValue
 left_by None h others = h ∷ others
 left_by (Some cause) h others = others
@@ -58,7 +64,7 @@ pub record Swept : Type 0 where
 abbrev pub visited : Option RemovalCause → HeldValue → Swept → Swept
 visited cause h s = record { kept = left_by cause h s.kept; told = s.told ++ told_by cause h; weight = weight_by cause h s.weight }
 
--- maintenance of a part, or of all, from the least recently used value on
+-- the least recently used value is looked at first, and each that stays keeps its place among those that do
 abbrev pub swept : Config → ℕ → Option ℕ → Option ℕ → ℕ → List HeldValue → Swept
 swept config now part limit weight [] = record { kept = []; told = []; weight = weight }
 swept config now part limit weight (h ∷ items) =

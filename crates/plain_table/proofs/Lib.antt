@@ -1,3 +1,4 @@
 pub mod Keys
 pub mod Held
 pub mod Listing
+pub mod Lasts

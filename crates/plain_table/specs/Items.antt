@@ -1,5 +1,5 @@
 -- What a table has, as values held.
-use Rattle.std.specs.Prelude.{◌≡◌, ℕ, ◌≤◌, Bool, true, false, not, ◌&&◌, ◌||◌, nat_le, List, [], ◌∷◌, ◌++◌, length, map, Option}
+use Rattle.std.specs.Prelude.{◌≡◌, ℕ, ◌≤◌, ◌==◌, Bool, true, false, not, ◌&&◌, ◌||◌, nat_le, List, [], ◌∷◌, ◌++◌, length, map, Option}
 use Rattle.std.specs.List.{find, list_all}
 use Rattle.std.specs.Option.{option_map_or}
 use Rattle.std.specs.declared.vec.Vec.{Vec}
@@ -54,6 +54,18 @@ to_front change key items = option_map_or (λ h. change h ∷ without key items)
 -- the value is the last one
 abbrev pub EndsWith : List HeldValue → HeldValue → Type 0
 EndsWith items h = (front : List HeldValue) × (items ≡ front ++ h ∷ [])
+
+-- none of these is in the part
+abbrev pub are_elsewhere : ℕ → List HeldValue → Bool
+are_elsewhere part items = list_all (λ h. not (h.value.part == part)) items
+
+-- the value is the last one of a part: those behind it are of other parts
+pub record IsLastOf (part : ℕ) (items : List HeldValue) (h : HeldValue) : Type 0 where
+  pub front : List HeldValue
+  pub behind : List HeldValue
+  pub is : items ≡ front ++ h ∷ behind
+  pub here : h.value.part ≡ part
+  pub others : are_elsewhere part behind ≡ true
 
 -- these bytes are the last key
 pub record CopiesLast (items : List HeldValue) (bytes : List ℕ) : Type 0 where

@@ -1,9 +1,9 @@
 //! The map from keys to what is kept, in the order of the last use.
-ghost use Rattle.std.specs.Prelude.{◌≡◌, ℕ, ◌<◌, ◌≤◌, ◌^◌, ◌-◌, ◌++◌, List, ◌∷◌, [], true, false, nat_le, length, Some, None, IsTrue, IfOk, IfErr, IfSome, OnOk, OnErr, vec_capacity};
+ghost use Rattle.std.specs.Prelude.{◌≡◌, ℕ, ◌<◌, ◌≤◌, ◌^◌, ◌-◌, ◌+◌, ◌++◌, List, ◌∷◌, [], true, false, nat_le, length, Some, None, IsTrue, IfOk, IfErr, IfSome, OnOk, OnErr, vec_capacity};
 ghost use Rattle.std.specs.Option.{option_map};
 ghost use Rattle.std.specs.List.{list_all};
 ghost use Rattle.audit_model.specs.Situation.{HeldValue};
-ghost use Rattle.plain_table.specs.Items.{held_of, items_of, value_at, without, are_apart, are_light, used_at, covered_if, to_front, EndsWith, CopiesLast, AreSound};
+ghost use Rattle.plain_table.specs.Items.{held_of, items_of, value_at, without, are_apart, are_light, used_at, covered_if, to_front, are_elsewhere, EndsWith, IsLastOf, CopiesLast, AreSound};
 ghost use Rattle.std.specs.Map.Iter.{ShowsInOrder, deref_pair};
 ghost use Rattle.std.specs.declared.vec.Vec.{Vec as Bytes};
 ghost use Rattle.std.specs.declared.alloc.Global.{Global as Heap};
@@ -141,6 +141,18 @@ impl Table {
         self.cache.pop_lru()
     }
 
+    /// Takes the last value of a part, with its key. Takes as long as there are values of other parts behind it, which stay there.
+    pub fn pop_last_of(&mut self, part: u64) -> Option<(Vec<u8>, Kept)>
+        ensures some { IfSome result (λ e. (last : IsLastOf part self.old (held_of e.0.items e.1)) × (self.new ≡ last.front ++ last.behind)) }
+        ensures number { IfSome result (λ e. length self.old ≡ length self.new + 1) }
+        ensures none { result ≡ None → IsTrue (are_elsewhere part self.old) × (self.new ≡ self.old) }
+    {
+        if copy_last_of(&self.cache, part, &mut self.scratch) {
+            return self.cache.pop_entry(self.scratch.as_slice());
+        }
+        None
+    }
+
     /// Makes the last value the first, and covers it if so asked.
     pub fn turn(&mut self, covers: bool)
         ensures turned { (front : List HeldValue) (h : HeldValue) → self.old ≡ front ++ h ∷ [] → self.new ≡ covered_if covers h ∷ front }
@@ -167,6 +179,36 @@ fn copy_last(cache: &LruCache<Vec<u8>, Kept>, copy: &mut Vec<u8>) -> bool
         }
         None => false,
     }
+}
+
+/// Copies the last key of a part, and answers whether there is one.
+fn copy_last_of(cache: &LruCache<Vec<u8>, Kept>, part: u64, copy: &mut Vec<u8>) -> bool
+    requires { list_all (λ h. nat_le (length h.value.key) (vec_capacity copy.old)) (items_of cache.now.entries) ≡ true }
+    ensures copied { result ≡ true → (h : HeldValue) × (last : IsLastOf part (items_of cache.now.entries) h) × (copy.new.items ≡ h.value.key) }
+    ensures none { result ≡ false → IsTrue (are_elsewhere part (items_of cache.now.entries)) }
+    ensures room { vec_capacity copy.old ≤ vec_capacity copy.new }
+{
+    match last_key_of(cache, part) {
+        Some(key) => {
+            copy.clear();
+            copy.extend_from_slice(key).unwrap();
+            true
+        }
+        None => false,
+    }
+}
+
+/// The last key of a part.
+fn last_key_of(cache: &LruCache<Vec<u8>, Kept>, part: u64) -> Option<&Vec<u8>>
+    ensures some { IfSome result (λ key. (h : HeldValue) × (last : IsLastOf part (items_of cache.now.entries) h) × (key.now.items ≡ h.value.key)) }
+    ensures none { result ≡ None → IsTrue (are_elsewhere part (items_of cache.now.entries)) }
+{
+    for (key, kept) in cache.iter().rev() {
+        if kept.part == part {
+            return Some(key);
+        }
+    }
+    None
 }
 
 /// Makes the value of a key the first, and covers it if so asked.

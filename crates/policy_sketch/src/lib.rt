@@ -202,6 +202,13 @@ impl FrequencySketch {
         Ok(())
     }
 
+    /// Whether there is a table.
+    pub fn has_table(&self) -> bool
+        ensures { result ≡ nat_lt 0 self.now.words }
+    {
+        self.table.len() > 0
+    }
+
     /// The least of the hash's four counts, and 0 without a table.
     pub fn frequency(&self, hash: u64) -> u8
         ensures least { result ≡ frequency_of self.now hash }

@@ -1,6 +1,6 @@
 use Rattle.std.proofs.Common.{◌≡◌}
 use Rattle.audit_model.specs.Situation.{without_waiting}
-use Rattle.audit_judge.proofs.Passing.{done}
+use Rattle.audit_situation.proofs.Done.{done}
 use Rattle.audit_situation.proofs.state.leave_all.Given as goal
 
 abbrev pub invariant-loop-load : goal.invariant-loop-load

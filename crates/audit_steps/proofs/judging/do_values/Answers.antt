@@ -6,7 +6,7 @@ use Rattle.audit_model.specs.Notes.{is_within}
 use Rattle.audit_model.specs.Situation.{view_in}
 use Rattle.audit_model.specs.Steps.{Task, has_right_notes}
 use Rattle.audit_judge.specs.After.{has_true_notes}
-use Rattle.audit_judge.specs.Weights.{values_of}
+use Rattle.audit_held.specs.Weights.{values_of}
 use Rattle.audit_situation.specs.States.{situation_of}
 use Rattle.audit_steps.specs.Doings.{action_of}
 use Rattle.audit_steps.specs.Judging.{placed_with, is_synced, reply_fits}
@@ -33,7 +33,7 @@ returns-then-not-branch-2-clause-right c task =
     let placed = placed_with config s task action step value in
     let deed = c.deed_of-deed.ensures step.load value in
     let left = c.in_ok-do_deed.ensures.left c.if-not-branch.false ∙ ap (λ d. all_held_after config s.latest s.held d step.notices) deed in
-    let values = ap values_of (c.deref.ensures.value ∙ left) ∙ values-after config s.latest s.held (deed_of placed.effect) step.notices in
+    let values = ap values_of left ∙ values-after config s.latest s.held (deed_of placed.effect) step.notices in
     second-wrong (has_right_notes config placed) _
     (sym (c.in_ok-is_synced.ensures (view_in config s) ∙ ap (λ vs. not (is_sync action) || (reply_fits config (view_in config s) action step.reply vs && is_within config vs)) values) ∙ c.if-not-branch-2.true)
 
@@ -47,7 +47,7 @@ returns-clause-right c task =
     let placed = placed_with config s task action step value in
     let deed = c.deed_of-deed.ensures step.load value in
     let left = c.in_ok-do_deed.ensures.left c.if-not-branch.false ∙ ap (λ d. all_held_after config s.latest s.held d step.notices) deed in
-    let values = ap values_of (c.deref.ensures.value ∙ left) ∙ values-after config s.latest s.held (deed_of placed.effect) step.notices in
+    let values = ap values_of left ∙ values-after config s.latest s.held (deed_of placed.effect) step.notices in
     both-right (has_right_notes config placed) (is_synced config placed)
     (sym (c.in_ok-do_deed.ensures.told ∙ ap (λ d. has_true_notes config s.latest s.held d step.notices) deed) ∙ c.if-not-branch.false)
     (sym (c.in_ok-is_synced.ensures (view_in config s) ∙ ap (λ vs. not (is_sync action) || (reply_fits config (view_in config s) action step.reply vs && is_within config vs)) values) ∙ c.if-not-branch-2.false)

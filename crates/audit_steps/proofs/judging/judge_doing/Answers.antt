@@ -30,7 +30,7 @@ returns-in_default c =
     let placed = placed_by config s (option_map task_of c.args.duty) action (step_of c.args.shown) in
     let part = option_map (λ a. a.part) c.args.shown.accepted in
     record {
-      right = wrong-acceptance config placed (agrees_with c.args.parts.now placed.effect.value) (subst (λ o. Takes config s.latest part (offer_of config (view_in config s) action) o) c.in_default.is c.in_ok-newcomer.ensures);
+      right = wrong-acceptance config placed (agrees_with c.args.parts.now placed.effect.value) (subst (λ o. Takes config s.latest part (offer_of config (view_in config s) action) o) c.in_default.is c.in_ok-newcomer.ensures.accepts);
       left = λ e. absurd (true≢false (sym e));
       kept = λ e. absurd (true≢false (sym e));
     }
@@ -45,7 +45,7 @@ returns c =
     let parts = c.args.parts.now in
     let placed = placed_by config s task action step in
     let part = option_map (λ a. a.part) c.args.shown.accepted in
-    let taken = subst (λ o. Takes config s.latest part (offer_of config (view_in config s) action) o) c.in-Some.is c.in_ok-newcomer.ensures in
+    let taken = subst (λ o. Takes config s.latest part (offer_of config (view_in config s) action) o) c.in-Some.is c.in_ok-newcomer.ensures.accepts in
     let value = copied c.as_ref.result ∙ ap (option_map (λ h. h.value)) c.as_ref.ensures.value ∙ taken.1 in
     record {
       right =

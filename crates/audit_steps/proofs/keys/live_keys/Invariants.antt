@@ -1,7 +1,8 @@
-use Rattle.std.proofs.Common.{◌≡◌, take}
+use Rattle.std.proofs.Common.{◌≡◌, take, map, reverse}
 use Rattle.audit_model.specs.Situation.{live_keys_at}
+use Rattle.audit_held.specs.Seeing.{held_of}
 use Rattle.audit_steps.proofs.Sorting.{texts}
 use Rattle.audit_steps.proofs.keys.live_keys.Given as goal
 
-abbrev pub invariant-loop-h : goal.invariant-loop-h
-invariant-loop-h l = texts l.keys.items ≡ live_keys_at l.config l.now (take l.h-index l.held)
+abbrev pub invariant-loop-at : goal.invariant-loop-at
+invariant-loop-at l = texts l.keys.items ≡ live_keys_at l.config l.now (reverse (map held_of (take l.at l.held)))

@@ -36,11 +36,11 @@ returns-in-Held-clause-ran g c = λ base held e d under there m.
     let idle : Stands (all_held_after c.args.config.now base.latest r.left no_deed []) = subst (λ (k : Config). Stands (all_held_after k base.latest r.left no_deed [])) same (g.met.S.Store.idle c.run_lines.new.store r.left base.latest r.stands) in
     ready-by c.args.config.now base c.args.number making held all false true Stands dropped (under_way c.args.loads.now) (standing_with c.args.number true 0 rest) drawn drawing old _ under
     (ready-held c.args.config.now base c.args.number making held all rest c.line.result.now c.in-Held.len Stands dropped drawn drawing old middle _ there r c.in-Held.ensures.stops c.line.ensures.line idle
-    (c.hold_back.ensures c.run_lines.new.text.items (g.S.Store.untaken c.run_lines.new.store)))
+    (c.hold_back.ensures.step c.run_lines.new.text.items (g.S.Store.untaken c.run_lines.new.store)))
 
 pub returns-in-Held-clause-fresh : goal.returns-in-Held-clause-fresh
 returns-in-Held-clause-fresh g c =
-    subst IsFresh (sym (c.hold_back.ensures c.run_lines.new.text.items (g.S.Store.untaken c.run_lines.new.store))) (fresh-gather (gathered c.run_lines.new.text.items c.run_lines.new.kept (g.S.Store.untaken c.run_lines.new.store)) (held_step c.args.number c.line.result.now ∷ []) c.run_lines.ensures.fresh)
+    subst IsFresh (sym (c.hold_back.ensures.step c.run_lines.new.text.items (g.S.Store.untaken c.run_lines.new.store))) (fresh-gather (gathered c.run_lines.new.text.items c.run_lines.new.kept (g.S.Store.untaken c.run_lines.new.store)) (held_step c.args.number c.line.result.now ∷ []) c.run_lines.ensures.fresh)
 
 pub returns-in-More-clause-ran : goal.returns-in-More-clause-ran
 returns-in-More-clause-ran g c = λ base held e d under there m.
@@ -141,7 +141,7 @@ returns-in-Err-clause-ran g c = λ base held e d under there m.
     ap (λ t. gathered t c.join_first.new.kept untaken) c.join_first.ensures.output ∙ ap (λ k. record { text = c.run_lines.new.text.items; kept = k; waiting = untaken }) c.in-Err.ensures.kept in
     ready-by c.args.config.now base c.args.number making held all false true Stands dropped (under_way c.join_first.new.loads) (standing_with c.args.number true 0 rest) drawn drawing old _ (under ∙ sym (same-under c.args.loads.now c.join_first.new.loads c.in-Err.ensures.same))
     (ready-held c.args.config.now base c.args.number making held all rest c.line-in-Err.result.now c.in-Misses.len Stands dropped drawn drawing old middle _ there r c.in-Misses.ensures.stops c.line-in-Err.ensures.line idle
-    (c.hold_back-in-Err.ensures c.join_first.new.output.items untaken ∙ ap (λ x. gather x (held_step c.args.number c.line-in-Err.result.now ∷ [])) same_gathered))
+    (c.hold_back-in-Err.ensures.step c.join_first.new.output.items untaken ∙ ap (λ x. gather x (held_step c.args.number c.line-in-Err.result.now ∷ [])) same_gathered))
 
 pub returns-in-Err-clause-fresh : goal.returns-in-Err-clause-fresh
 returns-in-Err-clause-fresh g c =
@@ -149,5 +149,5 @@ returns-in-Err-clause-fresh g c =
     let middle = gathered c.run_lines.new.text.items c.run_lines.new.kept untaken in
     let same_gathered : gathered c.join_first.new.output.items c.join_first.new.kept untaken ≡ middle =
     ap (λ t. gathered t c.join_first.new.kept untaken) c.join_first.ensures.output ∙ ap (λ k. record { text = c.run_lines.new.text.items; kept = k; waiting = untaken }) c.in-Err.ensures.kept in
-    subst IsFresh (sym (c.hold_back-in-Err.ensures c.join_first.new.output.items untaken ∙ ap (λ x. gather x (held_step c.args.number c.line-in-Err.result.now ∷ [])) same_gathered))
+    subst IsFresh (sym (c.hold_back-in-Err.ensures.step c.join_first.new.output.items untaken ∙ ap (λ x. gather x (held_step c.args.number c.line-in-Err.result.now ∷ [])) same_gathered))
     (fresh-gather middle (held_step c.args.number c.line-in-Err.result.now ∷ []) c.run_lines.ensures.fresh)

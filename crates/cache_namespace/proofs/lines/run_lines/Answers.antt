@@ -19,6 +19,7 @@ loop-len-init g c = record {
   frame = record { rest = refl; latest = c.requires.in_time };
   fresh = c.requires.fresh;
   ready = c.requires.ready;
+  more = refl;
 }
 
 pub loop-len-preserved : goal.loop-len-preserved
@@ -32,6 +33,7 @@ loop-len-preserved g c = record {
   frame = record { rest = c.in-Ok-Stays.ensures.frame.rest ∙ ap (λ (f : Frame). record f { dropped = (g.S.Store.frame c.run_one.new.store).dropped; latest = (g.S.Store.frame c.run_one.new.store).latest }) c.loop-len.invariant.frame.rest; latest = c.in-Ok-Stays.ensures.frame.latest };
   fresh = c.in-Ok-Stays.ensures.fresh;
   ready = c.in-Ok-Stays.ensures.ready;
+  more = c.in-Ok-Stays.ensures.more ∙ c.loop-len.invariant.more;
 }
 
 pub returns-in-Err-clause-ran : goal.returns-in-Err-clause-ran

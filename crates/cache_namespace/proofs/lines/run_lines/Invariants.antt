@@ -3,7 +3,7 @@ use Rattle.audit_model.specs.Situation.{Situation, HeldValue}
 use Rattle.cache_steps.specs.Right.{KeepsFrame}
 use Rattle.cache_namespace.specs.Drawing.{workings}
 use Rattle.cache_namespace.specs.Gathered.{IsFresh}
-use Rattle.cache_namespace.specs.Kept.{IsReadyToHold, gathered}
+use Rattle.cache_namespace.specs.Kept.{IsReadyToHold, gathered, more_in}
 use Rattle.cache_namespace.specs.Lines.{IsThere}
 use Rattle.cache_namespace.specs.Ran.{RanLines}
 use Rattle.cache_namespace.specs.Making.{making_of}
@@ -15,6 +15,7 @@ invariant-loop-len g l = record {
   frame : KeepsFrame (g.S.Store.frame l.fn.store) (g.S.Store.frame l.store) l.fn.now;
   fresh : IsFresh (gathered l.text.items l.kept (g.S.Store.untaken l.store));
   ready : IsReadyToHold l.kept;
+  more : more_in l.kept ≡ more_in l.fn.kept;
 }
 
 abbrev pub decreases-loop-len : goal.decreases-loop-len

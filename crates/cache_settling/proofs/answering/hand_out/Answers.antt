@@ -1,4 +1,4 @@
-use Rattle.std.proofs.Common.{◌++◌, [], map, subst}
+use Rattle.std.proofs.Common.{◌++◌, [], map, sym, ◌∙◌, subst}
 use Rattle.audit_model.specs.Changes.{all_held_after}
 use Rattle.audit_model.specs.Steps.{RunLines}
 use Rattle.audit_model.specs.declared.config.Config.{Config}
@@ -6,8 +6,10 @@ use Rattle.cache_store.specs.Promises.{no_deed}
 use Rattle.cache_namespace.specs.Drawing.{identifiers}
 use Rattle.cache_namespace.specs.Making.{making_of}
 use Rattle.cache_namespace.specs.Waiting.{under_way}
-use Rattle.cache_settling.specs.Told.{when_idle}
-use Rattle.cache_settling.proofs.Outcomes.{hands-out, stands-idle}
+use Rattle.cache_settling.specs.Told.{WritesTo, steps_told, when_idle}
+use Rattle.cache_settling.specs.Noted.{none_noted, noted_in}
+use Rattle.cache_settling.proofs.Noting.{fresh-told}
+use Rattle.cache_settling.proofs.Outcomes.{begun-told, hands-out, loose-none, loose-noted, stands-idle}
 use Rattle.cache_settling.proofs.answering.hand_out.Goals as goal
 
 pub returns-clause-out : goal.returns-clause-out
@@ -19,8 +21,21 @@ returns-clause-out g c = λ values m.
     let ns = c.args.waiting.now in
     let l = under_way c.args.loads.now in
     let drawn = identifiers (g.S.Store.stream was) (g.S.Store.registered was) in
+    let kept = c.args.kept.now in
+    let told = g.S.Store.untaken was in
+    let texts = subst (λ b. WritesTo b (steps_told c.args.outcome.now c.args.connections.now.items ns) c.args.connections.now.items c.tell_all.new.connections.items) (c.writes_replies-writes.ensures ∙ sym (loose-none kept told)) c.tell_all.ensures.texts in
     let t = c.tell_all.ensures.told making c.args.now l (g.S.Store.frame was).dropped values (map RunLines ns ++ []) drawn in
     let stays = stands-idle config c.args.now (g.S.Store.stands was) values t.count
     (λ held stands. subst (λ (k : Config). g.S.Store.stands was (all_held_after k c.args.now held no_deed [])) c.requires.config (g.met.S.Store.idle was held c.args.now stands)) m in
     hands-out config making c.args.outcome.now c.args.now values ns (g.S.Store.stands is) l (under_way c.resume_all.new.loads) (g.S.Store.frame was).dropped (g.S.Store.frame is).dropped drawn (identifiers (g.S.Store.stream is) (g.S.Store.registered is))
-    c.args.connections.now.items c.tell_all.new.connections.items c.resume_all.new.connections.items (g.S.Store.untaken was) (g.S.Store.untaken is) t c.tell_all.ensures.texts (c.resume_all.ensures.ran (when_idle config c.args.now t.count values) stays)
+    c.args.connections.now.items c.tell_all.new.connections.items c.resume_all.new.connections.items (none_noted kept told) (noted_in kept told) (noted_in c.resume_all.new.kept (g.S.Store.untaken is)) t texts
+    (begun-told c.args.outcome.now c.args.connections.now.items ns kept told c.requires.begun) (c.resume_all.ensures.ran (when_idle config c.args.now t.count values) stays)
+
+pub resume_all-requires-clause-fresh : goal.resume_all-requires-clause-fresh
+resume_all-requires-clause-fresh g c =
+    let kept = c.args.kept.now in
+    let told = g.S.Store.untaken c.args.store.now in
+    let old = c.args.connections.now.items in
+    let steps = steps_told c.args.outcome.now old c.args.waiting.now in
+    fresh-told (noted_in kept told) steps old c.tell_all.new.connections.items c.requires.fresh
+    (subst (λ b. WritesTo b steps old c.tell_all.new.connections.items) (c.writes_replies-writes.ensures ∙ sym (loose-noted kept told)) c.tell_all.ensures.texts)

@@ -1,5 +1,4 @@
 use Rattle.std.proofs.Common.{[], false, sym, ap, subst}
-use Rattle.cache_namespace.specs.Making.{making_of}
 use Rattle.cache_namespace.specs.Shown.{situation}
 use Rattle.cache_namespace.specs.Waiting.{UnderWay, under_way}
 use Rattle.load_laws.specs.Tidy.{Tidy}

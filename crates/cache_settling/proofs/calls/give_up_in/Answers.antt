@@ -1,4 +1,3 @@
-use Rattle.std.proofs.Common.{[], false}
 use Rattle.cache_namespace.specs.Shown.{situation}
 use Rattle.cache_namespace.specs.Waiting.{under_way}
 use Rattle.load_laws.proofs.Records.{records}

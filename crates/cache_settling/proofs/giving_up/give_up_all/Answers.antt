@@ -1,10 +1,13 @@
-use Rattle.std.proofs.Common.{◌≡◌, ◌≤◌, ◌+◌, ◌∷◌, [], drop, refl, ap, ◌∙◌, subst, get_or, arith}
+use Rattle.std.proofs.Common.{◌≡◌, ◌≤◌, ◌+◌, ◌∷◌, [], drop, length, refl, ap, ◌∙◌, subst, get_or, arith}
 use Rattle.std.proofs.lemmas.List.{drop_all}
 use Rattle.cache_store.specs.Promises.{Frame}
 use Rattle.cache_namespace.specs.Drawing.{identifiers}
 use Rattle.cache_namespace.specs.Making.{Making, making_of}
 use Rattle.cache_namespace.specs.Waiting.{under_way}
 use Rattle.load_laws.specs.Tidy.{times_in}
+use Rattle.cache_namespace.specs.Kept.{HasMore}
+use Rattle.cache_settling.specs.Noted.{noted_in}
+use Rattle.cache_settling.proofs.Noting.{more-fewer, twice-more}
 use Rattle.cache_settling.specs.GivenUp.{GivesUp, HaveLoads}
 use Rattle.cache_settling.proofs.Chain.{fewer-next, once-first, rest-next}
 use Rattle.cache_settling.proofs.GiveUps.{gives-first, gives-next, loads-left}
@@ -15,10 +18,13 @@ loop-number-init g c =
     let was = c.args.store.now in record {
       ran = λ values m.
           gives-first c.args.config.now (making_of (g.S.Store.frame was)) c.args.now c.args.waiting.now (under_way c.args.loads.now) c.args.connections.now.items (g.S.Store.frame was).dropped values (g.S.Store.stands was)
-          (identifiers (g.S.Store.stream was) (g.S.Store.registered was)) (g.S.Store.untaken was) m;
+          (identifiers (g.S.Store.stream was) (g.S.Store.registered was)) (noted_in c.args.kept.now (g.S.Store.untaken was)) m;
       waits = c.requires.waits;
       fewer = λ n. (omega arith);
       frame = record { rest = refl; latest = c.requires.in_time };
+      fresh = c.requires.fresh;
+      made = refl;
+      stocked = c.requires.stocked;
       count = refl;
     }
 
@@ -63,24 +69,30 @@ loop-number-preserved g c =
     let drawn = identifiers (g.S.Store.stream was) (g.S.Store.registered was) in
     let drawing = identifiers (g.S.Store.stream mid) (g.S.Store.registered mid) in
     let draws = identifiers (g.S.Store.stream is) (g.S.Store.registered is) in
+    let noting = noted_in c.args.kept.now (g.S.Store.untaken was) in
+    let noted = noted_in c.loop-number.kept (g.S.Store.untaken mid) in
+    let notes = noted_in c.give_up_one.new.kept (g.S.Store.untaken is) in
     let same : making_of (g.S.Store.frame mid) ≡ making_of (g.S.Store.frame was) = ap making_of i.frame.rest in
     let next = rest-next ns at c.loop-number-test.true in
     let few : times_in n (n ∷ rest) ≤ 1 =
     (let fewer = subst (λ xs. times_in n xs ≤ times_in n ns) next (i.fewer n) in let once = c.requires.once n in omega arith) in
     record {
       ran = λ values m.
-          let r = subst (λ xs. GivesUp config (making_of (g.S.Store.frame was)) c.args.now values ns xs (g.S.Store.stands mid) l j (g.S.Store.frame was).dropped (g.S.Store.frame mid).dropped drawn drawing old between (g.S.Store.untaken was) (g.S.Store.untaken mid))
+          let r = subst (λ xs. GivesUp config (making_of (g.S.Store.frame was)) c.args.now values ns xs (g.S.Store.stands mid) l j (g.S.Store.frame was).dropped (g.S.Store.frame mid).dropped drawn drawing old between noting noted)
           next (i.ran values m) in
-          let q = subst (λ (making : Making). GivesUp config making c.args.now r.held (n ∷ []) [] (g.S.Store.stands is) j k (g.S.Store.frame mid).dropped (g.S.Store.frame is).dropped drawing draws between new (g.S.Store.untaken mid) (g.S.Store.untaken is)) same
+          let q = subst (λ (making : Making). GivesUp config making c.args.now r.held (n ∷ []) [] (g.S.Store.stands is) j k (g.S.Store.frame mid).dropped (g.S.Store.frame is).dropped drawing draws between new noted notes) same
           (c.give_up_one.ensures.ran r.held r.stands) in
           gives-next config (making_of (g.S.Store.frame was)) c.args.now n ns rest l j k old between new (g.S.Store.frame was).dropped (g.S.Store.frame mid).dropped (g.S.Store.frame is).dropped values (g.S.Store.stands mid) (g.S.Store.stands is) drawn drawing draws
-          (g.S.Store.untaken was) (g.S.Store.untaken mid) (g.S.Store.untaken is) r q;
+          noting noted notes r q;
       waits = loads-left config n rest between new few (subst (HaveLoads config between) next i.waits) c.give_up_one.ensures.count c.give_up_one.ensures.others;
       fewer = λ m. fewer-next m n rest ns (drop at ns) next (i.fewer m);
       frame = record {
         rest = c.give_up_one.ensures.frame.rest ∙ ap (λ (f : Frame). record f { dropped = (g.S.Store.frame is).dropped; latest = (g.S.Store.frame is).latest }) i.frame.rest;
         latest = c.give_up_one.ensures.frame.latest;
       };
+      fresh = c.give_up_one.ensures.fresh;
+      made = c.give_up_one.ensures.made ∙ i.made;
+      stocked = c.give_up_one.ensures.stocked (length rest + length rest) (twice-more c.loop-number.kept (length rest) (subst (λ xs. HasMore (length xs + length xs) c.loop-number.kept) next i.stocked));
       count = c.give_up_one.ensures.count ∙ i.count;
     }
 
@@ -90,5 +102,12 @@ returns-clause-ran g c = λ values m.
     let ns = c.args.waiting.now in
     let was = c.args.store.now in
     let is = c.loop-number.store in
-    subst (λ xs. GivesUp c.args.config.now (making_of (g.S.Store.frame was)) c.args.now values ns xs (g.S.Store.stands is) (under_way c.args.loads.now) (under_way c.loop-number.loads) (g.S.Store.frame was).dropped (g.S.Store.frame is).dropped (identifiers (g.S.Store.stream was) (g.S.Store.registered was)) (identifiers (g.S.Store.stream is) (g.S.Store.registered is)) c.args.connections.now.items c.loop-number.connections.items (g.S.Store.untaken was) (g.S.Store.untaken is))
+    subst (λ xs. GivesUp c.args.config.now (making_of (g.S.Store.frame was)) c.args.now values ns xs (g.S.Store.stands is) (under_way c.args.loads.now) (under_way c.loop-number.loads) (g.S.Store.frame was).dropped (g.S.Store.frame is).dropped (identifiers (g.S.Store.stream was) (g.S.Store.registered was)) (identifiers (g.S.Store.stream is) (g.S.Store.registered is)) c.args.connections.now.items c.loop-number.connections.items (noted_in c.args.kept.now (g.S.Store.untaken was)) (noted_in c.loop-number.kept (g.S.Store.untaken is)))
     (drop_all at ns c.loop-number-test.false) (c.loop-number.invariant.ran values m)
+
+pub give_up_one-requires-clause-stocked : goal.give_up_one-requires-clause-stocked
+give_up_one-requires-clause-stocked g c =
+    let at = c.loop-number.number-index in
+    let ns = c.args.waiting.now in
+    let xs = get_or ns at 0 ∷ drop (at + 1) ns in
+    more-fewer c.loop-number.kept 2 (length xs + length xs) (omega arith) (subst (λ ys. HasMore (length ys + length ys) c.loop-number.kept) (rest-next ns at c.loop-number-test.true) c.loop-number.invariant.stocked)

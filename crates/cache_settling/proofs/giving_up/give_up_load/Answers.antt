@@ -1,8 +1,10 @@
-use Rattle.std.proofs.Common.{◌≡◌, ℕ, [], subst}
+use Rattle.std.proofs.Common.{ℕ, [], None, subst}
 use Rattle.cache_namespace.specs.Drawing.{identifiers}
 use Rattle.cache_namespace.specs.Making.{making_of}
 use Rattle.cache_namespace.specs.Waiting.{under_way}
 use Rattle.cache_settling.specs.Answered.{but_for, waiting_for}
+use Rattle.cache_namespace.specs.Kept.{steps_of}
+use Rattle.cache_settling.specs.Noted.{Noted, noted_in}
 use Rattle.cache_settling.specs.GivenUp.{GivesUp}
 use Rattle.cache_settling.proofs.Admitted.{give-up-under, waiting-tidy}
 use Rattle.cache_settling.proofs.GiveUps.{given-up, told-few, told-loads}
@@ -32,5 +34,6 @@ returns-clause-ran g c = λ values m.
     let new = c.settle_give_up.new.connections.items in
     let a = identifiers (g.S.Store.stream was) (g.S.Store.registered was) in
     let b = identifiers (g.S.Store.stream is) (g.S.Store.registered is) in
-    given-up config making load c.args.latest c.args.moment values (g.S.Store.stands is) l k (g.S.Store.frame was).dropped (g.S.Store.frame is).dropped a b cs new (g.S.Store.untaken was) (g.S.Store.untaken is) c.requires.admitted
-    (subst (λ (now : ℕ). GivesUp config making now values (waiting_for load l) [] (g.S.Store.stands is) (but_for load l) k (g.S.Store.frame was).dropped (g.S.Store.frame is).dropped a b cs new (g.S.Store.untaken was) (g.S.Store.untaken is)) c.max-now.ensures (c.settle_give_up.ensures.ran values m))
+    let noting : Noted = record { kept = None; waiting = g.S.Store.untaken was } in
+    given-up config making load c.args.latest c.args.moment values (g.S.Store.stands is) l k (g.S.Store.frame was).dropped (g.S.Store.frame is).dropped a b cs new (g.S.Store.untaken was) (g.S.Store.untaken is) (steps_of c.settle_give_up.new.kept) c.requires.admitted
+    (subst (λ (now : ℕ). GivesUp config making now values (waiting_for load l) [] (g.S.Store.stands is) (but_for load l) k (g.S.Store.frame was).dropped (g.S.Store.frame is).dropped a b cs new noting (noted_in c.settle_give_up.new.kept (g.S.Store.untaken is))) c.max-now.ensures (c.settle_give_up.ensures.ran values m))

@@ -9,4 +9,5 @@ returns-clause-ran g c =
       (c.requires.waits c.index_mut-connection.result.now at).1,
       c.run_again.ensures.open,
       λ s latest drops loads found m. c.run_again.ensures.ran s latest drops loads found m,
+      c.run_again.ensures.fresh,
     )

@@ -1,8 +1,8 @@
-use Rattle.std.proofs.Common.{◌≡◌, false, [], ◌||◌, ℕ, List, Some, Bool, true, None, max, sym, ap, ◌∙◌, subst}
-use Rattle.std.specs.Prelude.{IfSome, is_some}
+use Rattle.std.proofs.Common.{◌≡◌, false, [], ◌||◌, ℕ, Some, Bool, true, None, max, sym, ap, ◌∙◌, subst}
+use Rattle.std.specs.Prelude.{is_some}
 use Rattle.audit_model.specs.Bytewise.{is_empty}
 use Rattle.audit_model.specs.History.{Storing}
-use Rattle.audit_model.specs.Situation.{Situation, HeldValue}
+use Rattle.audit_model.specs.Situation.{Situation}
 use Rattle.audit_model.specs.declared.config.Config.{Config}
 use Rattle.cache_store.specs.Handing.{Hands}
 use Rattle.cache_steps.specs.Loading.{Stores, step_silent}
@@ -12,6 +12,8 @@ use Rattle.cache_namespace.specs.Making.{Making, making_of}
 use Rattle.cache_namespace.specs.Shown.{situation}
 use Rattle.cache_namespace.specs.Waiting.{under_way}
 use Rattle.cache_settling.specs.Answered.{HandsOut, but_for, waiting_for}
+use Rattle.cache_namespace.specs.Kept.{steps_of}
+use Rattle.cache_settling.specs.Noted.{Noted, noted_in}
 use Rattle.cache_settling.proofs.Admitted.{answer-fits, few-replied, tidy-same, waiting-tidy}
 use Rattle.cache_settling.proofs.Answered.{answered, answered-same}
 use Rattle.cache_settling.proofs.loading.answer_load.Goals as goal
@@ -51,6 +53,8 @@ returns-clause-ran g c = λ values m.
     let told = g.S.Store.untaken was in
     let telling = g.S.Store.untaken mid in
     let last = g.S.Store.untaken is in
+    let noting : Noted = record { kept = None; waiting = telling } in
+    let noted = noted_in c.settle_answer.new.kept last in
     let s = situation (max moment latest) (but_for load l) between dropped values in
     let ok = c.in_ok-accepted.ensures.ok in
     let key = ok.0 in
@@ -58,12 +62,12 @@ returns-clause-ran g c = λ values m.
     (ok.3 s (sym c.max-now.ensures) m) in
     let held = held_when_run config s (Storing (Some key) outcome) (step_silent 0 [] None accepted x.0.told) in
     let same : making_of (g.S.Store.frame mid) ≡ making = ap making_of c.in_ok-accepted.ensures.frame.rest in
-    let h = subst (λ (now : ℕ). HandsOut config making outcome now held (waiting_for load l) (g.S.Store.stands is) (but_for load l) k dropped dropping b d between new telling last) c.max-now.ensures
-    (subst (λ (drop : Bool). HandsOut config making outcome c.max-now.result held (waiting_for load l) (g.S.Store.stands is) (but_for load l) k drop dropping b d between new telling last) c.store_for.ensures.dropped
-    (subst (λ (made : Making). HandsOut config made outcome c.max-now.result held (waiting_for load l) (g.S.Store.stands is) (but_for load l) k (g.S.Store.frame mid).dropped dropping b d between new telling last) same
+    let h = subst (λ (now : ℕ). HandsOut config making outcome now held (waiting_for load l) (g.S.Store.stands is) (but_for load l) k dropped dropping b d between new noting noted) c.max-now.ensures
+    (subst (λ (drop : Bool). HandsOut config making outcome c.max-now.result held (waiting_for load l) (g.S.Store.stands is) (but_for load l) k drop dropping b d between new noting noted) c.store_for.ensures.dropped
+    (subst (λ (made : Making). HandsOut config made outcome c.max-now.result held (waiting_for load l) (g.S.Store.stands is) (but_for load l) k (g.S.Store.frame mid).dropped dropping b d between new noting noted) same
     (c.settle_answer.ensures.out held x.0.left))) in
     answered-same config making load latest moment outcome accepted values (g.S.Store.stands is) l k old between new dropped dropping a d told last c.reserve_for.ensures.same
-    (answered config making load latest moment key outcome accepted values (g.S.Store.stands mid) (g.S.Store.stands is) l k between new dropped dropping a b d told telling last c.requires.admitted ok.1 ok.2 x.0 x.1 c.store_for.ensures.identifiers h)
+    (answered config making load latest moment key outcome accepted values (g.S.Store.stands mid) (g.S.Store.stands is) l k between new dropped dropping a b d told telling last (steps_of c.settle_answer.new.kept) c.requires.admitted ok.1 ok.2 x.0 x.1 c.store_for.ensures.identifiers h)
 
 pub returns-clause-count : goal.returns-clause-count
 returns-clause-count g c = c.settle_answer.ensures.count ∙ ap (λ (s : Situation). s.opened) (c.reserve_for.ensures.same.situation 0 (under_way c.args.loads.now) false [])

@@ -1,9 +1,12 @@
-use Rattle.std.proofs.Common.{◌≡◌, ◌+◌, ◌∷◌, [], drop, refl, ap, ◌∙◌, subst, get_or}
+use Rattle.std.proofs.Common.{◌≡◌, ◌+◌, ◌∷◌, [], drop, length, refl, ap, ◌∙◌, subst, get_or, arith}
 use Rattle.cache_store.specs.Promises.{Frame}
 use Rattle.cache_namespace.specs.Drawing.{identifiers}
 use Rattle.cache_namespace.specs.Making.{Making, making_of}
 use Rattle.cache_namespace.specs.Waiting.{under_way}
+use Rattle.cache_namespace.specs.Kept.{HasMore}
+use Rattle.cache_settling.specs.Noted.{noted_in}
 use Rattle.cache_settling.specs.Resumed.{RunsThem}
+use Rattle.cache_settling.proofs.Noting.{more-fewer}
 use Rattle.cache_settling.proofs.Chain.{rest-next}
 use Rattle.cache_settling.proofs.Resumes.{runs-first, runs-next}
 use Rattle.cache_settling.proofs.resuming.resume_all.Goals as goal
@@ -13,8 +16,11 @@ loop-number-init g c =
     let was = c.args.store.now in record {
       ran = λ values m.
           runs-first c.args.config.now (making_of (g.S.Store.frame was)) c.args.now c.args.told.now (under_way c.args.loads.now) c.args.connections.now.items (g.S.Store.frame was).dropped values (g.S.Store.stands was)
-          (identifiers (g.S.Store.stream was) (g.S.Store.registered was)) (g.S.Store.untaken was) m;
+          (identifiers (g.S.Store.stream was) (g.S.Store.registered was)) (noted_in c.args.kept.now (g.S.Store.untaken was)) m;
       frame = record { rest = refl; latest = c.requires.in_time };
+      fresh = c.requires.fresh;
+      made = refl;
+      stocked = c.requires.stocked;
       count = refl;
     }
 
@@ -38,18 +44,30 @@ loop-number-preserved g c =
     let drawn = identifiers (g.S.Store.stream was) (g.S.Store.registered was) in
     let drawing = identifiers (g.S.Store.stream mid) (g.S.Store.registered mid) in
     let draws = identifiers (g.S.Store.stream is) (g.S.Store.registered is) in
+    let noting = noted_in c.args.kept.now (g.S.Store.untaken was) in
+    let noted = noted_in c.loop-number.kept (g.S.Store.untaken mid) in
+    let notes = noted_in c.resume_at.new.kept (g.S.Store.untaken is) in
     let same : making_of (g.S.Store.frame mid) ≡ making_of (g.S.Store.frame was) = ap making_of i.frame.rest in
     record {
       ran = λ values m.
-          let r = subst (λ xs. RunsThem config (making_of (g.S.Store.frame was)) c.args.now values ns xs (g.S.Store.stands mid) l j (g.S.Store.frame was).dropped (g.S.Store.frame mid).dropped drawn drawing old between (g.S.Store.untaken was) (g.S.Store.untaken mid))
+          let r = subst (λ xs. RunsThem config (making_of (g.S.Store.frame was)) c.args.now values ns xs (g.S.Store.stands mid) l j (g.S.Store.frame was).dropped (g.S.Store.frame mid).dropped drawn drawing old between noting noted)
           (rest-next ns at c.loop-number-test.true) (i.ran values m) in
-          let q = subst (λ (making : Making). RunsThem config making c.args.now r.held (n ∷ []) [] (g.S.Store.stands is) j k (g.S.Store.frame mid).dropped (g.S.Store.frame is).dropped drawing draws between new (g.S.Store.untaken mid) (g.S.Store.untaken is)) same
+          let q = subst (λ (making : Making). RunsThem config making c.args.now r.held (n ∷ []) [] (g.S.Store.stands is) j k (g.S.Store.frame mid).dropped (g.S.Store.frame is).dropped drawing draws between new noted notes) same
           (c.resume_at.ensures.ran r.held r.stands) in
           runs-next config (making_of (g.S.Store.frame was)) c.args.now n ns rest l j k old between new (g.S.Store.frame was).dropped (g.S.Store.frame mid).dropped (g.S.Store.frame is).dropped values (g.S.Store.stands mid) (g.S.Store.stands is) drawn drawing draws
-          (g.S.Store.untaken was) (g.S.Store.untaken mid) (g.S.Store.untaken is) r q;
+          noting noted notes r q;
       frame = record {
         rest = c.resume_at.ensures.frame.rest ∙ ap (λ (f : Frame). record f { dropped = (g.S.Store.frame is).dropped; latest = (g.S.Store.frame is).latest }) i.frame.rest;
         latest = c.resume_at.ensures.frame.latest;
       };
+      fresh = c.resume_at.ensures.fresh;
+      made = c.resume_at.ensures.made ∙ i.made;
+      stocked = c.resume_at.ensures.stocked (length rest) (subst (λ xs. HasMore (length xs) c.loop-number.kept) (rest-next ns at c.loop-number-test.true) i.stocked);
       count = c.resume_at.ensures.count ∙ i.count;
     }
+
+pub resume_at-requires-clause-stocked : goal.resume_at-requires-clause-stocked
+resume_at-requires-clause-stocked g c =
+    let at = c.loop-number.number-index in
+    let ns = c.args.told.now in
+    more-fewer c.loop-number.kept 1 (length (get_or ns at 0 ∷ drop (at + 1) ns)) (omega arith) (subst (λ xs. HasMore (length xs) c.loop-number.kept) (rest-next ns at c.loop-number-test.true) c.loop-number.invariant.stocked)

@@ -1,4 +1,4 @@
-use Rattle.std.proofs.Common.{◌≡◌, ◌<◌, ◌-◌, suc, refl, sym, ap, ◌∙◌, arith, inl, inr, length, true, false}
+use Rattle.std.proofs.Common.{◌≡◌, ◌<◌, ◌-◌, ◌∷◌, [], suc, refl, sym, ap, ◌∙◌, subst, arith, inl, inr, length, true, false}
 use Rattle.std.specs.Prelude.{◌⊎◌}
 use Rattle.std.specs.List.{slice_get}
 use Rattle.cache_namespace.specs.Drawing.{identifiers, workings}
@@ -6,7 +6,11 @@ use Rattle.cache_namespace.specs.Making.{making_of}
 use Rattle.cache_namespace.specs.Shown.{situation}
 use Rattle.cache_namespace.specs.Waiting.{under_way}
 use Rattle.cache_namespace.proofs.Places.{replaced-others}
-use Rattle.cache_settling.specs.Resumed.{runs_at}
+use Rattle.cache_namespace.specs.Gathered.{IsFresh}
+use Rattle.cache_namespace.specs.Taken.{text_at}
+use Rattle.cache_settling.specs.Noted.{Noted, NothingWaits, noted_in}
+use Rattle.cache_settling.specs.Resumed.{RunsThem, runs_at}
+use Rattle.cache_settling.proofs.Noting.{fresh-at, fresh-replaced, made-by, more-kept}
 use Rattle.cache_settling.proofs.Resumes.{none-here, none-there, runs-here, runs-none, runs-resumed, there-at}
 use Rattle.cache_settling.proofs.resuming.resume_at.Goals as goal
 use Rattle.cache_settling.proofs.resuming.resume_at.Goals.{then-number-eq0-via-then-number-eq0, then-number-eq0-via-else-number-eq0+then-number-len}
@@ -15,16 +19,28 @@ pub returns-then-number-eq0-clause-ran : goal.returns-then-number-eq0-clause-ran
 returns-then-number-eq0-clause-ran g c = λ values m.
     let cs = c.args.connections.now.items in
     let away : (c.args.number ≡ 0) ⊎ (length cs < c.args.number) = elim c.then-number-eq0.branch [ then-number-eq0-via-then-number-eq0 w ↦ inl w.if-number-eq0.true | then-number-eq0-via-else-number-eq0+then-number-len w ↦ inr (omega (arith, w.if-number-len.true, w.len.ensures)) ] in
-    runs-none c.args.config.now (making_of (g.S.Store.frame c.args.store.now)) c.args.now c.args.number (under_way c.args.loads.now) cs (g.S.Store.frame c.args.store.now).dropped values (g.S.Store.stands c.args.store.now) (identifiers (g.S.Store.stream c.args.store.now) (g.S.Store.registered c.args.store.now)) (g.S.Store.untaken c.args.store.now)
-    (none-there cs c.args.number away) m
+    let st = c.args.store.now in
+    let told = g.S.Store.untaken st in
+    let l = under_way c.args.loads.now in
+    let ids = identifiers (g.S.Store.stream st) (g.S.Store.registered st) in
+    let same : noted_in c.args.kept.now told ≡ noted_in c.restock_where.new.kept told = ap (λ ss. record { kept = ss; waiting = told }) (sym c.restock_where.ensures.steps) in
+    subst (λ (n : Noted). RunsThem c.args.config.now (making_of (g.S.Store.frame st)) c.args.now values (c.args.number ∷ []) [] (g.S.Store.stands st) l l (g.S.Store.frame st).dropped (g.S.Store.frame st).dropped ids ids cs cs (noted_in c.args.kept.now told) n) same
+    (runs-none c.args.config.now (making_of (g.S.Store.frame c.args.store.now)) c.args.now c.args.number (under_way c.args.loads.now) cs (g.S.Store.frame c.args.store.now).dropped values (g.S.Store.stands c.args.store.now) (identifiers (g.S.Store.stream c.args.store.now) (g.S.Store.registered c.args.store.now)) (noted_in c.args.kept.now told)
+    (none-there cs c.args.number away) m)
 
 pub returns-then-not-runs_there-clause-ran : goal.returns-then-not-runs_there-clause-ran
 returns-then-not-runs_there-clause-ran g c = λ values m.
     let cs = c.args.connections.now.items in
     let e : c.args.number ≡ suc (c.args.number - 1) = omega (arith, c.if-number-eq0.false) in
     let none : runs_at (slice_get cs (c.args.number - 1)) ≡ false = sym (c.runs_there.ensures ∙ ap (λ ks. runs_at (slice_get ks (c.args.number - 1))) c.deref.ensures.value) ∙ c.if-not-runs_there.true in
-    runs-none c.args.config.now (making_of (g.S.Store.frame c.args.store.now)) c.args.now c.args.number (under_way c.args.loads.now) cs (g.S.Store.frame c.args.store.now).dropped values (g.S.Store.stands c.args.store.now) (identifiers (g.S.Store.stream c.args.store.now) (g.S.Store.registered c.args.store.now)) (g.S.Store.untaken c.args.store.now)
-    (none-here cs c.args.number (c.args.number - 1) e none) m
+    let st = c.args.store.now in
+    let told = g.S.Store.untaken st in
+    let l = under_way c.args.loads.now in
+    let ids = identifiers (g.S.Store.stream st) (g.S.Store.registered st) in
+    let same : noted_in c.args.kept.now told ≡ noted_in c.restock_where.new.kept told = ap (λ ss. record { kept = ss; waiting = told }) (sym c.restock_where.ensures.steps) in
+    subst (λ (n : Noted). RunsThem c.args.config.now (making_of (g.S.Store.frame st)) c.args.now values (c.args.number ∷ []) [] (g.S.Store.stands st) l l (g.S.Store.frame st).dropped (g.S.Store.frame st).dropped ids ids cs cs (noted_in c.args.kept.now told) n) same
+    (runs-none c.args.config.now (making_of (g.S.Store.frame c.args.store.now)) c.args.now c.args.number (under_way c.args.loads.now) cs (g.S.Store.frame c.args.store.now).dropped values (g.S.Store.stands c.args.store.now) (identifiers (g.S.Store.stream c.args.store.now) (g.S.Store.registered c.args.store.now)) (noted_in c.args.kept.now told)
+    (none-here cs c.args.number (c.args.number - 1) e none) m)
 
 pub returns-clause-ran : goal.returns-clause-ran
 returns-clause-ran g c = λ values m.
@@ -40,9 +56,44 @@ returns-clause-ran g c = λ values m.
     let so = runs-here cs (c.args.number - 1) p.was p.at runs in
     let there = there-at c.args.now c.args.number (c.args.number - 1) l cs dropped values p.was e p.at so.1 in
     let f = c.resume_there-closed.ensures.ran.2 (situation c.args.now l cs dropped values) values refl refl refl there m in
-    runs-resumed c.args.config.now (making_of (g.S.Store.frame was)) c.args.now c.args.number (c.args.number - 1) l (under_way c.resume_there-closed.new.loads) (under_way c.leave_where.new.loads) cs after dropped (g.S.Store.frame is).dropped c.resume_there-closed.result f.0 values (g.S.Store.stands is)
-    (workings (g.S.Store.stream was) (g.S.Store.registered was) (g.S.Store.recency was)) (workings (g.S.Store.stream is) (g.S.Store.registered is) (g.S.Store.recency is)) (g.S.Store.untaken was) (g.S.Store.untaken is)
-    e p runs c.resume_there-closed.ensures.ran.1 c.leave_where.ensures f.1
+    let told = g.S.Store.untaken was in
+    let same : noted_in c.restock_where.new.kept told ≡ noted_in c.args.kept.now told = ap (λ ss. record { kept = ss; waiting = told }) c.restock_where.ensures.steps in
+    subst (λ (n : Noted). RunsThem c.args.config.now (making_of (g.S.Store.frame was)) c.args.now values (c.args.number ∷ []) [] (g.S.Store.stands is) l (under_way c.leave_where.new.loads) dropped (g.S.Store.frame is).dropped (identifiers (g.S.Store.stream was) (g.S.Store.registered was)) (identifiers (g.S.Store.stream is) (g.S.Store.registered is)) cs after n (noted_in c.resume_there-closed.new.kept (g.S.Store.untaken is))) same
+    (runs-resumed c.args.config.now (making_of (g.S.Store.frame was)) c.args.now c.args.number (c.args.number - 1) l (under_way c.resume_there-closed.new.loads) (under_way c.leave_where.new.loads) cs after dropped (g.S.Store.frame is).dropped c.resume_there-closed.result f.0 values (g.S.Store.stands is)
+    (workings (g.S.Store.stream was) (g.S.Store.registered was) (g.S.Store.recency was)) (workings (g.S.Store.stream is) (g.S.Store.registered is) (g.S.Store.recency is)) (noted_in c.restock_where.new.kept told) (noted_in c.resume_there-closed.new.kept (g.S.Store.untaken is))
+    e p runs c.resume_there-closed.ensures.ran.1 c.leave_where.ensures f.1)
 
 pub returns-clause-others : goal.returns-clause-others
 returns-clause-others g c = λ place ne. replaced-others c.args.connections.now.items c.resume_there-closed.new.connections.items (c.args.number - 1) c.resume_there-closed.ensures.ran.0 place ne
+
+pub resume_there-closed-requires-clause-fresh : goal.resume_there-closed-requires-clause-fresh
+resume_there-closed-requires-clause-fresh g c =
+    let cs = c.args.connections.now.items in
+    let told = g.S.Store.untaken c.args.store.now in
+    let at = c.args.number - 1 in
+    subst (λ ss. IsFresh (record { text = text_at cs at; kept = ss; waiting = told })) (sym c.restock_where.ensures.steps) (fresh-at (noted_in c.args.kept.now told) cs at c.requires.fresh)
+
+pub returns-then-number-eq0-clause-fresh : goal.returns-then-number-eq0-clause-fresh
+returns-then-number-eq0-clause-fresh g c =
+    let told = g.S.Store.untaken c.args.store.now in
+    subst (λ ss. NothingWaits (record { kept = ss; waiting = told }) c.args.connections.now.items) (sym c.restock_where.ensures.steps) c.requires.fresh
+
+pub returns-then-not-runs_there-clause-fresh : goal.returns-then-not-runs_there-clause-fresh
+returns-then-not-runs_there-clause-fresh g c =
+    let told = g.S.Store.untaken c.args.store.now in
+    subst (λ ss. NothingWaits (record { kept = ss; waiting = told }) c.args.connections.now.items) (sym c.restock_where.ensures.steps) c.requires.fresh
+
+pub returns-clause-fresh : goal.returns-clause-fresh
+returns-clause-fresh g c =
+    let told = g.S.Store.untaken c.args.store.now in
+    let cs = c.args.connections.now.items in
+    let ran = c.resume_there-closed.ensures.ran in
+    fresh-replaced cs c.resume_there-closed.new.connections.items (c.args.number - 1) ran.0 c.restock_where.new.kept c.resume_there-closed.new.kept told (g.S.Store.untaken c.resume_there-closed.new.store) c.resume_there-closed.ensures.more
+    (subst (λ ss. NothingWaits (record { kept = ss; waiting = told }) cs) (sym c.restock_where.ensures.steps) c.requires.fresh) ran.3
+
+pub returns-clause-stocked : goal.returns-clause-stocked
+returns-clause-stocked g c = λ count more.
+    more-kept c.restock_where.new.kept c.resume_there-closed.new.kept count c.resume_there-closed.ensures.more c.resume_there-closed.ensures.keeps_room (c.restock_where.ensures.more count more)
+
+pub returns-clause-made : goal.returns-clause-made
+returns-clause-made g c = made-by c.restock_where.new.kept c.resume_there-closed.new.kept c.resume_there-closed.ensures.more ∙ c.restock_where.ensures.made

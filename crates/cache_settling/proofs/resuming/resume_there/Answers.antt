@@ -7,4 +7,5 @@ returns-clause-ran g c = (
   record { was = c.index_mut-connection.result.now; is = c.resume.new.connection; at = at-place c.args.connections.now.items c.args.index c.index_mut-connection.result.now c.requires.inside c.index_mut-connection.ensures.value; set = refl },
   c.resume.ensures.closes,
   λ base values e d under there m. c.resume.ensures.ran base values e d under there m,
+  c.resume.ensures.fresh,
 )

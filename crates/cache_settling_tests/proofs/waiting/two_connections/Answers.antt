@@ -10,4 +10,6 @@ returns c = (
   c.in_ok-first.ensures.open,
   c.in_ok-second.ensures.waits,
   c.in_ok-second.ensures.open,
+  c.in_ok-first.ensures.untold,
+  c.in_ok-second.ensures.untold,
 )

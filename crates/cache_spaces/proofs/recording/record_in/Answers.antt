@@ -1,4 +1,4 @@
-use Rattle.std.proofs.Common.{◌≡◌, ℕ, suc, ◌+◌, length, Some, ap, ◌∙◌, arith, inl, inr, refl, Option}
+use Rattle.std.proofs.Common.{◌≡◌, ℕ, suc, ◌+◌, length, Some, ap, ◌∙◌, arith, inl, inr, Option}
 use Rattle.audit_model.specs.Belongs.{event_in}
 use Rattle.audit_model.specs.declared.event.Event.{Event}
 use Rattle.audit_model.specs.declared.event.Event.TheVariants as event
@@ -50,12 +50,24 @@ returns-in-Feed-clause-refused c =
     let n = length (connections_of c.args.space.now) in
     refused-input c.args.input.now (fed c.in-Feed.conn.number c.in-Feed.piece c.in-Feed.moment.nanos) c.args.space.now (ap (here n) c.in-Feed.is ∙ own-number c.in-Feed.conn.namespace _) c.record_feed.result c.record_feed.ensures.refused
 
+pub returns-in-Answer-clause-ok : goal.returns-in-Answer-clause-ok
+returns-in-Answer-clause-ok c =
+    let n = length (connections_of c.args.space.now) in
+    records-input c.args.input.now (event.Answer c.in-Answer.load.number c.in-Answer.outcome c.in-Answer.moment) c.args.records.now.items c.record_answer.new.records.items c.args.space.now c.record_answer.new.space
+    (ap (here n) c.in-Answer.is ∙ own-number c.in-Answer.load.namespace _) c.record_answer.result c.record_answer.ensures.ok
+
 pub returns-in-Answer-clause-refused : goal.returns-in-Answer-clause-refused
 returns-in-Answer-clause-refused c =
     let n = length (connections_of c.args.space.now) in
-    record { happened = event.Answer c.in-Answer.load.number c.in-Answer.outcome c.in-Answer.moment; event = ap (here n) c.in-Answer.is ∙ own-number c.in-Answer.load.namespace _; refused = inl refl }
+    refused-input c.args.input.now (event.Answer c.in-Answer.load.number c.in-Answer.outcome c.in-Answer.moment) c.args.space.now (ap (here n) c.in-Answer.is ∙ own-number c.in-Answer.load.namespace _) c.record_answer.result c.record_answer.ensures.refused
+
+pub returns-in-GiveUp-clause-ok : goal.returns-in-GiveUp-clause-ok
+returns-in-GiveUp-clause-ok c =
+    let n = length (connections_of c.args.space.now) in
+    records-input c.args.input.now (event.GiveUp c.in-GiveUp.load.number c.in-GiveUp.moment) c.args.records.now.items c.record_give_up.new.records.items c.args.space.now c.record_give_up.new.space
+    (ap (here n) c.in-GiveUp.is ∙ own-number c.in-GiveUp.load.namespace _) c.record_give_up.result c.record_give_up.ensures.ok
 
 pub returns-in-GiveUp-clause-refused : goal.returns-in-GiveUp-clause-refused
 returns-in-GiveUp-clause-refused c =
     let n = length (connections_of c.args.space.now) in
-    record { happened = event.GiveUp c.in-GiveUp.load.number c.in-GiveUp.moment; event = ap (here n) c.in-GiveUp.is ∙ own-number c.in-GiveUp.load.namespace _; refused = inl refl }
+    refused-input c.args.input.now (event.GiveUp c.in-GiveUp.load.number c.in-GiveUp.moment) c.args.space.now (ap (here n) c.in-GiveUp.is ∙ own-number c.in-GiveUp.load.namespace _) c.record_give_up.result c.record_give_up.ensures.refused

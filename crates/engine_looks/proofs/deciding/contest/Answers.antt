@@ -1,6 +1,5 @@
-use Rattle.std.proofs.Common.{◌≡◌, ap, sym, ◌∙◌}
-use Rattle.std.specs.Prelude.{option_map}
-use Rattle.engine_reference.specs.Admission.{shortest_front, frequencies}
+use Rattle.std.proofs.Common.{ap, sym, ◌∙◌}
+use Rattle.engine_reference.specs.Admission.{shortest_front}
 use Rattle.engine_reference.specs.Records.{settled_in}
 use Rattle.policy_sketch.specs.Counts.{frequency_of}
 use Rattle.engine_lists.specs.Fronts.{front_frequency}

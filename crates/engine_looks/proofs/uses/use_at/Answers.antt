@@ -1,6 +1,5 @@
 use Rattle.std.proofs.Common.{ap, ◌∙◌, ℕ, Option}
 use Rattle.std.specs.Prelude.{slice_set}
-use Rattle.engine_reference.specs.Calls.{used_entry}
 use Rattle.engine_lists.specs.Asking.{answers_of}
 use Rattle.engine_looks.proofs.uses.use_at.Goals as goal
 

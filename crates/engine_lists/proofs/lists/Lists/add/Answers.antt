@@ -11,6 +11,7 @@ invariant_of-self g c =
       unsent = omega arith;
       notices = omega arith;
       access = omega arith;
+      predicates = omega arith;
       reads = omega arith;
       writes = omega arith;
       tickets = omega arith;

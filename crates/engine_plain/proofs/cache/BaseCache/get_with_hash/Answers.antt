@@ -1,5 +1,4 @@
 use Rattle.std.proofs.Common.{ap, sym, ◌∙◌}
-use Rattle.std.specs.Prelude.{slice_get}
 use Rattle.engine_reference.specs.Calls.{with_read}
 use Rattle.engine_reference.specs.State.{State}
 use Rattle.engine_reference.specs.Visible.{visible_record}

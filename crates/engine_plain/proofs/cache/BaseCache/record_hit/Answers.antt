@@ -1,8 +1,6 @@
-use Rattle.std.proofs.Common.{ap, sym, ◌∙◌, subst, Some}
+use Rattle.std.proofs.Common.{sym, subst, Some}
 use Rattle.std.proofs.Math.Logic.{∥∥₁_map}
-use Rattle.engine_reference.specs.Calls.{with_read}
 use Rattle.engine_reference.specs.Soundness.{IsSound}
-use Rattle.engine_reference.specs.State.{State}
 use Rattle.engine_reference.proofs.SoundCalls.{used-sound}
 use Rattle.engine_lists.specs.Asking.{answers_of}
 use Rattle.engine_looks.proofs.Places.{numbered_from}

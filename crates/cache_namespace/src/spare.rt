@@ -1,0 +1,19 @@
+//! Room for a line.
+ghost use Rattle.std.specs.Prelude.{◌≡◌, ◌≤◌, vec_len, vec_capacity};
+
+use cache_lines::MAX_LINE;
+use std::alloc::{AllocError, Global};
+
+/// Room for one line, of at most 8192 bytes.
+#[derive(Drop)]
+pub struct Spare {
+    pub bytes: Vec<u8>,
+    ghost empty: { vec_len bytes ≡ 0 },
+    ghost room: { 8192 ≤ vec_capacity bytes },
+}
+
+/// Room for one line.
+pub fn new_spare(alloc: Global) -> Result<Spare, AllocError> {
+    let bytes = Vec::with_capacity(alloc, MAX_LINE)?;
+    Ok(Spare { bytes })
+}

@@ -1,0 +1,86 @@
+//! What a cache holds, and a look-up that passes over values.
+ghost use Rattle.std.specs.Prelude.{◌≡◌, ◌<◌, ℕ, Some, None, IfOk, OnErr, MatchOption, option_map};
+ghost use Rattle.std.specs.Fn.{FnOnceReturnsAt};
+ghost use Rattle.engine_lists.specs.Asking.{answers_of};
+ghost use Rattle.engine_reference.specs.Records.{held_at};
+ghost use Rattle.engine_reference.specs.Visible.{visible_value};
+ghost use Rattle.engine_scans.specs.Scanning.{held_keys, LooksUpPast};
+
+use crate::cache::BaseCache;
+use engine_rules::Rules;
+use engine_scans::{held_keys, look_past, stored_key};
+use policy_base::Instant;
+use std::alloc::AllocError;
+
+impl<K: Eq, V, S, R: Rules<K, V>> BaseCache<K, V, S, R> {
+    /// How many segments `keys` has: one.
+    pub fn num_cht_segments(&self) -> usize
+        ensures { result ≡ 1 }
+    {
+        1
+    }
+
+    /// Clones of the keys of all that is held in the segment, dead and covered values among them, or `None` where there is no such segment.
+    pub fn keys(&self, segment: usize) -> Result<Option<Vec<K>>, AllocError>
+    where
+        K: Clone + Drop,
+        requires exact_key { (x y : K) → K.is_clone x y → y ≡ x }
+        ensures { IfOk result (λ keys. MatchOption keys (0 < segment) (λ found. (segment ≡ 0) × (found.items ≡ held_keys self.now.records))) }
+    {
+        if segment > 0 {
+            return Ok(None);
+        }
+        let found = held_keys(&self.lists)?;
+        Ok(Some(found))
+    }
+
+    /// A clone of the visible value of a key. It is no use of it.
+    pub fn scanning_get(&self, key: &K, now: Instant) -> Result<Option<V>, AllocError>
+    where
+        V: Clone,
+        requires exact { (x y : V) → V.is_clone x y → y ≡ x }
+        ensures { IfOk result (λ found. found ≡ visible_value (answers_of R.weight_of R.created R.read R.updated R.covers) K.eq self.now now key.now) }
+    {
+        self.get_with_hash_without_recording(key, 0, now)
+    }
+
+    /// A clone of the key that is stored for a key, whether its value is visible or not.
+    pub fn get_key_with_hash(&self, key: &K, _hash: u64) -> Result<Option<K>, AllocError>
+    where
+        K: Clone + Drop,
+        requires exact_key { (x y : K) → K.is_clone x y → y ≡ x }
+        ensures { IfOk result (λ found. found ≡ option_map (λ r. r.entry.key) (held_at K.eq self.now.records key.now)) }
+    {
+        stored_key(&self.lists, key)
+    }
+
+    /// A clone of the visible value of a key, of which it is a use. A value of which `ignore_if` says yes counts as not found, and is not used; no other value is asked about.
+    pub fn get_with_hash_and_ignore_if<F: FnOnce(&V) -> bool + Drop>(
+        &mut self,
+        key: &K,
+        hash: u64,
+        now: Instant,
+        ignore_if: F,
+    ) -> Result<Option<V>, AllocError>
+    where
+        K: Drop,
+        V: Clone + Drop,
+        requires exact { (x y : V) → V.is_clone x y → y ≡ x }
+        requires callable { F.IsAlwaysCallable ignore_if }
+        ensures found { IfOk result (λ found. LooksUpPast (answers_of R.weight_of R.created R.read R.updated R.covers) K.eq key.now hash now (FnOnceReturnsAt F.FnOnce ignore_if) self.old self.new found) }
+        ensures err { OnErr result (self.new ≡ self.old) }
+    {
+        let found = look_past(&self.lists, key, now.as_nanos(), ignore_if)?;
+        self.apply_reads_writes_if_needed(now);
+        match found {
+            Some((number, value)) => {
+                self.record_hit(number, hash, now);
+                Ok(Some(value))
+            }
+            None => {
+                self.record_miss(hash, now);
+                Ok(None)
+            }
+        }
+    }
+}

@@ -1,0 +1,200 @@
+//! The calls of an engine, as the rows make them.
+
+use crate::generators::Repeating;
+use crate::rules::{Lives, RowRules, ValueIs};
+use engine_plain::{BaseCache, Refusal};
+use engine_reference::{Notice, Settings};
+use engine_rules::{Bundle, Policy, WeighOne};
+use policy_base::Instant;
+use std::alloc::{AllocError, Global};
+use std::time::Duration;
+
+/// The calls of a cache of one part with keys and values of numbers, so that one row runs on each engine. A key is its hash.
+pub trait Engine: Drop {
+    /// An empty cache; `time` is how long a value lives from its creation on.
+    fn make(alloc: Global, settings: Settings, time: Option<Duration>) -> Result<Self, AllocError>;
+
+    /// Makes room for a write, makes it, and answers its ticket.
+    fn put(&mut self, key: u32, value: u32, now: Instant, step: u64) -> Result<u64, Refusal>;
+
+    /// Sends the write of a ticket.
+    fn send(&mut self, ticket: u64) -> Result<(), Refusal>;
+
+    /// Removes a key, tells its entry, and answers its value and the ticket of the removal.
+    fn remove(&mut self, key: u32, now: Instant) -> Result<Option<(u32, u64)>, Refusal>;
+
+    /// `get_with_hash`.
+    fn get(&mut self, key: u32, now: Instant) -> Result<Option<u32>, AllocError>;
+
+    /// `get_with_hash_and_ignore_if`, which passes over one value.
+    fn get_past(&mut self, key: u32, now: Instant, past: u32) -> Result<Option<u32>, AllocError>;
+
+    /// `get_with_hash_without_recording`.
+    fn peek(&self, key: u32, now: Instant) -> Result<Option<u32>, AllocError>;
+
+    fn scanning_get(&self, key: u32, now: Instant) -> Result<Option<u32>, AllocError>;
+
+    /// `contains_key_with_hash`.
+    fn contains_key(&self, key: u32, now: Instant) -> bool;
+
+    /// `get_key_with_hash`.
+    fn get_key(&self, key: u32) -> Result<Option<u32>, AllocError>;
+
+    fn keys(&self, segment: usize) -> Result<Option<Vec<u32>>, AllocError>;
+
+    fn num_cht_segments(&self) -> usize;
+
+    fn invalidate_all(&mut self, step: u64);
+
+    fn invalidate_entries_if(
+        &mut self,
+        predicate: ValueIs,
+        step: u64,
+        generator: &mut Repeating,
+    ) -> Result<u128, Refusal>;
+
+    /// The same in two halves.
+    fn invalidate_in_halves(
+        &mut self,
+        predicate: ValueIs,
+        step: u64,
+        generator: &mut Repeating,
+    ) -> Result<u128, Refusal>;
+
+    /// The first half alone, whose room is given up.
+    fn prepare_and_give_up(&mut self, generator: &mut Repeating) -> Result<u128, Refusal>;
+
+    fn run_pending_tasks(&mut self, now: Instant);
+
+    fn apply_reads_writes_if_needed(&mut self, now: Instant);
+
+    fn entry_count(&self) -> u64;
+
+    fn weighted_size(&self) -> u64;
+
+    fn next_notice(&mut self) -> Option<Notice<u32, u32>>;
+
+    fn is_removal_notifier_enabled(&self) -> bool;
+
+    fn policy(&self) -> Policy;
+}
+
+/// The plain engine.
+pub type Plain = BaseCache<u32, u32, u8, RowRules>;
+
+impl Engine for Plain {
+    fn make(alloc: Global, settings: Settings, time: Option<Duration>) -> Result<Self, AllocError> {
+        BaseCache::new(alloc, settings, 0, Bundle::new(Lives { time }, WeighOne))
+    }
+
+    fn put(&mut self, key: u32, value: u32, now: Instant, step: u64) -> Result<u64, Refusal> {
+        self.reserve_write()?;
+        Ok(self.do_insert_with_hash(key, u64::from(key), value, now, step))
+    }
+
+    fn send(&mut self, ticket: u64) -> Result<(), Refusal> {
+        self.send(ticket)
+    }
+
+    fn remove(&mut self, key: u32, now: Instant) -> Result<Option<(u32, u64)>, Refusal> {
+        match self.remove_entry(&key, u64::from(key))? {
+            Some((entry, ticket)) => {
+                let value = entry.value;
+                self.reserve_write()?;
+                self.notify_invalidate(entry, now);
+                Ok(Some((value, ticket)))
+            }
+            None => Ok(None),
+        }
+    }
+
+    fn get(&mut self, key: u32, now: Instant) -> Result<Option<u32>, AllocError> {
+        self.get_with_hash(&key, u64::from(key), now)
+    }
+
+    fn get_past(&mut self, key: u32, now: Instant, past: u32) -> Result<Option<u32>, AllocError> {
+        self.get_with_hash_and_ignore_if(&key, u64::from(key), now, |value: &u32| *value == past)
+    }
+
+    fn peek(&self, key: u32, now: Instant) -> Result<Option<u32>, AllocError> {
+        self.get_with_hash_without_recording(&key, u64::from(key), now)
+    }
+
+    fn scanning_get(&self, key: u32, now: Instant) -> Result<Option<u32>, AllocError> {
+        self.scanning_get(&key, now)
+    }
+
+    fn contains_key(&self, key: u32, now: Instant) -> bool {
+        self.contains_key_with_hash(&key, u64::from(key), now)
+    }
+
+    fn get_key(&self, key: u32) -> Result<Option<u32>, AllocError> {
+        self.get_key_with_hash(&key, u64::from(key))
+    }
+
+    fn keys(&self, segment: usize) -> Result<Option<Vec<u32>>, AllocError> {
+        self.keys(segment)
+    }
+
+    fn num_cht_segments(&self) -> usize {
+        self.num_cht_segments()
+    }
+
+    fn invalidate_all(&mut self, step: u64) {
+        self.invalidate_all(step);
+    }
+
+    fn invalidate_entries_if(
+        &mut self,
+        predicate: ValueIs,
+        step: u64,
+        generator: &mut Repeating,
+    ) -> Result<u128, Refusal> {
+        self.invalidate_entries_if(predicate, step, generator)
+    }
+
+    fn invalidate_in_halves(
+        &mut self,
+        predicate: ValueIs,
+        step: u64,
+        generator: &mut Repeating,
+    ) -> Result<u128, Refusal> {
+        let id = self.prepare_predicate(generator)?;
+        self.commit_predicate(id, predicate, step);
+        Ok(id)
+    }
+
+    fn prepare_and_give_up(&mut self, generator: &mut Repeating) -> Result<u128, Refusal> {
+        let id = self.prepare_predicate(generator)?;
+        self.release_room();
+        Ok(id)
+    }
+
+    fn run_pending_tasks(&mut self, now: Instant) {
+        self.run_pending_tasks(now);
+    }
+
+    fn apply_reads_writes_if_needed(&mut self, now: Instant) {
+        self.apply_reads_writes_if_needed(now);
+    }
+
+    fn entry_count(&self) -> u64 {
+        self.entry_count()
+    }
+
+    fn weighted_size(&self) -> u64 {
+        self.weighted_size()
+    }
+
+    fn next_notice(&mut self) -> Option<Notice<u32, u32>> {
+        self.next_notice()
+    }
+
+    fn is_removal_notifier_enabled(&self) -> bool {
+        self.is_removal_notifier_enabled()
+    }
+
+    fn policy(&self) -> Policy {
+        self.policy()
+    }
+}

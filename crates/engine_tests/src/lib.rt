@@ -1,0 +1,17 @@
+//! Rows that each engine is to pass, over a trait of its calls.
+#![tactic(auto)]
+
+#[cfg(test)]
+mod engine;
+#[cfg(test)]
+mod generators;
+#[cfg(test)]
+mod looks;
+#[cfg(test)]
+mod predicates;
+#[cfg(test)]
+mod rows;
+#[cfg(test)]
+mod rules;
+#[cfg(test)]
+mod writes;

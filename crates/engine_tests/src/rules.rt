@@ -1,0 +1,66 @@
+//! The rules of the rows' caches: an expiration of a value's own from its creation on, weight one, and predicates by value.
+ghost use Rattle.std.specs.Prelude.{ℕ, ◌==◌, Option, option_map};
+ghost use Rattle.std.specs.Duration.{as_nanos};
+
+use engine_rules::{Bundle, Expiry, Predicate, WeighOne};
+use policy_base::Instant;
+use std::time::Duration;
+
+/// How long each value lives from its creation on, if it has such a time. Reads and updates change nothing of it.
+#[derive(Drop)]
+pub struct Lives {
+    pub time: Option<Duration>,
+}
+
+impl Expiry<u32, u32> for Lives {
+    ghost created = { λ s _ _ _. option_map as_nanos s.time };
+
+    ghost read = { λ _ _ _ _ left _. left };
+
+    ghost updated = { λ _ _ _ _ left. left };
+
+    fn expire_after_create(
+        &self,
+        _key: &u32,
+        _value: &u32,
+        _created_at: Instant,
+    ) -> Option<Duration> {
+        self.time
+    }
+
+    fn expire_after_read(
+        &self,
+        _key: &u32,
+        _value: &u32,
+        _read_at: Instant,
+        remaining: Option<Duration>,
+        _last_modified_at: Instant,
+    ) -> Option<Duration> {
+        remaining
+    }
+
+    fn expire_after_update(
+        &self,
+        _key: &u32,
+        _value: &u32,
+        _updated_at: Instant,
+        remaining: Option<Duration>,
+    ) -> Option<Duration> {
+        remaining
+    }
+}
+
+/// Covers each entry of this value.
+#[derive(Drop)]
+pub struct ValueIs(pub u32);
+
+impl Predicate<u32, u32> for ValueIs {
+    ghost covers = { λ p _ value. value == p.0 };
+
+    fn is_match(&self, _key: &u32, value: &u32) -> bool {
+        *value == self.0
+    }
+}
+
+/// The rules of the rows' caches.
+pub type RowRules = Bundle<Lives, WeighOne, ValueIs, u8>;
