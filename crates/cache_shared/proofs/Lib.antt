@@ -4,3 +4,4 @@ pub mod Counting
 pub mod Keeping
 pub mod Marked
 pub mod Performing
+mod UsedUp
