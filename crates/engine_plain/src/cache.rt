@@ -39,6 +39,7 @@ use std::marker::Model;
 
 mod predicates;
 mod scans;
+mod settings;
 
 /// A cache of one part. Steps rise from call to call; moments may be any.
 #[derive(Drop)]
