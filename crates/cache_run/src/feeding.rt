@@ -1,5 +1,7 @@
 //! One piece of a connection, and its closing.
-ghost use Rattle.std.specs.Prelude.{◌≡◌, ◌≢◌, ◌≤◌, ◌<◌, ◌^◌, ◌⊎◌, ℕ, [], None, Some, false, IfOk, IfErr, OnOk, OnErr, IsSome, IsErrOf};
+ghost use Rattle.std.specs.Io.KnownBytes.{Appends};
+ghost use Rattle.cache_devices.specs.Sent.{SentBut};
+ghost use Rattle.std.specs.Prelude.{◌≡◌, ◌≢◌, ◌≤◌, ◌<◌, ◌^◌, ◌⊎◌, ℕ, List, [], None, Some, false, IfOk, IfErr, OnOk, OnErr, IsSome, IsErrOf};
 ghost use Rattle.audit_model.specs.declared.event.Event.TheVariants as event;
 ghost use Rattle.cache_devices.specs.Failures.{HasFailed};
 ghost use Rattle.cache_devices.specs.Watched.{device, failures};
@@ -31,8 +33,26 @@ fn feed_piece(service: &mut Service, conn: Conn, piece: &[u8], moment: u64) -> R
     }
 }
 
+/// Sends replies, and has the writer hand them on.
+pub fn write_replies<W: Write>(replies: &[u8], writer: &mut Watched<W>) -> Result<(), RunError>
+    ensures ok { OnOk result (Appends (W.contents (device writer.old)) (W.contents (device writer.new)) replies.now) }
+    ensures err { OnErr result ((rest : List ℕ) × SentBut rest replies.now (W.contents (device writer.old)) (W.contents (device writer.new))) }
+    ensures cause { OnErr result (HasFailed (failures writer.old) (failures writer.new)) }
+    ensures causes { IfErr result (λ e. (e ≡ RunError.Write) ⊎ (e ≡ RunError.UsedUp)) }
+    ensures count { failures writer.old ≤ failures writer.new }
+{
+    match send(replies, writer) {
+        Ok(()) => {}
+        Err(error) => return Err(error_of_send(error)),
+    }
+    match writer.flush() {
+        Ok(()) => Ok(()),
+        Err(_) => Err(RunError::Write),
+    }
+}
+
 /// Takes the replies of a connection.
-fn take_replies(service: &mut Service, conn: Conn) -> Vec<u8>
+pub fn take_replies(service: &mut Service, conn: Conn) -> Vec<u8>
     requires known { Connected (spaces_of service.old) conn.namespace conn.number IsFed }
     ensures { At (spaces_of service.old) (spaces_of service.new) conn.namespace (λ was is. TakesOutput was is conn.number result.items) }
 {
@@ -87,12 +107,5 @@ pub fn deliver<W: Write>(
         Ok(replies) => replies,
         Err(error) => return Err(error),
     };
-    match send(&replies, writer) {
-        Ok(()) => {}
-        Err(error) => return Err(error_of_send(error)),
-    }
-    match writer.flush() {
-        Ok(()) => Ok(()),
-        Err(_) => Err(RunError::Write),
-    }
+    write_replies(&replies, writer)
 }

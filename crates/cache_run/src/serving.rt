@@ -15,8 +15,9 @@ ghost use Rattle.cache_run.specs.Turns.{HasRead, HasToldLate};
 ghost use Rattle.cache_run.specs.Worlds.{outside, world};
 
 use crate::errors::RunError;
+use crate::loading::drop_loads;
 use crate::turns::{Progress, take_turn};
-use audit_model::Conn;
+use audit_model::{Bytes, Conn, LoadId};
 use cache_devices::{Clock, Loader, Watched};
 use cache_spaces::Service;
 use std::alloc::Global;
@@ -51,13 +52,15 @@ fn close_if_open(service: &mut Service, conn: Conn)
 }
 
 /// Answers the pieces that are read, to the end of the input or until the connection has closed.
-fn converse<R: Read, W: Write, C: Clock>(
+fn converse<R: Read, W: Write, C: Clock, L: Loader>(
     service: &mut Service,
     conn: Conn,
     buffer: &mut [u8],
     reader: &mut Watched<R>,
     writer: &mut Watched<W>,
     clock: &mut C,
+    loader: &mut L,
+    taken: &mut Vec<(LoadId, Bytes)>,
 ) -> Result<(), RunError>
     requires room { 0 < length buffer.old }
     requires ready { Connected (spaces_of service.old) conn.namespace conn.number IsReady }
@@ -75,7 +78,7 @@ fn converse<R: Read, W: Write, C: Clock>(
     ensures used_up { IsErrOf result RunError.UsedUp → HasFailed (failures writer.old) (failures writer.new) ⊎ (HasFailed (failures reader.old) (failures reader.new) ⊎ HasRead (R.remaining (device reader.old)) (R.remaining (device reader.new)) (2 ^ 64 - 1)) }
 {
     for _turn in 0..u64::MAX {
-        match take_turn(service, conn, buffer, reader, writer, clock) {
+        match take_turn(service, conn, buffer, reader, writer, clock, loader, taken) {
             Ok(Progress::More) => {}
             Ok(Progress::Over) => return Ok(()),
             Err(error) => return Err(error),
@@ -86,7 +89,9 @@ fn converse<R: Read, W: Write, C: Clock>(
 
 /// Serves one connection of a namespace, from its opening to the end of its input, where it is closed, or until it has closed.
 ///
-/// In this stage no load goes out, and the loader is not asked.
+/// Each load that goes out is asked of the loader by its key, and answered with what the loader says; given up where the loader gives no
+/// answer or one that is refused for its bytes or its time. After an error the connection is closed, and then loads that are left are
+/// given up at moment 0, which counts as the latest. Behind it no load is under way.
 pub fn run<R: Read, W: Write, C: Clock, L: Loader>(
     service: &mut Service,
     alloc: Global,
@@ -114,9 +119,7 @@ pub fn run<R: Read, W: Write, C: Clock, L: Loader>(
 
     // Numbers are used up only where a device failed or as many bytes were read as turns are counted.
     ensures used_up { IsErrOf result RunError.UsedUp → HasFailed (failures writer.old) (failures writer.new) ⊎ (HasFailed (failures reader.old) (failures reader.new) ⊎ HasRead (R.remaining (device reader.old)) (R.remaining (device reader.new)) (2 ^ 64 - 1)) }
-    ensures loader { loader.new ≡ loader.old }
 {
-    let _loader = loader;
     let mut buffer = match vec![in alloc; 0u8; PIECE_BYTES] {
         Ok(buffer) => buffer,
         Err(_) => return Err(RunError::OutOfMemory),
@@ -125,7 +128,18 @@ pub fn run<R: Read, W: Write, C: Clock, L: Loader>(
         Ok(conn) => conn,
         Err(error) => return Err(error),
     };
-    let outcome = converse(service, conn, &mut buffer, reader, writer, clock);
+    let mut taken = Vec::new(alloc);
+    let outcome = converse(
+        service,
+        conn,
+        &mut buffer,
+        reader,
+        writer,
+        clock,
+        loader,
+        &mut taken,
+    );
     close_if_open(service, conn);
+    drop_loads(service, namespace, &mut taken);
     outcome
 }
