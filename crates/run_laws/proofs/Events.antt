@@ -21,7 +21,7 @@ use Rattle.run_laws.proofs.Steps.{TasksOf, alone-filter, alone-put, alone-steps}
 
 -- ---- what is due
 
-found-alone : (conn number : ℕ) (loads : List PendingLoad) → WaitsAlone conn loads → AreAll conn (option_map_or (λ (load : PendingLoad). load.waiting) (find (λ load. load.number == number) loads) [])
+pub found-alone : (conn number : ℕ) (loads : List PendingLoad) → WaitsAlone conn loads → AreAll conn (option_map_or (λ (load : PendingLoad). load.waiting) (find (λ load. load.number == number) loads) [])
 found-alone conn number [] alone = tt
 found-alone conn number (load ∷ loads) alone = go (found-alone conn number loads alone.1) (load.number == number)
   where
@@ -29,19 +29,19 @@ found-alone conn number (load ∷ loads) alone = go (found-alone conn number loa
     go next true = alone.0
     go next false = next
 
-delivers-of : (conn : ℕ) (outcome : Outcome) (conns : List ℕ) (tasks : List Task) → AreAll conn conns → TasksOf conn tasks → TasksOf conn (map (λ c. Deliver c outcome) conns ++ tasks)
+pub delivers-of : (conn : ℕ) (outcome : Outcome) (conns : List ℕ) (tasks : List Task) → AreAll conn conns → TasksOf conn tasks → TasksOf conn (map (λ c. Deliver c outcome) conns ++ tasks)
 delivers-of conn outcome [] tasks all of = of
 delivers-of conn outcome (c ∷ cs) tasks all of = (all.0, delivers-of conn outcome cs tasks all.1 of)
 
-lines-of : (conn : ℕ) (conns : List ℕ) → AreAll conn conns → TasksOf conn (map RunLines conns)
+pub lines-of : (conn : ℕ) (conns : List ℕ) → AreAll conn conns → TasksOf conn (map RunLines conns)
 lines-of conn [] all = tt
 lines-of conn (c ∷ cs) all = (all.0, lines-of conn cs all.1)
 
-again-of : (conn : ℕ) (conns : List ℕ) → AreAll conn conns → TasksOf conn (tasks_to_give_up conns)
+pub again-of : (conn : ℕ) (conns : List ℕ) → AreAll conn conns → TasksOf conn (tasks_to_give_up conns)
 again-of conn [] all = tt
 again-of conn (c ∷ cs) all = (all.0, (all.0, again-of conn cs all.1))
 
-feed-of : (conn c : ℕ) (held : Bool) → c ≡ conn → TasksOf conn (tasks_to_feed c held)
+pub feed-of : (conn c : ℕ) (held : Bool) → c ≡ conn → TasksOf conn (tasks_to_feed c held)
 feed-of conn c true is = (is, (is, tt))
 feed-of conn c false is = (is, tt)
 

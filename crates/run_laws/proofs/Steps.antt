@@ -99,7 +99,7 @@ in-turn config s task step right =
     let parts = and_parts _ _ (and_parts _ _ (and_parts _ _ (and_parts _ _ (and_parts _ _ right).0).0).0).0 in
     (and_parts _ _ (and_parts _ _ (and_parts _ _ parts.0).0).0).0
 
-step-of : (config : Config) (conn : ℕ) (s : Situation) (task : Task) (step : Step) → IsOf conn task → is_right config (placed_step_in config s (Some task) step) ≡ true → step.conn ≡ conn
+pub step-of : (config : Config) (conn : ℕ) (s : Situation) (task : Task) (step : Step) → IsOf conn task → is_right config (placed_step_in config s (Some task) step) ≡ true → step.conn ≡ conn
 step-of config conn s (Store key outcome) step of right = absurd of
 step-of config conn s (Deliver c outcome) step of right = sym (eqb-true c step.conn (in-turn config s (Some (Deliver c outcome)) step right)) ∙ of
 step-of config conn s (RunAgain c) step of right = sym (eqb-true c step.conn (in-turn config s (Some (RunAgain c)) step right)) ∙ of
@@ -108,7 +108,7 @@ step-of config conn s (RunLines c) step of right = sym (eqb-true c step.conn (in
 
 -- ---- the tasks that are due
 
-due-of : (conn : ℕ) (may : ℕ → Bool) (tasks : List Task) → TasksOf conn tasks → TasksOf conn (due may tasks)
+pub due-of : (conn : ℕ) (may : ℕ → Bool) (tasks : List Task) → TasksOf conn tasks → TasksOf conn (due may tasks)
 due-of conn may [] all = tt
 due-of conn may (Store key outcome ∷ tasks) all = all
 due-of conn may (Deliver c outcome ∷ tasks) all = all
@@ -120,7 +120,7 @@ due-of conn may (RunLines c ∷ tasks) all = go (due-of conn may tasks all.1) (m
     go next true = all
     go next false = next
 
-left-of : (conn : ℕ) (task : Task) (rest : List Task) → TasksOf conn (task ∷ rest) → TasksOf conn (left_after (task ∷ rest))
+pub left-of : (conn : ℕ) (task : Task) (rest : List Task) → TasksOf conn (task ∷ rest) → TasksOf conn (left_after (task ∷ rest))
 left-of conn (Store key outcome) rest all = absurd all.0
 left-of conn (Deliver c outcome) rest all = all.1
 left-of conn (RunAgain c) rest all = all.1
