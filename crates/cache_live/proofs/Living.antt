@@ -1,6 +1,6 @@
 -- Journals that nobody keeps go on.
 use Rattle.std.proofs.Common.{◌≡◌, ◌≢◌, ◌∙◌, ℕ, zero, suc, ◌+◌, List, [], ◌∷◌, ◌++◌, length, length-append, Option, Some, Vec, Global, refl, sym, ap, subst, inl, inr, arith}
-use Rattle.std.specs.Prelude.{◌⊎◌, slice_set, map, Result, Ok, Err, OnOk, IfOk, IfErr, IsTrue}
+use Rattle.std.specs.Prelude.{◌⊎◌, slice_set, map, Result, Ok, Err, IfOk, IfErr}
 use Rattle.std.specs.List.{slice_get}
 use Rattle.std.proofs.lemmas.List.{length-set}
 use Rattle.std.proofs.lemmas.Option.{slice_get_within, none-some, same_Some}
@@ -15,15 +15,15 @@ use Rattle.audit_model.specs.declared.transcript.Note.{Note}
 use Rattle.audit_model.specs.declared.transcript.Transcript.{Transcript}
 use Rattle.audit_receipts.specs.declared.output.Output.{Output}
 use Rattle.cache_live.specs.Lived.{HasLived, Lived}
-use Rattle.cache_live.specs.Taken.{TakesInput, conn_of}
+use Rattle.cache_live.specs.Taken.{TakesInput}
+use Rattle.cache_live.proofs.Performing.{config-kept, goes-on}
 use Rattle.cache_namespace.proofs.Places.{at-replaced}
-use Rattle.cache_namespace.specs.Taken.{record_of}
 use Rattle.cache_shared.proofs.Counting.{count-empty, count-more}
 use Rattle.cache_shared.specs.Events.{Reached, record_count}
 use Rattle.cache_spaces.proofs.Journaling.{got}
 use Rattle.cache_spaces.proofs.Noting.{same-or-not}
 use Rattle.cache_spaces.specs.Moves.{At, part_in}
-use Rattle.cache_spaces.specs.Recorded.{AreEmpty, namespace_of}
+use Rattle.cache_spaces.specs.Recorded.{namespace_of}
 use Rattle.cache_spaces.specs.Serves.{IsUnknown, SameSpace, TakesNotice, TakesOutput}
 use Rattle.cache_spaces.specs.Services.{AreNew, Refuses}
 use Rattle.cache_spaces.specs.Spaces.{Stands, config_of}
@@ -112,17 +112,18 @@ lived-more i output old new n w a =
     let k = namespace_of i in
     let t = journal-at (TakesInput i output) old new k n w a in
     let h = w.each k a.was t.0 a.at t.1 in
-    let sv = a.fact.takes.serves h.led.last h.led.stands in
-    let entry = record_of a.fact.happened sv.steps in
-    let u : Transcript = record { made = t.0.made; records = t.0.records ++ entry ∷ [] } in
-    let more : LeadsBy (config_of a.was) (part_in (config_of a.was)) u sv.next =
-    leads_by-more (config_of a.was) (part_in (config_of a.was)) t.0.made t.0.records entry h.led.last sv.next h.parted sv.follows sv.parted in
+    let g = goes-on a.was a.is a.fact.happened a.fact.is_held a.fact.takes h.led.last h.led.stands in
+    let config = config-kept a.was a.is a.fact.happened a.fact.is_held a.fact.takes in
+    let last = g.leads.next in
+    let u : Transcript = record { made = t.0.made; records = t.0.records ++ g.entry ∷ [] } in
+    let more : LeadsBy (config_of a.was) (part_in (config_of a.was)) u last =
+    leads_by-more (config_of a.was) (part_in (config_of a.was)) t.0.made t.0.records g.entry h.led.last last h.parted g.leads.follows g.parted in
     lived-set (TakesInput i output) old new k n (n + 1) w a t.0 u t.1
     (record {
-      led = record { last = sv.next; stands = sv.stands; leads = subst (λ c. LeadsTo c u sv.next) (sym a.fact.takes.config) more.leads };
-      parted = subst (λ c. LeadsBy c (part_in c) u sv.next) (sym a.fact.takes.config) more;
+      led = record { last = last; stands = g.leads.stands; leads = subst (λ c. LeadsTo c u last) (sym config) more.leads };
+      parted = subst (λ c. LeadsBy c (part_in c) u last) (sym config) more;
     })
-    (count-more w.journals (slice_set w.journals k u) k t.0 u t.1 refl (length-append t.0.records (entry ∷ [])) ∙ ap (λ c. c + 1) w.records)
+    (count-more w.journals (slice_set w.journals k u) k t.0 u t.1 refl (length-append t.0.records (g.entry ∷ [])) ∙ ap (λ c. c + 1) w.records)
 
 -- nothing that is told of it changed
 pub lived-still : (F : Space → Space → Type 0) (old new : List Space) (k n : ℕ) → ((x y : Space) → F x y → ((s : Situation) → Stands x s → Stands y s) × (config_of y ≡ config_of x)) → At old new k F → Lived old n → Lived new n

@@ -1,10 +1,10 @@
 -- What is taken happens.
-use Rattle.std.proofs.Common.{◌≡◌, ◌∙◌, ℕ, zero, suc, ◌+◌, ◌<◌, ◌≤◌, Bool, false, List, [], ◌∷◌, length, Option, Some, refl, sym, ap, subst, inl, inr, arith, ⊎_elim}
-use Rattle.std.specs.Prelude.{◌↔◌, slice_set, Result, Ok, Err, IfOk, IfErr, if◌then◌else◌}
-use Rattle.std.specs.List.{slice_get}
-use Rattle.std.proofs.lemmas.Bool.{cases_lt}
-use Rattle.std.proofs.lemmas.Option.{same_Some}
-use Rattle.audit_model.specs.Belongs.{event_in, refusal_of}
+use Rattle.std.proofs.Common.{◌≡◌, ◌∙◌, ℕ, suc, ◌+◌, Bool, false, List, [], ◌∷◌, length, Some, refl, sym, ap, subst, inl, inr, arith}
+use Rattle.std.specs.Prelude.{Result, Ok, Err, IfOk, IsTrue, if◌then◌else◌}
+use Rattle.audit_model.specs.Belongs.{refusal_of}
+use Rattle.audit_model.specs.Follows.{after_event, tasks_in}
+use Rattle.audit_model.specs.Places.{steps_of}
+use Rattle.audit_model.specs.Situation.{Situation}
 use Rattle.audit_model.specs.declared.event.Event.{Event}
 use Rattle.audit_model.specs.declared.event.Event.TheVariants as event
 use Rattle.audit_model.specs.declared.event.Instant.{Instant}
@@ -15,21 +15,21 @@ use Rattle.audit_model.specs.declared.input.Input.TheVariants as input
 use Rattle.audit_model.specs.declared.input.LoadId.{LoadId}
 use Rattle.audit_model.specs.declared.input.ServiceError.{ServiceError}
 use Rattle.audit_model.specs.declared.input.ServiceError.TheVariants as error
+use Rattle.audit_model.specs.declared.transcript.Record.{Record}
 use Rattle.audit_model.specs.declared.transcript.Step.{Step}
-use Rattle.audit_receipts.specs.Answers.{last_is_held, output_of}
+use Rattle.audit_receipts.specs.Answers.{last_is_held, output_of, output_with}
 use Rattle.audit_receipts.specs.declared.output.Output.{Output}
 use Rattle.audit_receipts.specs.declared.output.Output.TheVariants.{Opened, All, Held, Done}
-use Rattle.cache_live.specs.Taken.{TakesInput, comes_to}
+use Rattle.cache_live.specs.Taken.{TakesEvent, TakesInput, comes_to}
+use Rattle.cache_namespace.specs.Ordered.{OrdersSteps}
 use Rattle.cache_namespace.specs.Ran.{ends_held}
 use Rattle.cache_namespace.specs.Taken.{RefusedFor, fed, holds_at, known, record_of}
-use Rattle.cache_shared.specs.Events.{Happens, Performs}
-use Rattle.cache_spaces.specs.Moves.{At}
-use Rattle.cache_spaces.proofs.Noting.{own-number, refused-as}
-use Rattle.cache_spaces.proofs.Putting.{same-space}
-use Rattle.cache_spaces.proofs.Journaling.{got}
+use Rattle.cache_shared.specs.Events.{Happens, Leads, Performs}
+use Rattle.cache_spaces.specs.Moves.{At, are_parted_in}
+use Rattle.cache_spaces.proofs.Noting.{own-number, refused-as, refused-settling}
 use Rattle.cache_spaces.specs.Recorded.{RefusedInput, namespace_of}
-use Rattle.cache_spaces.specs.Serves.{SameSpace, Takes}
-use Rattle.cache_spaces.specs.Spaces.{config_of, connections_of}
+use Rattle.cache_spaces.specs.Serves.{RefusedAnswer, Serves, Settled, Settles, Takes, known_of}
+use Rattle.cache_spaces.specs.Spaces.{Stands, config_of, connections_of, recency_of}
 use Rattle.cache_spaces.specs.Services.{Refuses}
 use Rattle.cache_spaces.specs.declared.space.Space.{Space}
 
@@ -39,24 +39,67 @@ held-last (step ∷ []) = refl
 held-last (step ∷ next ∷ steps) = held-last (next ∷ steps)
 
 -- an event came to what its record came to
-pub comes-of : (namespace : ℕ) (happened : Event) (steps : List Step) (is_held : Bool) → ends_held steps ≡ is_held → comes_to namespace happened is_held ≡ output_of namespace (record_of happened steps)
+comes-of : (namespace : ℕ) (happened : Event) (steps : List Step) (is_held : Bool) → ends_held steps ≡ is_held → comes_to namespace happened is_held ≡ output_of namespace (record_of happened steps)
 comes-of namespace (event.Open conn) steps is_held e = refl
 comes-of namespace (event.Close conn) steps is_held e = refl
 comes-of namespace (event.Feed conn piece moment) steps is_held e = ap (λ b. if b then Held else All) (sym (held-last steps ∙ e))
 comes-of namespace (event.Answer load outcome moment) steps is_held e = refl
 comes-of namespace (event.GiveUp load moment) steps is_held e = refl
 
+-- from that situation the event went on by a record
+pub record GoesOn (was is : Space) (s : Situation) (happened : Event) (is_held : Bool) : Type 0 where
+  pub entry : Record
+  pub event : entry.event ≡ happened
+  pub comes : (namespace : ℕ) → comes_to namespace happened is_held ≡ output_of namespace entry
+  pub leads : Leads was is s entry
+  pub parted : IsTrue (are_parted_in (config_of was) s entry)
+
+by-taking : (was is : Space) (number : ℕ) (s : Situation) (happened : Event) (is_held : Bool) → Serves was is number s happened is_held → GoesOn was is s happened is_held
+by-taking was is number s happened is_held sv = record {
+  entry = record_of happened sv.steps;
+  event = refl;
+  comes = λ namespace. comes-of namespace happened sv.steps is_held sv.ends;
+  leads = record { next = sv.next; stands = sv.stands; follows = sv.follows; timely = sv.timely; bounded = sv.bounded; ordered = sv.ordered };
+  parted = sv.parted;
+}
+
+by-settling : (was is : Space) (s : Situation) (happened : Event) (is_held : Bool) → ((namespace : ℕ) (steps : List Step) → comes_to namespace happened is_held ≡ output_with namespace happened steps) → Settles was is s happened
+    → GoesOn was is s happened is_held
+by-settling was is s happened is_held done x = record {
+  entry = x.entry;
+  event = x.event;
+  comes = λ namespace. done namespace x.entry.steps ∙ ap (λ h. output_with namespace h x.entry.steps) (sym x.event);
+  leads = record {
+    next = x.next;
+    stands = x.stands;
+    follows = x.follows;
+    timely = x.timely;
+    bounded = x.bounded;
+    ordered = subst (λ h. OrdersSteps (config_of was) (recency_of was) (recency_of is) (after_event h s) (tasks_in s h) (steps_of x.entry)) (sym x.event) x.ordered;
+  };
+  parted = x.parted;
+}
+
+pub goes-on : (was is : Space) (happened : Event) (is_held : Bool) → TakesEvent was is happened is_held → (s : Situation) → Stands was s → GoesOn was is s happened is_held
+goes-on was is (event.Open conn) is_held t s stands = by-taking was is conn s (event.Open conn) is_held (t.serves s stands)
+goes-on was is (event.Close conn) is_held t s stands = by-taking was is conn s (event.Close conn) is_held (t.serves s stands)
+goes-on was is (event.Feed conn piece moment) is_held t s stands = by-taking was is conn s (event.Feed conn piece moment) is_held (t.serves s stands)
+goes-on was is (event.Answer load outcome moment) is_held t s stands = by-settling was is s (event.Answer load outcome moment) is_held (λ namespace steps. refl) (t.settles s stands)
+goes-on was is (event.GiveUp load moment) is_held t s stands = by-settling was is s (event.GiveUp load moment) is_held (λ namespace steps. refl) (t.settles s stands)
+
+pub config-kept : (was is : Space) (happened : Event) (is_held : Bool) → TakesEvent was is happened is_held → config_of is ≡ config_of was
+config-kept was is (event.Open conn) is_held t = t.config
+config-kept was is (event.Close conn) is_held t = t.config
+config-kept was is (event.Feed conn piece moment) is_held t = t.config
+config-kept was is (event.Answer load outcome moment) is_held t = t.config
+config-kept was is (event.GiveUp load moment) is_held t = t.config
+
 pub happens : (i : Input) (output : Output) (was is : Space) → TakesInput i output was is → Happens i output was is
 happens i output was is t = record {
   from = λ s stands.
-      let sv = t.takes.serves s stands in
-      record {
-        entry = record_of t.happened sv.steps;
-        event = t.event;
-        answers = t.comes ∙ comes-of (namespace_of i) t.happened sv.steps t.is_held sv.ends;
-        leads = record { next = sv.next; stands = sv.stands; follows = sv.follows; timely = sv.timely; bounded = sv.bounded; ordered = sv.ordered };
-      };
-  config = t.takes.config;
+      let g = goes-on was is t.happened t.is_held t.takes s stands in
+      record { entry = g.entry; event = t.event ∙ ap Some (sym g.event); answers = t.comes ∙ g.comes (namespace_of i); leads = g.leads };
+  config = config-kept was is t.happened t.is_held t.takes;
 }
 
 pub performs : {E : Type 0} (i : Input) (r : Result Output E) (old new : List Space) → IfOk r (λ output. At old new (namespace_of i) (TakesInput i output)) → IfOk r (λ output. Performs i output old new)
@@ -148,44 +191,40 @@ refused-feed old new conn piece moment e refused =
       refused = refused-as (refusal_of (config_of x) (known (connections_of x)) (fed conn.number piece moment.nanos)) (holds_at (connections_of x) conn.number) e h;
     }) refused
 
-set-same : {X : Type 0} (xs : List X) (n : ℕ) (a : X) → slice_get xs n ≡ Some a → xs ≡ slice_set xs n a
-set-same [] n a at = refl
-set-same (x ∷ xs) zero a at = ap (λ y. y ∷ xs) (same_Some x a at)
-set-same (x ∷ xs) (suc n) a at = ap (λ l. x ∷ l) (set-same xs n a at)
+-- ---- loads that are settled
 
--- a load that is not under way
-refused-load : (i : Input) (happened : Event) (old new : List Space) (namespace : ℕ) (e : ServiceError) → new ≡ old
-    → ((x : Space) → event_in (namespace_of i) (length (connections_of x)) i ≡ Some happened)
-    → ((x : Space) → refusal_of (config_of x) (known (connections_of x)) happened ≡ Some error.NoLoad)
-    → ((e ≡ error.NoNamespace) ↔ (length old ≤ namespace)) → ((e ≡ error.NoLoad) ↔ (namespace < length old)) → Refuses old new namespace e (RefusedInput i e)
-refused-load i happened old new namespace e same event none a b = ⊎_elim there nowhere (cases_lt namespace (length old))
-  where
-    there : namespace < length old → Refuses old new namespace e (RefusedInput i e)
-    there lt =
-        let found = got old namespace lt in
-        subst (λ xs. Refuses old xs namespace e (RefusedInput i e)) (sym same)
-        (inr
-        (record {
-          was = found.0;
-          is = found.0;
-          at = found.1;
-          set = set-same old namespace found.0 found.1;
-          fact = (same-space found.0 found.0 refl, record { happened = happened; event = event found.0; refused = inl (none found.0 ∙ ap Some (sym (b.1 lt))) });
-        }))
+pub takes-answer : (old new : List Space) (load : LoadId) (outcome : Outcome) (moment : Instant)
+    → At old new load.namespace (λ was is. Settled was is (event.Answer load.number outcome moment)) → At old new load.namespace (TakesInput (input.Answer load outcome moment) Done)
+takes-answer old new load outcome moment a = record {
+  was = a.was;
+  is = a.is;
+  at = a.at;
+  set = a.set;
+  fact = record { happened = event.Answer load.number outcome moment; is_held = false; event = own-number load.namespace (Some (event.Answer load.number outcome moment)); takes = a.fact; comes = refl };
+}
 
-    nowhere : length old ≤ namespace → Refuses old new namespace e (RefusedInput i e)
-    nowhere le = inl (a.1 le, le, same)
+pub takes-give-up : (old new : List Space) (load : LoadId) (moment : Instant)
+    → At old new load.namespace (λ was is. Settled was is (event.GiveUp load.number moment)) → At old new load.namespace (TakesInput (input.GiveUp load moment) Done)
+takes-give-up old new load moment a = record {
+  was = a.was;
+  is = a.is;
+  at = a.at;
+  set = a.set;
+  fact = record { happened = event.GiveUp load.number moment; is_held = false; event = own-number load.namespace (Some (event.GiveUp load.number moment)); takes = a.fact; comes = refl };
+}
 
-pub refused-answer : (old new : List Space) (load : LoadId) (outcome : Outcome) (moment : Instant) (e : ServiceError) → new ≡ old
-    → ((e ≡ error.NoNamespace) ↔ (length old ≤ load.namespace)) → ((e ≡ error.NoLoad) ↔ (load.namespace < length old))
-    → Refuses old new load.namespace e (RefusedInput (input.Answer load outcome moment) e)
-refused-answer old new load outcome moment e same a b =
-    refused-load (input.Answer load outcome moment) (event.Answer load.number outcome moment) old new load.namespace e same
-    (λ x. own-number load.namespace (Some (event.Answer load.number outcome moment))) (λ x. refl) a b
+pub refused-answer : (old new : List Space) (load : LoadId) (outcome : Outcome) (moment : Instant) (e : ServiceError)
+    → Refuses old new load.namespace e (λ was. RefusedAnswer was (event.Answer load.number outcome moment) e) → Refuses old new load.namespace e (RefusedInput (input.Answer load outcome moment) e)
+refused-answer old new load outcome moment e refused =
+    refuses-as (λ was. RefusedAnswer was (event.Answer load.number outcome moment) e) (RefusedInput (input.Answer load outcome moment) e) old new load.namespace e
+    (λ x h. record {
+      happened = event.Answer load.number outcome moment;
+      event = own-number load.namespace (Some (event.Answer load.number outcome moment));
+      refused = refused-settling (refusal_of (config_of x) (known_of x) (event.Answer load.number outcome moment)) e h;
+    }) refused
 
-pub refused-give-up : (old new : List Space) (load : LoadId) (moment : Instant) (e : ServiceError) → new ≡ old
-    → ((e ≡ error.NoNamespace) ↔ (length old ≤ load.namespace)) → ((e ≡ error.NoLoad) ↔ (load.namespace < length old))
-    → Refuses old new load.namespace e (RefusedInput (input.GiveUp load moment) e)
-refused-give-up old new load moment e same a b =
-    refused-load (input.GiveUp load moment) (event.GiveUp load.number moment) old new load.namespace e same
-    (λ x. own-number load.namespace (Some (event.GiveUp load.number moment))) (λ x. refl) a b
+pub refused-give-up : (old new : List Space) (load : LoadId) (moment : Instant) (e : ServiceError)
+    → Refuses old new load.namespace e (λ was. refusal_of (config_of was) (known_of was) (event.GiveUp load.number moment) ≡ Some e) → Refuses old new load.namespace e (RefusedInput (input.GiveUp load moment) e)
+refused-give-up old new load moment e refused =
+    refuses-as (λ was. refusal_of (config_of was) (known_of was) (event.GiveUp load.number moment) ≡ Some e) (RefusedInput (input.GiveUp load moment) e) old new load.namespace e
+    (λ x h. record { happened = event.GiveUp load.number moment; event = own-number load.namespace (Some (event.GiveUp load.number moment)); refused = inl h }) refused

@@ -11,3 +11,4 @@ pub mod Reruns
 pub mod Resumes
 pub mod Rooms
 pub mod Settling
+pub mod Waits

@@ -1,6 +1,7 @@
 -- What a give-up does to a namespace.
 use Rattle.std.specs.Prelude.{◌≡◌, ℕ, ◌-◌, ◌<◌, ◌≤◌, Bool, true, List, [], ◌∷◌, ◌++◌, length, max, Some, None}
 use Rattle.std.specs.List.{flat_map, slice_get}
+use Rattle.audit_model.specs.Follows.{Follows}
 use Rattle.audit_model.specs.Grammar.{reading}
 use Rattle.audit_model.specs.Places.{tasks_to_give_up}
 use Rattle.audit_model.specs.Situation as model
@@ -8,6 +9,7 @@ use Rattle.audit_model.specs.Situation.{Situation, HeldValue, connection_in}
 use Rattle.audit_model.specs.Steps.{Task, RunAgain}
 use Rattle.audit_model.specs.declared.config.Config.{Config}
 use Rattle.audit_model.specs.declared.transcript.Note.{Note}
+use Rattle.audit_model.specs.declared.transcript.Record.{Record}
 use Rattle.audit_model.specs.declared.transcript.Step.{Step}
 use Rattle.cache_steps.specs.Order.{Order, Unknown}
 use Rattle.cache_namespace.specs.Drawing.{Identifiers}
@@ -58,6 +60,10 @@ HaveLoads config connections conns = (n : ℕ) → 1 ≤ times_in n conns → (1
 -- the line that waits of each open connection is a `LOAD`
 abbrev pub WaitForLoads : Config → Situation → Type 0
 WaitForLoads config s = (n : ℕ) (c : model.Connection) (line : List ℕ) → connection_in n s ≡ Some c → c.standing ≡ model.Waiting line → is_load (reading config line) ≡ true
+
+-- a record that follows keeps it so that what waits are `LOAD`s
+abbrev pub RecordsWaitForLoads : Type 0
+RecordsWaitForLoads = (config : Config) (s t : Situation) (entry : Record) → Follows config s entry t → WaitForLoads config s → WaitForLoads config t
 
 -- The record of a give-up follows: each `LOAD` that waited ran again, in order, each followed by its connection's lines.
 pub record GivesUpLoad (config : Config) (making : Making) (load latest moment : ℕ) (values : List HeldValue) (Stands : List HeldValue → Type 0) (was_under is_under : UnderWay) (dropped dropping : Bool) (drawn drawing : Identifiers) (old new : List Connection) (told telling : List Note) : Type 0 where

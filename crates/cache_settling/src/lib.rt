@@ -13,6 +13,7 @@ mod resuming;
 mod storing;
 mod telling;
 
+ghost use Rattle.cache_settling.specs.GivenUp.{RecordsWaitForLoads};
 ghost use Rattle.cache_settling.specs.Laws.{AbandonedLeads, AnswerSettles, AnswerTidy, AnsweredLeads, DeliveredLeads, GiveUpSettles, GiveUpTidy, HeldBackLeads, LeadsOn, LinesLead, NoLinesLead, NothingLeads, ToldWaits, WaitsAgainLeads};
 
 pub use answer::{reserve_for, store_for};
@@ -66,4 +67,9 @@ pub fn answer_settles()
 /// The record of a give-up follows, whose waiting `LOAD`s ran again in order, each followed by its connection's lines.
 pub fn give_up_settles()
     ensures { GiveUpSettles }
+{}
+
+/// A record that follows keeps it so that what waits for a load is a `LOAD`.
+pub fn records_wait_for_loads()
+    ensures { RecordsWaitForLoads }
 {}

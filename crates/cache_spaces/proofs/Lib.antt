@@ -6,3 +6,5 @@ pub mod Listing
 pub mod Journaling
 pub mod Newly
 pub mod Lasts
+pub mod Knowing
+pub mod Outcomes

@@ -10,7 +10,7 @@ use Rattle.audit_model.specs.Changes.{after_step}
 use Rattle.audit_model.specs.Follows.{after_event, after_record, after_records, after_steps, placed_step_in, tasks_in}
 use Rattle.audit_model.specs.Grammar.{Reading, reading}
 use Rattle.audit_model.specs.Places.{due, first_due, left_after, steps_of}
-use Rattle.audit_model.specs.Recency.{recency, recency_after}
+use Rattle.audit_model.specs.Recency.{recency_after}
 use Rattle.audit_model.specs.Situation.{Situation, Connection, connection_in, empty_situation, may_run_in, with_connection}
 use Rattle.audit_model.specs.Steps.{Task, is_right}
 use Rattle.audit_model.specs.declared.command.Command.{Command}

@@ -112,6 +112,11 @@ refused-as None held e (inl m) = inr (inl m)
 refused-as None held e (inr h) = inr (inr h.0)
 refused-as (Some r) held e same = inl (ap Some (sym same))
 
+-- why a settled load is refused
+pub refused-settling : (o : Option ServiceError) (e : ServiceError) → MatchOption o (e ≡ error.OutOfMemory) (λ r. e ≡ r) → (o ≡ Some e) ⊎ ((e ≡ error.OutOfMemory) ⊎ (e ≡ error.HeldAgain))
+refused-settling None e m = inr (inl m)
+refused-settling (Some r) e same = inl (ap Some (sym same))
+
 -- a namespace's number is its own
 pub own-number : (n : ℕ) (o : Option Event) → (if n == n then o else None) ≡ o
 own-number n o = ap (λ b. if b then o else None) (eq-eqb n n refl)

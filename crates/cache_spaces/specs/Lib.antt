@@ -1,3 +1,4 @@
+pub mod Knowing
 pub mod Served
 pub mod Spaces
 pub mod Moves

@@ -15,9 +15,8 @@ use Rattle.audit_model.specs.declared.event.Instant.{Instant}
 use Rattle.std.specs.List.{slice_get}
 use Rattle.cache_spaces.specs.Moves.{At, are_parted_in, are_timely_in}
 use Rattle.cache_namespace.specs.Ordered.{OrdersSteps}
-use Rattle.cache_namespace.specs.Taken.{known}
 use Rattle.cache_store.specs.Running.{is_bounded}
-use Rattle.cache_spaces.specs.Serves.{SameSpace}
+use Rattle.cache_spaces.specs.Serves.{SameSpace, known_of}
 use Rattle.cache_spaces.specs.Spaces.{Stands, config_of, connections_of, made_of, notices_of, output_of, recency_of}
 use Rattle.cache_spaces.specs.declared.space.Space.{Space}
 
@@ -65,7 +64,7 @@ pub record RecordsInput (i : Input) (before after : List Record) (was is : Space
 -- the definition refuses the event with that, or memory was wanted
 abbrev pub Refused : Event → ServiceError → Space → Type 0
 Refused happened e was =
-    (refusal_of (config_of was) (known (connections_of was)) happened ≡ Some e) ⊎ ((e ≡ error.OutOfMemory) ⊎ (e ≡ error.HeldAgain))
+    (refusal_of (config_of was) (known_of was) happened ≡ Some e) ⊎ ((e ≡ error.OutOfMemory) ⊎ (e ≡ error.HeldAgain))
 
 -- the input's event is refused so
 pub record RefusedInput (i : Input) (e : ServiceError) (was : Space) : Type 0 where

@@ -1,29 +1,33 @@
 -- What a call of a service does to its namespaces.
-use Rattle.std.specs.Prelude.{◌≡◌, ◌≢◌, ℕ, ◌-◌, ◌+◌, Bool, false, List, [], ◌++◌, length, Option, Some, None, IsNone, IsTrue}
+use Rattle.std.specs.Prelude.{◌≡◌, ◌≢◌, ℕ, suc, ◌-◌, ◌+◌, Bool, false, List, [], ◌++◌, length, Option, Some, None, IsNone, IsTrue, MatchOption}
 use Rattle.std.specs.List.{flat_map, slice_get}
-use Rattle.audit_model.specs.Follows.{Follows, after_event, tasks_in}
+use Rattle.audit_model.specs.Belongs.{Known, refusal_of}
+use Rattle.audit_model.specs.Follows.{Follows, after_event, known_in, tasks_in}
 use Rattle.audit_model.specs.Places.{steps_of}
 use Rattle.audit_model.specs.Situation.{Situation}
 use Rattle.audit_model.specs.declared.command.Closing.{Closing}
 use Rattle.audit_model.specs.declared.command.Closing.TheVariants as by
 use Rattle.audit_model.specs.declared.event.Event.{Event}
 use Rattle.audit_model.specs.declared.event.Event.TheVariants as event
+use Rattle.audit_model.specs.declared.transcript.Record.{Record}
 use Rattle.audit_model.specs.declared.transcript.Step.{Step}
 use Rattle.cache_namespace.specs.Drawing.{StepsDraw}
 use Rattle.cache_namespace.specs.Gathered.{reply_in}
 use Rattle.cache_namespace.specs.Lines.{ends_quit}
 use Rattle.cache_namespace.specs.Ordered.{OrdersSteps}
 use Rattle.cache_namespace.specs.Ran.{ends_held}
+use Rattle.cache_namespace.specs.Shown.{situation}
 use Rattle.std.specs.Option.{option_to_list}
 use Rattle.audit_model.specs.declared.input.LoadId.{LoadId}
 use Rattle.audit_model.specs.declared.input.ServiceError.{ServiceError}
 use Rattle.audit_model.specs.declared.input.ServiceError.TheVariants as error
 use Rattle.audit_model.specs.declared.transcript.Note.{Note}
 use Rattle.cache_namespace.specs.Taken.{IsOpenOrEnded, is_quit, record_of, known}
+use Rattle.cache_settling.specs.Told.{replies_to}
 use Rattle.cache_store.specs.Recency.{KeepsRecency}
 use Rattle.cache_store.specs.Running.{is_bounded}
 use Rattle.cache_spaces.specs.Moves.{are_parted_in, are_timely_in}
-use Rattle.cache_spaces.specs.Spaces.{Stands, config_of, connections_of, identifiers_of, made_of, notices_of, outgoing_of, output_of, closing_of, recency_of}
+use Rattle.cache_spaces.specs.Spaces.{Stands, config_of, connections_of, identifiers_of, made_of, notices_of, outgoing_of, output_of, closing_of, loads_of, recency_of}
 use Rattle.cache_spaces.specs.declared.space.Space.{Space}
 
 -- The event's record follows; its replies stand behind the output of that connection, and its notes behind the notices. Each value that
@@ -66,6 +70,40 @@ pub record Takes (was is : Space) (number : ℕ) (happened : Event) (is_held : B
   pub made : made_of is ≡ made_of was
   pub left : Leaves happened (closing_of was number) (closing_of is number) (output_of is number)
   pub count : length (connections_of is) ≡ count_after happened (length (connections_of was))
+
+-- what is known of a namespace's connections and loads
+abbrev pub known_of : Space → Known
+known_of space = known_in (situation 0 (loads_of space) (connections_of space) false [])
+
+-- A load was settled, by an answer or a give-up: the event's record follows; behind the output of each connection stand the replies of its
+-- steps, and behind the notices the record's notes, those of an answer's own step first. Each value that it accepts stands in its key's part.
+-- Each `SYNC` leaves timely values, each part weighs at most its share and 64 values of 8192 bytes where a capacity is set, and identifiers
+-- were drawn as its steps say.
+pub record Settles (was is : Space) (s : Situation) (happened : Event) : Type 0 where
+  pub entry : Record
+  pub event : entry.event ≡ happened
+  pub next : Situation
+  pub stands : Stands is next
+  pub follows : Follows (config_of was) s entry next
+  pub parted : IsTrue (are_parted_in (config_of was) s entry)
+  pub timely : IsTrue (are_timely_in (config_of was) (made_of was) s entry)
+  pub bounded : IsTrue (is_bounded (config_of was) next.held)
+  pub draws : StepsDraw (config_of was) entry.steps (identifiers_of was) (identifiers_of is)
+  -- under LRU over one part of weight one without times: the order of use is what these steps make of it, and so are the keys held
+  pub ordered : OrdersSteps (config_of was) (recency_of was) (recency_of is) (after_event happened s) (tasks_in s happened) (steps_of entry)
+  pub outputs : (place : ℕ) → output_of is (suc place) ≡ output_of was (suc place) ++ replies_to (suc place) entry.steps
+  pub notices : notices_of is ≡ notices_of was ++ flat_map (λ step. step.notices) (steps_of entry)
+
+-- each situation that the namespace stood for goes on by the record of the settled load
+pub record Settled (was is : Space) (happened : Event) : Type 0 where
+  pub settles : (s : Situation) → Stands was s → Settles was is s happened
+  pub config : config_of is ≡ config_of was
+  pub made : made_of is ≡ made_of was
+  pub count : length (connections_of is) ≡ length (connections_of was)
+
+-- the definition refuses the answer with that, or else memory was wanted
+abbrev pub RefusedAnswer : Space → Event → ServiceError → Type 0
+RefusedAnswer was happened e = MatchOption (refusal_of (config_of was) (known_of was) happened) (e ≡ error.OutOfMemory) (λ refusal. e ≡ refusal)
 
 -- the namespace is the same to whoever looks at it
 pub record SameSpace (was is : Space) : Type 0 where

@@ -7,6 +7,7 @@ mod outputs;
 mod playing;
 mod recording;
 mod service;
+mod settling;
 mod space;
 
 pub use audit_receipts::Output;

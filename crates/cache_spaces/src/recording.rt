@@ -53,8 +53,14 @@ fn record_in(
             piece,
             moment,
         } => record_feed(space, alloc, records, conn.number, piece, *moment),
-        Input::Answer { .. } => Err(ServiceError::NoLoad),
-        Input::GiveUp { .. } => Err(ServiceError::NoLoad),
+        Input::Answer {
+            load,
+            outcome,
+            moment,
+        } => Err(space.refusal_to_answer(load.number, outcome, moment.nanos)),
+        Input::GiveUp { load, moment } => {
+            Err(space.refusal_to_give_up(load.number, moment.nanos))
+        }
     }
 }
 

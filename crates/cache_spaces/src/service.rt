@@ -4,7 +4,8 @@ ghost use Rattle.audit_model.specs.Belongs.{refusal_of};
 ghost use Rattle.audit_model.specs.declared.event.Event.TheVariants as event;
 ghost use Rattle.cache_namespace.specs.Taken.{RefusedFor, fed, holds_at, known};
 ghost use Rattle.cache_spaces.specs.Moves.{At};
-ghost use Rattle.cache_spaces.specs.Serves.{Takes, SameSpace, TakesOutput, TakesLoads, TakesNotice, IsUnknown};
+ghost use Rattle.cache_settling.specs.Answered.{answering, giving_up};
+ghost use Rattle.cache_spaces.specs.Serves.{Takes, Settled, SameSpace, RefusedAnswer, TakesOutput, TakesLoads, TakesNotice, IsUnknown, known_of};
 ghost use Rattle.cache_spaces.specs.Services.{are_taken, AreNew, spaces_of};
 ghost use Rattle.cache_spaces.specs.Spaces.{config_of, connections_of, closing_of};
 
@@ -47,7 +48,7 @@ impl Service {
     ghost use Rattle.audit_model.specs.Situation.{Situation};
     ghost use Rattle.cache_namespace.specs.Taken.{RefusedFor, fed, holds_at, is_waiting_in, known};
     ghost use Rattle.cache_spaces.specs.Moves.{At};
-    ghost use Rattle.cache_spaces.specs.Serves.{Takes, SameSpace, TakesOutput, TakesLoads, TakesNotice, IsUnknown};
+    ghost use Rattle.cache_spaces.specs.Serves.{Takes, Settled, SameSpace, RefusedAnswer, TakesOutput, TakesLoads, TakesNotice, IsUnknown, known_of};
     ghost use Rattle.cache_spaces.specs.declared.space.Space.{Space as Seen};
     ghost use Rattle.cache_spaces.specs.Services.{AreNew, Refuses, IsSpace, spaces_of, is_held};
     ghost use Rattle.cache_spaces.specs.Spaces.{config_of, connections_of, notices_of, output_of, closing_of, Stands};
@@ -228,39 +229,59 @@ impl Service {
         Ok(take_loads_in(&mut self.spaces, self.alloc, index))
     }
 
-    /// Answers a load. No load goes out in this stage: refused with `NoNamespace`, then with `NoLoad`, the outcome handed back.
+    /// Answers a load under way at a moment: its value is stored, those that wait are handed the outcome in order, and then their lines
+    /// run in the same order. An earlier moment counts as the namespace's latest.
+    ///
+    /// Refused with `NoNamespace`, `NoLoad`, `Moment` above 2^63 - 1 nanoseconds, `LineEnd`, `TooLong`, `Deadline`, then with
+    /// `OutOfMemory`. Then nothing has changed: the load is still under way, and the outcome is handed back.
     pub fn answer(
         &mut self,
         load: LoadId,
         outcome: Outcome,
         moment: Instant,
     ) -> Result<(), AnswerError>
-        ensures refused { IsErrAnd result (λ e. (e.outcome ≡ outcome) × ((e.error ≡ ServiceError.NoNamespace) ↔ (length (spaces_of self.old) ≤ load.namespace)) × ((e.error ≡ ServiceError.NoLoad) ↔ (load.namespace < length (spaces_of self.old)))) }
-        ensures unchanged { self.new ≡ self.old }
+        ensures taken { OnOk result (At (spaces_of self.old) (spaces_of self.new) load.namespace (λ was is. Settled was is (event.Answer load.number outcome moment))) }
+        ensures refused { IfErr result (λ e. Refuses (spaces_of self.old) (spaces_of self.new) load.namespace e.error (λ was. RefusedAnswer was (event.Answer load.number outcome moment) e.error)) }
+        ensures back { IfErr result (λ e. e.outcome ≡ outcome) }
     {
-        let _moment = moment;
-        let error = self.no_load(load);
-        Err(AnswerError { error, outcome })
+        let index = match self.index_of(load.namespace) {
+            Ok(index) => index,
+            Err(error) => return Err(AnswerError { error, outcome }),
+        };
+        match answer_at(
+            &mut self.spaces,
+            self.alloc,
+            index,
+            load.number,
+            outcome,
+            moment.nanos,
+        ) {
+            Ok(()) => Ok(()),
+            Err((error, outcome)) => Err(AnswerError { error, outcome }),
+        }
     }
 
-    /// Gives a load up. No load goes out in this stage: refused with `NoNamespace`, then with `NoLoad`.
+    /// Gives a load under way up at a moment: each `LOAD` that waits for it runs again, in order, as a whole command, followed by its
+    /// connection's lines. An earlier moment counts as the namespace's latest. It always succeeds on a load under way.
+    ///
+    /// Refused with `NoNamespace`, `NoLoad`, `Moment` above 2^63 - 1 nanoseconds. Then nothing has changed.
     pub fn give_up(&mut self, load: LoadId, moment: Instant) -> Result<(), ServiceError>
-        ensures refused { IsErrAnd result (λ e. ((e ≡ ServiceError.NoNamespace) ↔ (length (spaces_of self.old) ≤ load.namespace)) × ((e ≡ ServiceError.NoLoad) ↔ (load.namespace < length (spaces_of self.old)))) }
-        ensures unchanged { self.new ≡ self.old }
+        ensures taken { OnOk result (At (spaces_of self.old) (spaces_of self.new) load.namespace (λ was is. Settled was is (event.GiveUp load.number moment))) }
+        ensures refused { IfErr result (λ e. Refuses (spaces_of self.old) (spaces_of self.new) load.namespace e (λ was. refusal_of (config_of was) (known_of was) (event.GiveUp load.number moment) ≡ Some e)) }
     {
-        let _moment = moment;
-        Err(self.no_load(load))
-    }
-
-    /// Why a load is refused.
-    fn no_load(&self, load: LoadId) -> ServiceError
-        ensures namespace { (result ≡ ServiceError.NoNamespace) ↔ (length (spaces_of self.now) ≤ load.namespace) }
-        ensures load { (result ≡ ServiceError.NoLoad) ↔ (load.namespace < length (spaces_of self.now)) }
-    {
-        if load.namespace >= self.spaces.len() as u64 {
-            ServiceError::NoNamespace
-        } else {
-            ServiceError::NoLoad
+        let index = match self.index_of(load.namespace) {
+            Ok(index) => index,
+            Err(error) => return Err(error),
+        };
+        match give_up_at(
+            &mut self.spaces,
+            self.alloc,
+            index,
+            load.number,
+            moment.nanos,
+        ) {
+            Ok(()) => Ok(()),
+            Err(error) => Err(error),
         }
     }
 
@@ -357,6 +378,46 @@ fn feed_in(
     let space = &mut spaces[index];
     match space.serve(alloc, number, piece, moment) {
         Ok(is_held) => Ok(is_held),
+        Err(error) => Err(error),
+    }
+}
+
+/// Answers a load of the namespace at a place. An `Err` hands the outcome back.
+fn answer_at(
+    spaces: &mut Vec<Space>,
+    alloc: Global,
+    index: usize,
+    load: u64,
+    outcome: Outcome,
+    moment: u64,
+) -> Result<(), (ServiceError, Outcome)>
+    requires { index < length spaces.old.items }
+    ensures ok { OnOk result (At spaces.old.items spaces.new.items index (λ was is. Settled was is (answering load outcome moment))) }
+    ensures err { IfErr result (λ e. At spaces.old.items spaces.new.items index (λ was is. SameSpace was is × RefusedAnswer was (answering load outcome moment) e.0)) }
+    ensures back { IfErr result (λ e. e.1 ≡ outcome) }
+{
+    let space = &mut spaces[index];
+    match space.answer(alloc, load, outcome, moment) {
+        Ok(()) => Ok(()),
+        Err(refused) => Err(refused),
+    }
+}
+
+/// Gives up a load of the namespace at a place.
+fn give_up_at(
+    spaces: &mut Vec<Space>,
+    alloc: Global,
+    index: usize,
+    load: u64,
+    moment: u64,
+) -> Result<(), ServiceError>
+    requires { index < length spaces.old.items }
+    ensures ok { OnOk result (At spaces.old.items spaces.new.items index (λ was is. Settled was is (giving_up load moment))) }
+    ensures err { IfErr result (λ e. At spaces.old.items spaces.new.items index (λ was is. SameSpace was is × (refusal_of (config_of was) (known_of was) (giving_up load moment) ≡ Some e))) }
+{
+    let space = &mut spaces[index];
+    match space.give_up(alloc, load, moment) {
+        Ok(()) => Ok(()),
         Err(error) => Err(error),
     }
 }

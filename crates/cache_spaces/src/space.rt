@@ -2,13 +2,17 @@
 ghost use Rattle.std.specs.Prelude.{◌-◌, ◌≡◌, ◌≢◌, ◌≤◌, ◌<◌, ◌^◌, ◌+◌, ◌++◌, ◌∷◌, [], None, Some, ℕ, Bool, true, false, IfOk, IfErr, OnOk, OnErr, IsErr, IfNone, IfSome, IsTrue, length, ◌↔◌};
 ghost use Rattle.plain_store.specs.Hashing.{hashed};
 ghost use Rattle.plain_store.specs.Parting.{part_by};
-ghost use Rattle.plain_store.specs.Standing.{frame_of};
+ghost use Rattle.plain_store.specs.Standing.{frame_of, Stands as AreHeld};
+ghost use Rattle.cache_spaces.specs.Knowing.{KnowsWaiting};
 ghost use Rattle.cache_spaces.specs.Served.{is_served};
 ghost use Rattle.cache_namespace.specs.Taken.{IsSound};
+ghost use Rattle.cache_namespace.specs.Waiting.{under_way};
 
-use audit_model::{Bytes, Closing, Config, LoadId, Note, ServiceError};
+use crate::settling::is_waited_for;
+use audit_model::{Bytes, Closing, Config, LoadId, Note, Outcome, ServiceError};
 use cache_loads::Loads;
 use cache_namespace::{Kept, Namespace};
+use cache_settling::{answer_in, give_up_in, refuse_answer, refuse_load};
 use cache_store::Store;
 use plain_store::{FixedHasher, PlainStore};
 use rand_xoshiro::Xoshiro256PlusPlus;
@@ -19,6 +23,7 @@ use std::alloc::{AllocError, Global};
 pub struct Space {
     inner: Namespace<PlainStore<Xoshiro256PlusPlus, FixedHasher>>,
     ghost sound: { IsSound inner.config (frame_of inner.store.config (part_by inner.store.parts (hashed 0)) inner.store.made inner.store.dropped inner.store.latest) inner.latest },
+    ghost waiting: { ∥ KnowsWaiting inner.config (AreHeld inner.store.config inner.store.table) (under_way inner.loads) inner.connections.items ∥₁ },
 }
 
 impl Space {
@@ -32,8 +37,9 @@ impl Space {
     ghost use Rattle.cache_namespace.specs.declared.connection.Connection.{Connection};
     ghost use Rattle.cache_store.specs.Recency.{KeepsRecency};
     ghost use Rattle.cache_spaces.specs.Moves.{Moves};
-    ghost use Rattle.cache_spaces.specs.Serves.{Serves, Takes, SameSpace};
-    ghost use Rattle.cache_spaces.specs.Spaces.{Stands, config_of, connections_of, generator_of, notices_of, outgoing_of, output_of, closing_of, gathered_in, made_of, recency_of, workings_of};
+    ghost use Rattle.cache_settling.specs.Answered.{answering, giving_up, waiting_for};
+    ghost use Rattle.cache_spaces.specs.Serves.{Serves, Settled, Takes, RefusedAnswer, SameSpace, known_of};
+    ghost use Rattle.cache_spaces.specs.Spaces.{Stands, config_of, connections_of, generator_of, loads_of, notices_of, outgoing_of, output_of, closing_of, gathered_in, made_of, recency_of, workings_of};
 
     /// A namespace without connections, loads and values, with a generator of its own; its place in the service.
     pub fn new(
@@ -222,6 +228,76 @@ impl Space {
         match self.feed(alloc, number, piece, moment, &mut kept) {
             Ok(is_held) => Ok(is_held),
             Err(error) => Err(error),
+        }
+    }
+
+    /// Answers a load under way; no record is made of it. An `Err` hands the outcome back.
+    pub fn answer(
+        &mut self,
+        alloc: Global,
+        load: u64,
+        outcome: Outcome,
+        moment: u64,
+    ) -> Result<(), (ServiceError, Outcome)>
+        ensures settled { OnOk result (Settled self.old self.new (answering load outcome moment)) }
+        ensures refused { IfErr result (λ e. RefusedAnswer self.old (answering load outcome moment) e.0) }
+        ensures back { IfErr result (λ e. e.1 ≡ outcome) }
+        ensures same { OnErr result (SameSpace self.old self.new) }
+    {
+        match answer_in(&mut self.inner, alloc, load, outcome, moment) {
+            Ok(_) => Ok(()),
+            Err(refused) => Err(refused),
+        }
+    }
+
+    /// Gives a load under way up; no record is made of it.
+    pub fn give_up(&mut self, alloc: Global, load: u64, moment: u64) -> Result<(), ServiceError>
+        ensures settled { OnOk result (Settled self.old self.new (giving_up load moment)) }
+        ensures refused { IfErr result (λ e. refusal_of (config_of self.old) (known_of self.old) (giving_up load moment) ≡ Some e) }
+        ensures err { OnErr result (self.new ≡ self.old) }
+    {
+        if !is_waited_for(&self.inner.loads, load) {
+            return self.drop_load(load, moment);
+        }
+        match give_up_in(&mut self.inner, alloc, load, moment) {
+            Ok(()) => Ok(()),
+            Err(error) => Err(error),
+        }
+    }
+
+    /// Gives a load up for which nobody waits.
+    fn drop_load(&mut self, load: u64, moment: u64) -> Result<(), ServiceError>
+        requires unwaited { waiting_for load (loads_of self.old) ≡ [] }
+        ensures settled { OnOk result (Settled self.old self.new (giving_up load moment)) }
+        ensures refused { IfErr result (λ e. refusal_of (config_of self.old) (known_of self.old) (giving_up load moment) ≡ Some e) }
+        ensures err { OnErr result (self.new ≡ self.old) }
+    {
+        match refuse_load(&self.inner.config, &self.inner.loads, load, moment) {
+            Some(error) => return Err(error),
+            None => {}
+        }
+        let _ = self.inner.loads.settle(load);
+        self.inner.latest = moment.max(self.inner.latest);
+        Ok(())
+    }
+
+    /// Why an answer is refused of which a record would be kept. None is kept yet: where nothing else refuses it, memory does.
+    pub fn refusal_to_answer(&self, load: u64, outcome: &Outcome, moment: u64) -> ServiceError
+        ensures { RefusedAnswer self.now (answering load outcome.now moment) result }
+    {
+        match refuse_answer(&self.inner.config, &self.inner.loads, load, outcome, moment) {
+            Some(error) => error,
+            None => ServiceError::OutOfMemory,
+        }
+    }
+
+    /// Why a give-up is refused of which a record would be kept. None is kept yet: where nothing else refuses it, memory does.
+    pub fn refusal_to_give_up(&self, load: u64, moment: u64) -> ServiceError
+        ensures { RefusedAnswer self.now (giving_up load moment) result }
+    {
+        match refuse_load(&self.inner.config, &self.inner.loads, load, moment) {
+            Some(error) => error,
+            None => ServiceError::OutOfMemory,
         }
     }
 }

@@ -1,4 +1,4 @@
-use Rattle.std.proofs.Common.{◌≡◌, ℕ, suc, ◌+◌, length, Some, ap, ◌∙◌, arith, inl, inr, refl, Option}
+use Rattle.std.proofs.Common.{◌≡◌, ℕ, suc, ◌+◌, length, Some, ap, ◌∙◌, arith, inl, inr, Option}
 use Rattle.audit_model.specs.Belongs.{event_in}
 use Rattle.audit_model.specs.declared.event.Event.{Event}
 use Rattle.audit_model.specs.declared.event.Event.TheVariants as event
@@ -7,7 +7,7 @@ use Rattle.audit_model.specs.declared.input.Input.{Input}
 use Rattle.cache_namespace.specs.Taken.{fed}
 use Rattle.cache_spaces.specs.Recorded.{namespace_of}
 use Rattle.cache_spaces.specs.Spaces.{connections_of}
-use Rattle.cache_spaces.proofs.Noting.{own-number, records-input, refused-input}
+use Rattle.cache_spaces.proofs.Noting.{own-number, records-input, refused-input, refused-settling}
 use Rattle.cache_spaces.proofs.recording.record_in.Goals as goal
 
 abbrev here : ℕ → Input → Option Event
@@ -53,9 +53,9 @@ returns-in-Feed-clause-refused c =
 pub returns-in-Answer-clause-refused : goal.returns-in-Answer-clause-refused
 returns-in-Answer-clause-refused c =
     let n = length (connections_of c.args.space.now) in
-    record { happened = event.Answer c.in-Answer.load.number c.in-Answer.outcome c.in-Answer.moment; event = ap (here n) c.in-Answer.is ∙ own-number c.in-Answer.load.namespace _; refused = inl refl }
+    record { happened = event.Answer c.in-Answer.load.number c.in-Answer.outcome c.in-Answer.moment; event = ap (here n) c.in-Answer.is ∙ own-number c.in-Answer.load.namespace _; refused = refused-settling _ _ c.refusal_to_answer.ensures }
 
 pub returns-in-GiveUp-clause-refused : goal.returns-in-GiveUp-clause-refused
 returns-in-GiveUp-clause-refused c =
     let n = length (connections_of c.args.space.now) in
-    record { happened = event.GiveUp c.in-GiveUp.load.number c.in-GiveUp.moment; event = ap (here n) c.in-GiveUp.is ∙ own-number c.in-GiveUp.load.namespace _; refused = inl refl }
+    record { happened = event.GiveUp c.in-GiveUp.load.number c.in-GiveUp.moment; event = ap (here n) c.in-GiveUp.is ∙ own-number c.in-GiveUp.load.namespace _; refused = refused-settling _ _ c.refusal_to_give_up.ensures }

@@ -1,4 +1,4 @@
-use Rattle.std.proofs.Common.{◌-◌, ap, refl, None}
+use Rattle.std.proofs.Common.{◌-◌, ap, refl, None, [], false, subst, sym}
 use Rattle.cache_namespace.specs.Taken.{is_quit}
 use Rattle.cache_spaces.specs.Spaces.{gathered_in}
 use Rattle.cache_namespace.specs.Waiting.{under_way}
@@ -6,6 +6,9 @@ use Rattle.plain_store.specs.Hashing.{hashed}
 use Rattle.plain_store.specs.Parting.{part_by}
 use Rattle.plain_store.specs.Standing as plain
 use Rattle.cache_spaces.proofs.Moving.{moves-from, same-parts, serves-still}
+use Rattle.std.proofs.Math.Logic.{∥∥₁_map}
+use Rattle.cache_namespace.specs.Shown.{situation}
+use Rattle.cache_spaces.proofs.Knowing.{by-done, by-taking, known-on, known-same}
 use Rattle.cache_spaces.proofs.space.Space.close.Goals as goal
 
 pub returns-in-Ok-clause-moves : goal.returns-in-Ok-clause-moves
@@ -30,3 +33,17 @@ returns-in-Ok-clause-takes c =
       left = (c.in-Ok.ensures.open, c.in-Ok.ensures.closed);
       count = c.in-Ok.ensures.count;
     }
+
+pub invariant_of-self-clause-waiting : goal.invariant_of-self-clause-waiting
+invariant_of-self-clause-waiting c =
+    let old = c.args.self.now.inner in
+    let new = c.close.new.self in
+    let config = ap (λ n. n.config) c.close.ensures.rest in
+    let g = gathered_in c.args.self.now 0 None in
+    ∥∥₁_map c.args.self.now.waiting (λ k.
+    by-done c.close.result _ _ _ _ _ c.close.ensures.ran c.close.ensures.err c.close.ensures.err c.close.ensures.err
+    (λ ran. known-on old.config new.config (plain.Stands old.store.config old.store.table) (plain.Stands new.store.config new.store.table) old.store.dropped new.store.dropped old.latest new.latest (under_way old.loads) (under_way new.loads) old.connections.items new.connections.items config k
+    (λ values held. by-taking _ _ _ _ _ _ _ _ _ _ _ _ (ran values g held)))
+    (λ same same_too same_again. known-same old.config new.config (plain.Stands old.store.config old.store.table) (plain.Stands new.store.config new.store.table) (under_way old.loads) (under_way new.loads) old.connections.items new.connections.items config k
+    (λ values held. subst (λ n. plain.Stands n.store.config n.store.table values) (sym same) held)
+    (ap (λ n. situation 0 (under_way n.loads) n.connections.items false []) same)))

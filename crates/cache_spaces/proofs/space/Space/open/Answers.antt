@@ -1,12 +1,15 @@
-use Rattle.std.proofs.Common.{◌≡◌, ◌-◌, refl, ap, sym, ◌∙◌, None, arith, length, length-append, [], ◌∷◌}
+use Rattle.std.proofs.Common.{false, subst, ◌≡◌, ◌-◌, refl, ap, sym, ◌∙◌, None, arith, length, length-append, [], ◌∷◌}
 use Rattle.std.specs.List.{slice_get}
 use Rattle.cache_namespace.specs.Taken.{is_quit, text_at}
 use Rattle.cache_spaces.specs.Spaces.{gathered_in}
+use Rattle.cache_namespace.specs.Shown.{situation}
 use Rattle.cache_namespace.specs.Waiting.{under_way}
 use Rattle.plain_store.specs.Hashing.{hashed}
 use Rattle.plain_store.specs.Parting.{part_by}
 use Rattle.plain_store.specs.Standing as plain
 use Rattle.cache_spaces.proofs.Moving.{moves-from, same-parts, serves-still, others-opened, opened-output, opened-closing, opened-text}
+use Rattle.std.proofs.Math.Logic.{∥∥₁_map}
+use Rattle.cache_spaces.proofs.Knowing.{by-result, by-taking, known-on, known-same}
 use Rattle.cache_spaces.proofs.space.Space.open.Goals as goal
 
 pub returns-in-Ok-clause-moves : goal.returns-in-Ok-clause-moves
@@ -37,3 +40,17 @@ returns-in-Ok-clause-takes c =
       );
       count = let more = ap length added.3 ∙ length-append old.connections.items (added.0 ∷ []) in omega arith;
     }
+
+pub invariant_of-self-clause-waiting : goal.invariant_of-self-clause-waiting
+invariant_of-self-clause-waiting c =
+    let old = c.args.self.now.inner in
+    let new = c.open.new.self in
+    let config = ap (λ n. n.config) c.open.ensures.rest in
+    let g = gathered_in c.args.self.now 0 None in
+    ∥∥₁_map c.args.self.now.waiting (λ k.
+    by-result c.open.result _ _ _ _ _ c.open.ensures.ran c.open.ensures.err c.open.ensures.err c.open.ensures.err
+    (λ number ran. known-on old.config new.config (plain.Stands old.store.config old.store.table) (plain.Stands new.store.config new.store.table) old.store.dropped new.store.dropped old.latest new.latest (under_way old.loads) (under_way new.loads) old.connections.items new.connections.items config k
+    (λ values held. by-taking _ _ _ _ _ _ _ _ _ _ _ _ (ran values g held)))
+    (λ same same_too same_again. known-same old.config new.config (plain.Stands old.store.config old.store.table) (plain.Stands new.store.config new.store.table) (under_way old.loads) (under_way new.loads) old.connections.items new.connections.items config k
+    (λ values held. subst (λ st. plain.Stands st.config st.table values) (sym (ap (λ n. n.store) c.open.ensures.rest)) held)
+    (ap (λ l. situation 0 l new.connections.items false []) (ap (λ n. under_way n.loads) c.open.ensures.rest) ∙ ap (λ cs. situation 0 (under_way old.loads) cs false []) same)))

@@ -1,8 +1,10 @@
-use Rattle.std.proofs.Common.{◌≡◌, refl, ap, ◌∙◌}
+use Rattle.std.proofs.Common.{◌≡◌, refl, ap, ◌∙◌, [], false, subst, sym}
 use Rattle.cache_namespace.specs.Shown.{situation}
 use Rattle.cache_namespace.specs.Waiting.{under_way}
 use Rattle.plain_store.specs.Standing as plain
 use Rattle.cache_spaces.proofs.Moving.{stands-on}
+use Rattle.std.proofs.Math.Logic.{∥∥₁_map}
+use Rattle.cache_spaces.proofs.Knowing.{known-same}
 use Rattle.cache_spaces.proofs.space.Space.take_output.Goals as goal
 
 pub returns-in-Ok-clause-stands : goal.returns-in-Ok-clause-stands
@@ -16,3 +18,13 @@ returns-in-Ok-clause-stands c = λ s stands.
     let loads : under_way new.loads ≡ under_way old.loads = rw c.in-Ok.ensures.rest refl in
     ap (λ d. situation new.latest (under_way new.loads) new.connections.items d values) dropped ∙ ap (λ n. situation n (under_way new.loads) new.connections.items old.store.dropped values) latest
     ∙ ap (λ l. situation old.latest l new.connections.items old.store.dropped values) loads ∙ c.in-Ok.ensures.situation old.latest (under_way old.loads) old.store.dropped values)
+
+pub invariant_of-self-clause-waiting : goal.invariant_of-self-clause-waiting
+invariant_of-self-clause-waiting c =
+    let old = c.args.self.now.inner in
+    let new = c.take_output.new.self in
+    let rest = c.take_output.ensures.rest in
+    ∥∥₁_map c.args.self.now.waiting (λ k.
+    known-same old.config new.config (plain.Stands old.store.config old.store.table) (plain.Stands new.store.config new.store.table) (under_way old.loads) (under_way new.loads) old.connections.items new.connections.items (ap (λ n. n.config) rest) k
+    (λ values held. subst (λ st. plain.Stands st.config st.table values) (sym (ap (λ n. n.store) rest)) held)
+    (ap (λ l. situation 0 l new.connections.items false []) (ap (λ n. under_way n.loads) rest) ∙ c.take_output.ensures.situation 0 (under_way old.loads) false []))

@@ -1,0 +1,55 @@
+use Rattle.std.proofs.Common.{[], false, max, refl, sym, ap, ◌∙◌, subst}
+use Rattle.std.specs.Prelude.{IsTrue}
+use Rattle.std.proofs.Math.Logic.{∥∥₁_elim, ∥∥₁_map}
+use Rattle.std.proofs.Props.{props}
+use Rattle.cache_namespace.specs.Shown.{situation}
+use Rattle.cache_namespace.specs.Waiting.{under_way}
+use Rattle.cache_settling.specs.Laws.{record_given_up}
+use Rattle.cache_store.specs.Promises.{Frame}
+use Rattle.cache_store.specs.Running.{is_bounded}
+use Rattle.plain_store.specs.Hashing.{hashed}
+use Rattle.plain_store.specs.Laws.{bounded_from}
+use Rattle.plain_store.specs.Parting.{part_by}
+use Rattle.plain_store.specs.Standing as plain
+use Rattle.cache_spaces.specs.Spaces.{recency_of}
+use Rattle.cache_spaces.proofs.Knowing.{by-done, known-on, known-same}
+use Rattle.cache_spaces.proofs.Moving.{same-parts}
+use Rattle.cache_spaces.proofs.Outcomes.{orders-given-up, settles-by, with_values}
+use Rattle.cache_spaces.proofs.space.Space.give_up.Goals as goal
+
+pub give_up_in-requires-clause-reads : goal.give_up_in-requires-clause-reads
+give_up_in-requires-clause-reads c = ∥∥₁_elim c.args.self.now.waiting (Prim.hlevel props) (λ k. k.reads)
+
+pub give_up_in-requires-clause-tidy : goal.give_up_in-requires-clause-tidy
+give_up_in-requires-clause-tidy c = ∥∥₁_elim c.args.self.now.waiting (Prim.hlevel props) (λ k. k.tidy)
+
+pub invariant_of-self-clause-waiting : goal.invariant_of-self-clause-waiting
+invariant_of-self-clause-waiting c =
+    let old = c.args.self.now.inner in
+    let new = c.give_up_in.new.namespace in
+    let config = c.give_up_in.ensures.config in
+    ∥∥₁_map c.args.self.now.waiting (λ k.
+    by-done c.give_up_in.result _ _ _ _ _ c.give_up_in.ensures.ran c.give_up_in.ensures.err c.give_up_in.ensures.err c.give_up_in.ensures.err
+    (λ ran. known-on old.config new.config (plain.Stands old.store.config old.store.table) (plain.Stands new.store.config new.store.table) old.store.dropped new.store.dropped old.latest (max c.args.moment old.latest) (under_way old.loads) (under_way new.loads) old.connections.items new.connections.items config k
+    (λ values held. let x = ran values held in record { entry = record_given_up c.args.load c.args.moment x.steps; left = x.held; stands = x.stands; follows = x.settles.follows }))
+    (λ same same_too same_again. known-same old.config new.config (plain.Stands old.store.config old.store.table) (plain.Stands new.store.config new.store.table) (under_way old.loads) (under_way new.loads) old.connections.items new.connections.items config k
+    (λ values held. subst (λ n. plain.Stands n.store.config n.store.table values) (sym same) held)
+    (ap (λ n. situation 0 (under_way n.loads) n.connections.items false []) same)))
+
+pub returns-in-Ok-clause-settled : goal.returns-in-Ok-clause-settled
+returns-in-Ok-clause-settled c =
+    let was = c.args.self.now in
+    let old = was.inner in
+    let new = c.give_up_in.new.namespace in
+    record {
+      settles = λ s stands.
+          let x = c.in-Ok.ensures.ran stands.values stands.held in
+          settles-by was _ (record { part_of = part_by old.store.parts (hashed 0); made = old.store.made }) (record_given_up c.args.load c.args.moment x.steps) (max c.args.moment old.latest) stands.values x.held s
+          (same-parts old.store.parts old.store.config old.config old.store.counted was.sound.config) refl c.in-Ok.ensures.latest stands.same x.stands x.settles
+          (subst (λ config. IsTrue (is_bounded config x.held)) (c.give_up_in.ensures.sound.config ∙ c.give_up_in.ensures.config) (bounded_from new.store.config (part_by new.store.parts (hashed 0)) new.store.table new.store.kept x.held x.stands))
+          (orders-given-up old.config _ (recency_of was) (plain.AreInOrder new.store.config new.store.table) (with_values was stands.values) _ c.args.load c.args.moment x.steps _ _ (c.if-not-is_waited_for.ensures.some refl) x.settles)
+          x.texts x.notes;
+      config = c.give_up_in.ensures.config;
+      made = ap (λ (f : Frame). f.made) c.in-Ok.ensures.made.rest;
+      count = c.give_up_in.ensures.count;
+    }
