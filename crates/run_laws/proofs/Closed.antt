@@ -1,5 +1,5 @@
 -- Loads for which nobody waits.
-use Rattle.std.proofs.Common.{◌≡◌, ℕ, ◌+◌, ◌≤◌, Bool, true, false, not, ◌&&◌, ◌==◌, cond, List, [], ◌∷◌, Option, Some, None, if◌then◌else◌, refl, sym, ap, ◌∙◌, subst, arith}
+use Rattle.std.proofs.Common.{◌≡◌, ℕ, Bool, true, false, not, ◌&&◌, ◌==◌, cond, List, [], ◌∷◌, Some, None, if◌then◌else◌, refl, sym, ap, subst, arith}
 use Rattle.std.specs.Prelude.{is_none}
 use Rattle.std.specs.List.{filter, find}
 use Rattle.std.specs.Option.{option_map_or}
@@ -62,7 +62,7 @@ by-event : (config : Config) (s t : Situation) (entry : Record) (load : ℕ) (mo
     → after_steps config (without_load load moment.nanos s) (tasks_to_give_up (waiting_in load s)) entry.steps ≡ Some t → (entry.steps ≡ []) × (t ≡ without_load load moment.nanos s) × NobodyWaits t.pending
 by-event config s t entry load moment none e =
     let still = no-steps config (without_load load moment.nanos s) t entry.steps (subst (λ cs. after_steps config (without_load load moment.nanos s) (tasks_to_give_up cs) entry.steps ≡ Some t) (unwaited load s.pending none) e) in
-    (still.0, (still.1, subst (λ (u : Situation). NobodyWaits u.pending) (sym still.1) (nobody-left (λ l. not (l.number == load)) s.pending none)))
+    (still.0, still.1, subst (λ (u : Situation). NobodyWaits u.pending) (sym still.1) (nobody-left (λ l. not (l.number == load)) s.pending none))
 
 at-event : (config : Config) (s t : Situation) (entry : Record) (load : ℕ) (moment : Instant) (happened : Event) → happened ≡ event.GiveUp load moment → NobodyWaits s.pending
     → after_steps config (after_event happened s) (tasks_in s happened) (steps_of (record entry { event = happened })) ≡ Some t → (entry.steps ≡ []) × (t ≡ without_load load moment.nanos s) × NobodyWaits t.pending

@@ -1,5 +1,5 @@
 -- Records of one connection that alone waits.
-use Rattle.std.proofs.Common.{◌≡◌, ℕ, max, Bool, true, false, not, ◌&&◌, ◌==◌, cond, List, [], ◌∷◌, ◌++◌, map, Option, Some, None, if◌then◌else◌, refl, subst}
+use Rattle.std.proofs.Common.{◌≡◌, ℕ, max, Bool, true, false, not, ◌&&◌, ◌==◌, cond, List, [], ◌∷◌, ◌++◌, map, Option, Some, None, if◌then◌else◌, refl}
 use Rattle.std.specs.Prelude.{is_none}
 use Rattle.std.specs.List.{find}
 use Rattle.std.specs.Option.{option_map_or}
@@ -7,9 +7,9 @@ use Rattle.audit_model.specs.Belongs.{refusal_of}
 use Rattle.audit_model.specs.Changes.{after_step}
 use Rattle.audit_model.specs.Follows.{Follows, after_event, after_steps, known_in, placed_step_in, tasks_in, without_load}
 use Rattle.audit_model.specs.Obeys.{has_right_own_value, is_numbered}
-use Rattle.audit_model.specs.Places.{left_after, steps_of, tasks_to_answer, tasks_to_feed, tasks_to_give_up}
-use Rattle.audit_model.specs.Situation.{Situation, Connection, PendingLoad, connection_in, is_holding_in, key_in, pending_in, waiting_in, with_connection}
-use Rattle.audit_model.specs.Steps.{Task, Store, Deliver, RunAgain, RunHeld, RunLines, is_right}
+use Rattle.audit_model.specs.Places.{steps_of, tasks_to_feed, tasks_to_give_up}
+use Rattle.audit_model.specs.Situation.{Situation, Connection, PendingLoad, connection_in, is_holding_in, key_in, waiting_in, with_connection}
+use Rattle.audit_model.specs.Steps.{Task, Store, Deliver, RunLines, is_right}
 use Rattle.audit_model.specs.declared.config.Config.{Config}
 use Rattle.audit_model.specs.declared.event.Event.{Event}
 use Rattle.audit_model.specs.declared.event.Event.TheVariants as event

@@ -1,5 +1,5 @@
 -- Steps of one connection that alone waits.
-use Rattle.std.proofs.Common.{◌≡◌, ℕ, Bool, true, false, not, ◌&&◌, ◌||◌, ◌==◌, cond, List, [], ◌∷◌, ◌++◌, map, Option, Some, None, if◌then◌else◌, refl, sym, ap, ◌∙◌, subst}
+use Rattle.std.proofs.Common.{◌≡◌, ℕ, Bool, true, false, not, ◌||◌, ◌==◌, cond, List, [], ◌∷◌, ◌++◌, map, Option, Some, None, if◌then◌else◌, refl, sym, ◌∙◌, subst}
 use Rattle.std.specs.List.{filter}
 use Rattle.std.specs.Option.{option_map_or}
 use Rattle.std.proofs.lemmas.Bool.{and_parts, eqb-true}
@@ -15,7 +15,6 @@ use Rattle.audit_model.specs.Steps.{Task, Store, Deliver, RunAgain, RunHeld, Run
 use Rattle.audit_model.specs.Stream.{is_waiting}
 use Rattle.audit_model.specs.Loads.{key_loaded}
 use Rattle.audit_model.specs.declared.config.Config.{Config}
-use Rattle.audit_model.specs.declared.event.Outcome.{Outcome}
 use Rattle.audit_model.specs.declared.transcript.Step.{Step}
 use Rattle.run_laws.specs.Alone.{AreAll, StepsOf, WaitsAlone}
 
