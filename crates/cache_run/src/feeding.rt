@@ -70,9 +70,9 @@ fn answer_piece(
     moment: u64,
 ) -> Result<Vec<u8>, RunError>
     requires ready { Connected (spaces_of service.old) conn.namespace conn.number IsReady }
-    ensures ok { IfOk result (λ text. At (spaces_of service.old) (spaces_of service.new) conn.namespace (λ was is. Goes conn.number was is (λ s t. Answered (config_of was) conn.number piece.now moment s t (notices_of was) (notices_of is) text.items))) }
+    ensures ok { IfOk result (λ text. At (spaces_of service.old) (spaces_of service.new) conn.namespace (λ was is. Goes conn.number was is (λ s t. Answered (config_of was) conn.number piece.now moment [] s t (notices_of was) (notices_of is) text.items))) }
     ensures taken { OnOk result (Connected (spaces_of service.new) conn.namespace conn.number IsTaken) }
-    ensures err { IfErr result (λ e. At (spaces_of service.old) (spaces_of service.new) conn.namespace (λ was is. Goes conn.number was is (λ s t. Unanswered (config_of was) conn.number piece.now moment s t (notices_of was) (notices_of is) e))) }
+    ensures err { IfErr result (λ e. At (spaces_of service.old) (spaces_of service.new) conn.namespace (λ was is. Goes conn.number was is (λ s t. Unanswered (config_of was) conn.number piece.now moment [] s t (notices_of was) (notices_of is) e))) }
     ensures left { OnErr result (Connected (spaces_of service.new) conn.namespace conn.number IsFed) }
     ensures causes { IfErr result (λ e. (e ≢ RunError.Read) × (e ≢ RunError.Write) × (e ≢ RunError.UsedUp)) }
     ensures moment { IsErrOf result RunError.Moment → 2 ^ 63 ≤ moment }
@@ -93,9 +93,9 @@ pub fn deliver<W: Write>(
     writer: &mut Watched<W>,
 ) -> Result<(), RunError>
     requires ready { Connected (spaces_of service.old) conn.namespace conn.number IsReady }
-    ensures ok { OnOk result (At (spaces_of service.old) (spaces_of service.new) conn.namespace (λ was is. Goes conn.number was is (λ s t. Delivered (config_of was) conn.number piece.now moment s t (notices_of was) (notices_of is) (W.contents (device writer.old)) (W.contents (device writer.new)) []))) }
+    ensures ok { OnOk result (At (spaces_of service.old) (spaces_of service.new) conn.namespace (λ was is. Goes conn.number was is (λ s t. Delivered (config_of was) conn.number piece.now moment [] s t (notices_of was) (notices_of is) (W.contents (device writer.old)) (W.contents (device writer.new)) []))) }
     ensures taken { OnOk result (Connected (spaces_of service.new) conn.namespace conn.number IsTaken) }
-    ensures err { IfErr result (λ e. At (spaces_of service.old) (spaces_of service.new) conn.namespace (λ was is. Goes conn.number was is (λ s t. Undelivered (config_of was) conn.number piece.now moment s t (notices_of was) (notices_of is) (W.contents (device writer.old)) (W.contents (device writer.new)) e))) }
+    ensures err { IfErr result (λ e. At (spaces_of service.old) (spaces_of service.new) conn.namespace (λ was is. Goes conn.number was is (λ s t. Undelivered (config_of was) conn.number piece.now moment [] s t (notices_of was) (notices_of is) (W.contents (device writer.old)) (W.contents (device writer.new)) e))) }
     ensures left { OnErr result (Connected (spaces_of service.new) conn.namespace conn.number IsFed) }
     ensures cause { IsErrOf result RunError.Write → HasFailed (failures writer.old) (failures writer.new) }
     ensures used_up { IsErrOf result RunError.UsedUp → HasFailed (failures writer.old) (failures writer.new) }
@@ -107,5 +107,8 @@ pub fn deliver<W: Write>(
         Ok(replies) => replies,
         Err(error) => return Err(error),
     };
-    write_replies(&replies, writer)
+    match write_replies(&replies, writer) {
+        Ok(()) => Ok(()),
+        Err(error) => Err(error),
+    }
 }

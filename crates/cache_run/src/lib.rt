@@ -3,7 +3,6 @@
 
 mod errors;
 mod feeding;
-mod loading;
 mod serving;
 mod turns;
 

@@ -17,7 +17,7 @@ use Rattle.audit_model.specs.declared.event.Outcome.{Outcome}
 use Rattle.audit_model.specs.declared.transcript.Record.{Record}
 use Rattle.audit_model.specs.declared.transcript.Step.{Step}
 use Rattle.run_laws.specs.Alone.{AreAll, IsTurnOf, StepsOf, WaitsAlone}
-use Rattle.run_laws.proofs.Steps.{TasksOf, alone-filter, alone-put, alone-steps}
+use Rattle.run_laws.proofs.Steps.{TasksOf, alone-filter, alone-put, alone-steps, alone-without}
 
 -- ---- what is due
 
@@ -83,3 +83,26 @@ records config s t entry conn e turn alone = go (is_none (refusal_of config (kno
     go : (b : Bool) → (if b then after_steps config (after_event entry.event s) (tasks_in s entry.event) (steps_of entry) else None) ≡ Some t → StepsOf conn entry.steps × WaitsAlone conn t.pending
     go false h = let no : None ≡ Some t = h in cc
     go true h = by-event config s t entry conn entry.event refl turn alone h
+
+-- an opening or a closing leaves it so
+abbrev pub IsQuiet : Event → Type 0
+IsQuiet (event.Open c) = Unit {0}
+IsQuiet (event.Close c) = Unit {0}
+IsQuiet (event.Feed c piece moment) = ⊥
+IsQuiet (event.Answer load outcome moment) = ⊥
+IsQuiet (event.GiveUp load moment) = ⊥
+
+quiet-event : (config : Config) (s t : Situation) (entry : Record) (conn : ℕ) (happened : Event) → IsQuiet happened → WaitsAlone conn s.pending
+    → after_steps config (after_event happened s) (tasks_in s happened) (steps_of (record entry { event = happened })) ≡ Some t → WaitsAlone conn t.pending
+quiet-event config s t entry conn (event.Open c) still alone e = (alone-steps config conn (after_event (event.Open c) s) t [] entry.steps tt alone e).1
+quiet-event config s t entry conn (event.Close c) still alone e = (alone-steps config conn (after_event (event.Close c) s) t [] entry.steps tt (alone-without conn c s.pending alone) e).1
+quiet-event config s t entry conn (event.Feed c piece moment) still alone e = absurd still
+quiet-event config s t entry conn (event.Answer load outcome moment) still alone e = absurd still
+quiet-event config s t entry conn (event.GiveUp load moment) still alone e = absurd still
+
+pub quiet : (config : Config) (s t : Situation) (entry : Record) (conn : ℕ) → Follows config s entry t → IsQuiet entry.event → WaitsAlone conn s.pending → WaitsAlone conn t.pending
+quiet config s t entry conn e still alone = go (is_none (refusal_of config (known_in s) entry.event) && is_numbered s.opened entry.event && has_right_own_value entry) e
+  where
+    go : (b : Bool) → (if b then after_steps config (after_event entry.event s) (tasks_in s entry.event) (steps_of entry) else None) ≡ Some t → WaitsAlone conn t.pending
+    go false h = let no : None ≡ Some t = h in cc
+    go true h = quiet-event config s t entry conn entry.event still alone h
