@@ -15,8 +15,9 @@ ghost use Rattle.cache_run.specs.Turns.{HasRead, HasToldLate};
 ghost use Rattle.cache_run.specs.Worlds.{outside, world};
 
 use crate::errors::RunError;
+use crate::loading::drop_loads;
 use crate::turns::{Progress, take_turn};
-use audit_model::Conn;
+use audit_model::{Bytes, Conn, LoadId};
 use cache_devices::{Clock, Loader, Watched};
 use cache_spaces::Service;
 use std::alloc::Global;
@@ -59,6 +60,7 @@ fn converse<R: Read, W: Write, C: Clock, L: Loader>(
     writer: &mut Watched<W>,
     clock: &mut C,
     loader: &mut L,
+    taken: &mut Vec<(LoadId, Bytes)>,
 ) -> Result<(), RunError>
     requires room { 0 < length buffer.old }
     requires ready { Connected (spaces_of service.old) conn.namespace conn.number IsReady }
@@ -76,7 +78,7 @@ fn converse<R: Read, W: Write, C: Clock, L: Loader>(
     ensures used_up { IsErrOf result RunError.UsedUp → HasFailed (failures writer.old) (failures writer.new) ⊎ (HasFailed (failures reader.old) (failures reader.new) ⊎ HasRead (R.remaining (device reader.old)) (R.remaining (device reader.new)) (2 ^ 64 - 1)) }
 {
     for _turn in 0..u64::MAX {
-        match take_turn(service, conn, buffer, reader, writer, clock, loader) {
+        match take_turn(service, conn, buffer, reader, writer, clock, loader, taken) {
             Ok(Progress::More) => {}
             Ok(Progress::Over) => return Ok(()),
             Err(error) => return Err(error),
@@ -126,7 +128,18 @@ pub fn run<R: Read, W: Write, C: Clock, L: Loader>(
         Ok(conn) => conn,
         Err(error) => return Err(error),
     };
-    let outcome = converse(service, conn, &mut buffer, reader, writer, clock, loader);
+    let mut taken = Vec::new(alloc);
+    let outcome = converse(
+        service,
+        conn,
+        &mut buffer,
+        reader,
+        writer,
+        clock,
+        loader,
+        &mut taken,
+    );
     close_if_open(service, conn);
+    drop_loads(service, namespace, &mut taken);
     outcome
 }

@@ -13,7 +13,8 @@ ghost use Rattle.cache_run.specs.Worlds.{outside, world};
 
 use crate::errors::RunError;
 use crate::feeding::deliver;
-use audit_model::Conn;
+use crate::loading::settle_loads;
+use audit_model::{Bytes, Conn, LoadId};
 use cache_devices::{Clock, Loader, Watched};
 use cache_spaces::Service;
 use std::io::{ErrorKind, Read, Write};
@@ -48,6 +49,7 @@ pub fn take_turn<R: Read, W: Write, C: Clock, L: Loader>(
     writer: &mut Watched<W>,
     clock: &mut C,
     loader: &mut L,
+    taken: &mut Vec<(LoadId, Bytes)>,
 ) -> Result<Progress, RunError>
     requires room { 0 < length buffer.old }
     requires ready { Connected (spaces_of service.old) conn.namespace conn.number IsReady }
@@ -82,6 +84,10 @@ pub fn take_turn<R: Read, W: Write, C: Clock, L: Loader>(
     }
     let moment = clock.now();
     match deliver(service, conn, &buffer[..count], moment, writer) {
+        Ok(()) => {}
+        Err(error) => return Err(error),
+    }
+    match settle_loads(service, conn, taken, writer, clock, loader) {
         Ok(()) => Ok(progress_of(service, conn)),
         Err(error) => Err(error),
     }
