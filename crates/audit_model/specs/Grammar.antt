@@ -49,13 +49,14 @@ verb_in word =
     if same word (codes "SET") then Some set
     else (if same word (codes "GET") then Some get
     else (if same word (codes "HAS") then Some has
+    else (if same word (codes "LOAD") then Some load
     else (if same word (codes "DEL") then Some del
     else (if same word (codes "ADD") then Some add
     else (if same word (codes "CLEAR") then Some clear
     else (if same word (codes "DROPIF") then Some dropif
     else (if same word (codes "KEYS") then Some keys
     else (if same word (codes "SYNC") then Some sync
-    else (if same word (codes "QUIT") then Some quit else None)))))))))
+    else (if same word (codes "QUIT") then Some quit else None))))))))))
 
 -- what reading a line comes to: a command, or a fault
 abbrev pub Reading : Type 0

@@ -133,7 +133,8 @@ bare_words = history (opened 1
     ∷ fed 1 0 (text "HAS a ") (says 1 "HAS a " (text "ERR syntax") ∷ [])
     ∷ fed 1 0 (text "DROPIF") (says 1 "DROPIF" (text "ERR syntax") ∷ [])
     ∷ fed 1 0 (text "DROPIF a b") (says 1 "DROPIF a b" (text "ERR syntax") ∷ [])
-    ∷ fed 1 0 (text "LOAD a") (says 1 "LOAD a" (text "ERR command") ∷ []) ∷ [])
+    ∷ fed 1 0 (text "LOAD") (says 1 "LOAD" (text "ERR syntax") ∷ [])
+    ∷ fed 1 0 (text "LOAD a b") (says 1 "LOAD a b" (text "ERR syntax") ∷ []) ∷ [])
 
 pub record GoodCommands : Type 0 where
   pub has_is_no_use_good : IsGood (of_idle_ms 7) has_is_no_use

@@ -7,3 +7,4 @@ pub mod Sizes
 pub mod Deadlines
 pub mod Belonging
 pub mod Commands
+pub mod Loads

@@ -10,6 +10,8 @@ use Rattle.audit_model.specs.declared.config.EvictionPolicy.TheVariants.{Lru}
 use Rattle.audit_model.specs.declared.config.Weight.TheVariants as weigh
 use Rattle.audit_model.specs.declared.event.Event.TheVariants as event
 use Rattle.audit_model.specs.declared.event.Instant.{Instant}
+use Rattle.audit_model.specs.declared.event.Outcome.{Outcome}
+use Rattle.audit_model.specs.declared.event.Outcome.TheVariants as outcome
 use Rattle.audit_model.specs.declared.transcript.Accepted.{Accepted}
 use Rattle.audit_model.specs.declared.transcript.Note.{Note}
 use Rattle.audit_model.specs.declared.transcript.Step.{Step}
@@ -37,6 +39,24 @@ closed conn = record { event = event.Close conn; own = None; notices = []; steps
 abbrev pub fed : ℕ → ℕ → List ℕ → List Step → Record
 fed conn moment piece steps = record { event = event.Feed conn piece (at moment); own = None; notices = []; steps = steps }
 
+-- a load's answer, whose value no part takes, with notes
+abbrev pub answered : ℕ → ℕ → Outcome → List Note → List Step → Record
+answered load moment outcome notes steps = record { event = event.Answer load outcome (at moment); own = None; notices = notes; steps = steps }
+
+-- a load's answer, whose value the first part takes
+abbrev pub stored : ℕ → ℕ → Outcome → List Note → List Step → Record
+stored load moment outcome notes steps = record { event = event.Answer load outcome (at moment); own = Some (record { part = 0 }); notices = notes; steps = steps }
+
+abbrev pub given_up : ℕ → ℕ → List Step → Record
+given_up load moment steps = record { event = event.GiveUp load (at moment); own = None; notices = []; steps = steps }
+
+-- a value without a deadline
+abbrev pub came : String → Outcome
+came value = outcome.Value (codes value) None
+
+abbrev pub failed : String → Outcome
+failed why = outcome.Fault (codes why)
+
 abbrev pub step_of : ℕ → List ℕ → List ℕ → Option Accepted → List Note → Step
 step_of conn line reply accepted notes = record { conn = conn; line = line; held = false; reply = Some reply; load = None; accepted = accepted; notices = notes }
 
@@ -51,6 +71,16 @@ says conn line reply = tells conn line reply []
 -- a step that accepts a value into the first part
 abbrev pub takes : ℕ → String → List ℕ → List Note → Step
 takes conn line reply notes = step_of conn (codes line) reply (Some (record { part = 0 })) notes
+
+-- a `LOAD` that begins to wait: it sends the load of that number, or joins one
+abbrev pub waits : ℕ → String → Option ℕ → Step
+waits conn line load = record { conn = conn; line = codes line; held = false; reply = None; load = load; accepted = None; notices = [] }
+
+abbrev pub sends : ℕ → String → ℕ → Step
+sends conn line load = waits conn line (Some load)
+
+abbrev pub joins : ℕ → String → Step
+joins conn line = waits conn line None
 
 -- a command held back
 abbrev pub holds : ℕ → String → Step

@@ -5,6 +5,7 @@ ghost use Rattle.audit_tests.specs.Lines.{GoodLines, BrokenLines};
 ghost use Rattle.audit_tests.specs.Connections.{GoodConnections, BrokenConnections};
 ghost use Rattle.audit_tests.specs.Values.{GoodValues, BrokenValues};
 ghost use Rattle.audit_tests.specs.Commands.{GoodCommands, BrokenCommands};
+ghost use Rattle.audit_tests.specs.Loads.{GoodLoads, BrokenLoads};
 ghost use Rattle.audit_tests.specs.Sizes.{GoodSizes, BrokenSizes};
 ghost use Rattle.audit_tests.specs.Belonging.{GoodBelonging, BrokenBelonging};
 ghost use Rattle.audit_tests.specs.Deadlines.{GoodDeadlines, BrokenDeadlines};
@@ -31,6 +32,12 @@ pub fn rows_of_values()
 pub fn rows_of_commands()
     ensures good { GoodCommands }
     ensures broken { BrokenCommands }
+{}
+
+/// A key has one load under way, which each connection that asked for the key waits for.
+pub fn rows_of_loads()
+    ensures good { GoodLoads }
+    ensures broken { BrokenLoads }
 {}
 
 /// Who is told `Size` where there is a capacity.

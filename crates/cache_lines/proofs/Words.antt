@@ -5,7 +5,7 @@ use Rattle.std.specs.List.{list_all}
 use Rattle.std.proofs.lemmas.Bool.{eq-eqb, and_left, and_right, cond-true, cond-false}
 use Rattle.std.proofs.lemmas.Bool.Decides.{eqb_tells}
 use Rattle.audit_model.specs.Bytewise.{cut_at, words, onto_first}
-use Rattle.audit_model.specs.Grammar.{is_key, is_key_byte, read_words, read_add, deadline_in, number_in, with_key, get, has, del, add, clear, dropif, keys, sync, quit}
+use Rattle.audit_model.specs.Grammar.{is_key, is_key_byte, read_words, read_add, deadline_in, number_in, with_key, get, has, load, del, add, clear, dropif, keys, sync, quit}
 use Rattle.audit_model.specs.declared.config.Config.{Config}
 use Rattle.audit_model.specs.declared.command.Command.{Command}
 use Rattle.audit_model.specs.declared.command.Command.TheVariants as says
@@ -73,6 +73,13 @@ pub read_words-has : (config : Config) (bytes : List ℕ) → read_words config 
 read_words-has config bytes = ⊎_elim
     (λ one. ap (read_words config has) one)
     (λ more. ap (read_words config has) more.are ∙ sym (with_key-fault bytes _ more.no_key))
+    (one_or_more bytes)
+
+-- behind a `LOAD` too
+pub read_words-load : (config : Config) (bytes : List ℕ) → read_words config load (words bytes) ≡ with_key bytes (says.Load bytes)
+read_words-load config bytes = ⊎_elim
+    (λ one. ap (read_words config load) one)
+    (λ more. ap (read_words config load) more.are ∙ sym (with_key-fault bytes _ more.no_key))
     (one_or_more bytes)
 
 -- behind a `DEL` too

@@ -1,6 +1,6 @@
 -- What a request says, and what is known of its words.
 use Rattle.std.specs.Prelude.{◌≡◌, ℕ, ◌≤◌, false, List, length, Option, None, Ok, Err, IsTrue, IfSome, ◌⊎◌}
-use Rattle.audit_model.specs.Grammar.{Reading, Verb, set, get, has, del, add, clear, dropif, keys, sync, quit, is_key, is_value}
+use Rattle.audit_model.specs.Grammar.{Reading, Verb, set, get, has, load, del, add, clear, dropif, keys, sync, quit, is_key, is_value}
 use Rattle.audit_model.specs.declared.config.Config.{Config}
 use Rattle.audit_model.specs.declared.command.Command.TheVariants as says
 use Rattle.cache_lines.specs.declared.request.Request.{Request}
@@ -28,6 +28,7 @@ abbrev pub verb_of : Word → Verb
 verb_of word.Set = set
 verb_of word.Get = get
 verb_of word.Has = has
+verb_of word.Load = load
 verb_of word.Del = del
 verb_of word.Add = add
 verb_of word.Clear = clear

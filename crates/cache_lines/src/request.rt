@@ -1,7 +1,7 @@
 //! What a line says, with its words where they stand in it.
 ghost use Rattle.std.specs.Prelude.{◌≡◌, ◌≤◌, ℕ, List, [], IsTrue, IfSome, MatchOption, option_map, position, not};
 ghost use Rattle.audit_model.specs.Bytewise.{cut_at, words, words_up_to};
-ghost use Rattle.audit_model.specs.Grammar.{is_key, is_key_byte, is_value, deadline_in, read_words, read_verb, words_behind, set, get, has, del, add, dropif, verb_in, reading};
+ghost use Rattle.audit_model.specs.Grammar.{is_key, is_key_byte, is_value, deadline_in, read_words, read_verb, words_behind, set, get, has, load, del, add, dropif, verb_in, reading};
 ghost use Rattle.audit_model.specs.declared.config.Config.{Config};
 ghost use Rattle.cache_lines.specs.Request.{said, verb_of, IsFit, IsOwn, LacksKey};
 
@@ -53,6 +53,7 @@ pub enum Word {
     Set,
     Get,
     Has,
+    Load,
     Del,
     Add,
     Clear,
@@ -87,6 +88,8 @@ fn word_of(bytes: &[u8]) -> Option<Word>
         Some(Word::Get)
     } else if bytes == b"HAS".as_slice() {
         Some(Word::Has)
+    } else if bytes == b"LOAD".as_slice() {
+        Some(Word::Load)
     } else if bytes == b"DEL".as_slice() {
         Some(Word::Del)
     } else if bytes == b"ADD".as_slice() {
@@ -116,9 +119,8 @@ fn read_alone<'a>(word: Word) -> Request<'a>
         Word::Keys => Request::Keys,
         Word::Sync => Request::Sync,
         Word::Quit => Request::Quit,
-        Word::Set | Word::Get | Word::Has | Word::Del | Word::Add | Word::DropIf => {
-            Request::Fault(LineError::Syntax)
-        }
+        Word::Set | Word::Get | Word::Has | Word::Load => Request::Fault(LineError::Syntax),
+        Word::Del | Word::Add | Word::DropIf => Request::Fault(LineError::Syntax),
     }
 }
 
@@ -131,6 +133,7 @@ fn read_behind<'a>(config: &Config, word: Word, rest: &'a [u8]) -> Request<'a>
         Word::Set => read_set(config, rest),
         Word::Get => read_get(rest),
         Word::Has => read_has(rest),
+        Word::Load => read_load(rest),
         Word::Del => read_del(rest),
         Word::Add => read_add(config, rest),
         Word::DropIf => read_dropif(rest),
@@ -214,6 +217,18 @@ fn read_has(rest: &[u8]) -> Request<'_>
 {
     if key_fits(rest) {
         Request::Has { key: rest }
+    } else {
+        Request::Fault(LineError::Syntax)
+    }
+}
+
+/// Reads the key behind the word `LOAD`.
+fn read_load(rest: &[u8]) -> Request<'_>
+    ensures said { (config : Config) → said result ≡ read_words config load (words rest.now) }
+    ensures fit { (config : Config) (line : List ℕ) → IsFit config line result }
+{
+    if key_fits(rest) {
+        Request::Load { key: rest }
     } else {
         Request::Fault(LineError::Syntax)
     }

@@ -60,6 +60,9 @@ fn each_command(rt: HostRuntime) -> Result<(), Fail> {
     assert!(rt;
         matches!(read_line(&config(false), b"HAS ab"), Request::Has { key } if key == b"ab".as_slice())
     );
+    assert!(rt;
+        matches!(read_line(&config(false), b"LOAD ab"), Request::Load { key } if key == b"ab".as_slice())
+    );
     assert!(rt; adds(b"ADD n - 7", false, b"n", None, 7));
     assert!(rt;
         matches!(read_line(&config(false), b"DROPIF ab"), Request::DropIf { prefix } if prefix == b"ab".as_slice())
@@ -158,13 +161,17 @@ fn what_cannot_be_read(rt: HostRuntime) -> Result<(), Fail> {
     assert!(rt; fails(b"GET a ", false, LineError::Syntax));
     assert!(rt; fails(b"GET", false, LineError::Syntax));
     assert!(rt; fails(b"GET a\r", false, LineError::Syntax));
-    assert!(rt; fails(b"LOAD a", false, LineError::Command));
+    assert!(rt; fails(b"load a", false, LineError::Command));
+    assert!(rt; fails(b"LOADS a", false, LineError::Command));
     for line in [
         b"CLEAR ".as_slice(),
         b"KEYS a",
         b"SYNC ",
         b"QUIT x",
         b"HAS",
+        b"LOAD",
+        b"LOAD ",
+        b"LOAD a b",
         b"DROPIF a b",
     ] {
         assert!(rt; fails(line, false, LineError::Syntax));

@@ -148,8 +148,8 @@ fn an_earlier_moment_is_the_latest_one(rt: HostRuntime) -> Result<(), Fail> {
 fn faults_by_their_order(rt: HostRuntime) -> Result<(), Fail> {
     let rows = [Row::Says(
         0,
-        b"\nget a\nGET\nGET  a\nSET a -\nSET a - \nGET a\nSET a 5 x\nADD a - 1x\nLOAD a\n",
-        b"ERR command\nERR command\nERR syntax\nERR syntax\nERR syntax\nOK\nVAL \nERR deadline\nERR number\nERR command\n",
+        b"\nget a\nGET\nGET  a\nSET a -\nSET a - \nGET a\nSET a 5 x\nADD a - 1x\nload a\nLOAD\n",
+        b"ERR command\nERR command\nERR syntax\nERR syntax\nERR syntax\nOK\nVAL \nERR deadline\nERR number\nERR command\nERR syntax\n",
     )];
     assert_eq!(rt; first_wrong(rt.alloc(), PLAIN, &rows), Ok(None));
     Ok(())

@@ -4,6 +4,8 @@
 #[cfg(test)]
 mod hostile;
 #[cfg(test)]
+mod loads;
+#[cfg(test)]
 mod rows;
 #[cfg(test)]
 mod wrong;

@@ -32,6 +32,10 @@ pub const TWO_PARTS: &[u8] =
 pub const FULL: &[u8] =
     b"config capacity=1 policy=lru parts=1 weight=one live_ms=- idle_ms=- deadlines=0\nmade 0\n";
 
+/// Room for none.
+pub const NOTHING: &[u8] =
+    b"config capacity=0 policy=lru parts=1 weight=one live_ms=- idle_ms=- deadlines=0\nmade 0\n";
+
 /// A lower-case hex digit.
 fn digit(n: u8) -> u8
     requires { n < 16 }
@@ -80,12 +84,17 @@ fn verdict_of(alloc: Global, head: &[u8], lines: &[u8]) -> Option<u64> {
     }
 }
 
-/// Whether the verdict on a row is its own. Where memory is wanted it is judged once more.
-fn is_right(alloc: Global, head: &[u8], row: &Row) -> bool {
-    match verdict_of(alloc, head, row.lines) {
-        Some(breaks) => breaks == row.breaks,
-        None => verdict_of(alloc, head, row.lines) == Some(row.breaks),
+/// The verdict on a row's lines. Where memory is wanted they are judged once more.
+pub fn verdict_again(alloc: Global, head: &[u8], lines: &[u8]) -> Option<u64> {
+    match verdict_of(alloc, head, lines) {
+        Some(breaks) => Some(breaks),
+        None => verdict_of(alloc, head, lines),
     }
+}
+
+/// Whether the verdict on a row is its own.
+fn is_right(alloc: Global, head: &[u8], row: &Row) -> bool {
+    verdict_again(alloc, head, row.lines) == Some(row.breaks)
 }
 
 /// The number of the first row, counted from 1, whose verdict is another, or 0.

@@ -18,6 +18,13 @@ returns-in-Has-clause-said c =
 pub returns-in-Has-clause-fit : goal.returns-in-Has-clause-fit
 returns-in-Has-clause-fit c = c.read_has.ensures.fit c.args.config.now c.args.rest.now
 
+pub returns-in-Load-clause-said : goal.returns-in-Load-clause-said
+returns-in-Load-clause-said c =
+    c.read_load.ensures.said c.args.config.now ∙ sym (ap (λ (v : Verb). read_words c.args.config.now v (words_behind v (Some c.args.rest.now))) (ap verb_of c.in-Load.is))
+
+pub returns-in-Load-clause-fit : goal.returns-in-Load-clause-fit
+returns-in-Load-clause-fit c = c.read_load.ensures.fit c.args.config.now c.args.rest.now
+
 pub returns-in-Del-clause-said : goal.returns-in-Del-clause-said
 returns-in-Del-clause-said c =
     c.read_del.ensures.said c.args.config.now ∙ sym (ap (λ (v : Verb). read_words c.args.config.now v (words_behind v (Some c.args.rest.now))) (ap verb_of c.in-Del.is))

@@ -1,0 +1,241 @@
+//! Loads: those of the worked scripts, and what wrong services would have recorded of them.
+use crate::rows::{NOTHING, OWN, PLAIN, Row, first_wrong, verdict_again};
+use std::alloc::{AllocError, Global};
+use std::test::Fail;
+
+/// Whatever the settings.
+const LOADS: &[Row] = &[
+    // One load for two connections, and its value is there then.
+    Row {
+        lines: b"open 1\nopen 2\nfeed 1 0 'LOAD_k~\nstep 1 run 'LOAD_k - 1 -\nfeed 2 0 'LOAD_k~\nstep 2 run 'LOAD_k - - -\nanswer 1 0 value 'v -\nown 0\nstep 1 run 'LOAD_k 'VAL_v~ - -\nstep 2 run 'LOAD_k 'VAL_v~ - -\nfeed 1 0 'GET_k~\nstep 1 run 'GET_k 'VAL_v~ - -\n",
+        breaks: 0,
+    },
+    // Each connection starts its own load of a key.
+    Row {
+        lines: b"open 1\nopen 2\nfeed 1 0 'LOAD_k~\nstep 1 run 'LOAD_k - 1 -\nfeed 2 0 'LOAD_k~\nstep 2 run 'LOAD_k - 2 -\n",
+        breaks: 4,
+    },
+    // A give-up runs both again, and one load goes out.
+    Row {
+        lines: b"open 1\nopen 2\nfeed 1 0 'LOAD_k~\nstep 1 run 'LOAD_k - 1 -\nfeed 2 0 'LOAD_k~\nstep 2 run 'LOAD_k - - -\ngiveup 1 0\nstep 1 run 'LOAD_k - 2 -\nstep 2 run 'LOAD_k - - -\nanswer 2 0 value 'v -\nown 0\nstep 1 run 'LOAD_k 'VAL_v~ - -\nstep 2 run 'LOAD_k 'VAL_v~ - -\n",
+        breaks: 0,
+    },
+    // After a give-up those that wait are answered `NONE`.
+    Row {
+        lines: b"open 1\nopen 2\nfeed 1 0 'LOAD_k~\nstep 1 run 'LOAD_k - 1 -\nfeed 2 0 'LOAD_k~\nstep 2 run 'LOAD_k - - -\ngiveup 1 0\nstep 1 run 'LOAD_k 'NONE~ - -\nstep 2 run 'LOAD_k 'NONE~ - -\n",
+        breaks: 5,
+    },
+    // After a give-up the one that waits is run again, and the others are left out.
+    Row {
+        lines: b"open 1\nopen 2\nfeed 1 0 'LOAD_k~\nstep 1 run 'LOAD_k - 1 -\nfeed 2 0 'LOAD_k~\nstep 2 run 'LOAD_k - - -\ngiveup 1 0\nstep 1 run 'LOAD_k - 2 -\n",
+        breaks: 5,
+    },
+    // A line behind a `LOAD` that waits runs early, as it came in another piece, or in the same one.
+    Row {
+        lines: b"open 1\nopen 2\nfeed 1 0 'LOAD_k~\nstep 1 run 'LOAD_k - 1 -\nfeed 1 0 'GET_a~\nstep 1 run 'GET_a 'NONE~ - -\n",
+        breaks: 4,
+    },
+    Row {
+        lines: b"open 1\nfeed 1 0 'LOAD_k~GET_a~\nstep 1 run 'LOAD_k - 1 -\nstep 1 run 'GET_a 'NONE~ - -\n",
+        breaks: 2,
+    },
+    // The line runs behind its `LOAD`'s answer.
+    Row {
+        lines: b"open 1\nfeed 1 0 'LOAD_k~\nstep 1 run 'LOAD_k - 1 -\nfeed 1 0 'GET_a~\nanswer 1 0 none\nstep 1 run 'LOAD_k 'NONE~ - -\nstep 1 run 'GET_a 'NONE~ - -\n",
+        breaks: 0,
+    },
+    // All that wait are answered before a line runs.
+    Row {
+        lines: b"open 1\nopen 2\nfeed 1 0 'LOAD_k~GET_k~\nstep 1 run 'LOAD_k - 1 -\nfeed 2 0 'LOAD_k~\nstep 2 run 'LOAD_k - - -\nanswer 1 0 value 'v -\nown 0\nstep 1 run 'LOAD_k 'VAL_v~ - -\nstep 2 run 'LOAD_k 'VAL_v~ - -\nstep 1 run 'GET_k 'VAL_v~ - -\n",
+        breaks: 0,
+    },
+    Row {
+        lines: b"open 1\nopen 2\nfeed 1 0 'LOAD_k~GET_k~\nstep 1 run 'LOAD_k - 1 -\nfeed 2 0 'LOAD_k~\nstep 2 run 'LOAD_k - - -\nanswer 1 0 value 'v -\nown 0\nstep 1 run 'LOAD_k 'VAL_v~ - -\nstep 1 run 'GET_k 'VAL_v~ - -\nstep 2 run 'LOAD_k 'VAL_v~ - -\n",
+        breaks: 5,
+    },
+    // A `DEL` that came meanwhile does not stop the value.
+    Row {
+        lines: b"open 1\nopen 2\nfeed 1 0 'LOAD_k~\nstep 1 run 'LOAD_k - 1 -\nfeed 2 0 'DEL_k~\nstep 2 run 'DEL_k 'OK~ - -\nanswer 1 0 value 'v -\nown 0\nstep 1 run 'LOAD_k 'VAL_v~ - -\nfeed 2 0 'GET_k~\nstep 2 run 'GET_k 'VAL_v~ - -\n",
+        breaks: 0,
+    },
+    // An answer skips its value as a `DEL` came meanwhile, and says so, or does not.
+    Row {
+        lines: b"open 1\nopen 2\nfeed 1 0 'LOAD_k~\nstep 1 run 'LOAD_k - 1 -\nfeed 2 0 'DEL_k~\nstep 2 run 'DEL_k 'OK~ - -\nanswer 1 0 value 'v -\nstep 1 run 'LOAD_k 'VAL_v~ - -\n",
+        breaks: 5,
+    },
+    Row {
+        lines: b"open 1\nopen 2\nfeed 1 0 'LOAD_k~\nstep 1 run 'LOAD_k - 1 -\nfeed 2 0 'DEL_k~\nstep 2 run 'DEL_k 'OK~ - -\nanswer 1 0 value 'v -\nown 0\nstep 1 run 'LOAD_k 'VAL_v~ - -\nfeed 2 0 'GET_k~\nstep 2 run 'GET_k 'NONE~ - -\n",
+        breaks: 6,
+    },
+    // What a fault says is told, and no value comes of it.
+    Row {
+        lines: b"open 1\nfeed 1 0 'LOAD_k~\nstep 1 run 'LOAD_k - 1 -\nanswer 1 0 fault 'down\nstep 1 run 'LOAD_k 'ERR_load_down~ - -\nfeed 1 0 'QUIT~GET_a~\nstep 1 run 'QUIT 'OK~ - -\n",
+        breaks: 0,
+    },
+    // An outcome that the event refuses: a line end in a value or a fault, a time where there are no own deadlines.
+    Row {
+        lines: b"open 1\nfeed 1 0 'LOAD_k~\nstep 1 run 'LOAD_k - 1 -\nanswer 1 0 value 'x~y -\nown 0\nstep 1 run 'LOAD_k 'VAL_x~y~ - -\n",
+        breaks: 3,
+    },
+    Row {
+        lines: b"open 1\nfeed 1 0 'LOAD_k~\nstep 1 run 'LOAD_k - 1 -\nanswer 1 0 fault 'x^\nstep 1 run 'LOAD_k 'ERR_load_x^~ - -\n",
+        breaks: 3,
+    },
+    Row {
+        lines: b"open 1\nfeed 1 0 'LOAD_k~\nstep 1 run 'LOAD_k - 1 -\nanswer 1 0 value 'x 1\nown 0\nstep 1 run 'LOAD_k 'VAL_x~ - -\n",
+        breaks: 3,
+    },
+    // A load is answered twice, or answered after it was given up.
+    Row {
+        lines: b"open 1\nfeed 1 0 'LOAD_k~\nstep 1 run 'LOAD_k - 1 -\nanswer 1 0 none\nstep 1 run 'LOAD_k 'NONE~ - -\nanswer 1 0 none\n",
+        breaks: 4,
+    },
+    Row {
+        lines: b"open 1\nfeed 1 0 'LOAD_k~\nstep 1 run 'LOAD_k - 1 -\ngiveup 1 0\nstep 1 run 'LOAD_k - 2 -\nanswer 1 0 none\nstep 1 run 'LOAD_k 'NONE~ - -\n",
+        breaks: 4,
+    },
+    // A live value is answered, and no load goes out.
+    Row {
+        lines: b"open 1\nfeed 1 0 'SET_a_-_1~\nstep 1 run 'SET_a_-_1 'OK~ - 0\nfeed 1 0 'LOAD_a~\nstep 1 run 'LOAD_a 'VAL_1~ - -\n",
+        breaks: 0,
+    },
+    Row {
+        lines: b"open 1\nfeed 1 0 'SET_a_-_1~\nstep 1 run 'SET_a_-_1 'OK~ - 0\nfeed 1 0 'LOAD_a~\nstep 1 run 'LOAD_a - 1 -\n",
+        breaks: 3,
+    },
+    // The value that it finds replaced is told; without a value nothing is told.
+    Row {
+        lines: b"open 1\nopen 2\nfeed 1 0 'LOAD_k~\nstep 1 run 'LOAD_k - 1 -\nfeed 2 0 'SET_k_-_1~\nstep 2 run 'SET_k_-_1 'OK~ - 0\nanswer 1 0 value 'v -\nown 0\nownnote Replaced 'k '1\nstep 1 run 'LOAD_k 'VAL_v~ - -\n",
+        breaks: 0,
+    },
+    Row {
+        lines: b"open 1\nopen 2\nfeed 1 0 'LOAD_k~\nstep 1 run 'LOAD_k - 1 -\nfeed 2 0 'SET_k_-_1~\nstep 2 run 'SET_k_-_1 'OK~ - 0\nanswer 1 0 value 'v -\nown 0\nstep 1 run 'LOAD_k 'VAL_v~ - -\n",
+        breaks: 5,
+    },
+    Row {
+        lines: b"open 1\nopen 2\nfeed 1 0 'LOAD_k~\nstep 1 run 'LOAD_k - 1 -\nfeed 2 0 'SET_k_-_1~\nstep 2 run 'SET_k_-_1 'OK~ - 0\nanswer 1 0 none\nownnote Replaced 'k '1\nstep 1 run 'LOAD_k 'NONE~ - -\n",
+        breaks: 5,
+    },
+    // A closed connection is left out, and its load stays under way.
+    Row {
+        lines: b"open 1\nopen 2\nfeed 1 0 'LOAD_k~\nstep 1 run 'LOAD_k - 1 -\nclose 1\nfeed 2 0 'LOAD_k~\nstep 2 run 'LOAD_k - - -\nanswer 1 0 value 'v -\nown 0\nstep 2 run 'LOAD_k 'VAL_v~ - -\n",
+        breaks: 0,
+    },
+    Row {
+        lines: b"open 1\nopen 2\nfeed 1 0 'LOAD_k~\nstep 1 run 'LOAD_k - 1 -\nclose 1\nfeed 2 0 'LOAD_k~\nstep 2 run 'LOAD_k - 2 -\n",
+        breaks: 5,
+    },
+    // A `LOAD` that runs again finds no memory, and is held back.
+    Row {
+        lines: b"open 1\nfeed 1 0 'LOAD_k~\nstep 1 run 'LOAD_k - 1 -\ngiveup 1 0\nstep 1 held 'LOAD_k - - -\nfeed 1 0 '\nstep 1 run 'LOAD_k - 2 -\n",
+        breaks: 0,
+    },
+    // One that is answered is not.
+    Row {
+        lines: b"open 1\nfeed 1 0 'LOAD_k~\nstep 1 run 'LOAD_k - 1 -\nanswer 1 0 none\nstep 1 held 'LOAD_k - - -\n",
+        breaks: 3,
+    },
+];
+
+/// Nothing is kept.
+const OFF: &[Row] = &[
+    Row {
+        lines: b"open 1\nfeed 1 0 'SET_a_-_1~\nstep 1 run 'SET_a_-_1 'OFF~ - -\nfeed 1 0 'LOAD_k~\nstep 1 run 'LOAD_k - 1 -\nanswer 1 0 value 'v -\nstep 1 run 'LOAD_k 'VAL_v~ - -\nfeed 1 0 'GET_k~\nstep 1 run 'GET_k 'NONE~ - -\n",
+        breaks: 0,
+    },
+    Row {
+        lines: b"open 1\nfeed 1 0 'LOAD_k~\nstep 1 run 'LOAD_k - 1 -\nanswer 1 0 value 'v -\nown 0\nstep 1 run 'LOAD_k 'VAL_v~ - -\n",
+        breaks: 3,
+    },
+];
+
+/// A loaded value dies at its own deadline.
+const TIMED: &[Row] = &[
+    Row {
+        lines: b"open 1\nfeed 1 0 'LOAD_k~\nstep 1 run 'LOAD_k - 1 -\nanswer 1 0 value 'v 1\nown 0\nstep 1 run 'LOAD_k 'VAL_v~ - -\nfeed 1 999423 'GET_k~\nstep 1 run 'GET_k 'VAL_v~ - -\nfeed 1 999424 'GET_k~\nstep 1 run 'GET_k 'NONE~ - -\n",
+        breaks: 0,
+    },
+    Row {
+        lines: b"open 1\nfeed 1 0 'LOAD_k~\nstep 1 run 'LOAD_k - 1 -\nanswer 1 0 value 'v 1\nown 0\nstep 1 run 'LOAD_k 'VAL_v~ - -\nfeed 1 999424 'GET_k~\nstep 1 run 'GET_k 'VAL_v~ - -\n",
+        breaks: 4,
+    },
+];
+
+#[test]
+fn loads(rt: HostRuntime) -> Result<(), Fail> {
+    assert_eq!(rt; first_wrong(rt.alloc(), PLAIN, LOADS), 0);
+    assert_eq!(rt; first_wrong(rt.alloc(), NOTHING, OFF), 0);
+    assert_eq!(rt; first_wrong(rt.alloc(), OWN, TIMED), 0);
+    Ok(())
+}
+
+/// The lines of a `LOAD` that is given up again and again, at each but the last time sending a load anew, and abandoned at the last.
+fn given_up(alloc: Global, times: u64) -> Result<Vec<u8>, AllocError> {
+    let mut lines = Vec::from_slice(
+        alloc,
+        b"open 1\nfeed 1 0 'LOAD_k~\nstep 1 run 'LOAD_k - 1 -\n",
+    )?;
+    for number in 1..times {
+        let next = number.saturating_add(1);
+        let text = format!(in alloc; "giveup {number} 0\nstep 1 run 'LOAD_k - {next} -\n")?;
+        lines.extend_from_slice(text.as_bytes())?;
+    }
+    let text = format!(in alloc; "giveup {times} 0\nstep 1 run 'LOAD_k 'ERR_abandoned~ - -\n")?;
+    lines.extend_from_slice(text.as_bytes())?;
+    let next = times.saturating_add(1);
+    let text = format!(in alloc; "feed 1 0 'LOAD_k~\nstep 1 run 'LOAD_k - {next} -\n")?;
+    lines.extend_from_slice(text.as_bytes())?;
+    Ok(lines)
+}
+
+/// The lines of a `LOAD` with that many bytes behind it, and its answer.
+fn behind(alloc: Global, count: u64, steps: &[u8]) -> Result<Vec<u8>, AllocError> {
+    let mut lines = Vec::from_slice(alloc, b"open 1\nfeed 1 0 'LOAD_k~")?;
+    for _byte in 0..count {
+        lines.push(b'x')?;
+    }
+    lines.extend_from_slice(b"\nstep 1 run 'LOAD_k - 1 -\nanswer 1 0 none\n")?;
+    lines.extend_from_slice(steps)?;
+    Ok(lines)
+}
+
+#[test]
+fn the_200th_give_up_abandons(rt: HostRuntime) -> Result<(), Fail> {
+    let alloc = rt.alloc();
+    assert_eq!(rt;
+        verdict_again(alloc, PLAIN, &given_up(alloc, 200)?),
+        Some(0)
+    );
+    assert_eq!(rt;
+        verdict_again(alloc, PLAIN, &given_up(alloc, 199)?),
+        Some(201)
+    );
+    assert_eq!(rt;
+        verdict_again(alloc, PLAIN, &given_up(alloc, 201)?),
+        Some(202)
+    );
+    Ok(())
+}
+
+#[test]
+fn bytes_behind_a_load(rt: HostRuntime) -> Result<(), Fail> {
+    let alloc = rt.alloc();
+    let told = b"step 1 run 'LOAD_k 'NONE~ - -\n";
+    assert_eq!(rt;
+        verdict_again(alloc, PLAIN, &behind(alloc, 8192, told)?),
+        Some(0)
+    );
+    assert_eq!(rt;
+        verdict_again(alloc, PLAIN, &behind(alloc, 8192, b"")?),
+        Some(3)
+    );
+    assert_eq!(rt;
+        verdict_again(alloc, PLAIN, &behind(alloc, 8193, b"")?),
+        Some(0)
+    );
+    assert_eq!(rt;
+        verdict_again(alloc, PLAIN, &behind(alloc, 8193, told)?),
+        Some(3)
+    );
+    Ok(())
+}
