@@ -11,12 +11,14 @@ use Rattle.audit_model.specs.Follows.{Follows, after_record, after_records}
 use Rattle.audit_model.specs.Situation.{Situation}
 use Rattle.audit_model.specs.declared.config.Config.{Config}
 use Rattle.audit_model.specs.declared.event.Event.TheVariants as event
+use Rattle.audit_model.specs.declared.event.Outcome.{Outcome}
 use Rattle.audit_model.specs.declared.transcript.Record.{Record}
 use Rattle.cache_devices.proofs.Sending.{appends_more, same_appends}
 use Rattle.cache_namespace.specs.Taken.{record_of}
 use Rattle.cache_spaces.specs.Spaces.{notices_of}
 use Rattle.cache_spaces.specs.declared.space.Space.{Space}
-use Rattle.cache_run.specs.Carried.{Broken, Carried, Feeding, Readings, close_records, feed_record, notes_in, open_records, records_of, replies_in}
+use Rattle.cache_run.specs.Carried.{Askings, Broken, Carried, Left, Readings, close_records, nothing_left, open_records, records_of}
+use Rattle.cache_run.specs.Happened.{Asking, Turn, AreDrops, AreRight, IsRight, asked_in, moment_in, notes_in, notes_of, piece_in, records_in, replies_in}
 use Rattle.cache_run.specs.Delivered.{Delivered, Undelivered}
 use Rattle.cache_run.specs.Worlds.{Outside, World, outside, world}
 use Rattle.cache_run.specs.declared.errors.RunError.{RunError}
@@ -56,136 +58,196 @@ pub readings_more : {C : Type 0} (reads : C → ℕ → C → Type 0) (c : C) (t
 readings_more {C} reads c [] d us e p q = let P : C → Type 0 = λ x. Readings reads x us e in subst P p q
 readings_more reads c (t ∷ ts) d us e p q = (p.0, p.1, readings_more reads p.0 ts d us e p.2 q)
 
-abbrev moments : List Feeding → List ℕ
-moments feeds = map (λ (f : Feeding). f.moment) feeds
+pub askings_more : {L : Type 0} (loads : L → List ℕ → Option Outcome → L → Type 0) (l : L) (xs : List Asking) (m : L) (ys : List Asking) (n : L) → Askings loads l xs m → Askings loads m ys n → Askings loads l (xs ++ ys) n
+askings_more {L} loads l [] m ys n p q = let P : L → Type 0 = λ x. Askings loads x ys n in subst P p q
+askings_more loads l (x ∷ xs) m ys n p q = (p.0, p.1, askings_more loads p.0 xs m ys n p.2 q)
 
-abbrev pieces : List Feeding → List ℕ
-pieces feeds = flat_map (λ (f : Feeding). f.piece) feeds
+right-more : (config : Config) (xs ys : List Turn) → AreRight config xs → AreRight config ys → AreRight config (xs ++ ys)
+right-more config [] ys p q = q
+right-more config (x ∷ xs) ys p q = (p.0, right-more config xs ys p.1 q)
 
-records-join : (number : ℕ) (opens closes : Bool) (fs gs : List Feeding) → records_of number opens fs false ++ records_of number false gs closes ≡ records_of number opens (fs ++ gs) closes
-records-join number opens closes fs gs =
+abbrev moments : List Turn → List ℕ
+moments turns = map moment_in turns
+
+abbrev pieces : List Turn → List ℕ
+pieces turns = flat_map piece_in turns
+
+abbrev asked : List Turn → List Asking
+asked turns = flat_map asked_in turns
+
+-- what comes behind both, with nothing between
+join-behind : {A : Type 0} (x y z : List A) → (x ++ []) ++ (y ++ z) ≡ (x ++ y) ++ z
+join-behind x y z = ap (λ l. l ++ (y ++ z)) (append-nil x) ∙ sym (append_assoc x y z)
+
+records-join : (number : ℕ) (opens closes : Bool) (xs ys : List Turn) (drops : List Record) → records_of number opens xs false [] ++ records_of number false ys closes drops ≡ records_of number opens (xs ++ ys) closes drops
+records-join number opens closes xs ys drops =
     let o = open_records number opens in
-    let x = map (feed_record number) fs in
-    let y = map (feed_record number) gs in
-    let z = close_records number closes in
-    ap (λ l. l ++ (y ++ z)) (append-nil (o ++ x)) ∙ sym (append_assoc (o ++ x) y z) ∙ ap (λ l. l ++ z) (append_assoc o x y ∙ ap (λ l. o ++ l) (sym (map-append (feed_record number) fs gs)))
+    let x = flat_map (records_in number) xs in
+    let y = flat_map (records_in number) ys in
+    let z = close_records number closes ++ drops in
+    join-behind (o ++ x) y z ∙ ap (λ l. l ++ z) (append_assoc o x y ∙ ap (λ l. o ++ l) (sym (flat_map-append (records_in number) xs ys)))
 
--- one after another
-pub carried-more : {C : Type 0} (config : Config) (number : ℕ) (reads : C → ℕ → C → Type 0) (a b c : World C) (opens closes : Bool) (late lost unsent : List ℕ)
-    → Carried config number reads a b opens false [] [] [] → Carried config number reads b c false closes late lost unsent → Carried config number reads a c opens closes late lost unsent
-carried-more config number reads a b c opens closes late lost unsent x y =
-    let fs = x.feeds in
-    let gs = y.feeds in
-    let read : (pieces fs ++ []) ++ (pieces gs ++ lost) ≡ pieces (fs ++ gs) ++ lost =
-    ap (λ z. z ++ (pieces gs ++ lost)) (append-nil (pieces fs)) ∙ sym (append_assoc (pieces fs) (pieces gs) lost) ∙ ap (λ z. z ++ lost) (sym (flat_map-append (λ (f : Feeding). f.piece) fs gs)) in
-    let times : (moments fs ++ []) ++ (moments gs ++ late) ≡ moments (fs ++ gs) ++ late =
-    ap (λ z. z ++ (moments gs ++ late)) (append-nil (moments fs)) ∙ sym (append_assoc (moments fs) (moments gs) late) ∙ ap (λ z. z ++ late) (sym (map-append (λ (f : Feeding). f.moment) fs gs)) in
-    record {
-      feeds = fs ++ gs;
-      follows = subst (λ rs. after_records config a.situation rs ≡ Some c.situation) (records-join number opens closes fs gs) (records-more config a.situation (records_of number opens fs false) b.situation (records_of number false gs closes) c.situation x.follows y.follows);
-      notices = y.notices ∙ ap (λ z. z ++ flat_map notes_in gs) x.notices ∙ append_assoc a.notices (flat_map notes_in fs) (flat_map notes_in gs) ∙ ap (λ z. a.notices ++ z) (sym (flat_map-append notes_in fs gs));
-      read = subst (Consumes a.outside.remaining c.outside.remaining) read (consumes_more a.outside.remaining b.outside.remaining c.outside.remaining (pieces fs ++ []) (pieces gs ++ lost) x.read y.read);
-      sent = x.sent ++ y.sent;
-      wrote = appends_more a.outside.contents b.outside.contents c.outside.contents x.sent y.sent x.wrote y.wrote;
-      replies = append_assoc x.sent y.sent unsent ∙ ap (λ z. x.sent ++ z) y.replies ∙ ap (λ z. z ++ flat_map replies_in gs) (sym (append-nil x.sent) ∙ x.replies) ∙ sym (flat_map-append replies_in fs gs);
-      clock = subst (λ ts. Readings reads a.outside.clock ts c.outside.clock) times (readings_more reads a.outside.clock (moments fs ++ []) b.outside.clock (moments gs ++ late) c.outside.clock x.clock y.clock);
-    }
+module _ {C L : Type 0} (config : Config) (number : ℕ) (reads : C → ℕ → C → Type 0) (loads : L → List ℕ → Option Outcome → L → Type 0) where
+  -- one after another
+  pub carried-more : (a b c : World C L) (opens closes : Bool) (drops : List Record) (left : Left)
+      → Carried config number reads loads a b opens false [] nothing_left → Carried config number reads loads b c false closes drops left → Carried config number reads loads a c opens closes drops left
+  carried-more a b c opens closes drops left x y =
+      let xs = x.turns in
+      let ys = y.turns in
+      let told = flat_map (notes_in number) in
+      let last = flat_map notes_of drops in
+      record {
+        turns = xs ++ ys;
+        right = right-more config xs ys x.right y.right;
+        follows = subst (λ rs. after_records config a.situation rs ≡ Some c.situation) (records-join number opens closes xs ys drops) (records-more config a.situation (records_of number opens xs false []) b.situation (records_of number false ys closes drops) c.situation x.follows y.follows);
+        notices = y.notices ∙ ap (λ z. (z ++ told ys) ++ last) (x.notices ∙ append-nil (a.notices ++ told xs))
+            ∙ ap (λ z. z ++ last) (append_assoc a.notices (told xs) (told ys) ∙ ap (λ z. a.notices ++ z) (sym (flat_map-append (notes_in number) xs ys)));
+        read = subst (Consumes a.outside.remaining c.outside.remaining) (join-behind (pieces xs) (pieces ys) left.lost ∙ ap (λ z. z ++ left.lost) (sym (flat_map-append piece_in xs ys)))
+            (consumes_more a.outside.remaining b.outside.remaining c.outside.remaining (pieces xs ++ []) (pieces ys ++ left.lost) x.read y.read);
+        sent = x.sent ++ y.sent;
+        wrote = appends_more a.outside.contents b.outside.contents c.outside.contents x.sent y.sent x.wrote y.wrote;
+        replies = append_assoc x.sent y.sent left.unsent ∙ ap (λ z. x.sent ++ z) y.replies ∙ ap (λ z. z ++ flat_map (replies_in number) ys) (sym (append-nil x.sent) ∙ x.replies) ∙ sym (flat_map-append (replies_in number) xs ys);
+        clock = subst (λ ts. Readings reads a.outside.clock ts c.outside.clock) (join-behind (moments xs) (moments ys) left.late ∙ ap (λ z. z ++ left.late) (sym (map-append moment_in xs ys)))
+            (readings_more reads a.outside.clock (moments xs ++ []) b.outside.clock (moments ys ++ left.late) c.outside.clock x.clock y.clock);
+        loader = subst (λ ks. Askings loads a.outside.loader ks c.outside.loader) (join-behind (asked xs) (asked ys) left.asked ∙ ap (λ z. z ++ left.asked) (sym (flat_map-append asked_in xs ys)))
+            (askings_more loads a.outside.loader (asked xs ++ []) b.outside.loader (asked ys ++ left.asked) c.outside.loader x.loader y.loader);
+      }
 
-pub broken-more : {C : Type 0} (config : Config) (number : ℕ) (reads : C → ℕ → C → Type 0) (a b c : World C) (opens closes : Bool) (e : RunError)
-    → Carried config number reads a b opens false [] [] [] → Broken config number reads b c false closes e → Broken config number reads a c opens closes e
-broken-more config number reads a b c opens closes e x y =
-    record { late = y.late; lost = y.lost; unsent = y.unsent; carried = carried-more config number reads a b c opens closes y.late y.lost y.unsent x y.carried; moment = y.moment }
+  pub broken-more : (a b c : World C L) (opens closes : Bool) (drops : List Record) (e : RunError)
+      → Carried config number reads loads a b opens false [] nothing_left → Broken config number reads loads b c false closes drops e → Broken config number reads loads a c opens closes drops e
+  broken-more a b c opens closes drops e x y = record { left = y.left; carried = carried-more a b c opens closes drops y.left x y.carried; dropped = y.dropped; moment = y.moment }
 
--- where nothing was fed
-pub carried-none : {C : Type 0} (config : Config) (number : ℕ) (reads : C → ℕ → C → Type 0) (a b : World C) (late lost : List ℕ) → b.situation ≡ a.situation → b.notices ≡ a.notices
-    → Consumes a.outside.remaining b.outside.remaining lost → Appends a.outside.contents b.outside.contents [] → Readings reads a.outside.clock late b.outside.clock → Carried config number reads a b false false late lost []
-carried-none config number reads a b late lost same notices read wrote clock =
-    record { feeds = []; follows = ap (λ s. Some s) (sym same); notices = notices ∙ sym (append-nil a.notices); read = read; sent = []; wrote = wrote; replies = refl; clock = clock }
+  -- where nothing was fed or settled
+  pub carried-none : (a b : World C L) (late lost : List ℕ) (asks : List Asking) → b.situation ≡ a.situation → b.notices ≡ a.notices
+      → Consumes a.outside.remaining b.outside.remaining lost → Appends a.outside.contents b.outside.contents [] → Readings reads a.outside.clock late b.outside.clock → Askings loads a.outside.loader asks b.outside.loader
+      → Carried config number reads loads a b false false [] (record { late = late; lost = lost; asked = asks; unsent = [] })
+  carried-none a b late lost asks same notices read wrote clock loader = record {
+    turns = [];
+    right = tt;
+    follows = ap (λ s. Some s) (sym same);
+    notices = notices ∙ sym (append-nil a.notices) ∙ sym (append-nil (a.notices ++ []));
+    read = read;
+    sent = [];
+    wrote = wrote;
+    replies = refl;
+    clock = clock;
+    loader = loader;
+  }
 
--- where one piece was fed
-pub carried-one : {C : Type 0} (config : Config) (number : ℕ) (reads : C → ℕ → C → Type 0) (x y : Space) (s t : Situation) (r q v w : Option (List ℕ)) (k l : C) (piece : List ℕ) (moment : ℕ) (unsent : List ℕ)
-    → Delivered config number piece moment s t (notices_of x) (notices_of y) v w unsent → Consumes r q piece → reads k moment l
-    → Carried config number reads (world x s (outside r v k)) (world y t (outside q w l)) false false [] [] unsent
-carried-one config number reads x y s t r q v w k l piece moment unsent d read clock =
-    let f = d.answered.feeding in
-    record {
-      feeds = f ∷ [];
-      follows = record-one config s (feed_record number f) t d.answered.follows;
-      notices = d.answered.notices ∙ ap (λ z. notices_of x ++ z) (sym (append-nil (notes_in f)));
-      read = subst (Consumes r q) (sym d.answered.piece_is ∙ sym (append-nil f.piece) ∙ sym (append-nil (f.piece ++ []))) read;
-      sent = d.sent;
-      wrote = d.wrote;
-      replies = d.whole ∙ d.answered.replies ∙ sym (append-nil (replies_in f));
-      clock = (l, subst (λ m. reads k m l) (sym d.answered.moment_is) clock, refl);
-    }
+  -- where one turn came
+  pub carried-one : (x y : Space) (s t : Situation) (r q v w : Option (List ℕ)) (k l : C) (m n : L) (piece : List ℕ) (moment : ℕ) (asks : List Asking) (unsent : List ℕ)
+      → Delivered config number piece moment asks s t (notices_of x) (notices_of y) v w unsent → Consumes r q piece → reads k moment l → Askings loads m asks n
+      → Carried config number reads loads (world x s (outside r v k m)) (world y t (outside q w l n)) false false [] (record { late = []; lost = []; asked = []; unsent = unsent })
+  carried-one x y s t r q v w k l m n piece moment asks unsent d read clock loader =
+      let f = d.answered.turn in
+      let own = notes_in number f in
+      record {
+        turns = f ∷ [];
+        right = (d.answered.right, tt);
+        follows = ap (λ rs. after_records config s rs) (append-nil (records_in number f ++ []) ∙ append-nil (records_in number f)) ∙ d.answered.follows;
+        notices = d.answered.notices ∙ sym (append-nil (notices_of x ++ own)) ∙ ap (λ z. (notices_of x ++ z) ++ []) (sym (append-nil own));
+        read = subst (Consumes r q) (sym d.answered.piece_is ∙ sym (append-nil (piece_in f)) ∙ sym (append-nil (piece_in f ++ []))) read;
+        sent = d.sent;
+        wrote = d.wrote;
+        replies = d.whole ∙ d.answered.replies ∙ sym (append-nil (replies_in number f));
+        clock = (l, subst (λ o. reads k o l) (sym d.answered.moment_is) clock, refl);
+        loader = subst (λ os. Askings loads m os n) (sym d.answered.asks_are ∙ sym (append-nil (asked_in f)) ∙ sym (append-nil (asked_in f ++ []))) loader;
+      }
 
--- where an error came
-pub broken-one : {C : Type 0} (config : Config) (number : ℕ) (reads : C → ℕ → C → Type 0) (x y : Space) (s t : Situation) (r q v w : Option (List ℕ)) (k l : C) (piece : List ℕ) (moment : ℕ) (e : RunError)
-    → Undelivered config number piece moment s t (notices_of x) (notices_of y) v w e → Consumes r q piece → reads k moment l
-    → Broken config number reads (world x s (outside r v k)) (world y t (outside q w l)) false false e
-broken-one config number reads x y s t r q v w k l piece moment e (inl u) read clock = record {
-  late = moment ∷ [];
-  lost = piece;
-  unsent = [];
-  carried = carried-none config number reads (world x s (outside r v k)) (world y t (outside q w l)) (moment ∷ []) piece u.0.same u.0.notices read u.1 (l, clock, refl);
-  moment = λ is. (moment, late u.2 is, refl);
-}
-  where
-    late : (e ≡ OutOfMemory) ⊎ ((e ≡ Moment) × (2 ^ 63 ≤ moment)) → e ≡ Moment → 2 ^ 63 ≤ moment
-    late (inl memory) is = let h : OutOfMemory ≡ Moment = sym memory ∙ is in cc
-    late (inr p) is = p.1
-broken-one config number reads x y s t r q v w k l piece moment e (inr u) read clock =
-    record { late = []; lost = []; unsent = u.0; carried = carried-one config number reads x y s t r q v w k l piece moment u.0 u.1 read clock; moment = λ is. absurd (u.2 is) }
+  -- where an error came
+  pub broken-one : (x y : Space) (s t : Situation) (r q v w : Option (List ℕ)) (k l : C) (m n : L) (piece : List ℕ) (moment : ℕ) (asks : List Asking) (e : RunError)
+      → Undelivered config number piece moment asks s t (notices_of x) (notices_of y) v w e → Consumes r q piece → reads k moment l → Askings loads m asks n
+      → Broken config number reads loads (world x s (outside r v k m)) (world y t (outside q w l n)) false false [] e
+  broken-one x y s t r q v w k l m n piece moment asks e (inl u) read clock loader = record {
+    left = record { late = moment ∷ []; lost = piece; asked = asks; unsent = [] };
+    carried = carried-none (world x s (outside r v k m)) (world y t (outside q w l n)) (moment ∷ []) piece asks u.0.same u.0.notices read u.1 (l, clock, refl) loader;
+    dropped = tt;
+    moment = λ is. (moment, late u.2 is, refl);
+  }
+    where
+      late : (e ≡ OutOfMemory) ⊎ ((e ≡ Moment) × (2 ^ 63 ≤ moment)) → e ≡ Moment → 2 ^ 63 ≤ moment
+      late (inl memory) is = let h : OutOfMemory ≡ Moment = sym memory ∙ is in cc
+      late (inr p) is = p.1
+  broken-one x y s t r q v w k l m n piece moment asks e (inr u) read clock loader =
+      record { left = record { late = []; lost = []; asked = []; unsent = u.0 }; carried = carried-one x y s t r q v w k l m n piece moment asks u.0 u.1 read clock loader; dropped = tt; moment = λ is. absurd (u.2 is) }
 
--- where only records without replies and notes came
-still : {C : Type 0} (config : Config) (number : ℕ) (reads : C → ℕ → C → Type 0) (x y : Space) (s t : Situation) (around : Outside C) (opens closes : Bool) → after_records config s (records_of number opens [] closes) ≡ Some t → notices_of y ≡ notices_of x
-    → Carried config number reads (world x s around) (world y t around) opens closes [] [] []
-still config number reads x y s t around opens closes follows notices = record {
-  feeds = [];
-  follows = follows;
-  notices = notices ∙ sym (append-nil (notices_of x));
-  read = same_consumes around.remaining;
-  sent = [];
-  wrote = same_appends around.contents;
-  replies = refl;
-  clock = refl;
-}
+  -- where only records without replies and notes came
+  still : (x y : Space) (s t : Situation) (around : Outside C L) (opens closes : Bool) → after_records config s (records_of number opens [] closes []) ≡ Some t → notices_of y ≡ notices_of x
+      → Carried config number reads loads (world x s around) (world y t around) opens closes [] nothing_left
+  still x y s t around opens closes follows notices = record {
+    turns = [];
+    right = tt;
+    follows = follows;
+    notices = notices ∙ sym (append-nil (notices_of x)) ∙ sym (append-nil (notices_of x ++ []));
+    read = same_consumes around.remaining;
+    sent = [];
+    wrote = same_appends around.contents;
+    replies = refl;
+    clock = refl;
+    loader = refl;
+  }
 
-pub carried-opened : {C : Type 0} (config : Config) (number : ℕ) (reads : C → ℕ → C → Type 0) (x y : Space) (s t : Situation) (around : Outside C) → Follows config s (record_of (event.Open number) []) t → notices_of y ≡ notices_of x
-    → Carried config number reads (world x s around) (world y t around) true false [] [] []
-carried-opened config number reads x y s t around follows notices = still config number reads x y s t around true false (record-one config s (record_of (event.Open number) []) t follows) notices
+  pub carried-opened : (x y : Space) (s t : Situation) (around : Outside C L) → Follows config s (record_of (event.Open number) []) t → notices_of y ≡ notices_of x
+      → Carried config number reads loads (world x s around) (world y t around) true false [] nothing_left
+  carried-opened x y s t around follows notices = still x y s t around true false (record-one config s (record_of (event.Open number) []) t follows) notices
 
-pub carried-same : {C : Type 0} (config : Config) (number : ℕ) (reads : C → ℕ → C → Type 0) (x y : Space) (s t : Situation) (around : Outside C) → t ≡ s → notices_of y ≡ notices_of x
-    → Carried config number reads (world x s around) (world y t around) false false [] [] []
-carried-same config number reads x y s t around same notices = still config number reads x y s t around false false (ap (λ m. Some m) (sym same)) notices
+  pub carried-same : (x y : Space) (s t : Situation) (around : Outside C L) → t ≡ s → notices_of y ≡ notices_of x
+      → Carried config number reads loads (world x s around) (world y t around) false false [] nothing_left
+  carried-same x y s t around same notices = still x y s t around false false (ap (λ m. Some m) (sym same)) notices
 
--- a closing behind what was carried
-pub carried-close : {C : Type 0} (config : Config) (number : ℕ) (reads : C → ℕ → C → Type 0) (a b : World C) (y : Space) (u : Situation) (opens : Bool) (late lost unsent : List ℕ)
-    → Carried config number reads a b opens false late lost unsent → Follows config b.situation (record_of (event.Close number) []) u → notices_of y ≡ b.notices
-    → Carried config number reads a (world y u b.outside) opens true late lost unsent
-carried-close config number reads a b y u opens late lost unsent c follows notices = record {
-  feeds = c.feeds;
-  follows = subst (λ rs. after_records config a.situation rs ≡ Some u) (ap (λ l. l ++ close_records number true) (append-nil (open_records number opens ++ map (feed_record number) c.feeds)))
-      (records-more config a.situation (records_of number opens c.feeds false) b.situation (close_records number true) u c.follows (record-one config b.situation (record_of (event.Close number) []) u follows));
-  notices = notices ∙ c.notices;
-  read = c.read;
-  sent = c.sent;
-  wrote = c.wrote;
-  replies = c.replies;
-  clock = c.clock;
-}
+  -- a closing behind what was carried
+  pub carried-close : (a b : World C L) (y : Space) (u : Situation) (opens : Bool) (left : Left)
+      → Carried config number reads loads a b opens false [] left → Follows config b.situation (record_of (event.Close number) []) u → notices_of y ≡ b.notices
+      → Carried config number reads loads a (world y u b.outside) opens true [] left
+  carried-close a b y u opens left c follows notices = record {
+    turns = c.turns;
+    right = c.right;
+    follows = subst (λ rs. after_records config a.situation rs ≡ Some u) (ap (λ l. l ++ close_records number true) (append-nil (open_records number opens ++ flat_map (records_in number) c.turns)))
+        (records-more config a.situation (records_of number opens c.turns false []) b.situation (close_records number true) u c.follows (record-one config b.situation (record_of (event.Close number) []) u follows));
+    notices = notices ∙ c.notices;
+    read = c.read;
+    sent = c.sent;
+    wrote = c.wrote;
+    replies = c.replies;
+    clock = c.clock;
+    loader = c.loader;
+  }
 
--- nothing came behind what was carried
-pub carried-still : {C : Type 0} (config : Config) (number : ℕ) (reads : C → ℕ → C → Type 0) (a b : World C) (y : Space) (u : Situation) (opens closes : Bool) (late lost unsent : List ℕ)
-    → Carried config number reads a b opens closes late lost unsent → u ≡ b.situation → notices_of y ≡ b.notices
-    → Carried config number reads a (world y u b.outside) opens closes late lost unsent
-carried-still config number reads a b y u opens closes late lost unsent c same notices = record {
-  feeds = c.feeds;
-  follows = c.follows ∙ ap (λ s. Some s) (sym same);
-  notices = notices ∙ c.notices;
-  read = c.read;
-  sent = c.sent;
-  wrote = c.wrote;
-  replies = c.replies;
-  clock = c.clock;
-}
+  -- nothing came behind what was carried
+  pub carried-still : (a b : World C L) (y : Space) (u : Situation) (opens closes : Bool) (drops : List Record) (left : Left)
+      → Carried config number reads loads a b opens closes drops left → u ≡ b.situation → notices_of y ≡ b.notices
+      → Carried config number reads loads a (world y u b.outside) opens closes drops left
+  carried-still a b y u opens closes drops left c same notices = record {
+    turns = c.turns;
+    right = c.right;
+    follows = c.follows ∙ ap (λ s. Some s) (sym same);
+    notices = notices ∙ c.notices;
+    read = c.read;
+    sent = c.sent;
+    wrote = c.wrote;
+    replies = c.replies;
+    clock = c.clock;
+    loader = c.loader;
+  }
+
+  -- loads were given up behind what was carried
+  pub carried-drops : (a b : World C L) (y : Space) (u : Situation) (opens closes : Bool) (drops more : List Record) (left : Left)
+      → Carried config number reads loads a b opens closes drops left → after_records config b.situation more ≡ Some u → notices_of y ≡ b.notices ++ flat_map notes_of more
+      → Carried config number reads loads a (world y u b.outside) opens closes (drops ++ more) left
+  carried-drops a b y u opens closes drops more left c follows notices =
+      let o = open_records number opens ++ flat_map (records_in number) c.turns in
+      let z = close_records number closes in
+      let before = a.notices ++ flat_map (notes_in number) c.turns in
+      record {
+        turns = c.turns;
+        right = c.right;
+        follows = subst (λ rs. after_records config a.situation rs ≡ Some u) (append_assoc o (z ++ drops) more ∙ ap (λ l. o ++ l) (append_assoc z drops more))
+            (records-more config a.situation (records_of number opens c.turns closes drops) b.situation more u c.follows follows);
+        notices = notices ∙ ap (λ l. l ++ flat_map notes_of more) c.notices ∙ append_assoc before (flat_map notes_of drops) (flat_map notes_of more) ∙ ap (λ l. before ++ l) (sym (flat_map-append notes_of drops more));
+        read = c.read;
+        sent = c.sent;
+        wrote = c.wrote;
+        replies = c.replies;
+        clock = c.clock;
+        loader = c.loader;
+      }

@@ -11,48 +11,39 @@ use Rattle.cache_spaces.specs.Spaces.{config_of, notices_of}
 use Rattle.cache_spaces.specs.declared.space.Space.{Space}
 use Rattle.cache_run.specs.Delivered.{Answered, Delivered, Unanswered, Undelivered}
 use Rattle.cache_run.specs.Goes.{Goes}
+use Rattle.cache_run.specs.Happened.{Asking}
 use Rattle.cache_run.specs.declared.errors.RunError.{RunError}
 use Rattle.cache_run.specs.declared.errors.RunError.TheVariants.{Moment, OutOfMemory}
 use Rattle.cache_run.proofs.Going.{at-goes-map}
 
--- all was sent, and the writer kept it
-pub at-sent : (old new : List Space) (n number : ℕ) (piece : List ℕ) (moment : ℕ) (text output : List ℕ) (a b d : Option (List ℕ)) → output ≡ text → Appends a b output → Keeps b d
-    → At old new n (λ was is. Goes number was is (λ s t. Answered (config_of was) number piece moment s t (notices_of was) (notices_of is) text))
-    → At old new n (λ was is. Goes number was is (λ s t. Delivered (config_of was) number piece moment s t (notices_of was) (notices_of is) a d []))
-at-sent old new n number piece moment text output a b d is wrote kept at =
-    at-goes-map number n old new (λ x y s t. Answered (config_of x) number piece moment s t (notices_of x) (notices_of y) text) (λ x y s t. Delivered (config_of x) number piece moment s t (notices_of x) (notices_of y) a d []) at
-    (λ x y s t answered. record {
-      text = text;
-      answered = answered;
-      sent = output;
-      wrote = subst (Appends a d) (append-nil output) (appends_more a b d output [] wrote (appends_none b d kept));
-      whole = append-nil output ∙ is;
-    })
+-- what was written stays written where the writer keeps it
+pub kept-appends : (a b d : Option (List ℕ)) (output : List ℕ) → Appends a b output → Keeps b d → Appends a d output
+kept-appends a b d output wrote kept = subst (Appends a d) (append-nil output) (appends_more a b d output [] wrote (appends_none b d kept))
 
--- what was delivered, though an error came
-pub at-unkept : (old new : List Space) (n number : ℕ) (piece : List ℕ) (moment : ℕ) (a d : Option (List ℕ)) (e : RunError) → e ≢ Moment
-    → At old new n (λ was is. Goes number was is (λ s t. Delivered (config_of was) number piece moment s t (notices_of was) (notices_of is) a d []))
-    → At old new n (λ was is. Goes number was is (λ s t. Undelivered (config_of was) number piece moment s t (notices_of was) (notices_of is) a d e))
-at-unkept old new n number piece moment a d e ne at =
-    at-goes-map number n old new (λ x y s t. Delivered (config_of x) number piece moment s t (notices_of x) (notices_of y) a d []) (λ x y s t. Undelivered (config_of x) number piece moment s t (notices_of x) (notices_of y) a d e) at
-    (λ x y s t delivered. inr ([], delivered, ne))
+-- all was written
+pub at-written : (old new : List Space) (n number : ℕ) (piece : List ℕ) (moment : ℕ) (asks : List Asking) (text output : List ℕ) (a b : Option (List ℕ)) → output ≡ text → Appends a b output
+    → At old new n (λ was is. Goes number was is (λ s t. Answered (config_of was) number piece moment asks s t (notices_of was) (notices_of is) text))
+    → At old new n (λ was is. Goes number was is (λ s t. Delivered (config_of was) number piece moment asks s t (notices_of was) (notices_of is) a b []))
+at-written old new n number piece moment asks text output a b is wrote at =
+    at-goes-map number n old new (λ x y s t. Answered (config_of x) number piece moment asks s t (notices_of x) (notices_of y) text) (λ x y s t. Delivered (config_of x) number piece moment asks s t (notices_of x) (notices_of y) a b []) at
+    (λ x y s t answered. record { text = text; answered = answered; sent = output; wrote = wrote; whole = append-nil output ∙ is })
 
 -- a beginning was sent
-pub at-unsent : (old new : List Space) (n number : ℕ) (piece : List ℕ) (moment : ℕ) (text output rest : List ℕ) (a b : Option (List ℕ)) (e : RunError) → output ≡ text → SentBut rest output a b → e ≢ Moment
-    → At old new n (λ was is. Goes number was is (λ s t. Answered (config_of was) number piece moment s t (notices_of was) (notices_of is) text))
-    → At old new n (λ was is. Goes number was is (λ s t. Undelivered (config_of was) number piece moment s t (notices_of was) (notices_of is) a b e))
-at-unsent old new n number piece moment text output rest a b e is sent ne at =
-    at-goes-map number n old new (λ x y s t. Answered (config_of x) number piece moment s t (notices_of x) (notices_of y) text) (λ x y s t. Undelivered (config_of x) number piece moment s t (notices_of x) (notices_of y) a b e) at
+pub at-unsent : (old new : List Space) (n number : ℕ) (piece : List ℕ) (moment : ℕ) (asks : List Asking) (text output rest : List ℕ) (a b : Option (List ℕ)) (e : RunError) → output ≡ text → SentBut rest output a b → e ≢ Moment
+    → At old new n (λ was is. Goes number was is (λ s t. Answered (config_of was) number piece moment asks s t (notices_of was) (notices_of is) text))
+    → At old new n (λ was is. Goes number was is (λ s t. Undelivered (config_of was) number piece moment asks s t (notices_of was) (notices_of is) a b e))
+at-unsent old new n number piece moment asks text output rest a b e is sent ne at =
+    at-goes-map number n old new (λ x y s t. Answered (config_of x) number piece moment asks s t (notices_of x) (notices_of y) text) (λ x y s t. Undelivered (config_of x) number piece moment asks s t (notices_of x) (notices_of y) a b e) at
     (λ x y s t answered. inr (rest, record { text = text; answered = answered; sent = sent.sent; wrote = sent.wrote; whole = sent.whole ∙ is }, ne))
 
 -- nothing was sent
-pub at-unanswered : (old new : List Space) (n number : ℕ) (piece : List ℕ) (moment : ℕ) (a : Option (List ℕ)) (e : RunError)
-    → At old new n (λ was is. Goes number was is (λ s t. Unanswered (config_of was) number piece moment s t (notices_of was) (notices_of is) e))
-    → At old new n (λ was is. Goes number was is (λ s t. Undelivered (config_of was) number piece moment s t (notices_of was) (notices_of is) a a e))
-at-unanswered old new n number piece moment a e at =
-    at-goes-map number n old new (λ x y s t. Unanswered (config_of x) number piece moment s t (notices_of x) (notices_of y) e) (λ x y s t. Undelivered (config_of x) number piece moment s t (notices_of x) (notices_of y) a a e) at
+pub at-unanswered : (old new : List Space) (n number : ℕ) (piece : List ℕ) (moment : ℕ) (asks : List Asking) (a : Option (List ℕ)) (e : RunError)
+    → At old new n (λ was is. Goes number was is (λ s t. Unanswered (config_of was) number piece moment asks s t (notices_of was) (notices_of is) e))
+    → At old new n (λ was is. Goes number was is (λ s t. Undelivered (config_of was) number piece moment asks s t (notices_of was) (notices_of is) a a e))
+at-unanswered old new n number piece moment asks a e at =
+    at-goes-map number n old new (λ x y s t. Unanswered (config_of x) number piece moment asks s t (notices_of x) (notices_of y) e) (λ x y s t. Undelivered (config_of x) number piece moment asks s t (notices_of x) (notices_of y) a a e) at
     (λ x y s t. unsent (config_of x) s t x y)
   where
-    unsent : (config : Config) (s t : Situation) (x y : Space) → Unanswered config number piece moment s t (notices_of x) (notices_of y) e → Undelivered config number piece moment s t (notices_of x) (notices_of y) a a e
+    unsent : (config : Config) (s t : Situation) (x y : Space) → Unanswered config number piece moment asks s t (notices_of x) (notices_of y) e → Undelivered config number piece moment asks s t (notices_of x) (notices_of y) a a e
     unsent config s t x y (inl unfed) = inl (unfed.0, same_appends a, unfed.1)
     unsent config s t x y (inr p) = inr (p.0, record { text = p.0; answered = p.1; sent = []; wrote = same_appends a; whole = refl }, λ moment. let h : OutOfMemory ≡ Moment = sym p.2 ∙ moment in cc)

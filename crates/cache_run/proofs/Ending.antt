@@ -18,7 +18,10 @@ use Rattle.cache_spaces.specs.Moves.{At}
 use Rattle.cache_spaces.specs.Serves.{SameSpace, Takes}
 use Rattle.cache_spaces.specs.Spaces.{closing_of, config_of, connections_of, notices_of}
 use Rattle.cache_spaces.specs.declared.space.Space.{Space}
-use Rattle.cache_run.specs.Carried.{Broken, Carried}
+use Rattle.audit_model.specs.declared.event.Outcome.{Outcome}
+use Rattle.run_laws.specs.Alone.{WaitsAlone}
+use Rattle.run_laws.proofs.Events.{quiet}
+use Rattle.cache_run.specs.Carried.{Broken, Carried, nothing_left}
 use Rattle.cache_run.specs.Connected.{Connected, IsEnded, IsFed, IsOver, IsReady}
 use Rattle.cache_run.specs.Delivered.{Unfed}
 use Rattle.cache_run.specs.Goes.{Goes}
@@ -47,6 +50,13 @@ close-still config s number (step ∷ steps) t follows = absurd (chosen-none _ t
 untold : (before after : List Note) (steps : List Step) → steps ≡ [] → after ≡ before ++ flat_map (λ step. step.notices) steps → after ≡ before
 untold before after steps none e = e ∙ ap (λ l. before ++ flat_map (λ step. step.notices) l) none ∙ append-nil before
 
+-- nobody begins to wait as a connection opens or closes
+opened-alone : (config : Config) (s : Situation) (number : ℕ) (steps : List Step) (t : Situation) → Follows config s (record_of (event.Open number) steps) t → WaitsAlone number s.pending → WaitsAlone number t.pending
+opened-alone config s number steps t follows alone = (quiet config s t (record_of (event.Open number) steps) number follows tt alone)
+
+closed-alone : (config : Config) (s : Situation) (number : ℕ) (steps : List Step) (t : Situation) → Follows config s (record_of (event.Close number) steps) t → WaitsAlone number s.pending → WaitsAlone number t.pending
+closed-alone config s number steps t follows alone = (quiet config s t (record_of (event.Close number) steps) number follows tt alone)
+
 -- ---- the opening
 
 pub at-opened : (old new : List Space) (n number : ℕ) → At old new n (λ was is. Takes was is number (event.Open number) false × (number ≡ length (connections_of was) + 1))
@@ -56,16 +66,17 @@ at-opened old new n number a =
     (λ x y p. (
       p.1,
       record {
-        each = λ s stands.
+        each = λ s stands alone.
             let r = p.0.serves s stands in
             let none = open-still (config_of x) s number r.steps r.next r.follows in
             record {
               next = r.next;
               stands = r.stands;
+              alone = opened-alone (config_of x) s number r.steps r.next r.follows alone;
               fact = record { follows = subst (λ l. Follows (config_of x) s (record_of (event.Open number) l) r.next) none r.follows; notices = untold (notices_of x) (notices_of y) r.steps none r.notices };
+              others = λ other ne. seen-alike x y other (p.0.others (other - 1) ne);
             };
         config = p.0.config;
-        others = λ other ne. seen-alike x y other (p.0.others (other - 1) ne);
       },
     ))
 
@@ -91,16 +102,17 @@ at-closed old new n number c a =
       p.0.left.0,
       p.1,
       record {
-        each = λ s stands.
+        each = λ s stands alone.
             let r = p.0.serves s stands in
             let none = close-still (config_of c.space) s number r.steps r.next r.follows in
             record {
               next = r.next;
               stands = r.stands;
+              alone = closed-alone (config_of c.space) s number r.steps r.next r.follows alone;
               fact = record { follows = subst (λ l. Follows (config_of c.space) s (record_of (event.Close number) l) r.next) none r.follows; notices = untold (notices_of c.space) (notices_of y) r.steps none r.notices };
+              others = λ other ne. seen-alike c.space y other (p.0.others (other - 1) ne);
             };
         config = p.0.config;
-        others = λ other ne. seen-alike c.space y other (p.0.others (other - 1) ne);
       },
     ))
 
@@ -120,52 +132,52 @@ at-closed-before old new n number e c a =
 
 -- ---- the whole
 
-module _ {C : Type 0} (reads : C → ℕ → C → Type 0) (number : ℕ) (before after : Outside C) where
+module _ {C L : Type 0} (reads : C → ℕ → C → Type 0) (loads : L → List ℕ → Option Outcome → L → Type 0) (number : ℕ) (before after : Outside C L) where
   -- what was carried stands behind the opening
   pub at-begun : (first second third : List Space) (n : ℕ)
       → At first second n (λ was is. (number ≡ next_number was) × Goes number was is (λ s t. Quiet (config_of was) (event.Open number) s t (notices_of was) (notices_of is)))
-      → At second third n (λ was is. Goes number was is (λ s t. Carried (config_of was) number reads (world was s before) (world is t after) false false [] [] []))
-      → At first third n (λ was is. (number ≡ next_number was) × Goes number was is (λ s t. Carried (config_of was) number reads (world was s before) (world is t after) true false [] [] []))
+      → At second third n (λ was is. Goes number was is (λ s t. Carried (config_of was) number reads loads (world was s before) (world is t after) false false [] nothing_left))
+      → At first third n (λ was is. (number ≡ next_number was) × Goes number was is (λ s t. Carried (config_of was) number reads loads (world was s before) (world is t after) true false [] nothing_left))
   at-begun first second third n a b =
       at-more (λ x y. (number ≡ next_number x) × Goes number x y (λ s t. Quiet (config_of x) (event.Open number) s t (notices_of x) (notices_of y)))
-      (λ y z. Goes number y z (λ s t. Carried (config_of y) number reads (world y s before) (world z t after) false false [] [] []))
-      (λ x z. (number ≡ next_number x) × Goes number x z (λ s t. Carried (config_of x) number reads (world x s before) (world z t after) true false [] [] [])) first second third n a b
+      (λ y z. Goes number y z (λ s t. Carried (config_of y) number reads loads (world y s before) (world z t after) false false [] nothing_left))
+      (λ x z. (number ≡ next_number x) × Goes number x z (λ s t. Carried (config_of x) number reads loads (world x s before) (world z t after) true false [] nothing_left)) first second third n a b
       (λ x y z p q. (
         p.0,
-        goes-more number x y z (λ s t. Quiet (config_of x) (event.Open number) s t (notices_of x) (notices_of y)) (λ s t. Carried (config_of y) number reads (world y s before) (world z t after) false false [] [] [])
-            (λ s t. Carried (config_of x) number reads (world x s before) (world z t after) true false [] [] []) p.1 q
-            (λ s t u f g. carried-more (config_of x) number reads (world x s before) (world y t before) (world z u after) true false [] [] []
-            (carried-opened (config_of x) number reads x y s t before f.follows f.notices)
-            (subst (λ k. Carried k number reads (world y t before) (world z u after) false false [] [] []) p.1.config g)),
+        goes-more number x y z (λ s t. Quiet (config_of x) (event.Open number) s t (notices_of x) (notices_of y)) (λ s t. Carried (config_of y) number reads loads (world y s before) (world z t after) false false [] nothing_left)
+            (λ s t. Carried (config_of x) number reads loads (world x s before) (world z t after) true false [] nothing_left) p.1 q
+            (λ s t u f g. carried-more (config_of x) number reads loads (world x s before) (world y t before) (world z u after) true false [] nothing_left
+            (carried-opened (config_of x) number reads loads x y s t before f.follows f.notices)
+            (subst (λ k. Carried k number reads loads (world y t before) (world z u after) false false [] nothing_left) p.1.config g)),
       ))
 
   -- what was broken stands behind the opening
   pub at-begun-broken : (first second third : List Space) (n : ℕ) (e : RunError)
       → At first second n (λ was is. (number ≡ next_number was) × Goes number was is (λ s t. Quiet (config_of was) (event.Open number) s t (notices_of was) (notices_of is)))
-      → At second third n (λ was is. Goes number was is (λ s t. Broken (config_of was) number reads (world was s before) (world is t after) false false e))
-      → At first third n (λ was is. (number ≡ next_number was) × Goes number was is (λ s t. Broken (config_of was) number reads (world was s before) (world is t after) true false e))
+      → At second third n (λ was is. Goes number was is (λ s t. Broken (config_of was) number reads loads (world was s before) (world is t after) false false [] e))
+      → At first third n (λ was is. (number ≡ next_number was) × Goes number was is (λ s t. Broken (config_of was) number reads loads (world was s before) (world is t after) true false [] e))
   at-begun-broken first second third n e a b =
       at-more (λ x y. (number ≡ next_number x) × Goes number x y (λ s t. Quiet (config_of x) (event.Open number) s t (notices_of x) (notices_of y)))
-      (λ y z. Goes number y z (λ s t. Broken (config_of y) number reads (world y s before) (world z t after) false false e))
-      (λ x z. (number ≡ next_number x) × Goes number x z (λ s t. Broken (config_of x) number reads (world x s before) (world z t after) true false e)) first second third n a b
+      (λ y z. Goes number y z (λ s t. Broken (config_of y) number reads loads (world y s before) (world z t after) false false [] e))
+      (λ x z. (number ≡ next_number x) × Goes number x z (λ s t. Broken (config_of x) number reads loads (world x s before) (world z t after) true false [] e)) first second third n a b
       (λ x y z p q. (
         p.0,
-        goes-more number x y z (λ s t. Quiet (config_of x) (event.Open number) s t (notices_of x) (notices_of y)) (λ s t. Broken (config_of y) number reads (world y s before) (world z t after) false false e)
-            (λ s t. Broken (config_of x) number reads (world x s before) (world z t after) true false e) p.1 q
-            (λ s t u f g. broken-more (config_of x) number reads (world x s before) (world y t before) (world z u after) true false e
-            (carried-opened (config_of x) number reads x y s t before f.follows f.notices)
-            (subst (λ k. Broken k number reads (world y t before) (world z u after) false false e) p.1.config g)),
+        goes-more number x y z (λ s t. Quiet (config_of x) (event.Open number) s t (notices_of x) (notices_of y)) (λ s t. Broken (config_of y) number reads loads (world y s before) (world z t after) false false [] e)
+            (λ s t. Broken (config_of x) number reads loads (world x s before) (world z t after) true false [] e) p.1 q
+            (λ s t u f g. broken-more (config_of x) number reads loads (world x s before) (world y t before) (world z u after) true false [] e
+            (carried-opened (config_of x) number reads loads x y s t before f.follows f.notices)
+            (subst (λ k. Broken k number reads loads (world y t before) (world z u after) false false [] e) p.1.config g)),
       ))
 
-  whole : (x z w : Space) → number ≡ next_number x → Goes number x z (λ s t. Carried (config_of x) number reads (world x s before) (world z t after) true false [] [] [])
-      → IsOver after.remaining number z → Closes number z w → ServesWhole reads x w before after
+  whole : (x z w : Space) → number ≡ next_number x → Goes number x z (λ s t. Carried (config_of x) number reads loads (world x s before) (world z t after) true false [] nothing_left)
+      → IsOver after.remaining number z → Closes number z w → ServesWhole reads loads x w before after
   whole x z w next g (inl over) (inl closes) = record {
     number = number;
     next = next;
     closes = true;
-    goes = goes-more number x z w (λ s t. Carried (config_of x) number reads (world x s before) (world z t after) true false [] [] []) (λ s t. Quiet (config_of z) (event.Close number) s t (notices_of z) (notices_of w))
-        (λ s t. Carried (config_of x) number reads (world x s before) (world w t after) true true [] [] []) g closes.2
-        (λ s t u f q. carried-close (config_of x) number reads (world x s before) (world z t after) w u true [] [] [] f (subst (λ k. Follows k t (record_of (event.Close number) []) u) g.config q.follows) q.notices);
+    goes = goes-more number x z w (λ s t. Carried (config_of x) number reads loads (world x s before) (world z t after) true false [] nothing_left) (λ s t. Quiet (config_of z) (event.Close number) s t (notices_of z) (notices_of w))
+        (λ s t. Carried (config_of x) number reads loads (world x s before) (world w t after) true true [] nothing_left) g closes.2
+        (λ s t u f q. carried-close (config_of x) number reads loads (world x s before) (world z t after) w u true nothing_left f (subst (λ k. Follows k t (record_of (event.Close number) []) u) g.config q.follows) q.notices);
     ends = (closes.1, over.1);
   }
   whole x z w next g (inl over) (inr closes) = ended-none (closing_of z number) closes.0 over.0
@@ -174,25 +186,24 @@ module _ {C : Type 0} (reads : C → ℕ → C → Type 0) (number : ℕ) (befor
     number = number;
     next = next;
     closes = false;
-    goes = goes-more number x z w (λ s t. Carried (config_of x) number reads (world x s before) (world z t after) true false [] [] []) (λ s t. Unfed s t (notices_of z) (notices_of w))
-        (λ s t. Carried (config_of x) number reads (world x s before) (world w t after) true false [] [] []) g closes.2
-        (λ s t u f q. carried-still (config_of x) number reads (world x s before) (world z t after) w u true false [] [] [] f q.same q.notices);
+    goes = goes-more number x z w (λ s t. Carried (config_of x) number reads loads (world x s before) (world z t after) true false [] nothing_left) (λ s t. Unfed s t (notices_of z) (notices_of w))
+        (λ s t. Carried (config_of x) number reads loads (world x s before) (world w t after) true false [] nothing_left) g closes.2
+        (λ s t u f q. carried-still (config_of x) number reads loads (world x s before) (world z t after) w u true false [] nothing_left f q.same q.notices);
     ends = subst IsEnded (sym closes.1) closes.0;
   }
 
-  partly : (x z w : Space) (e : RunError) → number ≡ next_number x → Goes number x z (λ s t. Broken (config_of x) number reads (world x s before) (world z t after) true false e)
-      → Closes number z w → ServesPartly reads x w before after e
+  partly : (x z w : Space) (e : RunError) → number ≡ next_number x → Goes number x z (λ s t. Broken (config_of x) number reads loads (world x s before) (world z t after) true false [] e)
+      → Closes number z w → ServesPartly reads loads x w before after e
   partly x z w e next g (inl closes) = record {
     number = number;
     next = next;
     closes = true;
-    goes = goes-more number x z w (λ s t. Broken (config_of x) number reads (world x s before) (world z t after) true false e) (λ s t. Quiet (config_of z) (event.Close number) s t (notices_of z) (notices_of w))
-        (λ s t. Broken (config_of x) number reads (world x s before) (world w t after) true true e) g closes.2
+    goes = goes-more number x z w (λ s t. Broken (config_of x) number reads loads (world x s before) (world z t after) true false [] e) (λ s t. Quiet (config_of z) (event.Close number) s t (notices_of z) (notices_of w))
+        (λ s t. Broken (config_of x) number reads loads (world x s before) (world w t after) true true [] e) g closes.2
         (λ s t u f q. record {
-          late = f.late;
-          lost = f.lost;
-          unsent = f.unsent;
-          carried = carried-close (config_of x) number reads (world x s before) (world z t after) w u true f.late f.lost f.unsent f.carried (subst (λ k. Follows k t (record_of (event.Close number) []) u) g.config q.follows) q.notices;
+          left = f.left;
+          carried = carried-close (config_of x) number reads loads (world x s before) (world z t after) w u true f.left f.carried (subst (λ k. Follows k t (record_of (event.Close number) []) u) g.config q.follows) q.notices;
+          dropped = tt;
           moment = f.moment;
         });
     why = by.Asked;
@@ -202,13 +213,12 @@ module _ {C : Type 0} (reads : C → ℕ → C → Type 0) (number : ℕ) (befor
     number = number;
     next = next;
     closes = false;
-    goes = goes-more number x z w (λ s t. Broken (config_of x) number reads (world x s before) (world z t after) true false e) (λ s t. Unfed s t (notices_of z) (notices_of w))
-        (λ s t. Broken (config_of x) number reads (world x s before) (world w t after) true false e) g closes.2
+    goes = goes-more number x z w (λ s t. Broken (config_of x) number reads loads (world x s before) (world z t after) true false [] e) (λ s t. Unfed s t (notices_of z) (notices_of w))
+        (λ s t. Broken (config_of x) number reads loads (world x s before) (world w t after) true false [] e) g closes.2
         (λ s t u f q. record {
-          late = f.late;
-          lost = f.lost;
-          unsent = f.unsent;
-          carried = carried-still (config_of x) number reads (world x s before) (world z t after) w u true false f.late f.lost f.unsent f.carried q.same q.notices;
+          left = f.left;
+          carried = carried-still (config_of x) number reads loads (world x s before) (world z t after) w u true false [] f.left f.carried q.same q.notices;
+          dropped = tt;
           moment = f.moment;
         });
     why = (why-ended (closing_of z number) closes.0).0;
@@ -217,24 +227,24 @@ module _ {C : Type 0} (reads : C → ℕ → C → Type 0) (number : ℕ) (befor
 
   pub at-whole : (first second third fourth : List Space) (n : ℕ)
       → At first second n (λ was is. (number ≡ next_number was) × Goes number was is (λ s t. Quiet (config_of was) (event.Open number) s t (notices_of was) (notices_of is)))
-      → At second third n (λ was is. Goes number was is (λ s t. Carried (config_of was) number reads (world was s before) (world is t after) false false [] [] []))
+      → At second third n (λ was is. Goes number was is (λ s t. Carried (config_of was) number reads loads (world was s before) (world is t after) false false [] nothing_left))
       → Connected third n number (IsOver after.remaining) → At third fourth n (Closes number)
-      → At first fourth n (λ was is. ServesWhole reads was is before after)
+      → At first fourth n (λ was is. ServesWhole reads loads was is before after)
   at-whole first second third fourth n a b c d =
-      at-more (λ x z. (number ≡ next_number x) × Goes number x z (λ s t. Carried (config_of x) number reads (world x s before) (world z t after) true false [] [] []))
-      (λ z w. IsOver after.remaining number z × Closes number z w) (λ x w. ServesWhole reads x w before after) first third fourth n
+      at-more (λ x z. (number ≡ next_number x) × Goes number x z (λ s t. Carried (config_of x) number reads loads (world x s before) (world z t after) true false [] nothing_left))
+      (λ z w. IsOver after.remaining number z × Closes number z w) (λ x w. ServesWhole reads loads x w before after) first third fourth n
       (at-begun first second third n a b)
       (at-with (Closes number) (λ z w. IsOver after.remaining number z × Closes number z w) third fourth n c.space c.at d (λ w closes. (c.left, closes)))
       (λ x z w p q. whole x z w p.0 p.1 q.0 q.1)
 
   pub at-partly : (first second third fourth : List Space) (n : ℕ) (e : RunError)
       → At first second n (λ was is. (number ≡ next_number was) × Goes number was is (λ s t. Quiet (config_of was) (event.Open number) s t (notices_of was) (notices_of is)))
-      → At second third n (λ was is. Goes number was is (λ s t. Broken (config_of was) number reads (world was s before) (world is t after) false false e))
+      → At second third n (λ was is. Goes number was is (λ s t. Broken (config_of was) number reads loads (world was s before) (world is t after) false false [] e))
       → At third fourth n (Closes number)
-      → At first fourth n (λ was is. ServesPartly reads was is before after e)
+      → At first fourth n (λ was is. ServesPartly reads loads was is before after e)
   at-partly first second third fourth n e a b d =
-      at-more (λ x z. (number ≡ next_number x) × Goes number x z (λ s t. Broken (config_of x) number reads (world x s before) (world z t after) true false e))
-      (Closes number) (λ x w. ServesPartly reads x w before after e) first third fourth n
+      at-more (λ x z. (number ≡ next_number x) × Goes number x z (λ s t. Broken (config_of x) number reads loads (world x s before) (world z t after) true false [] e))
+      (Closes number) (λ x w. ServesPartly reads loads x w before after e) first third fourth n
       (at-begun-broken first second third n e a b) d
       (λ x z w p q. partly x z w e p.0 p.1 q)
 
@@ -257,26 +267,26 @@ on-err P Q (Err e) a h = h e a
 
 -- ---- what a run leaves
 
-module _ {C X : Type 0} (reads : C → ℕ → C → Type 0) (first second third fourth : List Space) (m n number : ℕ) (before after : Outside C) (r : Result X RunError) where
+module _ {C L X : Type 0} (reads : C → ℕ → C → Type 0) (loads : L → List ℕ → Option Outcome → L → Type 0) (first second third fourth : List Space) (m n number : ℕ) (before after : Outside C L) (r : Result X RunError) where
   pub run-whole : m ≡ n
       → At first second n (λ was is. (number ≡ next_number was) × Goes number was is (λ s t. Quiet (config_of was) (event.Open number) s t (notices_of was) (notices_of is)))
-      → OnOk r (At second third m (λ was is. Goes number was is (λ s t. Carried (config_of was) number reads (world was s before) (world is t after) false false [] [] [])))
+      → OnOk r (At second third m (λ was is. Goes number was is (λ s t. Carried (config_of was) number reads loads (world was s before) (world is t after) false false [] nothing_left)))
       → OnOk r (Connected third m number (IsOver after.remaining)) → At third fourth m (Closes number)
-      → OnOk r (At first fourth n (λ was is. ServesWhole reads was is before after))
+      → OnOk r (At first fourth n (λ was is. ServesWhole reads loads was is before after))
   run-whole e opened carried over closes =
-      on-ok (At second third m (λ was is. Goes number was is (λ s t. Carried (config_of was) number reads (world was s before) (world is t after) false false [] [] []))) (Connected third m number (IsOver after.remaining)) (At first fourth n (λ was is. ServesWhole reads was is before after)) r carried over
-      (λ a b. at-whole reads number before after first second third fourth n opened
-      (subst (λ k. At second third k (λ was is. Goes number was is (λ s t. Carried (config_of was) number reads (world was s before) (world is t after) false false [] [] []))) e a)
+      on-ok (At second third m (λ was is. Goes number was is (λ s t. Carried (config_of was) number reads loads (world was s before) (world is t after) false false [] nothing_left))) (Connected third m number (IsOver after.remaining)) (At first fourth n (λ was is. ServesWhole reads loads was is before after)) r carried over
+      (λ a b. at-whole reads loads number before after first second third fourth n opened
+      (subst (λ k. At second third k (λ was is. Goes number was is (λ s t. Carried (config_of was) number reads loads (world was s before) (world is t after) false false [] nothing_left))) e a)
       (subst (λ k. Connected third k number (IsOver after.remaining)) e b) (subst (λ k. At third fourth k (Closes number)) e closes))
 
   pub run-partly : (Else : RunError → Space → Space → Type 0) → m ≡ n
       → At first second n (λ was is. (number ≡ next_number was) × Goes number was is (λ s t. Quiet (config_of was) (event.Open number) s t (notices_of was) (notices_of is)))
-      → IfErr r (λ e. At second third m (λ was is. Goes number was is (λ s t. Broken (config_of was) number reads (world was s before) (world is t after) false false e)))
+      → IfErr r (λ e. At second third m (λ was is. Goes number was is (λ s t. Broken (config_of was) number reads loads (world was s before) (world is t after) false false [] e)))
       → At third fourth m (Closes number)
-      → IfErr r (λ e. At first fourth n (λ was is. Else e was is ⊎ ServesPartly reads was is before after e))
+      → IfErr r (λ e. At first fourth n (λ was is. Else e was is ⊎ ServesPartly reads loads was is before after e))
   run-partly Else same opened broken closes =
-      on-err (λ e. At second third m (λ was is. Goes number was is (λ s t. Broken (config_of was) number reads (world was s before) (world is t after) false false e))) (λ e. At first fourth n (λ was is. Else e was is ⊎ ServesPartly reads was is before after e)) r broken
-      (λ e a. at-map (λ was is. ServesPartly reads was is before after e) (λ was is. Else e was is ⊎ ServesPartly reads was is before after e) first fourth n
-      (at-partly reads number before after first second third fourth n e opened
-      (subst (λ k. At second third k (λ was is. Goes number was is (λ s t. Broken (config_of was) number reads (world was s before) (world is t after) false false e))) same a) (subst (λ k. At third fourth k (Closes number)) same closes))
+      on-err (λ e. At second third m (λ was is. Goes number was is (λ s t. Broken (config_of was) number reads loads (world was s before) (world is t after) false false [] e))) (λ e. At first fourth n (λ was is. Else e was is ⊎ ServesPartly reads loads was is before after e)) r broken
+      (λ e a. at-map (λ was is. ServesPartly reads loads was is before after e) (λ was is. Else e was is ⊎ ServesPartly reads loads was is before after e) first fourth n
+      (at-partly reads loads number before after first second third fourth n e opened
+      (subst (λ k. At second third k (λ was is. Goes number was is (λ s t. Broken (config_of was) number reads loads (world was s before) (world is t after) false false [] e))) same a) (subst (λ k. At third fourth k (Closes number)) same closes))
       (λ x y p. inr p))

@@ -1,10 +1,17 @@
 -- How a namespace goes on by several calls.
-use Rattle.std.proofs.Common.{◌≡◌, ℕ, ◌-◌, Bool, List, [], ◌++◌, None, refl, ap, ◌∙◌, inl, inr}
+use Rattle.std.proofs.Common.{◌≡◌, ℕ, ◌-◌, Bool, List, [], ◌++◌, None, refl, sym, ap, ◌∙◌, inl, inr}
 use Rattle.std.specs.List.{slice_get, flat_map}
 use Rattle.std.specs.Option.{option_map_or}
 use Rattle.audit_model.specs.Situation.{Situation}
 use Rattle.cache_namespace.specs.Gathered.{reply_in}
-use Rattle.cache_namespace.specs.Taken.{fed}
+use Rattle.cache_namespace.specs.Taken.{fed, record_of}
+use Rattle.audit_model.specs.Follows.{Follows}
+use Rattle.audit_model.specs.declared.config.Config.{Config}
+use Rattle.audit_model.specs.declared.transcript.Note.{Note}
+use Rattle.audit_model.specs.declared.transcript.Step.{Step}
+use Rattle.std.proofs.lemmas.List.{append-nil}
+use Rattle.run_laws.proofs.Events.{records}
+use Rattle.cache_run.proofs.Carrying.{record-one}
 use Rattle.cache_namespace.specs.declared.connection.Connection.{Connection}
 use Rattle.cache_spaces.specs.Moves.{At}
 use Rattle.cache_spaces.specs.Serves.{SameSpace, Takes, TakesOutput}
@@ -13,6 +20,7 @@ use Rattle.cache_spaces.specs.declared.space.Space.{Space}
 use Rattle.cache_run.specs.Connected.{Connected, IsReady}
 use Rattle.cache_run.specs.Delivered.{Answered, IsCause, Unanswered}
 use Rattle.cache_run.specs.Goes.{Goes}
+use Rattle.cache_run.specs.Happened.{Asking, Fed}
 use Rattle.cache_run.specs.declared.errors.RunError.{RunError}
 use Rattle.cache_run.specs.declared.errors.RunError.TheVariants.{OutOfMemory}
 use Rattle.cache_run.proofs.Placing.{at-map, at-more, at-with}
@@ -24,27 +32,31 @@ seen-alike was is other e = (ap (λ o. option_map_or (λ (c : Connection). c.out
 -- one after another
 pub goes-more : (number : ℕ) (x y z : Space) (F G H : Situation → Situation → Type 0) → Goes number x y F → Goes number y z G → ((s t u : Situation) → F s t → G t u → H s u) → Goes number x z H
 goes-more number x y z F G H a b h = record {
-  each = λ s stands.
-      let first = a.each s stands in
-      let second = b.each first.next first.stands in
-      record { next = second.next; stands = second.stands; fact = h s first.next second.next first.fact second.fact };
+  each = λ s stands alone.
+      let first = a.each s stands alone in
+      let second = b.each first.next first.stands first.alone in
+      record {
+        next = second.next;
+        stands = second.stands;
+        alone = second.alone;
+        fact = h s first.next second.next first.fact second.fact;
+        others = λ other ne. let p = first.others other ne in let q = second.others other ne in (q.0 ∙ p.0, q.1 ∙ p.1);
+      };
   config = b.config ∙ a.config;
-  others = λ other ne. let p = a.others other ne in let q = b.others other ne in (q.0 ∙ p.0, q.1 ∙ p.1);
 }
 
 pub goes-map : (number : ℕ) (x y : Space) (F G : Situation → Situation → Type 0) → Goes number x y F → ((s t : Situation) → F s t → G s t) → Goes number x y G
 goes-map number x y F G a h = record {
-  each = λ s stands. let first = a.each s stands in record { next = first.next; stands = first.stands; fact = h s first.next first.fact };
+  each = λ s stands alone.
+      let first = a.each s stands alone in record { next = first.next; stands = first.stands; alone = first.alone; fact = h s first.next first.fact; others = first.others };
   config = a.config;
-  others = a.others;
 }
 
 -- a namespace that is the same
 pub goes-same : (number : ℕ) (was is : Space) (F : Situation → Situation → Type 0) → SameSpace was is → ((s : Situation) → F s s) → Goes number was is F
 goes-same number was is F same h = record {
-  each = λ s stands. record { next = s; stands = same.stands s stands; fact = h s };
+  each = λ s stands alone. record { next = s; stands = same.stands s stands; alone = alone; fact = h s; others = λ other ne. (same.outputs other, same.closings other) };
   config = same.config;
-  others = λ other ne. (same.outputs other, same.closings other);
 }
 
 -- ---- among many
@@ -64,68 +76,66 @@ at-goes-map number n xs ys F G a h =
 
 -- ---- a piece
 
+-- the turn of a piece that was fed
+pub fed-turn : (config : Config) (number : ℕ) (piece : List ℕ) (moment : ℕ) (steps : List Step) (s t : Situation) (before after : List Note) (text : List ℕ) → Follows config s (record_of (fed number piece moment) steps) t
+    → after ≡ before ++ flat_map (λ step. step.notices) steps → text ≡ flat_map reply_in steps → Answered config number piece moment [] s t before after text
+fed-turn config number piece moment steps s t before after text follows notices replies = record {
+  turn = Fed piece moment steps;
+  piece_is = refl;
+  moment_is = refl;
+  asks_are = refl;
+  right = tt;
+  follows = record-one config s (record_of (fed number piece moment) steps) t follows;
+  notices = notices ∙ ap (λ z. before ++ z) (sym (append-nil (flat_map (λ step. step.notices) steps)));
+  replies = replies ∙ sym (append-nil (flat_map reply_in steps));
+}
+
 -- it was fed and its replies were taken
 pub at-answered : (old between new : List Space) (n number : ℕ) (piece : List ℕ) (moment : ℕ) (held : Bool) (text : List ℕ) → Connected old n number IsReady
     → At old between n (λ was is. Takes was is number (fed number piece moment) held) → At between new n (λ was is. TakesOutput was is number text)
-    → At old new n (λ was is. Goes number was is (λ s t. Answered (config_of was) number piece moment s t (notices_of was) (notices_of is) text))
+    → At old new n (λ was is. Goes number was is (λ s t. Answered (config_of was) number piece moment [] s t (notices_of was) (notices_of is) text))
 at-answered old between new n number piece moment held text c a b =
     at-more (λ x y. (output_of x number ≡ []) × Takes x y number (fed number piece moment) held) (λ y z. TakesOutput y z number text)
-    (λ x z. Goes number x z (λ s t. Answered (config_of x) number piece moment s t (notices_of x) (notices_of z) text)) old between new n
+    (λ x z. Goes number x z (λ s t. Answered (config_of x) number piece moment [] s t (notices_of x) (notices_of z) text)) old between new n
     (at-with (λ x y. Takes x y number (fed number piece moment) held) (λ x y. (output_of x number ≡ []) × Takes x y number (fed number piece moment) held) old between n c.space c.at a (λ y takes. (c.left.1, takes)))
     b
     (λ x y z takes taken. record {
-      each = λ s stands.
+      each = λ s stands alone.
           let r = takes.1.serves s stands in
           record {
             next = r.next;
             stands = taken.stands r.next r.stands;
-            fact = record {
-              feeding = record { piece = piece; moment = moment; steps = r.steps };
-              piece_is = refl;
-              moment_is = refl;
-              follows = r.follows;
-              notices = taken.notices ∙ r.notices;
-              replies = taken.taken ∙ r.output ∙ ap (λ o. o ++ flat_map reply_in r.steps) takes.0;
-            };
+            alone = (records (config_of x) s r.next (record_of (fed number piece moment) r.steps) number r.follows refl alone).1;
+            fact = fed-turn (config_of x) number piece moment r.steps s r.next (notices_of x) (notices_of z) text r.follows (taken.notices ∙ r.notices) (taken.taken ∙ r.output ∙ ap (λ o. o ++ flat_map reply_in r.steps) takes.0);
+            others = λ other ne.
+                let p = seen-alike x y other (takes.1.others (other - 1) ne) in
+                let q = seen-alike y z other (taken.others (other - 1) ne) in (q.0 ∙ p.0, q.1 ∙ p.1);
           };
       config = taken.config ∙ takes.1.config;
-      others = λ other ne.
-          let p = seen-alike x y other (takes.1.others (other - 1) ne) in
-          let q = seen-alike y z other (taken.others (other - 1) ne) in (q.0 ∙ p.0, q.1 ∙ p.1);
     })
 
 -- it was fed, and a command was held back
 pub at-held : (old new : List Space) (n number : ℕ) (piece : List ℕ) (moment : ℕ) (held : Bool)
     → At old new n (λ was is. Takes was is number (fed number piece moment) held)
-    → At old new n (λ was is. Goes number was is (λ s t. Unanswered (config_of was) number piece moment s t (notices_of was) (notices_of is) OutOfMemory))
+    → At old new n (λ was is. Goes number was is (λ s t. Unanswered (config_of was) number piece moment [] s t (notices_of was) (notices_of is) OutOfMemory))
 at-held old new n number piece moment held a =
-    at-map (λ x y. Takes x y number (fed number piece moment) held) (λ x y. Goes number x y (λ s t. Unanswered (config_of x) number piece moment s t (notices_of x) (notices_of y) OutOfMemory)) old new n a
+    at-map (λ x y. Takes x y number (fed number piece moment) held) (λ x y. Goes number x y (λ s t. Unanswered (config_of x) number piece moment [] s t (notices_of x) (notices_of y) OutOfMemory)) old new n a
     (λ x y takes. record {
-      each = λ s stands.
+      each = λ s stands alone.
           let r = takes.serves s stands in
           record {
             next = r.next;
             stands = r.stands;
-            fact = inr (
-              flat_map reply_in r.steps,
-              record {
-                feeding = record { piece = piece; moment = moment; steps = r.steps };
-                piece_is = refl;
-                moment_is = refl;
-                follows = r.follows;
-                notices = r.notices;
-                replies = refl;
-              },
-              refl,
-            );
+            alone = (records (config_of x) s r.next (record_of (fed number piece moment) r.steps) number r.follows refl alone).1;
+            fact = inr (flat_map reply_in r.steps, fed-turn (config_of x) number piece moment r.steps s r.next (notices_of x) (notices_of y) (flat_map reply_in r.steps) r.follows r.notices refl, refl);
+            others = λ other ne. seen-alike x y other (takes.others (other - 1) ne);
           };
       config = takes.config;
-      others = λ other ne. seen-alike x y other (takes.others (other - 1) ne);
     })
 
 -- it was refused
-pub at-refused : (old new : List Space) (n number : ℕ) (piece : List ℕ) (moment : ℕ) (e : RunError) → At old new n SameSpace → IsCause moment e
-    → At old new n (λ was is. Goes number was is (λ s t. Unanswered (config_of was) number piece moment s t (notices_of was) (notices_of is) e))
-at-refused old new n number piece moment e a cause =
-    at-map SameSpace (λ x y. Goes number x y (λ s t. Unanswered (config_of x) number piece moment s t (notices_of x) (notices_of y) e)) old new n a
-    (λ x y same. goes-same number x y (λ s t. Unanswered (config_of x) number piece moment s t (notices_of x) (notices_of y) e) same (λ s. inl (record { same = refl; notices = same.notices }, cause)))
+pub at-refused : (old new : List Space) (n number : ℕ) (piece : List ℕ) (moment : ℕ) (asks : List Asking) (e : RunError) → At old new n SameSpace → IsCause moment e
+    → At old new n (λ was is. Goes number was is (λ s t. Unanswered (config_of was) number piece moment asks s t (notices_of was) (notices_of is) e))
+at-refused old new n number piece moment asks e a cause =
+    at-map SameSpace (λ x y. Goes number x y (λ s t. Unanswered (config_of x) number piece moment asks s t (notices_of x) (notices_of y) e)) old new n a
+    (λ x y same. goes-same number x y (λ s t. Unanswered (config_of x) number piece moment asks s t (notices_of x) (notices_of y) e) same (λ s. inl (record { same = refl; notices = same.notices }, cause)))

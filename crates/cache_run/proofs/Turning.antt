@@ -7,7 +7,9 @@ use Rattle.cache_run.specs.Turns.{HasRead}
 use Rattle.cache_spaces.specs.Moves.{At}
 use Rattle.cache_spaces.specs.Spaces.{config_of, notices_of}
 use Rattle.cache_spaces.specs.declared.space.Space.{Space}
-use Rattle.cache_run.specs.Carried.{Broken, Carried}
+use Rattle.audit_model.specs.declared.event.Outcome.{Outcome}
+use Rattle.cache_run.specs.Carried.{Askings, Broken, Carried, nothing_left}
+use Rattle.cache_run.specs.Happened.{Asking}
 use Rattle.cache_run.specs.Connected.{Connected, IsReady}
 use Rattle.cache_run.specs.Delivered.{Delivered, Undelivered}
 use Rattle.cache_run.specs.Goes.{Goes}
@@ -18,68 +20,66 @@ use Rattle.cache_run.proofs.Carrying.{consumes_more, same_consumes, broken-more,
 use Rattle.cache_run.proofs.Going.{at-goes-map, at-goes-more}
 use Rattle.cache_run.proofs.Placing.{at-same}
 
-module _ {C : Type 0} (reads : C → ℕ → C → Type 0) (old : List Space) (n number : ℕ) where
+module _ {C L : Type 0} (reads : C → ℕ → C → Type 0) (loads : L → List ℕ → Option Outcome → L → Type 0) (old : List Space) (n number : ℕ) where
   -- where only the reader was called
-  pub turn-none : (v r q : Option (List ℕ)) (k : C) → Connected old n number IsReady → Consumes r q []
-      → At old old n (λ was is. Goes number was is (λ s t. Carried (config_of was) number reads (world was s (outside r v k)) (world is t (outside q v k)) false false [] [] []))
-  turn-none v r q k c read =
-      at-same (λ was is. Goes number was is (λ s t. Carried (config_of was) number reads (world was s (outside r v k)) (world is t (outside q v k)) false false [] [] [])) old n c.space c.at
+  pub turn-none : (v r q : Option (List ℕ)) (k : C) (m : L) → Connected old n number IsReady → Consumes r q []
+      → At old old n (λ was is. Goes number was is (λ s t. Carried (config_of was) number reads loads (world was s (outside r v k m)) (world is t (outside q v k m)) false false [] nothing_left))
+  turn-none v r q k m c read =
+      at-same (λ was is. Goes number was is (λ s t. Carried (config_of was) number reads loads (world was s (outside r v k m)) (world is t (outside q v k m)) false false [] nothing_left)) old n c.space c.at
       (record {
-        each = λ s stands. record { next = s; stands = stands; fact = carried-none (config_of c.space) number reads (world c.space s (outside r v k)) (world c.space s (outside q v k)) [] [] refl refl read (same_appends v) refl };
+        each = λ s stands alone. record { next = s; stands = stands; alone = alone; fact = carried-none (config_of c.space) number reads loads (world c.space s (outside r v k m)) (world c.space s (outside q v k m)) [] [] [] refl refl read (same_appends v) refl refl; others = λ other ne. (refl, refl) };
         config = refl;
-        others = λ other ne. (refl, refl);
       })
 
-  pub turn-one : (new : List Space) (piece : List ℕ) (moment : ℕ) (r q v w : Option (List ℕ)) (k l : C)
-      → At old new n (λ was is. Goes number was is (λ s t. Delivered (config_of was) number piece moment s t (notices_of was) (notices_of is) v w [])) → Consumes r q piece → reads k moment l
-      → At old new n (λ was is. Goes number was is (λ s t. Carried (config_of was) number reads (world was s (outside r v k)) (world is t (outside q w l)) false false [] [] []))
-  turn-one new piece moment r q v w k l a read clock =
-      at-goes-map number n old new (λ x y s t. Delivered (config_of x) number piece moment s t (notices_of x) (notices_of y) v w []) (λ x y s t. Carried (config_of x) number reads (world x s (outside r v k)) (world y t (outside q w l)) false false [] [] []) a
-      (λ x y s t d. carried-one (config_of x) number reads x y s t r q v w k l piece moment [] d read clock)
+  pub turn-one : (new : List Space) (piece : List ℕ) (moment : ℕ) (asks : List Asking) (r q v w : Option (List ℕ)) (k l : C) (m o : L)
+      → At old new n (λ was is. Goes number was is (λ s t. Delivered (config_of was) number piece moment asks s t (notices_of was) (notices_of is) v w [])) → Consumes r q piece → reads k moment l → Askings loads m asks o
+      → At old new n (λ was is. Goes number was is (λ s t. Carried (config_of was) number reads loads (world was s (outside r v k m)) (world is t (outside q w l o)) false false [] nothing_left))
+  turn-one new piece moment asks r q v w k l m o a read clock loader =
+      at-goes-map number n old new (λ x y s t. Delivered (config_of x) number piece moment asks s t (notices_of x) (notices_of y) v w []) (λ x y s t. Carried (config_of x) number reads loads (world x s (outside r v k m)) (world y t (outside q w l o)) false false [] nothing_left) a
+      (λ x y s t d. carried-one (config_of x) number reads loads x y s t r q v w k l m o piece moment asks [] d read clock loader)
 
-  pub turn-broken : (new : List Space) (piece : List ℕ) (moment : ℕ) (r q v w : Option (List ℕ)) (k l : C) (e : RunError)
-      → At old new n (λ was is. Goes number was is (λ s t. Undelivered (config_of was) number piece moment s t (notices_of was) (notices_of is) v w e)) → Consumes r q piece → reads k moment l
-      → At old new n (λ was is. Goes number was is (λ s t. Broken (config_of was) number reads (world was s (outside r v k)) (world is t (outside q w l)) false false e))
-  turn-broken new piece moment r q v w k l e a read clock =
-      at-goes-map number n old new (λ x y s t. Undelivered (config_of x) number piece moment s t (notices_of x) (notices_of y) v w e) (λ x y s t. Broken (config_of x) number reads (world x s (outside r v k)) (world y t (outside q w l)) false false e) a
-      (λ x y s t d. broken-one (config_of x) number reads x y s t r q v w k l piece moment e d read clock)
+  pub turn-broken : (new : List Space) (piece : List ℕ) (moment : ℕ) (asks : List Asking) (r q v w : Option (List ℕ)) (k l : C) (m o : L) (e : RunError)
+      → At old new n (λ was is. Goes number was is (λ s t. Undelivered (config_of was) number piece moment asks s t (notices_of was) (notices_of is) v w e)) → Consumes r q piece → reads k moment l → Askings loads m asks o
+      → At old new n (λ was is. Goes number was is (λ s t. Broken (config_of was) number reads loads (world was s (outside r v k m)) (world is t (outside q w l o)) false false [] e))
+  turn-broken new piece moment asks r q v w k l m o e a read clock loader =
+      at-goes-map number n old new (λ x y s t. Undelivered (config_of x) number piece moment asks s t (notices_of x) (notices_of y) v w e) (λ x y s t. Broken (config_of x) number reads loads (world x s (outside r v k m)) (world y t (outside q w l o)) false false [] e) a
+      (λ x y s t d. broken-one (config_of x) number reads loads x y s t r q v w k l m o piece moment asks e d read clock loader)
 
   -- an error without a loss
-  pub at-broken : (new : List Space) (r q v w : Option (List ℕ)) (k l : C) (e : RunError) → e ≢ Moment
-      → At old new n (λ was is. Goes number was is (λ s t. Carried (config_of was) number reads (world was s (outside r v k)) (world is t (outside q w l)) false false [] [] []))
-      → At old new n (λ was is. Goes number was is (λ s t. Broken (config_of was) number reads (world was s (outside r v k)) (world is t (outside q w l)) false false e))
-  at-broken new r q v w k l e ne a =
-      at-goes-map number n old new (λ x y s t. Carried (config_of x) number reads (world x s (outside r v k)) (world y t (outside q w l)) false false [] [] []) (λ x y s t. Broken (config_of x) number reads (world x s (outside r v k)) (world y t (outside q w l)) false false e) a
-      (λ x y s t d. record { late = []; lost = []; unsent = []; carried = d; moment = λ is. absurd (ne is) })
+  pub at-broken : (new : List Space) (r q v w : Option (List ℕ)) (k l : C) (m o : L) (e : RunError) → e ≢ Moment
+      → At old new n (λ was is. Goes number was is (λ s t. Carried (config_of was) number reads loads (world was s (outside r v k m)) (world is t (outside q w l o)) false false [] nothing_left))
+      → At old new n (λ was is. Goes number was is (λ s t. Broken (config_of was) number reads loads (world was s (outside r v k m)) (world is t (outside q w l o)) false false [] e))
+  at-broken new r q v w k l m o e ne a =
+      at-goes-map number n old new (λ x y s t. Carried (config_of x) number reads loads (world x s (outside r v k m)) (world y t (outside q w l o)) false false [] nothing_left) (λ x y s t. Broken (config_of x) number reads loads (world x s (outside r v k m)) (world y t (outside q w l o)) false false [] e) a
+      (λ x y s t d. record { left = nothing_left; carried = d; dropped = tt; moment = λ is. absurd (ne is) })
 
 -- ---- turns one after another
 
-module _ {C : Type 0} (reads : C → ℕ → C → Type 0) (n number : ℕ) (first second third : List Space) (a b d : Outside C) where
-  pub at-carried-more : At first second n (λ was is. Goes number was is (λ s t. Carried (config_of was) number reads (world was s a) (world is t b) false false [] [] []))
-      → At second third n (λ was is. Goes number was is (λ s t. Carried (config_of was) number reads (world was s b) (world is t d) false false [] [] []))
-      → At first third n (λ was is. Goes number was is (λ s t. Carried (config_of was) number reads (world was s a) (world is t d) false false [] [] []))
+module _ {C L : Type 0} (reads : C → ℕ → C → Type 0) (loads : L → List ℕ → Option Outcome → L → Type 0) (n number : ℕ) (first second third : List Space) (a b d : Outside C L) where
+  pub at-carried-more : At first second n (λ was is. Goes number was is (λ s t. Carried (config_of was) number reads loads (world was s a) (world is t b) false false [] nothing_left))
+      → At second third n (λ was is. Goes number was is (λ s t. Carried (config_of was) number reads loads (world was s b) (world is t d) false false [] nothing_left))
+      → At first third n (λ was is. Goes number was is (λ s t. Carried (config_of was) number reads loads (world was s a) (world is t d) false false [] nothing_left))
   at-carried-more p q =
-      at-goes-more number n first second third (λ x y s t. Carried (config_of x) number reads (world x s a) (world y t b) false false [] [] []) (λ x y s t. Carried (config_of x) number reads (world x s b) (world y t d) false false [] [] [])
-      (λ x y s t. Carried (config_of x) number reads (world x s a) (world y t d) false false [] [] []) p q
-      (λ x y z same s t u f g. carried-more (config_of x) number reads (world x s a) (world y t b) (world z u d) false false [] [] [] f (subst (λ k. Carried k number reads (world y t b) (world z u d) false false [] [] []) same g))
+      at-goes-more number n first second third (λ x y s t. Carried (config_of x) number reads loads (world x s a) (world y t b) false false [] nothing_left) (λ x y s t. Carried (config_of x) number reads loads (world x s b) (world y t d) false false [] nothing_left)
+      (λ x y s t. Carried (config_of x) number reads loads (world x s a) (world y t d) false false [] nothing_left) p q
+      (λ x y z same s t u f g. carried-more (config_of x) number reads loads (world x s a) (world y t b) (world z u d) false false [] nothing_left f (subst (λ k. Carried k number reads loads (world y t b) (world z u d) false false [] nothing_left) same g))
 
-  pub at-broken-more : (e : RunError) → At first second n (λ was is. Goes number was is (λ s t. Carried (config_of was) number reads (world was s a) (world is t b) false false [] [] []))
-      → At second third n (λ was is. Goes number was is (λ s t. Broken (config_of was) number reads (world was s b) (world is t d) false false e))
-      → At first third n (λ was is. Goes number was is (λ s t. Broken (config_of was) number reads (world was s a) (world is t d) false false e))
+  pub at-broken-more : (e : RunError) → At first second n (λ was is. Goes number was is (λ s t. Carried (config_of was) number reads loads (world was s a) (world is t b) false false [] nothing_left))
+      → At second third n (λ was is. Goes number was is (λ s t. Broken (config_of was) number reads loads (world was s b) (world is t d) false false [] e))
+      → At first third n (λ was is. Goes number was is (λ s t. Broken (config_of was) number reads loads (world was s a) (world is t d) false false [] e))
   at-broken-more e p q =
-      at-goes-more number n first second third (λ x y s t. Carried (config_of x) number reads (world x s a) (world y t b) false false [] [] []) (λ x y s t. Broken (config_of x) number reads (world x s b) (world y t d) false false e)
-      (λ x y s t. Broken (config_of x) number reads (world x s a) (world y t d) false false e) p q
-      (λ x y z same s t u f g. broken-more (config_of x) number reads (world x s a) (world y t b) (world z u d) false false e f (subst (λ k. Broken k number reads (world y t b) (world z u d) false false e) same g))
+      at-goes-more number n first second third (λ x y s t. Carried (config_of x) number reads loads (world x s a) (world y t b) false false [] nothing_left) (λ x y s t. Broken (config_of x) number reads loads (world x s b) (world y t d) false false [] e)
+      (λ x y s t. Broken (config_of x) number reads loads (world x s a) (world y t d) false false [] e) p q
+      (λ x y z same s t u f g. broken-more (config_of x) number reads loads (world x s a) (world y t b) (world z u d) false false [] e f (subst (λ k. Broken k number reads loads (world y t b) (world z u d) false false [] e) same g))
 
 -- nothing has come yet
-pub at-carried-start : {C : Type 0} (reads : C → ℕ → C → Type 0) (old : List Space) (n number : ℕ) (a : Outside C) → Connected old n number IsReady
-    → At old old n (λ was is. Goes number was is (λ s t. Carried (config_of was) number reads (world was s a) (world is t a) false false [] [] []))
-at-carried-start reads old n number a c =
-    at-same (λ was is. Goes number was is (λ s t. Carried (config_of was) number reads (world was s a) (world is t a) false false [] [] [])) old n c.space c.at
+pub at-carried-start : {C L : Type 0} (reads : C → ℕ → C → Type 0) (loads : L → List ℕ → Option Outcome → L → Type 0) (old : List Space) (n number : ℕ) (a : Outside C L) → Connected old n number IsReady
+    → At old old n (λ was is. Goes number was is (λ s t. Carried (config_of was) number reads loads (world was s a) (world is t a) false false [] nothing_left))
+at-carried-start reads loads old n number a c =
+    at-same (λ was is. Goes number was is (λ s t. Carried (config_of was) number reads loads (world was s a) (world is t a) false false [] nothing_left)) old n c.space c.at
     (record {
-      each = λ s stands. record { next = s; stands = stands; fact = carried-same (config_of c.space) number reads c.space c.space s s a refl refl };
+      each = λ s stands alone. record { next = s; stands = stands; alone = alone; fact = carried-same (config_of c.space) number reads loads c.space c.space s s a refl refl; others = λ other ne. (refl, refl) };
       config = refl;
-      others = λ other ne. (refl, refl);
     })
 
 -- the bytes of several turns, unless the reader failed

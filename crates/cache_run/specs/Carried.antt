@@ -1,15 +1,14 @@
--- What passes between a reader, a connection and a writer.
-use Rattle.std.specs.Prelude.{◌≡◌, ℕ, ◌≤◌, ◌^◌, Bool, List, [], ◌∷◌, ◌++◌, map, Some, if◌then◌else◌}
+-- What passes between a reader, a connection, a loader and a writer.
+use Rattle.std.specs.Prelude.{◌≡◌, ℕ, ◌≤◌, ◌^◌, Bool, List, [], ◌∷◌, ◌++◌, map, Option, Some, if◌then◌else◌}
 use Rattle.std.specs.Io.KnownBytes.{Consumes, Appends}
 use Rattle.std.specs.List.{flat_map}
 use Rattle.audit_model.specs.Follows.{after_records}
 use Rattle.audit_model.specs.declared.config.Config.{Config}
 use Rattle.audit_model.specs.declared.event.Event.TheVariants as event
-use Rattle.audit_model.specs.declared.transcript.Note.{Note}
+use Rattle.audit_model.specs.declared.event.Outcome.{Outcome}
 use Rattle.audit_model.specs.declared.transcript.Record.{Record}
-use Rattle.audit_model.specs.declared.transcript.Step.{Step}
-use Rattle.cache_namespace.specs.Gathered.{reply_in}
-use Rattle.cache_namespace.specs.Taken.{fed, record_of}
+use Rattle.cache_namespace.specs.Taken.{record_of}
+use Rattle.cache_run.specs.Happened.{Asking, Turn, AreDrops, AreRight, asked_in, moment_in, notes_in, notes_of, piece_in, records_in, replies_in}
 use Rattle.cache_run.specs.Worlds.{World}
 use Rattle.cache_run.specs.declared.errors.RunError.{RunError}
 use Rattle.cache_run.specs.declared.errors.RunError.TheVariants.{Moment}
@@ -19,20 +18,10 @@ abbrev pub Readings : {C : Type 0} → (C → ℕ → C → Type 0) → C → Li
 Readings reads c [] d = d ≡ c
 Readings {C} reads c (t ∷ ts) d = (m : C) × reads c t m × Readings reads m ts d
 
--- a piece that was fed at a moment, and its steps
-pub record Feeding : Type 0 where
-  pub piece : List ℕ
-  pub moment : ℕ
-  pub steps : List Step
-
-abbrev pub replies_in : Feeding → List ℕ
-replies_in feeding = flat_map reply_in feeding.steps
-
-abbrev pub notes_in : Feeding → List Note
-notes_in feeding = flat_map (λ step. step.notices) feeding.steps
-
-abbrev pub feed_record : ℕ → Feeding → Record
-feed_record number feeding = record_of (fed number feeding.piece feeding.moment) feeding.steps
+-- what a loader was asked and said, in order
+abbrev pub Askings : {L : Type 0} → (L → List ℕ → Option Outcome → L → Type 0) → L → List Asking → L → Type 0
+Askings loads l [] k = k ≡ l
+Askings {L} loads l (asking ∷ askings) k = (m : L) × loads l asking.key asking.answer m × Askings loads m askings k
 
 abbrev pub open_records : ℕ → Bool → List Record
 open_records number opens = if opens then record_of (event.Open number) [] ∷ [] else []
@@ -40,26 +29,37 @@ open_records number opens = if opens then record_of (event.Open number) [] ∷ [
 abbrev pub close_records : ℕ → Bool → List Record
 close_records number closes = if closes then record_of (event.Close number) [] ∷ [] else []
 
--- the records of a connection: it opens or not, these pieces are fed, and it closes or not
-abbrev pub records_of : ℕ → Bool → List Feeding → Bool → List Record
-records_of number opens feeds closes = (open_records number opens ++ map (feed_record number) feeds) ++ close_records number closes
+-- the records of a connection: it opens or not, these turns come, it closes or not, and then loads are given up
+abbrev pub records_of : ℕ → Bool → List Turn → Bool → List Record → List Record
+records_of number opens turns closes drops = (open_records number opens ++ flat_map (records_in number) turns) ++ (close_records number closes ++ drops)
 
--- From one world to another a connection's records followed: its pieces, and then lost, were read, its replies but for unsent
--- were written, and the clock told its moments, and then late.
-pub record Carried {C : Type 0} (config : Config) (number : ℕ) (reads : C → ℕ → C → Type 0) (a b : World C) (opens closes : Bool) (late lost unsent : List ℕ) : Type 0 where
-  pub feeds : List Feeding
-  pub follows : after_records config a.situation (records_of number opens feeds closes) ≡ Some b.situation
-  pub notices : b.notices ≡ a.notices ++ flat_map notes_in feeds
-  pub read : Consumes a.outside.remaining b.outside.remaining (flat_map (λ feeding. feeding.piece) feeds ++ lost)
-  pub sent : List ℕ
-  pub wrote : Appends a.outside.contents b.outside.contents sent
-  pub replies : sent ++ unsent ≡ flat_map replies_in feeds
-  pub clock : Readings reads a.outside.clock (map (λ feeding. feeding.moment) feeds ++ late) b.outside.clock
-
--- what an error leaves
-pub record Broken {C : Type 0} (config : Config) (number : ℕ) (reads : C → ℕ → C → Type 0) (a b : World C) (opens closes : Bool) (e : RunError) : Type 0 where
+-- what an error leaves behind the last turn: the clock told late, lost was read, the loader was asked, and unsent was not written
+pub record Left : Type 0 where
   pub late : List ℕ
   pub lost : List ℕ
+  pub asked : List Asking
   pub unsent : List ℕ
-  pub carried : Carried config number reads a b opens closes late lost unsent
-  pub moment : e ≡ Moment → (t : ℕ) × (2 ^ 63 ≤ t) × (late ≡ t ∷ [])
+
+abbrev pub nothing_left : Left
+nothing_left = record { late = []; lost = []; asked = []; unsent = [] }
+
+-- From one world to another a connection's records followed: its pieces, and then what was lost, were read, its replies but for those
+-- unsent were written, and the clock told its moments, and the loader its answers.
+pub record Carried {C L : Type 0} (config : Config) (number : ℕ) (reads : C → ℕ → C → Type 0) (loads : L → List ℕ → Option Outcome → L → Type 0) (a b : World C L) (opens closes : Bool) (drops : List Record) (left : Left) : Type 0 where
+  pub turns : List Turn
+  pub right : AreRight config turns
+  pub follows : after_records config a.situation (records_of number opens turns closes drops) ≡ Some b.situation
+  pub notices : b.notices ≡ (a.notices ++ flat_map (notes_in number) turns) ++ flat_map notes_of drops
+  pub read : Consumes a.outside.remaining b.outside.remaining (flat_map piece_in turns ++ left.lost)
+  pub sent : List ℕ
+  pub wrote : Appends a.outside.contents b.outside.contents sent
+  pub replies : sent ++ left.unsent ≡ flat_map (replies_in number) turns
+  pub clock : Readings reads a.outside.clock (map moment_in turns ++ left.late) b.outside.clock
+  pub loader : Askings loads a.outside.loader (flat_map asked_in turns ++ left.asked) b.outside.loader
+
+-- what an error leaves
+pub record Broken {C L : Type 0} (config : Config) (number : ℕ) (reads : C → ℕ → C → Type 0) (loads : L → List ℕ → Option Outcome → L → Type 0) (a b : World C L) (opens closes : Bool) (drops : List Record) (e : RunError) : Type 0 where
+  pub left : Left
+  pub carried : Carried config number reads loads a b opens closes drops left
+  pub dropped : AreDrops drops
+  pub moment : e ≡ Moment → (t : ℕ) × (2 ^ 63 ≤ t) × (left.late ≡ t ∷ [])

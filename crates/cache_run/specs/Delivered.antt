@@ -1,46 +1,48 @@
--- What one piece does, from its bytes to those that are written.
-use Rattle.std.specs.Prelude.{◌≡◌, ◌≢◌, ℕ, ◌≤◌, ◌^◌, List, [], ◌++◌, Option, ◌⊎◌}
+-- What one turn does, from its bytes to those that are written.
+use Rattle.std.specs.Prelude.{◌≡◌, ◌≢◌, ℕ, ◌≤◌, ◌^◌, List, [], ◌++◌, Option, Some, ◌⊎◌}
 use Rattle.std.specs.Io.KnownBytes.{Appends}
-use Rattle.audit_model.specs.Follows.{Follows}
+use Rattle.audit_model.specs.Follows.{after_records}
 use Rattle.audit_model.specs.Situation.{Situation}
 use Rattle.audit_model.specs.declared.config.Config.{Config}
 use Rattle.audit_model.specs.declared.transcript.Note.{Note}
-use Rattle.cache_run.specs.Carried.{Feeding, feed_record, notes_in, replies_in}
+use Rattle.cache_run.specs.Happened.{Asking, Turn, IsRight, asked_in, moment_in, notes_in, piece_in, records_in, replies_in}
 use Rattle.cache_run.specs.declared.errors.RunError.{RunError}
 use Rattle.cache_run.specs.declared.errors.RunError.TheVariants.{OutOfMemory, Moment}
 
--- the piece was one record, and that text was its replies
-pub record Answered (config : Config) (number : ℕ) (piece : List ℕ) (moment : ℕ) (s t : Situation) (before after : List Note) (text : List ℕ) : Type 0 where
-  pub feeding : Feeding
-  pub piece_is : feeding.piece ≡ piece
-  pub moment_is : feeding.moment ≡ moment
-  pub follows : Follows config s (feed_record number feeding) t
-  pub notices : after ≡ before ++ notes_in feeding
-  pub replies : text ≡ replies_in feeding
+-- the turn had its record, and that text was its replies
+pub record Answered (config : Config) (number : ℕ) (piece : List ℕ) (moment : ℕ) (asks : List Asking) (s t : Situation) (before after : List Note) (text : List ℕ) : Type 0 where
+  pub turn : Turn
+  pub piece_is : piece_in turn ≡ piece
+  pub moment_is : moment_in turn ≡ moment
+  pub asks_are : asked_in turn ≡ asks
+  pub right : IsRight config turn
+  pub follows : after_records config s (records_in number turn) ≡ Some t
+  pub notices : after ≡ before ++ notes_in number turn
+  pub replies : text ≡ replies_in number turn
 
--- nothing was fed
+-- nothing was fed, and no load was settled
 pub record Unfed (s t : Situation) (before after : List Note) : Type 0 where
   pub same : t ≡ s
   pub notices : after ≡ before
 
--- why a piece is not fed
+-- why a piece is not fed, or a load not settled
 abbrev pub IsCause : ℕ → RunError → Type 0
 IsCause moment e = (e ≡ OutOfMemory) ⊎ ((e ≡ Moment) × (2 ^ 63 ≤ moment))
 
--- nothing was fed, or a command was held back for want of memory
-abbrev pub Unanswered : Config → ℕ → List ℕ → ℕ → Situation → Situation → List Note → List Note → RunError → Type 0
-Unanswered config number piece moment s t before after e =
-    (Unfed s t before after × IsCause moment e) ⊎ ((text : List ℕ) × Answered config number piece moment s t before after text × (e ≡ OutOfMemory))
+-- nothing came of it, or a command was held back for want of memory
+abbrev pub Unanswered : Config → ℕ → List ℕ → ℕ → List Asking → Situation → Situation → List Note → List Note → RunError → Type 0
+Unanswered config number piece moment asks s t before after e =
+    (Unfed s t before after × IsCause moment e) ⊎ ((text : List ℕ) × Answered config number piece moment asks s t before after text × (e ≡ OutOfMemory))
 
--- the piece was one record, and its replies but for unsent were written
-pub record Delivered (config : Config) (number : ℕ) (piece : List ℕ) (moment : ℕ) (s t : Situation) (before after : List Note) (contents written : Option (List ℕ)) (unsent : List ℕ) : Type 0 where
+-- the turn had its record, and its replies but for unsent were written
+pub record Delivered (config : Config) (number : ℕ) (piece : List ℕ) (moment : ℕ) (asks : List Asking) (s t : Situation) (before after : List Note) (contents written : Option (List ℕ)) (unsent : List ℕ) : Type 0 where
   pub text : List ℕ
-  pub answered : Answered config number piece moment s t before after text
+  pub answered : Answered config number piece moment asks s t before after text
   pub sent : List ℕ
   pub wrote : Appends contents written sent
   pub whole : sent ++ unsent ≡ text
 
--- nothing was fed or written, or the replies but for some were written
-abbrev pub Undelivered : Config → ℕ → List ℕ → ℕ → Situation → Situation → List Note → List Note → Option (List ℕ) → Option (List ℕ) → RunError → Type 0
-Undelivered config number piece moment s t before after contents written e =
-    (Unfed s t before after × Appends contents written [] × IsCause moment e) ⊎ ((unsent : List ℕ) × Delivered config number piece moment s t before after contents written unsent × (e ≢ Moment))
+-- nothing came of it and nothing was written, or the replies but for some were written
+abbrev pub Undelivered : Config → ℕ → List ℕ → ℕ → List Asking → Situation → Situation → List Note → List Note → Option (List ℕ) → Option (List ℕ) → RunError → Type 0
+Undelivered config number piece moment asks s t before after contents written e =
+    (Unfed s t before after × Appends contents written [] × IsCause moment e) ⊎ ((unsent : List ℕ) × Delivered config number piece moment asks s t before after contents written unsent × (e ≢ Moment))

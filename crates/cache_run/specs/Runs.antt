@@ -12,7 +12,8 @@ use Rattle.audit_model.specs.declared.transcript.Note.{Note}
 use Rattle.cache_namespace.specs.Taken.{record_of}
 use Rattle.cache_spaces.specs.Spaces.{closing_of, config_of, connections_of, notices_of}
 use Rattle.cache_spaces.specs.declared.space.Space.{Space}
-use Rattle.cache_run.specs.Carried.{Broken, Carried}
+use Rattle.audit_model.specs.declared.event.Outcome.{Outcome}
+use Rattle.cache_run.specs.Carried.{Broken, Carried, nothing_left}
 use Rattle.cache_run.specs.Connected.{IsEnded}
 use Rattle.cache_run.specs.Delivered.{Unfed}
 use Rattle.cache_run.specs.Goes.{Goes}
@@ -40,18 +41,18 @@ Ends true closing remaining = (closing ≡ Some by.Asked) × IsAtEnd remaining
 Ends false closing remaining = IsEnded closing
 
 -- One connection was opened, fed with all that was read, and closed; the bytes written are its replies.
-pub record ServesWhole {C : Type 0} (reads : C → ℕ → C → Type 0) (was is : Space) (before after : Outside C) : Type 0 where
+pub record ServesWhole {C L : Type 0} (reads : C → ℕ → C → Type 0) (loads : L → List ℕ → Option Outcome → L → Type 0) (was is : Space) (before after : Outside C L) : Type 0 where
   pub number : ℕ
   pub next : number ≡ next_number was
   pub closes : Bool
-  pub goes : Goes number was is (λ s t. Carried (config_of was) number reads (world was s before) (world is t after) true closes [] [] [])
+  pub goes : Goes number was is (λ s t. Carried (config_of was) number reads loads (world was s before) (world is t after) true closes [] nothing_left)
   pub ends : Ends closes (closing_of is number) after.remaining
 
 -- One connection was opened, fed, and closed after an error; the bytes written are a beginning of its replies.
-pub record ServesPartly {C : Type 0} (reads : C → ℕ → C → Type 0) (was is : Space) (before after : Outside C) (e : RunError) : Type 0 where
+pub record ServesPartly {C L : Type 0} (reads : C → ℕ → C → Type 0) (loads : L → List ℕ → Option Outcome → L → Type 0) (was is : Space) (before after : Outside C L) (e : RunError) : Type 0 where
   pub number : ℕ
   pub next : number ≡ next_number was
   pub closes : Bool
-  pub goes : Goes number was is (λ s t. Broken (config_of was) number reads (world was s before) (world is t after) true closes e)
+  pub goes : Goes number was is (λ s t. Broken (config_of was) number reads loads (world was s before) (world is t after) true closes [] e)
   pub why : Closing
   pub closed : closing_of is number ≡ Some why

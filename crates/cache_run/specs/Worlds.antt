@@ -5,20 +5,21 @@ use Rattle.audit_model.specs.declared.transcript.Note.{Note}
 use Rattle.cache_spaces.specs.Spaces.{notices_of}
 use Rattle.cache_spaces.specs.declared.space.Space.{Space}
 
--- what a reader has left, what a writer holds, and a clock
-pub record Outside (C : Type 0) : Type 0 where
+-- what a reader has left, what a writer holds, a clock and a loader
+pub record Outside (C L : Type 0) : Type 0 where
   pub remaining : Option (List ℕ)
   pub contents : Option (List ℕ)
   pub clock : C
+  pub loader : L
 
 -- a situation, the notes told and not taken, and what stands outside
-pub record World (C : Type 0) : Type 0 where
+pub record World (C L : Type 0) : Type 0 where
   pub situation : Situation
   pub notices : List Note
-  pub outside : Outside C
+  pub outside : Outside C L
 
-abbrev pub outside : {C : Type 0} → Option (List ℕ) → Option (List ℕ) → C → Outside C
-outside remaining contents clock = record { remaining = remaining; contents = contents; clock = clock }
+abbrev pub outside : {C L : Type 0} → Option (List ℕ) → Option (List ℕ) → C → L → Outside C L
+outside remaining contents clock loader = record { remaining = remaining; contents = contents; clock = clock; loader = loader }
 
-abbrev pub world : {C : Type 0} → Space → Situation → Outside C → World C
+abbrev pub world : {C L : Type 0} → Space → Situation → Outside C L → World C L
 world space s around = record { situation = s; notices = notices_of space; outside = around }

@@ -1,5 +1,7 @@
 //! One piece of a connection, and its closing.
-ghost use Rattle.std.specs.Prelude.{◌≡◌, ◌≢◌, ◌≤◌, ◌<◌, ◌^◌, ◌⊎◌, ℕ, [], None, Some, false, IfOk, IfErr, OnOk, OnErr, IsSome, IsErrOf};
+ghost use Rattle.std.specs.Io.KnownBytes.{Appends};
+ghost use Rattle.cache_devices.specs.Sent.{SentBut};
+ghost use Rattle.std.specs.Prelude.{◌≡◌, ◌≢◌, ◌≤◌, ◌<◌, ◌^◌, ◌⊎◌, ℕ, List, [], None, Some, false, IfOk, IfErr, OnOk, OnErr, IsSome, IsErrOf};
 ghost use Rattle.audit_model.specs.declared.event.Event.TheVariants as event;
 ghost use Rattle.cache_devices.specs.Failures.{HasFailed};
 ghost use Rattle.cache_devices.specs.Watched.{device, failures};
@@ -31,8 +33,26 @@ fn feed_piece(service: &mut Service, conn: Conn, piece: &[u8], moment: u64) -> R
     }
 }
 
+/// Sends replies, and has the writer hand them on.
+pub fn write_replies<W: Write>(replies: &[u8], writer: &mut Watched<W>) -> Result<(), RunError>
+    ensures ok { OnOk result (Appends (W.contents (device writer.old)) (W.contents (device writer.new)) replies.now) }
+    ensures err { OnErr result ((rest : List ℕ) × SentBut rest replies.now (W.contents (device writer.old)) (W.contents (device writer.new))) }
+    ensures cause { OnErr result (HasFailed (failures writer.old) (failures writer.new)) }
+    ensures causes { IfErr result (λ e. (e ≡ RunError.Write) ⊎ (e ≡ RunError.UsedUp)) }
+    ensures count { failures writer.old ≤ failures writer.new }
+{
+    match send(replies, writer) {
+        Ok(()) => {}
+        Err(error) => return Err(error_of_send(error)),
+    }
+    match writer.flush() {
+        Ok(()) => Ok(()),
+        Err(_) => Err(RunError::Write),
+    }
+}
+
 /// Takes the replies of a connection.
-fn take_replies(service: &mut Service, conn: Conn) -> Vec<u8>
+pub fn take_replies(service: &mut Service, conn: Conn) -> Vec<u8>
     requires known { Connected (spaces_of service.old) conn.namespace conn.number IsFed }
     ensures { At (spaces_of service.old) (spaces_of service.new) conn.namespace (λ was is. TakesOutput was is conn.number result.items) }
 {
@@ -50,9 +70,9 @@ fn answer_piece(
     moment: u64,
 ) -> Result<Vec<u8>, RunError>
     requires ready { Connected (spaces_of service.old) conn.namespace conn.number IsReady }
-    ensures ok { IfOk result (λ text. At (spaces_of service.old) (spaces_of service.new) conn.namespace (λ was is. Goes conn.number was is (λ s t. Answered (config_of was) conn.number piece.now moment s t (notices_of was) (notices_of is) text.items))) }
+    ensures ok { IfOk result (λ text. At (spaces_of service.old) (spaces_of service.new) conn.namespace (λ was is. Goes conn.number was is (λ s t. Answered (config_of was) conn.number piece.now moment [] s t (notices_of was) (notices_of is) text.items))) }
     ensures taken { OnOk result (Connected (spaces_of service.new) conn.namespace conn.number IsTaken) }
-    ensures err { IfErr result (λ e. At (spaces_of service.old) (spaces_of service.new) conn.namespace (λ was is. Goes conn.number was is (λ s t. Unanswered (config_of was) conn.number piece.now moment s t (notices_of was) (notices_of is) e))) }
+    ensures err { IfErr result (λ e. At (spaces_of service.old) (spaces_of service.new) conn.namespace (λ was is. Goes conn.number was is (λ s t. Unanswered (config_of was) conn.number piece.now moment [] s t (notices_of was) (notices_of is) e))) }
     ensures left { OnErr result (Connected (spaces_of service.new) conn.namespace conn.number IsFed) }
     ensures causes { IfErr result (λ e. (e ≢ RunError.Read) × (e ≢ RunError.Write) × (e ≢ RunError.UsedUp)) }
     ensures moment { IsErrOf result RunError.Moment → 2 ^ 63 ≤ moment }
@@ -73,9 +93,9 @@ pub fn deliver<W: Write>(
     writer: &mut Watched<W>,
 ) -> Result<(), RunError>
     requires ready { Connected (spaces_of service.old) conn.namespace conn.number IsReady }
-    ensures ok { OnOk result (At (spaces_of service.old) (spaces_of service.new) conn.namespace (λ was is. Goes conn.number was is (λ s t. Delivered (config_of was) conn.number piece.now moment s t (notices_of was) (notices_of is) (W.contents (device writer.old)) (W.contents (device writer.new)) []))) }
+    ensures ok { OnOk result (At (spaces_of service.old) (spaces_of service.new) conn.namespace (λ was is. Goes conn.number was is (λ s t. Delivered (config_of was) conn.number piece.now moment [] s t (notices_of was) (notices_of is) (W.contents (device writer.old)) (W.contents (device writer.new)) []))) }
     ensures taken { OnOk result (Connected (spaces_of service.new) conn.namespace conn.number IsTaken) }
-    ensures err { IfErr result (λ e. At (spaces_of service.old) (spaces_of service.new) conn.namespace (λ was is. Goes conn.number was is (λ s t. Undelivered (config_of was) conn.number piece.now moment s t (notices_of was) (notices_of is) (W.contents (device writer.old)) (W.contents (device writer.new)) e))) }
+    ensures err { IfErr result (λ e. At (spaces_of service.old) (spaces_of service.new) conn.namespace (λ was is. Goes conn.number was is (λ s t. Undelivered (config_of was) conn.number piece.now moment [] s t (notices_of was) (notices_of is) (W.contents (device writer.old)) (W.contents (device writer.new)) e))) }
     ensures left { OnErr result (Connected (spaces_of service.new) conn.namespace conn.number IsFed) }
     ensures cause { IsErrOf result RunError.Write → HasFailed (failures writer.old) (failures writer.new) }
     ensures used_up { IsErrOf result RunError.UsedUp → HasFailed (failures writer.old) (failures writer.new) }
@@ -87,12 +107,8 @@ pub fn deliver<W: Write>(
         Ok(replies) => replies,
         Err(error) => return Err(error),
     };
-    match send(&replies, writer) {
-        Ok(()) => {}
-        Err(error) => return Err(error_of_send(error)),
-    }
-    match writer.flush() {
+    match write_replies(&replies, writer) {
         Ok(()) => Ok(()),
-        Err(_) => Err(RunError::Write),
+        Err(error) => Err(error),
     }
 }

@@ -3,6 +3,7 @@
 
 mod errors;
 mod feeding;
+mod loading;
 mod serving;
 mod turns;
 

@@ -7,7 +7,7 @@ ghost use Rattle.cache_spaces.specs.Moves.{At};
 ghost use Rattle.cache_spaces.specs.Serves.{SameSpace};
 ghost use Rattle.cache_spaces.specs.Services.{spaces_of};
 ghost use Rattle.cache_spaces.specs.Spaces.{config_of, notices_of};
-ghost use Rattle.cache_run.specs.Carried.{Broken, Carried};
+ghost use Rattle.cache_run.specs.Carried.{Broken, Carried, nothing_left};
 ghost use Rattle.cache_run.specs.Connected.{Connected, IsFed, IsOver, IsReady};
 ghost use Rattle.cache_run.specs.Goes.{Goes};
 ghost use Rattle.cache_run.specs.Runs.{Closes, Quiet, ServesPartly, ServesWhole, next_number};
@@ -15,8 +15,9 @@ ghost use Rattle.cache_run.specs.Turns.{HasRead, HasToldLate};
 ghost use Rattle.cache_run.specs.Worlds.{outside, world};
 
 use crate::errors::RunError;
+use crate::loading::drop_loads;
 use crate::turns::{Progress, take_turn};
-use audit_model::Conn;
+use audit_model::{Bytes, Conn, LoadId};
 use cache_devices::{Clock, Loader, Watched};
 use cache_spaces::Service;
 use std::alloc::Global;
@@ -51,23 +52,25 @@ fn close_if_open(service: &mut Service, conn: Conn)
 }
 
 /// Answers the pieces that are read, to the end of the input or until the connection has closed.
-fn converse<R: Read, W: Write, C: Clock>(
+fn converse<R: Read, W: Write, C: Clock, L: Loader>(
     service: &mut Service,
     conn: Conn,
     buffer: &mut [u8],
     reader: &mut Watched<R>,
     writer: &mut Watched<W>,
     clock: &mut C,
+    loader: &mut L,
+    taken: &mut Vec<(LoadId, Bytes)>,
 ) -> Result<(), RunError>
     requires room { 0 < length buffer.old }
     requires ready { Connected (spaces_of service.old) conn.namespace conn.number IsReady }
-    ensures ok { OnOk result (At (spaces_of service.old) (spaces_of service.new) conn.namespace (λ was is. Goes conn.number was is (λ s t. Carried (config_of was) conn.number C.reads
-        (world was s (outside (R.remaining (device reader.old)) (W.contents (device writer.old)) clock.old))
-        (world is t (outside (R.remaining (device reader.new)) (W.contents (device writer.new)) clock.new)) false false [] [] []))) }
+    ensures ok { OnOk result (At (spaces_of service.old) (spaces_of service.new) conn.namespace (λ was is. Goes conn.number was is (λ s t. Carried (config_of was) conn.number C.reads L.loads
+        (world was s (outside (R.remaining (device reader.old)) (W.contents (device writer.old)) clock.old loader.old))
+        (world is t (outside (R.remaining (device reader.new)) (W.contents (device writer.new)) clock.new loader.new)) false false [] nothing_left))) }
     ensures over { OnOk result (Connected (spaces_of service.new) conn.namespace conn.number (IsOver (R.remaining (device reader.new)))) }
-    ensures err { IfErr result (λ e. At (spaces_of service.old) (spaces_of service.new) conn.namespace (λ was is. Goes conn.number was is (λ s t. Broken (config_of was) conn.number C.reads
-        (world was s (outside (R.remaining (device reader.old)) (W.contents (device writer.old)) clock.old))
-        (world is t (outside (R.remaining (device reader.new)) (W.contents (device writer.new)) clock.new)) false false e))) }
+    ensures err { IfErr result (λ e. At (spaces_of service.old) (spaces_of service.new) conn.namespace (λ was is. Goes conn.number was is (λ s t. Broken (config_of was) conn.number C.reads L.loads
+        (world was s (outside (R.remaining (device reader.old)) (W.contents (device writer.old)) clock.old loader.old))
+        (world is t (outside (R.remaining (device reader.new)) (W.contents (device writer.new)) clock.new loader.new)) false false [] e))) }
     ensures left { OnErr result (Connected (spaces_of service.new) conn.namespace conn.number IsFed) }
     ensures read { IsErrOf result RunError.Read → HasFailed (failures reader.old) (failures reader.new) }
     ensures write { IsErrOf result RunError.Write → HasFailed (failures writer.old) (failures writer.new) }
@@ -75,7 +78,7 @@ fn converse<R: Read, W: Write, C: Clock>(
     ensures used_up { IsErrOf result RunError.UsedUp → HasFailed (failures writer.old) (failures writer.new) ⊎ (HasFailed (failures reader.old) (failures reader.new) ⊎ HasRead (R.remaining (device reader.old)) (R.remaining (device reader.new)) (2 ^ 64 - 1)) }
 {
     for _turn in 0..u64::MAX {
-        match take_turn(service, conn, buffer, reader, writer, clock) {
+        match take_turn(service, conn, buffer, reader, writer, clock, loader, taken) {
             Ok(Progress::More) => {}
             Ok(Progress::Over) => return Ok(()),
             Err(error) => return Err(error),
@@ -86,7 +89,9 @@ fn converse<R: Read, W: Write, C: Clock>(
 
 /// Serves one connection of a namespace, from its opening to the end of its input, where it is closed, or until it has closed.
 ///
-/// In this stage no load goes out, and the loader is not asked.
+/// Each load that goes out is asked of the loader by its key, and answered with what the loader says; given up where the loader gives no
+/// answer or one that is refused for its bytes or its time. After an error the connection is closed, and then loads that are left are
+/// given up at moment 0, which counts as the latest. Behind it no load is under way.
 pub fn run<R: Read, W: Write, C: Clock, L: Loader>(
     service: &mut Service,
     alloc: Global,
@@ -99,24 +104,22 @@ pub fn run<R: Read, W: Write, C: Clock, L: Loader>(
     requires known { namespace < length (spaces_of service.old) }
 
     // The bytes written are the replies of one connection whose pieces joined are the bytes read.
-    ensures ok { OnOk result (At (spaces_of service.old) (spaces_of service.new) namespace (λ was is. ServesWhole C.reads was is
-        (outside (R.remaining (device reader.old)) (W.contents (device writer.old)) clock.old)
-        (outside (R.remaining (device reader.new)) (W.contents (device writer.new)) clock.new))) }
+    ensures ok { OnOk result (At (spaces_of service.old) (spaces_of service.new) namespace (λ was is. ServesWhole C.reads L.loads was is
+        (outside (R.remaining (device reader.old)) (W.contents (device writer.old)) clock.old loader.old)
+        (outside (R.remaining (device reader.new)) (W.contents (device writer.new)) clock.new loader.new))) }
 
     // After an error they are a beginning of them, unless no connection was opened.
-    ensures err { IfErr result (λ e. At (spaces_of service.old) (spaces_of service.new) namespace (λ was is. ((e ≡ RunError.OutOfMemory) × SameSpace was is × (reader.new ≡ reader.old) × (writer.new ≡ writer.old) × (clock.new ≡ clock.old))
-        ⊎ ServesPartly C.reads was is
-        (outside (R.remaining (device reader.old)) (W.contents (device writer.old)) clock.old)
-        (outside (R.remaining (device reader.new)) (W.contents (device writer.new)) clock.new) e)) }
+    ensures err { IfErr result (λ e. At (spaces_of service.old) (spaces_of service.new) namespace (λ was is. ((e ≡ RunError.OutOfMemory) × SameSpace was is × (reader.new ≡ reader.old) × (writer.new ≡ writer.old) × (clock.new ≡ clock.old) × (loader.new ≡ loader.old))
+        ⊎ ServesPartly C.reads L.loads was is
+        (outside (R.remaining (device reader.old)) (W.contents (device writer.old)) clock.old loader.old)
+        (outside (R.remaining (device reader.new)) (W.contents (device writer.new)) clock.new loader.new) e)) }
     ensures read { IsErrOf result RunError.Read → HasFailed (failures reader.old) (failures reader.new) }
     ensures write { IsErrOf result RunError.Write → HasFailed (failures writer.old) (failures writer.new) }
     ensures moment { IsErrOf result RunError.Moment → HasToldLate C.reads clock.new }
 
     // Numbers are used up only where a device failed or as many bytes were read as turns are counted.
     ensures used_up { IsErrOf result RunError.UsedUp → HasFailed (failures writer.old) (failures writer.new) ⊎ (HasFailed (failures reader.old) (failures reader.new) ⊎ HasRead (R.remaining (device reader.old)) (R.remaining (device reader.new)) (2 ^ 64 - 1)) }
-    ensures loader { loader.new ≡ loader.old }
 {
-    let _loader = loader;
     let mut buffer = match vec![in alloc; 0u8; PIECE_BYTES] {
         Ok(buffer) => buffer,
         Err(_) => return Err(RunError::OutOfMemory),
@@ -125,7 +128,18 @@ pub fn run<R: Read, W: Write, C: Clock, L: Loader>(
         Ok(conn) => conn,
         Err(error) => return Err(error),
     };
-    let outcome = converse(service, conn, &mut buffer, reader, writer, clock);
+    let mut taken = Vec::new(alloc);
+    let outcome = converse(
+        service,
+        conn,
+        &mut buffer,
+        reader,
+        writer,
+        clock,
+        loader,
+        &mut taken,
+    );
     close_if_open(service, conn);
+    drop_loads(service, namespace, &mut taken);
     outcome
 }

@@ -5,7 +5,7 @@ ghost use Rattle.cache_devices.specs.Watched.{device, failures};
 ghost use Rattle.cache_spaces.specs.Moves.{At};
 ghost use Rattle.cache_spaces.specs.Services.{spaces_of};
 ghost use Rattle.cache_spaces.specs.Spaces.{config_of};
-ghost use Rattle.cache_run.specs.Carried.{Broken, Carried};
+ghost use Rattle.cache_run.specs.Carried.{Broken, Carried, nothing_left};
 ghost use Rattle.cache_run.specs.Connected.{Connected, IsFed, IsReady, IsTaken};
 ghost use Rattle.cache_run.specs.Goes.{Goes};
 ghost use Rattle.cache_run.specs.Turns.{HasRead, HasToldLate, LeavesSo};
@@ -13,8 +13,9 @@ ghost use Rattle.cache_run.specs.Worlds.{outside, world};
 
 use crate::errors::RunError;
 use crate::feeding::deliver;
-use audit_model::Conn;
-use cache_devices::{Clock, Watched};
+use crate::loading::settle_loads;
+use audit_model::{Bytes, Conn, LoadId};
+use cache_devices::{Clock, Loader, Watched};
 use cache_spaces::Service;
 use std::io::{ErrorKind, Read, Write};
 
@@ -40,23 +41,25 @@ fn progress_of(service: &Service, conn: Conn) -> Progress
 }
 
 /// Reads a piece, and answers it.
-pub fn take_turn<R: Read, W: Write, C: Clock>(
+pub fn take_turn<R: Read, W: Write, C: Clock, L: Loader>(
     service: &mut Service,
     conn: Conn,
     buffer: &mut [u8],
     reader: &mut Watched<R>,
     writer: &mut Watched<W>,
     clock: &mut C,
+    loader: &mut L,
+    taken: &mut Vec<(LoadId, Bytes)>,
 ) -> Result<Progress, RunError>
     requires room { 0 < length buffer.old }
     requires ready { Connected (spaces_of service.old) conn.namespace conn.number IsReady }
-    ensures ok { OnOk result (At (spaces_of service.old) (spaces_of service.new) conn.namespace (λ was is. Goes conn.number was is (λ s t. Carried (config_of was) conn.number C.reads
-        (world was s (outside (R.remaining (device reader.old)) (W.contents (device writer.old)) clock.old))
-        (world is t (outside (R.remaining (device reader.new)) (W.contents (device writer.new)) clock.new)) false false [] [] []))) }
+    ensures ok { OnOk result (At (spaces_of service.old) (spaces_of service.new) conn.namespace (λ was is. Goes conn.number was is (λ s t. Carried (config_of was) conn.number C.reads L.loads
+        (world was s (outside (R.remaining (device reader.old)) (W.contents (device writer.old)) clock.old loader.old))
+        (world is t (outside (R.remaining (device reader.new)) (W.contents (device writer.new)) clock.new loader.new)) false false [] nothing_left))) }
     ensures goes { IfOk result (λ progress. Connected (spaces_of service.new) conn.namespace conn.number (LeavesSo progress (R.remaining (device reader.new)))) }
-    ensures err { IfErr result (λ e. At (spaces_of service.old) (spaces_of service.new) conn.namespace (λ was is. Goes conn.number was is (λ s t. Broken (config_of was) conn.number C.reads
-        (world was s (outside (R.remaining (device reader.old)) (W.contents (device writer.old)) clock.old))
-        (world is t (outside (R.remaining (device reader.new)) (W.contents (device writer.new)) clock.new)) false false e))) }
+    ensures err { IfErr result (λ e. At (spaces_of service.old) (spaces_of service.new) conn.namespace (λ was is. Goes conn.number was is (λ s t. Broken (config_of was) conn.number C.reads L.loads
+        (world was s (outside (R.remaining (device reader.old)) (W.contents (device writer.old)) clock.old loader.old))
+        (world is t (outside (R.remaining (device reader.new)) (W.contents (device writer.new)) clock.new loader.new)) false false [] e))) }
     ensures left { OnErr result (Connected (spaces_of service.new) conn.namespace conn.number IsFed) }
     ensures read { IsErrOf result RunError.Read → HasFailed (failures reader.old) (failures reader.new) }
     ensures write { IsErrOf result RunError.Write → HasFailed (failures writer.old) (failures writer.new) }
@@ -81,6 +84,10 @@ pub fn take_turn<R: Read, W: Write, C: Clock>(
     }
     let moment = clock.now();
     match deliver(service, conn, &buffer[..count], moment, writer) {
+        Ok(()) => {}
+        Err(error) => return Err(error),
+    }
+    match settle_loads(service, conn, taken, writer, clock, loader) {
         Ok(()) => Ok(progress_of(service, conn)),
         Err(error) => Err(error),
     }

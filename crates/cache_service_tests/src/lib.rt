@@ -17,3 +17,5 @@ mod refusing;
 mod script;
 #[cfg(test)]
 mod serving;
+#[cfg(test)]
+mod waiting;

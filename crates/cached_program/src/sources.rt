@@ -16,17 +16,18 @@ impl Clock for StillClock {
     }
 }
 
-/// A loader that answers nothing.
+/// A loader that finds no value.
 #[derive(Clone, Copy, Drop)]
 pub struct NoLoader;
 
 impl Loader for NoLoader {
-    ghost use Rattle.std.specs.Prelude.{◌≡◌, None};
+    ghost use Rattle.std.specs.Prelude.{◌≡◌, Some};
+    ghost use Rattle.audit_model.specs.declared.event.Outcome.TheVariants as outcome;
 
-    ghost loads = { λ c key answer d. answer ≡ None };
+    ghost loads = { λ c key answer d. answer ≡ Some outcome.None };
 
     fn load(&mut self, key: &[u8]) -> Option<Outcome> {
         let _key = key;
-        None
+        Some(Outcome::None)
     }
 }

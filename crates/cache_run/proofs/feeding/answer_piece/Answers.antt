@@ -1,4 +1,4 @@
-use Rattle.std.proofs.Common.{false, true, inl}
+use Rattle.std.proofs.Common.{[], false, true, inl}
 use Rattle.cache_run.specs.Connected.{IsFed, IsReady}
 use Rattle.cache_run.proofs.Connecting.{connected-fed, connected-map, connected-same, connected-taken}
 use Rattle.cache_run.proofs.Going.{at-answered, at-held, at-refused}
@@ -23,7 +23,7 @@ pub returns-in-Ok-Held-clause-left : goal.returns-in-Ok-Held-clause-left
 returns-in-Ok-Held-clause-left c = connected-fed _ _ _ _ c.args.piece.now c.args.moment true c.requires.ready (rw c.in-Ok-Held.field-0-is at c.in-Ok-Held.ensures.taken)
 
 pub returns-in-Err-clause-err : goal.returns-in-Err-clause-err
-returns-in-Err-clause-err c = at-refused _ _ _ _ c.args.piece.now c.args.moment _ c.in-Err.ensures.refused.0 c.in-Err.ensures.refused.1
+returns-in-Err-clause-err c = at-refused _ _ _ _ c.args.piece.now c.args.moment [] _ c.in-Err.ensures.refused.0 c.in-Err.ensures.refused.1
 
 pub returns-in-Err-clause-left : goal.returns-in-Err-clause-left
 returns-in-Err-clause-left c = connected-map IsReady IsFed _ _ _ (connected-same _ _ _ _ c.requires.ready c.in-Err.ensures.refused.0) (λ x left. inl left.0)

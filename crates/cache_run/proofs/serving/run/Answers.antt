@@ -10,12 +10,12 @@ use Rattle.cache_run.proofs.serving.run.Goals as goal
 pub returns-in-Err-clause-err : goal.returns-in-Err-clause-err
 returns-in-Err-clause-err g c =
     let found = found-at (spaces_of c.args.service.now) c.args.namespace c.requires.known in
-    at-same _ _ _ found.0 found.1 (inl (refl, same-space found.0 found.0 refl, refl, refl, refl))
+    at-same _ _ _ found.0 found.1 (inl (refl, same-space found.0 found.0 refl, refl, refl, refl, refl))
 
 pub returns-in-Err-open_connection-clause-err : goal.returns-in-Err-open_connection-clause-err
 returns-in-Err-open_connection-clause-err g c =
     let e = c.in-Err-open_connection.ensures.err in
-    at-map _ _ _ _ _ e.1 (λ x y same. inl (e.0, same, refl, refl, refl))
+    at-map _ _ _ _ _ e.1 (λ x y same. inl (e.0, same, refl, refl, refl, refl))
 
 pub close_if_open-requires : goal.close_if_open-requires
 close_if_open-requires g c =
@@ -25,10 +25,10 @@ pub returns-clause-ok : goal.returns-clause-ok
 returns-clause-ok g c =
     let o = c.in-Ok-open_connection.ensures.ok in
     let ran = c.converse-outcome in
-    run-whole g.C.Clock.reads _ _ _ _ c.in-Ok-open_connection.conn.namespace c.args.namespace c.in-Ok-open_connection.conn.number _ _ ran.result o.0 o.1 ran.ensures.ok ran.ensures.over c.close_if_open.ensures
+    run-whole g.C.Clock.reads g.L.Loader.loads _ _ _ _ c.in-Ok-open_connection.conn.namespace c.args.namespace c.in-Ok-open_connection.conn.number _ _ ran.result o.0 o.1 ran.ensures.ok ran.ensures.over c.close_if_open.ensures
 
 pub returns-clause-err : goal.returns-clause-err
 returns-clause-err g c =
     let o = c.in-Ok-open_connection.ensures.ok in
     let ran = c.converse-outcome in
-    run-partly g.C.Clock.reads _ _ _ _ c.in-Ok-open_connection.conn.namespace c.args.namespace c.in-Ok-open_connection.conn.number _ _ ran.result _ o.0 o.1 ran.ensures.err c.close_if_open.ensures
+    run-partly g.C.Clock.reads g.L.Loader.loads _ _ _ _ c.in-Ok-open_connection.conn.namespace c.args.namespace c.in-Ok-open_connection.conn.number _ _ ran.result _ o.0 o.1 ran.ensures.err c.close_if_open.ensures

@@ -1,4 +1,4 @@
-use Rattle.std.proofs.Common.{◌≡◌, arith, inl}
+use Rattle.std.proofs.Common.{◌≡◌, [], arith, inl, refl}
 use Rattle.cache_devices.specs.Watched.{device}
 use Rattle.cache_run.specs.Connected.{IsFed, IsOver, IsReady}
 use Rattle.cache_run.specs.declared.errors.RunError.TheVariants.{Moment, Read}
@@ -8,21 +8,21 @@ use Rattle.cache_run.proofs.Turning.{at-broken, turn-broken, turn-none, turn-one
 use Rattle.cache_run.proofs.turns.take_turn.Goals as goal
 
 pub returns-then-eq-clause-ok : goal.returns-then-eq-clause-ok
-returns-then-eq-clause-ok g c = turn-none g.C.Clock.reads _ _ _ _ _ _ _ c.requires.ready (consumes_none _ _ c.in-Err.ensures.bytes)
+returns-then-eq-clause-ok g c = turn-none g.C.Clock.reads g.L.Loader.loads _ _ _ _ _ _ _ _ c.requires.ready (consumes_none _ _ c.in-Err.ensures.bytes)
 
 pub returns-in-Err-clause-err : goal.returns-in-Err-clause-err
 returns-in-Err-clause-err g c =
-    at-broken g.C.Clock.reads _ _ _ _ _ _ _ _ _ _ Read (λ is. let h : Read ≡ Moment = is in cc)
-    (turn-none g.C.Clock.reads _ _ _ _ _ _ _ c.requires.ready (consumes_none _ _ c.in-Err.ensures.bytes))
+    at-broken g.C.Clock.reads g.L.Loader.loads _ _ _ _ _ _ _ _ _ _ _ _ Read (λ is. let h : Read ≡ Moment = is in cc)
+    (turn-none g.C.Clock.reads g.L.Loader.loads _ _ _ _ _ _ _ _ c.requires.ready (consumes_none _ _ c.in-Err.ensures.bytes))
 
 pub returns-then-count-eq0-clause-ok : goal.returns-then-count-eq0-clause-ok
-returns-then-count-eq0-clause-ok g c = turn-none g.C.Clock.reads _ _ _ _ _ _ _ c.requires.ready (rw c.if-count-eq0.true at c.in-Ok.ensures.bytes.0)
+returns-then-count-eq0-clause-ok g c = turn-none g.C.Clock.reads g.L.Loader.loads _ _ _ _ _ _ _ _ c.requires.ready (rw c.if-count-eq0.true at c.in-Ok.ensures.bytes.0)
 
 pub returns-in-Err-deliver-clause-err : goal.returns-in-Err-deliver-clause-err
-returns-in-Err-deliver-clause-err g c = turn-broken g.C.Clock.reads _ _ _ _ _ _ _ _ _ _ _ _ _ c.in-Err-deliver.ensures.err c.in-Ok.ensures.bytes.0 c.now-moment.ensures
+returns-in-Err-deliver-clause-err g c = turn-broken g.C.Clock.reads g.L.Loader.loads _ _ _ _ _ _ [] _ _ _ _ _ _ _ _ _ c.in-Err-deliver.ensures.err c.in-Ok.ensures.bytes.0 c.now-moment.ensures refl
 
 pub returns-in-Ok-deliver-clause-ok : goal.returns-in-Ok-deliver-clause-ok
-returns-in-Ok-deliver-clause-ok g c = turn-one g.C.Clock.reads _ _ _ _ _ _ _ _ _ _ _ _ c.in-Ok-deliver.ensures.ok c.in-Ok.ensures.bytes.0 c.now-moment.ensures
+returns-in-Ok-deliver-clause-ok g c = turn-one g.C.Clock.reads g.L.Loader.loads _ _ _ _ _ _ [] _ _ _ _ _ _ _ _ c.in-Ok-deliver.ensures.ok c.in-Ok.ensures.bytes.0 c.now-moment.ensures refl
 
 pub returns-in-Err-clause-left : goal.returns-in-Err-clause-left
 returns-in-Err-clause-left g c = connected-map IsReady IsFed _ _ _ c.requires.ready (λ x left. inl left.0)

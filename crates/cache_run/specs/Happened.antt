@@ -1,0 +1,85 @@
+-- What happens in a run: pieces are fed, and loads are settled by what the loader says of their keys.
+use Rattle.std.specs.Prelude.{◌≡◌, ℕ, true, List, [], ◌∷◌, Option, Some, IfSome, is_some, ◌⊎◌}
+use Rattle.std.specs.List.{flat_map}
+use Rattle.audit_model.specs.Belongs.{refusal_of_outcome}
+use Rattle.audit_model.specs.Places.{steps_of}
+use Rattle.audit_model.specs.declared.config.Config.{Config}
+use Rattle.audit_model.specs.declared.event.Event.{Event}
+use Rattle.audit_model.specs.declared.event.Outcome.{Outcome}
+use Rattle.audit_model.specs.declared.transcript.Note.{Note}
+use Rattle.audit_model.specs.declared.transcript.Record.{Record}
+use Rattle.audit_model.specs.declared.transcript.Step.{Step}
+use Rattle.cache_namespace.specs.Gathered.{reply_in}
+use Rattle.cache_namespace.specs.Taken.{fed, record_of}
+use Rattle.cache_settling.specs.Answered.{answering, giving_up}
+
+-- what a loader was asked, and what it said
+pub record Asking : Type 0 where
+  pub key : List ℕ
+  pub answer : Option Outcome
+
+-- a piece was fed at a moment, and these steps ran; or the loader was asked, and at that moment the load was settled by that record; or the
+-- load was not under way any more, and what the loader said was dropped
+pub data Turn : Type 0 where
+  Fed : (piece : List ℕ) → (moment : ℕ) → (steps : List Step) → Turn
+  Settled : (asking : Asking) → (moment : ℕ) → (entry : Record) → Turn
+  Dropped : (asking : Asking) → (moment : ℕ) → Turn
+
+-- the bytes that were read for it
+abbrev pub piece_in : Turn → List ℕ
+piece_in (Fed piece moment steps) = piece
+piece_in (Settled asking moment entry) = []
+piece_in (Dropped asking moment) = []
+
+-- the clock's reading
+abbrev pub moment_in : Turn → ℕ
+moment_in (Fed piece moment steps) = moment
+moment_in (Settled asking moment entry) = moment
+moment_in (Dropped asking moment) = moment
+
+-- what the loader was asked
+abbrev pub asked_in : Turn → List Asking
+asked_in (Fed piece moment steps) = []
+asked_in (Settled asking moment entry) = asking ∷ []
+asked_in (Dropped asking moment) = asking ∷ []
+
+-- its record, if there is one
+abbrev pub records_in : ℕ → Turn → List Record
+records_in number (Fed piece moment steps) = record_of (fed number piece moment) steps ∷ []
+records_in number (Settled asking moment entry) = entry ∷ []
+records_in number (Dropped asking moment) = []
+
+-- the replies of a record's connections
+abbrev pub replies_of : Record → List ℕ
+replies_of entry = flat_map reply_in entry.steps
+
+-- the notes of a record, those of an answer's own step first
+abbrev pub notes_of : Record → List Note
+notes_of entry = flat_map (λ step. step.notices) (steps_of entry)
+
+abbrev pub replies_in : ℕ → Turn → List ℕ
+replies_in number turn = flat_map replies_of (records_in number turn)
+
+abbrev pub notes_in : ℕ → Turn → List Note
+notes_in number turn = flat_map notes_of (records_in number turn)
+
+-- a load is answered with what the loader said; it is given up only where the loader gave no answer, or one that is refused for its bytes or
+-- its time
+abbrev pub IsSettledBy : Config → Option Outcome → ℕ → Event → Type 0
+IsSettledBy config answer moment happened =
+    ((load : ℕ) × (outcome : Outcome) × (answer ≡ Some outcome) × (happened ≡ answering load outcome moment))
+    ⊎ ((load : ℕ) × (happened ≡ giving_up load moment) × IfSome answer (λ outcome. is_some (refusal_of_outcome config outcome) ≡ true))
+
+abbrev pub IsRight : Config → Turn → Type 0
+IsRight config (Fed piece moment steps) = Unit {0}
+IsRight config (Settled asking moment entry) = IsSettledBy config asking.answer moment entry.event
+IsRight config (Dropped asking moment) = Unit {0}
+
+abbrev pub AreRight : Config → List Turn → Type 0
+AreRight config [] = Unit {0}
+AreRight config (turn ∷ turns) = IsRight config turn × AreRight config turns
+
+-- loads given up at moment 0, which counts as the latest
+abbrev pub AreDrops : List Record → Type 0
+AreDrops [] = Unit {0}
+AreDrops (entry ∷ entries) = ((load : ℕ) × (entry.event ≡ giving_up load 0)) × AreDrops entries

@@ -1,0 +1,9 @@
+//! Tests of runs whose connections load.
+#![tactic(auto)]
+
+#[cfg(test)]
+mod devices;
+#[cfg(test)]
+mod failures;
+#[cfg(test)]
+mod loads;

@@ -1,0 +1,4 @@
+pub mod Steps
+pub mod Events
+pub mod Apart
+pub mod Closed
