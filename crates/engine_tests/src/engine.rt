@@ -1,10 +1,10 @@
 //! The calls of an engine, as the rows make them.
 
 use crate::generators::Repeating;
-use crate::rules::{Lives, RowRules, ValueIs};
+use crate::rules::{Lives, RowRules, ValueIs, Weighs};
 use engine_plain::{BaseCache, Refusal};
 use engine_reference::{Notice, Settings};
-use engine_rules::{Bundle, Policy, WeighOne};
+use engine_rules::{Bundle, Policy};
 use policy_base::Instant;
 use std::alloc::{AllocError, Global};
 use std::time::Duration;
@@ -12,7 +12,12 @@ use std::time::Duration;
 /// The calls of a cache of one part with keys and values of numbers, so that one row runs on each engine. A key is its hash.
 pub trait Engine: Drop {
     /// An empty cache; `time` is how long a value lives from its creation on.
-    fn make(alloc: Global, settings: Settings, time: Option<Duration>) -> Result<Self, AllocError>;
+    fn make(
+        alloc: Global,
+        settings: Settings,
+        time: Option<Duration>,
+        weighs: Weighs,
+    ) -> Result<Self, AllocError>;
 
     /// Makes room for a write, makes it, and answers its ticket.
     fn put(&mut self, key: u32, value: u32, now: Instant, step: u64) -> Result<u64, Refusal>;
@@ -66,6 +71,8 @@ pub trait Engine: Drop {
 
     fn run_pending_tasks(&mut self, now: Instant);
 
+    fn try_run_pending_tasks(&mut self, now: Instant) -> Result<(), AllocError>;
+
     fn apply_reads_writes_if_needed(&mut self, now: Instant);
 
     fn entry_count(&self) -> u64;
@@ -83,8 +90,13 @@ pub trait Engine: Drop {
 pub type Plain = BaseCache<u32, u32, u8, RowRules>;
 
 impl Engine for Plain {
-    fn make(alloc: Global, settings: Settings, time: Option<Duration>) -> Result<Self, AllocError> {
-        BaseCache::new(alloc, settings, 0, Bundle::new(Lives { time }, WeighOne))
+    fn make(
+        alloc: Global,
+        settings: Settings,
+        time: Option<Duration>,
+        weighs: Weighs,
+    ) -> Result<Self, AllocError> {
+        BaseCache::new(alloc, settings, 0, Bundle::new(Lives { time }, weighs))
     }
 
     fn put(&mut self, key: u32, value: u32, now: Instant, step: u64) -> Result<u64, Refusal> {
@@ -100,7 +112,6 @@ impl Engine for Plain {
         match self.remove_entry(&key, u64::from(key))? {
             Some((entry, ticket)) => {
                 let value = entry.value;
-                self.reserve_write()?;
                 self.notify_invalidate(entry, now);
                 Ok(Some((value, ticket)))
             }
@@ -172,6 +183,10 @@ impl Engine for Plain {
 
     fn run_pending_tasks(&mut self, now: Instant) {
         self.run_pending_tasks(now);
+    }
+
+    fn try_run_pending_tasks(&mut self, now: Instant) -> Result<(), AllocError> {
+        self.try_run_pending_tasks(now)
     }
 
     fn apply_reads_writes_if_needed(&mut self, now: Instant) {

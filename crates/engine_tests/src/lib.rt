@@ -4,6 +4,8 @@
 #[cfg(test)]
 mod engine;
 #[cfg(test)]
+mod frequencies;
+#[cfg(test)]
 mod generators;
 #[cfg(test)]
 mod looks;

@@ -1,7 +1,8 @@
 //! Rows on look-ups.
 
 use crate::engine::{Engine, Plain};
-use crate::rows::{SECOND, at, put_and_send, settings_for};
+use crate::rows::{SECOND, at, keys, made, none_told, put_and_send, remove, settings_for};
+use crate::rules::ONE;
 use engine_reference::Settings;
 use std::alloc::Global;
 use std::process::Abort;
@@ -9,11 +10,17 @@ use std::test::Fail;
 
 // An empty cache shows nothing.
 fn an_empty_cache_shows_nothing<E: Engine>(rt: &impl Abort, alloc: Global) -> Result<(), Fail> {
-    let mut cache = E::make(alloc, settings_for(Some(2)), None)?;
+    let mut cache: E = made(alloc, settings_for(Some(2)), None, ONE)?;
+    cache.invalidate_all(1);
+    assert!(rt; !cache.contains_key(1, at(5)));
+    assert!(rt; cache.peek(1, at(5))?.is_none());
     assert!(rt; cache.get(1, at(5))?.is_none());
     assert!(rt; cache.get_key(1)?.is_none());
-    assert!(rt; cache.keys(0)?.is_some_and(|keys| keys.is_empty()));
+    assert!(rt; keys(&cache, 0)?.is_some_and(|keys| keys.is_empty()));
     assert_eq!(rt; cache.num_cht_segments(), 1);
+    assert_eq!(rt; cache.entry_count(), 0);
+    assert_eq!(rt; cache.weighted_size(), 0);
+    none_told(rt, &mut cache);
     let policy = cache.policy();
     assert!(rt; policy.max_capacity() == Some(2));
     assert_eq!(rt; policy.num_segments(), 1);
@@ -27,7 +34,7 @@ fn a_scan_is_no_use<E: Engine>(rt: &impl Abort, alloc: Global) -> Result<(), Fai
         idle: Some(7 * SECOND),
         ..settings_for(None)
     };
-    let mut cache = E::make(alloc, settings, None)?;
+    let mut cache: E = made(alloc, settings, None, ONE)?;
     put_and_send(&mut cache, 1, 10, at(0), 1)?;
     assert!(rt; cache.scanning_get(1, at(6 * SECOND))? == Some(10));
     assert!(rt; cache.peek(1, at(6 * SECOND))? == Some(10));
@@ -46,14 +53,14 @@ fn a_scan_is_no_use<E: Engine>(rt: &impl Abort, alloc: Global) -> Result<(), Fai
 
 // The keys of all that is held, covered values among them.
 fn keys_are_those_held<E: Engine>(rt: &impl Abort, alloc: Global) -> Result<(), Fail> {
-    let mut cache = E::make(alloc, settings_for(None), None)?;
+    let mut cache: E = made(alloc, settings_for(None), None, ONE)?;
     put_and_send(&mut cache, 1, 10, at(0), 1)?;
     put_and_send(&mut cache, 2, 20, at(0), 2)?;
     cache.invalidate_all(3);
     put_and_send(&mut cache, 3, 30, at(0), 4)?;
-    let removed = cache.remove(2, at(0))?;
+    let removed = remove(&mut cache, 2, at(0))?;
     assert!(rt; removed.is_some());
-    match cache.keys(0)? {
+    match keys(&cache, 0)? {
         Some(keys) => {
             assert_eq!(rt; keys.len(), 2);
             assert!(rt; keys.contains(&1) && keys.contains(&3));
@@ -62,7 +69,7 @@ fn keys_are_those_held<E: Engine>(rt: &impl Abort, alloc: Global) -> Result<(), 
             assert!(rt; false);
         }
     }
-    assert!(rt; cache.keys(1)?.is_none());
+    assert!(rt; keys(&cache, 1)?.is_none());
     assert!(rt; cache.get_key(1)? == Some(1));
     assert!(rt; cache.get_key(2)?.is_none());
     assert!(rt; cache.scanning_get(1, at(0))?.is_none());

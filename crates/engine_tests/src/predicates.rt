@@ -2,8 +2,11 @@
 
 use crate::engine::{Engine, Plain};
 use crate::generators::Repeating;
-use crate::rows::{at, is_told, none_told, put_and_send, settings_for};
-use crate::rules::ValueIs;
+use crate::rows::{
+    at, invalidate, invalidate_in_halves, is_told, made, none_told, prepare_and_give_up,
+    put_and_send, settings_for,
+};
+use crate::rules::ONE;
 use engine_plain::Refusal;
 use engine_reference::Settings;
 use engine_rules::RemovalCause;
@@ -13,20 +16,20 @@ use std::test::Fail;
 
 // A generator of zeros gives one identifier. While that is registered a predicate is refused, and covers nothing; a run that it covers nothing after takes it away.
 fn an_identifier_is_not_taken_twice<E: Engine>(rt: &impl Abort, alloc: Global) -> Result<(), Fail> {
-    let mut cache = E::make(alloc, settings_for(None), None)?;
+    let mut cache: E = made(alloc, settings_for(None), None, ONE)?;
     let mut zeros = Repeating(0);
     put_and_send(&mut cache, 1, 10, at(0), 1)?;
-    let first = cache.invalidate_entries_if(ValueIs(7), 2, &mut zeros)?;
-    assert!(rt; cache.invalidate_entries_if(ValueIs(10), 3, &mut zeros) == Err(Refusal::IdsInUse));
-    assert!(rt; cache.invalidate_in_halves(ValueIs(10), 4, &mut zeros) == Err(Refusal::IdsInUse));
+    let first = invalidate(&mut cache, 7, 2, &mut zeros)?;
+    assert!(rt; invalidate(&mut cache, 10, 3, &mut zeros) == Err(Refusal::IdsInUse));
+    assert!(rt; invalidate_in_halves(&mut cache, 10, 4, &mut zeros) == Err(Refusal::IdsInUse));
     assert!(rt; cache.peek(1, at(0))? == Some(10));
     // another identifier is free
     let mut ones = Repeating(u32::MAX);
-    let other = cache.invalidate_in_halves(ValueIs(8), 5, &mut ones)?;
+    let other = invalidate_in_halves(&mut cache, 8, 5, &mut ones)?;
     assert!(rt; first != other);
     cache.run_pending_tasks(at(0));
     none_told(rt, &mut cache);
-    let again = cache.invalidate_in_halves(ValueIs(10), 6, &mut zeros)?;
+    let again = invalidate_in_halves(&mut cache, 10, 6, &mut zeros)?;
     assert!(rt; first == again);
     assert!(rt; cache.peek(1, at(0))?.is_none());
     cache.run_pending_tasks(at(0));
@@ -37,13 +40,13 @@ fn an_identifier_is_not_taken_twice<E: Engine>(rt: &impl Abort, alloc: Global) -
 
 // A predicate covers what was written at earlier steps, also where only its first half was there before.
 fn a_predicate_covers_earlier_steps<E: Engine>(rt: &impl Abort, alloc: Global) -> Result<(), Fail> {
-    let mut cache = E::make(alloc, settings_for(None), None)?;
+    let mut cache: E = made(alloc, settings_for(None), None, ONE)?;
     let mut zeros = Repeating(0);
     put_and_send(&mut cache, 1, 10, at(0), 1)?;
     put_and_send(&mut cache, 2, 20, at(0), 2)?;
     // an identifier that is given up is not registered
-    let given_up = cache.prepare_and_give_up(&mut zeros)?;
-    let id = cache.invalidate_in_halves(ValueIs(10), 3, &mut zeros)?;
+    let given_up = prepare_and_give_up(&mut cache, &mut zeros)?;
+    let id = invalidate_in_halves(&mut cache, 10, 3, &mut zeros)?;
     assert!(rt; given_up == id);
     put_and_send(&mut cache, 3, 10, at(0), 4)?;
     assert!(rt; !cache.contains_key(1, at(0)));
@@ -65,15 +68,14 @@ fn predicates_may_be_off<E: Engine>(rt: &impl Abort, alloc: Global) -> Result<()
         takes_predicates: false,
         ..settings_for(None)
     };
-    let mut cache = E::make(alloc, settings, None)?;
+    let mut cache: E = made(alloc, settings, None, ONE)?;
     let mut zeros = Repeating(0);
     put_and_send(&mut cache, 1, 10, at(0), 1)?;
     assert!(rt;
-        cache.invalidate_entries_if(ValueIs(10), 2, &mut zeros)
-            == Err(Refusal::InvalidationClosuresDisabled)
+        invalidate(&mut cache, 10, 2, &mut zeros) == Err(Refusal::InvalidationClosuresDisabled)
     );
     assert!(rt;
-        cache.prepare_and_give_up(&mut zeros) == Err(Refusal::InvalidationClosuresDisabled)
+        prepare_and_give_up(&mut cache, &mut zeros) == Err(Refusal::InvalidationClosuresDisabled)
     );
     assert!(rt; cache.contains_key(1, at(0)));
     Ok(())

@@ -1,8 +1,8 @@
-//! The rules of the rows' caches: an expiration of a value's own from its creation on, weight one, and predicates by value.
-ghost use Rattle.std.specs.Prelude.{ℕ, ◌==◌, Option, option_map};
+//! The rules of the rows' caches: an expiration of a value's own from its creation on, weight one or a value's own, and predicates by value.
+ghost use Rattle.std.specs.Prelude.{ℕ, ◌==◌, Option, option_map, if◌then◌else◌};
 ghost use Rattle.std.specs.Duration.{as_nanos};
 
-use engine_rules::{Bundle, Expiry, Predicate, WeighOne};
+use engine_rules::{Bundle, Expiry, Predicate, Weigher};
 use policy_base::Instant;
 use std::time::Duration;
 
@@ -50,6 +50,26 @@ impl Expiry<u32, u32> for Lives {
     }
 }
 
+/// How much values weigh: what they are, or one each.
+#[derive(Clone, Copy)]
+pub struct Weighs {
+    pub by_value: bool,
+}
+
+/// Each value weighs one.
+pub const ONE: Weighs = Weighs { by_value: false };
+
+/// Each value weighs what it is.
+pub const ITSELF: Weighs = Weighs { by_value: true };
+
+impl Weigher<u32, u32> for Weighs {
+    ghost weight_of = { λ w _ value. if w.by_value then value else 1 };
+
+    fn weigh(&self, _key: &u32, value: &u32) -> u32 {
+        if self.by_value { *value } else { 1 }
+    }
+}
+
 /// Covers each entry of this value.
 #[derive(Drop)]
 pub struct ValueIs(pub u32);
@@ -63,4 +83,4 @@ impl Predicate<u32, u32> for ValueIs {
 }
 
 /// The rules of the rows' caches.
-pub type RowRules = Bundle<Lives, WeighOne, ValueIs, u8>;
+pub type RowRules = Bundle<Lives, Weighs, ValueIs, u8>;
