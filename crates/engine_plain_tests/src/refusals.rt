@@ -1,4 +1,6 @@
-//! A value whose clone is refused: the calls answer so and leave all as it was.
+//! A value whose clone is refused: the calls answer so and leave all as it was. Making the cache and room in it are tried once more where memory is refused.
+ghost use Rattle.std.specs.Prelude.{◌<◌, OnOk};
+
 use engine_plain::{BaseCache, Refusal};
 use engine_reference::Settings;
 use engine_rules::{Bundle, EvictionPolicy, NoExpiry, NoPredicate, WeighOne};
@@ -33,7 +35,7 @@ type Plain = Bundle<NoExpiry, WeighOne, NoPredicate, u8>;
 type Cache = BaseCache<u32, Brittle, u8, Plain>;
 
 // An idle time of 7 nanoseconds, told removals.
-fn new_cache(alloc: Global) -> Result<Cache, AllocError> {
+fn cache_of(alloc: Global) -> Result<Cache, AllocError> {
     let settings = Settings {
         capacity: None,
         live: None,
@@ -46,9 +48,27 @@ fn new_cache(alloc: Global) -> Result<Cache, AllocError> {
     BaseCache::new(alloc, settings, 0, Bundle::new(NoExpiry, WeighOne))
 }
 
+// That cache, at the second try where memory is refused.
+fn new_cache(alloc: Global) -> Result<Cache, AllocError> {
+    match cache_of(alloc) {
+        Ok(cache) => Ok(cache),
+        Err(_) => cache_of(alloc),
+    }
+}
+
+// Makes room for a write, at the second try where memory is refused.
+fn reserve(cache: &mut Cache) -> Result<(), Refusal>
+    ensures { OnOk result (0 < cache.new.reserved) }
+{
+    match cache.reserve_write() {
+        Err(Refusal::OutOfMemory) => cache.reserve_write(),
+        answer => answer,
+    }
+}
+
 // Writes a number at moment 0, and sends its ticket.
 fn put(cache: &mut Cache, key: u32, number: u32, step: u64) -> Result<u64, Refusal> {
-    cache.reserve_write()?;
+    reserve(cache)?;
     let ticket = cache.do_insert_with_hash(
         key,
         u64::from(key),
