@@ -1,6 +1,6 @@
 -- What a change of the values held does to their representation.
-use Rattle.std.proofs.Common.{◌≡◌, refl, ap, ◌∙◌, sym, subst, ℕ, zero, suc, ◌+◌, ◌-◌, ◌<◌, ◌≤◌, ◌==◌, Bool, true, false, cond, not, ◌&&◌, ◌||◌, nat_lt, nat_le, nat_eq, List, [], ◌∷◌, ◌++◌, map, length, reverse, get_or, set, replicate, Option, option_map, Some, None, Result, Ok, Err, OnOk, ◌⊎◌, inl, inr, ⊎_elim, if◌then◌else◌, arith}
-use Rattle.std.specs.List.{find, list_all, list_any, starts_with, sum_by}
+use Rattle.std.proofs.Common.{◌≡◌, refl, ap, ◌∙◌, sym, subst, ℕ, zero, suc, ◌+◌, ◌-◌, ◌<◌, ◌≤◌, ◌==◌, Bool, true, false, cond, not, ◌&&◌, ◌||◌, nat_lt, nat_le, nat_eq, List, [], ◌∷◌, ◌++◌, map, length, get_or, set, replicate, Option, option_map, Some, None, Result, Ok, Err, OnOk, OnErr, if◌then◌else◌, arith}
+use Rattle.std.specs.List.{find, list_all, starts_with, sum_by}
 use Rattle.std.proofs.lemmas.Bool.{and_parts, and_from, eqb-true, eq-eqb}
 use Rattle.std.proofs.lemmas.Bool.Decides.{nat_tests}
 use Rattle.std.proofs.lemmas.List.{map-append, length-set, get_or-set_same, get_or-set_other}
@@ -15,7 +15,7 @@ use Rattle.audit_table.specs.Slots.{Slot, slot_at, without}
 use Rattle.audit_table.specs.Slots.{used_at as used_slot}
 use Rattle.audit_held.specs.declared.covers.Cover.{Cover}
 use Rattle.audit_held.specs.Weights.{weight_of_part, values_of}
-use Rattle.audit_held.specs.Holds.{held_by, is_covered_by, are_sound, are_past, are_past_marks, values_in, used_at, covered_by, marked_in, Keeps}
+use Rattle.audit_held.specs.Holds.{held_by, is_covered_by, are_sound, are_past, are_past_marks, values_in, left_beside, used_at, covered_by, marked_in, Keeps}
 use Rattle.audit_held.proofs.Weighing.{weight-push, weight-without, sum-without}
 
 -- ---- lists
@@ -88,6 +88,54 @@ lt-suc n a h = grind (arith, nat_tests)
 
 le-suc : (n a : ℕ) → nat_le a n ≡ true → nat_le a (n + 1) ≡ true
 le-suc n a h = grind (arith, nat_tests)
+
+-- ---- prefixes
+
+eq-through : (a b c : ℕ) → nat_eq a b ≡ true → nat_eq b c ≡ true → nat_eq a c ≡ true
+eq-through a b c h k = grind (arith, nat_tests)
+
+-- what begins with a text begins with the beginnings of that text
+begins-through : (key text short : List ℕ) → starts_with nat_eq key text ≡ true → starts_with nat_eq text short ≡ true → starts_with nat_eq key short ≡ true
+begins-through key text [] h k = refl
+begins-through key [] (s ∷ short) h k = let no : false ≡ true = k in cc
+begins-through [] (t ∷ text) (s ∷ short) h k = let no : false ≡ true = h in cc
+begins-through (x ∷ key) (t ∷ text) (s ∷ short) h k =
+    let whole = and_parts (nat_eq t x) (starts_with nat_eq key text) h in
+    let part = and_parts (nat_eq s t) (starts_with nat_eq text short) k in
+    and_from _ _ (eq-through s t x part.0 whole.0) (begins-through key text short whole.1 part.1)
+
+or-last : (a b : Bool) → b ≡ true → (a || b) ≡ true
+or-last true b e = refl
+or-last false b e = e
+
+one-out : (inner own begins f g : Bool) → (inner ≡ true → own ≡ true → begins ≡ true) → (f || begins) ≡ (g || begins) → (cond (not inner) (own || f) f || begins) ≡ ((own || g) || begins)
+one-out true true begins f g k e = or-last f begins (k refl refl)
+one-out true false begins f g k e = e
+one-out false true begins f g k e = refl
+one-out false false begins f g k e = e
+
+-- beside a prefix the covers are as good as those that are left beside it
+covered-beside : (prefix : List ℕ) (cs : List Cover) (s : Slot)
+    → (is_covered_by (left_beside prefix cs) s || starts_with nat_eq s.value.key prefix) ≡ (is_covered_by cs s || starts_with nat_eq s.value.key prefix)
+covered-beside prefix [] s = refl
+covered-beside prefix (c ∷ cs) s =
+    ap (λ b. b || starts_with nat_eq s.value.key prefix) (pull (not (starts_with nat_eq c.prefix prefix)))
+    ∙ one-out (starts_with nat_eq c.prefix prefix) (nat_lt s.stamp c.stamp && starts_with nat_eq s.value.key c.prefix) (starts_with nat_eq s.value.key prefix)
+    (is_covered_by (left_beside prefix cs) s) (is_covered_by cs s)
+    (λ i o. begins-through s.value.key c.prefix prefix (and_parts (nat_lt s.stamp c.stamp) (starts_with nat_eq s.value.key c.prefix) o).1 i) (covered-beside prefix cs s)
+  where
+    pull : (b : Bool) → is_covered_by (cond b (c ∷ left_beside prefix cs) (left_beside prefix cs)) s
+        ≡ cond b ((nat_lt s.stamp c.stamp && starts_with nat_eq s.value.key c.prefix) || is_covered_by (left_beside prefix cs) s) (is_covered_by (left_beside prefix cs) s)
+    pull true = refl
+    pull false = refl
+
+left-past : (prefix : List ℕ) (next : ℕ) (cs : List Cover) → are_past next cs ≡ true → are_past next (left_beside prefix cs) ≡ true
+left-past prefix next [] h = refl
+left-past prefix next (c ∷ cs) h = let parts = and_parts (nat_le c.stamp next) (are_past next cs) h in go (starts_with nat_eq c.prefix prefix) parts.0 (left-past prefix next cs parts.1)
+  where
+    go : (i : Bool) → nat_le c.stamp next ≡ true → are_past next (left_beside prefix cs) ≡ true → are_past next (cond (not i) (c ∷ left_beside prefix cs) (left_beside prefix cs)) ≡ true
+    go true a b = b
+    go false a b = and_from _ _ a b
 
 -- ---- values
 
@@ -300,10 +348,10 @@ module _ (next : ℕ) (covers : List Cover) (marks weights : List ℕ) (total : 
 
   -- ---- a prefix covered
 
-  pub keeps-covered : (c : Cover) → c.stamp ≡ next → Keeps next (covers ++ c ∷ []) marks weights total slots
-  keeps-covered c e = record {
+  pub keeps-left : (prefix : List ℕ) → Keeps next (left_beside prefix covers) marks weights total slots
+  keeps-left prefix = record {
     sound = k.sound;
-    covered = list_all-append (λ (c : Cover). nat_le c.stamp next) covers (c ∷ []) ∙ and_from _ _ k.covered (and_from _ _ (le-of c.stamp next (omega arith)) refl);
+    covered = left-past prefix next covers k.covered;
     marked = k.marked;
     marks_of_all = k.marks_of_all;
     weights_of_all = k.weights_of_all;
@@ -311,21 +359,35 @@ module _ (next : ℕ) (covers : List Cover) (marks weights : List ℕ) (total : 
     sum = k.sum;
   }
 
-  pub view-covered : (c : Cover) → c.stamp ≡ next → map (held_by (covers ++ c ∷ []) marks) slots ≡ map (covered_by c.prefix) (map (held_by covers marks) slots)
+  pub keeps-covered : (prefix : List ℕ) (c : Cover) → c.stamp ≡ next → Keeps next (left_beside prefix covers ++ c ∷ []) marks weights total slots
+  keeps-covered prefix c e = record {
+    sound = k.sound;
+    covered =
+        list_all-append (λ (c : Cover). nat_le c.stamp next) (left_beside prefix covers) (c ∷ [])
+        ∙ and_from _ _ (left-past prefix next covers k.covered) (and_from _ _ (le-of c.stamp next (omega arith)) refl);
+    marked = k.marked;
+    marks_of_all = k.marks_of_all;
+    weights_of_all = k.weights_of_all;
+    weighed = k.weighed;
+    sum = k.sum;
+  }
+
+  pub view-covered : (c : Cover) → c.stamp ≡ next → map (held_by (left_beside c.prefix covers ++ c ∷ []) marks) slots ≡ map (covered_by c.prefix) (map (held_by covers marks) slots)
   view-covered c e =
-      map-all (λ (s : Slot). nat_lt s.stamp next && nat_lt s.value.part 256) (held_by (covers ++ c ∷ []) marks) (λ s. covered_by c.prefix (held_by covers marks s)) slots k.sound one
+      map-all (λ (s : Slot). nat_lt s.stamp next && nat_lt s.value.part 256) (held_by (left_beside c.prefix covers ++ c ∷ []) marks) (λ s. covered_by c.prefix (held_by covers marks s)) slots k.sound one
       ∙ sym (map-through (held_by covers marks) (covered_by c.prefix) slots)
     where
       or_none : (a : Bool) → (a || false) ≡ a
       or_none true = refl
       or_none false = refl
 
-      one : (s : Slot) → (nat_lt s.stamp next && nat_lt s.value.part 256) ≡ true → held_by (covers ++ c ∷ []) marks s ≡ covered_by c.prefix (held_by covers marks s)
+      one : (s : Slot) → (nat_lt s.stamp next && nat_lt s.value.part 256) ≡ true → held_by (left_beside c.prefix covers ++ c ∷ []) marks s ≡ covered_by c.prefix (held_by covers marks s)
       one s h =
           let earlier = (and_parts (nat_lt s.stamp next) (nat_lt s.value.part 256) h).0 in
           ap (λ b. record (held_by covers marks s) { covered = b })
-          (list_any-append (λ (c : Cover). nat_lt s.stamp c.stamp && starts_with nat_eq s.value.key c.prefix) covers (c ∷ [])
-          ∙ ap (λ b. is_covered_by covers s || b) (or_none (nat_lt s.stamp c.stamp && starts_with nat_eq s.value.key c.prefix) ∙ ap (λ b. b && starts_with nat_eq s.value.key c.prefix) (ap (nat_lt s.stamp) e ∙ earlier)))
+          (list_any-append (λ (c : Cover). nat_lt s.stamp c.stamp && starts_with nat_eq s.value.key c.prefix) (left_beside c.prefix covers) (c ∷ [])
+          ∙ ap (λ b. is_covered_by (left_beside c.prefix covers) s || b) (or_none (nat_lt s.stamp c.stamp && starts_with nat_eq s.value.key c.prefix) ∙ ap (λ b. b && starts_with nat_eq s.value.key c.prefix) (ap (nat_lt s.stamp) e ∙ earlier))
+          ∙ covered-beside c.prefix covers s)
 
   -- ---- a part marked
 
@@ -403,6 +465,10 @@ absent-slot covers marks key slots e = none-of (held_by covers marks) (slot_at k
 pub on-ok : {T E : Type 0} (r : Result T E) {A B : Type 0} → (A → B) → OnOk r A → OnOk r B
 on-ok (Ok x) f a = f a
 on-ok (Err e) f a = a
+
+pub either : {T E : Type 0} (r : Result T E) {A B C : Type 0} → (A → C) → (B → C) → OnOk r A → OnErr r B → C
+either (Ok x) f g a b = f a
+either (Err e) f g a b = g b
 
 -- one value more, as it is kept
 pub keeps-more : (next : ℕ) (covers : List Cover) (marks weights : List ℕ) (total : ℕ) (slots : List Slot) → Keeps next covers marks weights total slots

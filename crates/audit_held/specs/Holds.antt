@@ -1,6 +1,6 @@
 -- What the representation of the values held means.
 use Rattle.std.specs.Prelude.{◌≡◌, ℕ, Bool, true, not, ◌&&◌, ◌||◌, ◌==◌, nat_lt, nat_le, nat_eq, List, map, length, get_or, if◌then◌else◌}
-use Rattle.std.specs.List.{list_any, list_all, starts_with, sum_by}
+use Rattle.std.specs.List.{list_any, list_all, filter, starts_with, sum_by}
 use Rattle.audit_model.specs.Bytewise.{same}
 use Rattle.audit_model.specs.History.{Value}
 use Rattle.audit_model.specs.Situation.{HeldValue}
@@ -16,6 +16,10 @@ is_covered_by covers s = list_any (λ c. nat_lt s.stamp c.stamp && starts_with n
 abbrev pub held_by : List Cover → List ℕ → Slot → HeldValue
 held_by covers marks s =
     record { value = s.value; last_use = s.last_use; covered = is_covered_by covers s; evictable = nat_lt s.stamp (get_or marks s.value.part 0) }
+
+-- the covers of which that prefix does not cover all keys
+abbrev pub left_beside : List ℕ → List Cover → List Cover
+left_beside prefix covers = filter (λ c. not (starts_with nat_eq c.prefix prefix)) covers
 
 -- each number was given out before that one, and each part is one of 256
 abbrev pub are_sound : ℕ → List Slot → Bool

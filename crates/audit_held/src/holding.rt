@@ -8,7 +8,7 @@ ghost use Rattle.audit_held.specs.Seeing.{held_of};
 ghost use Rattle.audit_held.specs.Weights.{weight_of_part, values_of};
 ghost use Rattle.audit_held.specs.Holds.{held_by, used_at, covered_by, marked_in, Keeps};
 
-use crate::covers::{Cover, is_covered, push_cover};
+use crate::covers::{Cover, is_covered, leave_out, push_cover};
 use crate::held::{Held, Seen};
 use crate::sums::{mark_after, mark_at, next_number, put_mark, put_weight, sum_with, weight_at};
 use audit_model::Seq;
@@ -179,6 +179,7 @@ impl Holding {
     pub fn cover(&mut self, prefix: &[u8]) -> Result<(), AllocError>
         ensures { OnOk result (self.new ≡ map (covered_by prefix.now) self.old) }
     {
+        leave_out(&mut self.covers, prefix);
         push_cover(self.alloc, &mut self.covers, prefix, self.next)
     }
 

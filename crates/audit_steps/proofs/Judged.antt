@@ -1,15 +1,15 @@
 -- A step judged part by part.
-use Rattle.std.proofs.Common.{◌≡◌, refl, sym, ap, ◌∙◌, subst, ℕ, ◌+◌, Bool, true, false, cond, not, ◌&&◌, ◌||◌, List, [], ◌∷◌, ◌++◌, map, Option, Some, None, true≢false}
+use Rattle.std.proofs.Common.{◌≡◌, refl, sym, ap, ◌∙◌, ℕ, Bool, true, false, not, ◌&&◌, ◌||◌, List, [], ◌∷◌, map, Option, Some, None, true≢false}
 use Rattle.std.specs.Prelude.{is_some}
 use Rattle.std.specs.List.{list_all}
 use Rattle.std.specs.Option.{option_map}
 use Rattle.std.proofs.lemmas.Simd.{map-map}
 use Rattle.audit_model.specs.Changes.{left_held, all_held_after, held_after, with_connection_after}
 use Rattle.audit_model.specs.Commands.{Deed, quits, syncs}
-use Rattle.audit_model.specs.History.{Action, Value}
+use Rattle.audit_model.specs.History.{Action}
 use Rattle.audit_model.specs.Loads.{key_loaded}
 use Rattle.audit_model.specs.Situation.{Situation, HeldValue}
-use Rattle.audit_model.specs.Steps.{Task, Store, Deliver, RunAgain, RunHeld, RunLines, PlacedStep, is_right, is_in_turn, is_held_rightly, has_right_line, has_right_reply, has_right_load, has_right_acceptance, has_right_notes, is_quiet_where_silent, keeps_shares}
+use Rattle.audit_model.specs.Steps.{Task, Store, Deliver, RunAgain, RunHeld, RunLines, PlacedStep, is_right, is_in_turn, is_held_rightly, has_right_line, has_right_reply, has_right_load, has_right_acceptance, has_right_notes, is_quiet_where_silent}
 use Rattle.audit_model.specs.Stream.{is_held}
 use Rattle.audit_model.specs.Notes.{is_within}
 use Rattle.audit_model.specs.declared.config.Config.{Config}

@@ -1,7 +1,6 @@
 -- What is judged of one step.
-use Rattle.std.specs.Prelude.{◌≡◌, IfSome, ℕ, Bool, true, false, not, ◌&&◌, ◌||◌, ◌==◌, nat_lt, List, [], ◌∷◌, ◌++◌, map, Option, Some, None, codes, is_some}
-use Rattle.std.specs.List.{list_all}
-use Rattle.std.specs.Option.{option_eq, option_map, option_to_list}
+use Rattle.std.specs.Prelude.{◌≡◌, IfSome, ℕ, Bool, true, false, not, ◌&&◌, ◌||◌, nat_lt, List, map, Option, Some, None, codes, is_some}
+use Rattle.std.specs.Option.{option_eq, option_map}
 use Rattle.audit_model.specs.Bytewise.{same, text_line}
 use Rattle.audit_model.specs.Changes.{left_held, after_step}
 use Rattle.audit_model.specs.Commands.{deed_of, syncs}

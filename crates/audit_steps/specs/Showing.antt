@@ -1,5 +1,5 @@
 -- What a record shows of a step, and what is due.
-use Rattle.std.specs.Prelude.{ℕ, Bool, true, false, List, Option, Some}
+use Rattle.std.specs.Prelude.{Bool, true, false, Option, Some}
 use Rattle.std.specs.Option.{option_map}
 use Rattle.audit_model.specs.Steps.{Task, Store, Deliver, RunAgain, RunHeld, RunLines}
 use Rattle.audit_model.specs.declared.transcript.Step.{Step}

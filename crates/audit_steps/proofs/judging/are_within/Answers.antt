@@ -1,4 +1,4 @@
-use Rattle.std.proofs.Common.{◌≡◌, ap, ◌∙◌, sym, subst, ◌<◌, ℕ, false, arith}
+use Rattle.std.proofs.Common.{◌≡◌, ◌∙◌, sym, subst, ◌<◌, ℕ, false, arith}
 use Rattle.audit_model.specs.Notes.{is_over}
 use Rattle.audit_held.specs.Weights.{values_of}
 use Rattle.audit_steps.proofs.Within.{one-over, none-over}

@@ -1,10 +1,10 @@
-use Rattle.std.proofs.Common.{◌≡◌, ap, ◌∙◌, sym, refl, not, ◌&&◌, ◌||◌, map, true, false, None, Option}
+use Rattle.std.proofs.Common.{ap, ◌∙◌, sym, not, ◌&&◌, ◌||◌, None}
 use Rattle.std.specs.Option.{option_map}
 use Rattle.audit_model.specs.Changes.{all_held_after}
 use Rattle.audit_model.specs.Commands.{deed_of, is_sync}
 use Rattle.audit_model.specs.Notes.{is_within}
 use Rattle.audit_model.specs.Situation.{view_in}
-use Rattle.audit_model.specs.Steps.{Task, has_right_notes}
+use Rattle.audit_model.specs.Steps.{has_right_notes}
 use Rattle.audit_judge.specs.After.{has_true_notes}
 use Rattle.audit_held.specs.Weights.{values_of}
 use Rattle.audit_situation.specs.States.{situation_of}

@@ -1,4 +1,4 @@
-use Rattle.std.proofs.Common.{◌≡◌, ◌∙◌, ◌&&◌, ◌++◌, ap, sym, subst, true≢false}
+use Rattle.std.proofs.Common.{◌≡◌, ◌∙◌, ◌&&◌, ap, sym, subst, true≢false}
 use Rattle.std.specs.Option.{option_map}
 use Rattle.audit_model.specs.Changes.{after_step}
 use Rattle.audit_model.specs.Replies.{offer_of}

@@ -5,4 +5,4 @@ use Rattle.audit_steps.proofs.Sorting.{texts}
 use Rattle.audit_steps.proofs.keys.live_keys.Given as goal
 
 abbrev pub invariant-loop-at : goal.invariant-loop-at
-invariant-loop-at l = texts l.keys.items ≡ live_keys_at l.config l.now (reverse (map held_of (take l.at l.held)))
+invariant-loop-at l = texts l.keys.entries ≡ live_keys_at l.config l.now (reverse (map held_of (take l.at l.held)))

@@ -1,7 +1,6 @@
-use Rattle.std.proofs.Common.{◌≡◌, ◌++◌, ◌∷◌, [], ◌+◌, sym, ap, ◌∙◌, map, set, get_or, subst, None, ℕ}
+use Rattle.std.proofs.Common.{◌≡◌, ◌++◌, ◌∷◌, [], ◌+◌, sym, ap, ◌∙◌, map, set, get_or, subst}
 use Rattle.std.specs.List.{find}
 use Rattle.audit_model.specs.Bytewise.{same}
-use Rattle.audit_model.specs.History.{Value}
 use Rattle.audit_table.specs.Slots.{Slot, slot_of, slot_at}
 use Rattle.audit_held.specs.Holds.{held_by, Keeps}
 use Rattle.audit_held.proofs.Keeping.{keeps-more, view-more, absent-slot}

@@ -1,4 +1,4 @@
-use Rattle.std.proofs.Common.{◌≡◌, refl, sym, ap, ◌∙◌, map, set, get_or, subst, if◌then◌else◌}
+use Rattle.std.proofs.Common.{sym, ap, ◌∙◌, map, set, get_or, subst, if◌then◌else◌}
 use Rattle.audit_held.specs.Holds.{held_by, marked_in, Keeps}
 use Rattle.audit_held.proofs.Keeping.{keeps-marked, view-marked}
 use Rattle.audit_held.proofs.holding.Holding.mark.Goals as goal

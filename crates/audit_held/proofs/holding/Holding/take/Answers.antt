@@ -1,8 +1,8 @@
-use Rattle.std.proofs.Common.{sym, ap, ◌∙◌, ◌≤◌, ◌-◌, ◌<◌, map, set, get_or, subst, option_map, Some, None, arith}
+use Rattle.std.proofs.Common.{sym, ap, ◌∙◌, ◌-◌, ◌<◌, map, set, get_or, subst, option_map, Some, arith}
 use Rattle.std.specs.List.{find}
 use Rattle.audit_model.specs.Bytewise.{same}
 use Rattle.audit_model.specs.Values.{without_key}
-use Rattle.audit_table.specs.Slots.{slot_of, without}
+use Rattle.audit_table.specs.Slots.{slot_of}
 use Rattle.audit_held.specs.Holds.{held_by, Keeps}
 use Rattle.audit_held.proofs.Keeping.{keeps-taken, keeps-missed, enough-weight, enough-total, part-small, find-held, without-held}
 use Rattle.audit_held.proofs.holding.Holding.take.Goals as goal
