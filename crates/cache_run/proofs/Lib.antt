@@ -4,4 +4,8 @@ pub mod Going
 pub mod Delivering
 pub mod Carrying
 pub mod Turning
+pub mod Closings
+pub mod Settling
+pub mod Refusing
+pub mod Dropping
 pub mod Ending
