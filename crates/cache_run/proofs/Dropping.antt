@@ -12,6 +12,7 @@ use Rattle.audit_model.specs.declared.transcript.Record.{Record}
 use Rattle.audit_model.specs.declared.input.LoadId.{LoadId}
 use Rattle.cache_namespace.specs.Taken.{closing_at, text_at}
 use Rattle.cache_settling.specs.Answered.{giving_up}
+use Rattle.cache_spaces.proofs.Putting.{same-space}
 use Rattle.cache_spaces.specs.Moves.{At}
 use Rattle.cache_spaces.specs.Serves as served
 use Rattle.cache_spaces.specs.Serves.{SameSpace, TakesLoads}
@@ -97,6 +98,14 @@ drops-one number was is load settled = (
 
 pub known-still : {X : Type 0} (F : X → X → Type 0) (old new : List X) (n : ℕ) → At old new n F → n < length new
 known-still F old new n a = slice_get_within new n a.is (at-is F old new n a)
+
+-- nothing was called
+pub same-at : (spaces : List Space) (n : ℕ) → n < length spaces → At spaces spaces n SameSpace
+same-at spaces n known = let found = found-at spaces n known in at-same SameSpace spaces n found.0 found.1 (same-space found.0 found.0 refl)
+
+-- loads were taken
+pub at-taken : (old new : List Space) (n : ℕ) (loads : List (LoadId × List ℕ)) → At old new n (λ was is. TakesLoads was is loads) → At old new n SameSpace
+at-taken old new n loads a = at-map (λ was is. TakesLoads was is loads) SameSpace old new n a (λ x y t. taken-same x y loads t)
 
 module _ (number n : ℕ) where
   pub at-drop : (old new : List Space) (load : ℕ) → At old new n (λ was is. served.Settled was is (giving_up load 0)) → At old new n (GivesUpLoads number)

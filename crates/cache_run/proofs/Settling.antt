@@ -1,6 +1,6 @@
 -- A load that is settled.
 use Rattle.std.proofs.Common.{◌≡◌, ◌≢◌, ℕ, zero, suc, ◌<◌, ◌≤◌, ◌-◌, ◌==◌, ◌^◌, Bool, true, false, not, nat_le, List, [], ◌∷◌, ◌++◌, length, Option, None, Some, is_some, refl, sym, ap, ◌∙◌, subst, arith, inl, inr, ⊎_elim, cond}
-use Rattle.std.specs.Prelude.{◌⊎◌, ◌||◌, IfSome, MatchOption}
+use Rattle.std.specs.Prelude.{◌⊎◌, ◌||◌, Result, Ok, Err, OnOk, IfErr}
 use Rattle.std.specs.List.{filter, flat_map, list_any}
 use Rattle.std.specs.Option.{option_or}
 use Rattle.std.proofs.Math.Logic.{∥∥₁_elim, ∥∥₁_map}
@@ -21,6 +21,7 @@ use Rattle.cache_namespace.specs.Shown.{situation}
 use Rattle.cache_namespace.specs.Taken.{IsOpenOrEnded}
 use Rattle.cache_settling.specs.Answered.{answering, giving_up}
 use Rattle.cache_settling.specs.Told.{replies_to}
+use Rattle.cache_spaces.proofs.Putting.{same-space}
 use Rattle.cache_spaces.specs.Moves.{At}
 use Rattle.cache_spaces.specs.Serves as served
 use Rattle.cache_spaces.specs.Serves.{SameSpace, Settles, TakesLoads, TakesOutput}
@@ -36,7 +37,7 @@ use Rattle.cache_run.proofs.Carrying.{record-one}
 use Rattle.cache_run.proofs.Closings.{settled-closing}
 use Rattle.cache_run.proofs.Connecting.{ended-none}
 use Rattle.cache_run.proofs.Going.{goes-more, goes-same, seen-alike}
-use Rattle.cache_run.proofs.Placing.{at-is, at-map, at-more, at-was, at-with}
+use Rattle.cache_run.proofs.Placing.{at-is, at-map, at-more, at-same, at-was, at-with}
 
 -- ---- steps of one connection
 
@@ -78,7 +79,7 @@ other-left number place was is s happened r own ne =
       ⊎_elim (λ same. same) (λ p. let h : true ≡ false = sym p.2 ∙ no_step in cc) (settled-closing was is s happened r place),
     )
 
-others-left : (number other : ℕ) (was is : Space) (s : Situation) (happened : Event) (r : Settles was is s happened) → StepsOf number r.entry.steps → other - 1 ≢ number - 1
+pub others-left : (number other : ℕ) (was is : Space) (s : Situation) (happened : Event) (r : Settles was is s happened) → StepsOf number r.entry.steps → other - 1 ≢ number - 1
     → (output_of is other ≡ output_of was other) × (closing_of is other ≡ closing_of was other)
 others-left number zero was is s happened r own ne = other-left number 0 was is s happened r own ne
 others-left number (suc place) was is s happened r own ne = other-left number place was is s happened r own ne
@@ -258,13 +259,45 @@ at-refused-outcome old mid new n number moment outcome a b =
     after-same number x y z moment (asking_of key (Some outcome) ∷ []) p.0 (given (asking_of key (Some outcome)) (subst (λ k. is_some (refusal_of_outcome k outcome) ≡ true) (sym p.0.config) p.1)))
 
 -- a give-up without an outcome
-pub at-unsaid : (old new : List Space) (n number : ℕ) (moment : ℕ)
+pub at-unsaid : (old new : List Space) (n number : ℕ) (moment : ℕ) (said : Option Outcome) → said ≡ None
     → At old new n (λ was is. (asking : Asking) → IsGivenUpFor (config_of was) asking.answer → Goes number was is (λ s t. Answered (config_of was) number [] moment (asking ∷ []) s t (notices_of was) (notices_of is) (output_of is number)))
-    → At old new n (λ was is. (key : List ℕ) → Goes number was is (λ s t. Answered (config_of was) number [] moment (asking_of key None ∷ []) s t (notices_of was) (notices_of is) (output_of is number)))
-at-unsaid old new n number moment a =
+    → At old new n (λ was is. (key : List ℕ) → Goes number was is (λ s t. Answered (config_of was) number [] moment (asking_of key said ∷ []) s t (notices_of was) (notices_of is) (output_of is number)))
+at-unsaid old new n number moment said none a =
     at-map (λ was is. (asking : Asking) → IsGivenUpFor (config_of was) asking.answer → Goes number was is (λ s t. Answered (config_of was) number [] moment (asking ∷ []) s t (notices_of was) (notices_of is) (output_of is number)))
-    (λ was is. (key : List ℕ) → Goes number was is (λ s t. Answered (config_of was) number [] moment (asking_of key None ∷ []) s t (notices_of was) (notices_of is) (output_of is number))) old new n a
-    (λ x y given key. given (asking_of key None) tt)
+    (λ was is. (key : List ℕ) → Goes number was is (λ s t. Answered (config_of was) number [] moment (asking_of key said ∷ []) s t (notices_of was) (notices_of is) (output_of is number))) old new n a
+    (λ x y given key. given (asking_of key said) (subst (IsGivenUpFor (config_of x)) (sym none) tt))
+
+-- with the outcome that was said
+pub at-said : (old new : List Space) (n number : ℕ) (moment : ℕ) (said : Option Outcome) (outcome : Outcome) → said ≡ Some outcome
+    → At old new n (λ was is. (key : List ℕ) → Goes number was is (λ s t. Answered (config_of was) number [] moment (asking_of key (Some outcome) ∷ []) s t (notices_of was) (notices_of is) (output_of is number)))
+    → At old new n (λ was is. (key : List ℕ) → Goes number was is (λ s t. Answered (config_of was) number [] moment (asking_of key said ∷ []) s t (notices_of was) (notices_of is) (output_of is number)))
+at-said old new n number moment said outcome is a =
+    subst (λ o. At old new n (λ was is. (key : List ℕ) → Goes number was is (λ s t. Answered (config_of was) number [] moment (asking_of key o ∷ []) s t (notices_of was) (notices_of is) (output_of is number)))) (sym is) a
+
+pub on-ok : {X E : Type 0} (A B : Type 0) (r : Result X E) → OnOk r A → (A → B) → OnOk r B
+on-ok A B (Ok x) a h = h a
+on-ok A B (Err e) a h = tt
+
+pub on-err : {X E : Type 0} (P Q : E → Type 0) (r : Result X E) → IfErr r P → ((e : E) → P e → Q e) → IfErr r Q
+on-err P Q (Ok x) a h = tt
+on-err P Q (Err e) a h = h e a
+
+-- the same after the same
+pub same-more : (x y z : Space) → SameSpace x y → SameSpace y z → SameSpace x z
+same-more x y z a b = record {
+  stands = λ s stands. b.stands s (a.stands s stands);
+  recency = λ settled keys r. b.recency settled keys (a.recency settled keys r);
+  config = b.config ∙ a.config;
+  made = b.made ∙ a.made;
+  outputs = λ number. b.outputs number ∙ a.outputs number;
+  closings = λ number. b.closings number ∙ a.closings number;
+  notices = b.notices ∙ a.notices;
+  count = b.count ∙ a.count;
+}
+
+-- nothing was called
+pub same-here : (spaces : List Space) (n number : ℕ) → Connected spaces n number IsTaken → At spaces spaces n SameSpace
+same-here spaces n number c = at-same SameSpace spaces n c.space c.at (same-space c.space c.space refl)
 
 -- the replies that came of it were taken
 pub at-replied : (old mid new : List Space) (n number : ℕ) (moment : ℕ) (said : Option Outcome) (key text : List ℕ)

@@ -88,8 +88,9 @@ fn settle(
     ensures left { OnOk result (Connected (spaces_of service.new) conn.namespace conn.number IsFed) }
     ensures err { IfErr result (λ e. At (spaces_of service.old) (spaces_of service.new) conn.namespace SameSpace × IsCause moment e) }
 {
-    let Some(outcome) = said else {
-        return give_up(service, conn, load, moment);
+    let outcome = match said {
+        Some(outcome) => outcome,
+        None => return give_up(service, conn, load, moment),
     };
     match answer(service, conn, load, outcome, moment) {
         Ok(true) => Ok(()),
