@@ -1,6 +1,9 @@
 -- One turn of a run.
-use Rattle.std.proofs.Common.{◌≢◌, ℕ, ◌+◌, ◌≤◌, ◌⊎◌, ◌++◌, false, List, [], ◌∷◌, Option, refl, subst, inl, inr, arith, length-append}
+use Rattle.std.proofs.Common.{◌≡◌, ◌≢◌, ℕ, ◌+◌, ◌≤◌, ◌⊎◌, ◌++◌, false, List, [], ◌∷◌, Option, refl, ap, subst, inl, inr, arith, length-append}
+use Rattle.std.specs.Prelude.{Err, IsErrOf}
 use Rattle.std.specs.Io.KnownBytes.{Consumes}
+use Rattle.std.specs.Result.{result_err}
+use Rattle.std.proofs.lemmas.Option.{same_Some}
 use Rattle.cache_devices.proofs.Sending.{failed_after, failed_before, same_appends}
 use Rattle.cache_devices.specs.Failures.{HasFailed}
 use Rattle.cache_run.specs.Turns.{HasAsked, HasRead}
@@ -122,3 +125,7 @@ pub at-carried-same : {C L : Type 0} (reads : C → ℕ → C → Type 0) (loads
 at-carried-same reads loads old new n number a same =
     at-map SameSpace (λ was is. Goes number was is (λ s t. Carried (config_of was) number reads loads (world was s a) (world is t a) false false [] nothing_left)) old new n same
     (λ x y p. goes-same number x y (λ s t. Carried (config_of x) number reads loads (world x s a) (world y t a) false false [] nothing_left) p (λ s. carried-same (config_of x) number reads loads x y s s a refl p.notices))
+
+-- the same error of another result
+pub still-err : {T U E : Type 0} (e v : E) → IsErrOf {T = T} (Err e) v → IsErrOf {T = U} (Err e) v
+still-err e v is = let same : e ≡ v = same_Some e v (ap result_err is) in ap (λ x. Err x) same

@@ -3,7 +3,7 @@ use Rattle.cache_devices.proofs.Sending.{failed_after}
 use Rattle.cache_run.specs.Connected.{IsFed, IsReady}
 use Rattle.cache_run.specs.declared.errors.RunError.TheVariants.{Moment, UsedUp}
 use Rattle.cache_run.proofs.Connecting.{connected-map}
-use Rattle.cache_run.proofs.Turning.{asked-fewer, asked-more, asked-none, at-broken, at-broken-more, at-carried-more, at-carried-start, turns-more, turns-none}
+use Rattle.cache_run.proofs.Turning.{asked-fewer, asked-more, asked-none, at-broken, at-broken-more, at-carried-more, at-carried-start, still-err, turns-more, turns-none}
 use Rattle.cache_run.proofs.serving.converse.Goals as goal
 
 pub loop-turn-init : goal.loop-turn-init
@@ -40,7 +40,7 @@ returns-in-Err-clause-err g c = at-broken-more g.C.Clock.reads g.L.Loader.loads 
 pub returns-in-Err-clause-used_up : goal.returns-in-Err-clause-used_up
 returns-in-Err-clause-used_up g c = λ is.
     ⊎_elim (λ failed. inl (failed_after _ _ _ c.loop-turn.invariant.writes c.in-Err.ensures.writes failed))
-    (λ asked. inr (inr (inr (asked-fewer g.L.Loader.loads _ _ _ (2 ^ 64 - 1) (omega arith) (asked-more g.L.Loader.loads _ _ _ 0 (2 ^ 64 - 1) c.loop-turn.invariant.asked asked))))) (c.in-Err.ensures.used_up is)
+    (λ asked. inr (inr (inr (asked-fewer g.L.Loader.loads _ _ _ (2 ^ 64 - 1) (omega arith) (asked-more g.L.Loader.loads _ _ _ 0 (2 ^ 64 - 1) c.loop-turn.invariant.asked asked))))) (c.in-Err.ensures.used_up (still-err c.in-Err.error UsedUp is))
 
 pub returns-clause-err : goal.returns-clause-err
 returns-clause-err g c = at-broken g.C.Clock.reads g.L.Loader.loads _ _ _ _ _ _ _ _ _ _ _ _ UsedUp (λ is. let h : UsedUp ≡ Moment = is in cc) c.loop-turn.invariant.carried

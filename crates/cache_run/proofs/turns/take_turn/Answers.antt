@@ -2,10 +2,10 @@ use Rattle.std.proofs.Common.{◌≡◌, [], ⊎_elim, arith, inl, inr, refl}
 use Rattle.cache_devices.proofs.Sending.{failed_after}
 use Rattle.cache_devices.specs.Watched.{device}
 use Rattle.cache_run.specs.Connected.{IsFed, IsOver, IsReady}
-use Rattle.cache_run.specs.declared.errors.RunError.TheVariants.{Moment, Read}
+use Rattle.cache_run.specs.declared.errors.RunError.TheVariants.{Moment, Read, UsedUp}
 use Rattle.cache_run.proofs.Carrying.{consumes_none}
 use Rattle.cache_run.proofs.Connecting.{connected-map}
-use Rattle.cache_run.proofs.Turning.{at-broken, at-broken-more, at-carried-more, turn-broken, turn-none, turn-one}
+use Rattle.cache_run.proofs.Turning.{at-broken, at-broken-more, at-carried-more, still-err, turn-broken, turn-none, turn-one}
 use Rattle.cache_run.proofs.turns.take_turn.Goals as goal
 
 pub returns-then-eq-clause-ok : goal.returns-then-eq-clause-ok
@@ -34,7 +34,7 @@ returns-in-Err-settle_loads-clause-err g c =
 
 pub returns-in-Err-settle_loads-clause-used_up : goal.returns-in-Err-settle_loads-clause-used_up
 returns-in-Err-settle_loads-clause-used_up g c = λ is.
-    ⊎_elim (λ failed. inl (failed_after _ _ _ c.in-Ok-deliver.ensures.count c.in-Err-settle_loads.ensures.count failed)) (λ asked. inr asked) (c.in-Err-settle_loads.ensures.used_up is)
+    ⊎_elim (λ failed. inl (failed_after _ _ _ c.in-Ok-deliver.ensures.count c.in-Err-settle_loads.ensures.count failed)) (λ asked. inr asked) (c.in-Err-settle_loads.ensures.used_up (still-err c.in-Err-settle_loads.error UsedUp is))
 
 pub returns-in-Err-clause-left : goal.returns-in-Err-clause-left
 returns-in-Err-clause-left g c = connected-map IsReady IsFed _ _ _ c.requires.ready (λ x left. inl left.0)
