@@ -27,14 +27,14 @@ use Rattle.cache_namespace.proofs.Drawn.{draws-first}
 use Rattle.cache_namespace.specs.Lines.{has_its_part}
 use Rattle.cache_namespace.specs.Making.{Making}
 use Rattle.cache_namespace.specs.Shown.{situation}
-use Rattle.cache_namespace.specs.Taken.{SameConnections}
+use Rattle.cache_namespace.specs.Taken.{SameConnections, closing_at}
 use Rattle.cache_namespace.specs.Waiting.{UnderWay}
 use Rattle.cache_namespace.specs.declared.connection.Connection.{Connection}
 use Rattle.cache_settling.specs.Answered.{AnswersLoad, HandsOut, KeepsRecord, answering, but_for, knows_loads, waiting_for}
 use Rattle.cache_settling.specs.Laws.{record_answered}
 use Rattle.cache_settling.specs.Leads.{Leads, Settles}
 use Rattle.cache_settling.specs.Noted.{Noted}
-use Rattle.cache_settling.specs.Told.{replies_to}
+use Rattle.cache_settling.specs.Told.{ClosesByLines, replies_to}
 use Rattle.cache_settling.proofs.Leading.{draws-on}
 use Rattle.cache_settling.proofs.Settling.{answer}
 
@@ -135,6 +135,10 @@ answered-same config making load latest moment outcome accepted values Stands l 
   held = x.held;
   stands = x.stands;
   settles = subst (λ s. Settles config making s (record_answered load outcome moment accepted x.own x.steps) (situation (max moment latest) k new dropping x.held) a c) (same.situation latest l dropped values) x.settles;
-  texts = λ place. x.texts place ∙ ap (λ text. text ++ replies_to (suc place) x.steps) (same.texts place);
+  texts = record {
+    replies = λ place. x.texts.replies place ∙ ap (λ text. text ++ replies_to (suc place) x.steps) (same.texts place);
+    closings = λ place. subst (λ o. ClosesByLines o (closing_at new place)) (same.closings place) (x.texts.closings place);
+    idle = λ place none. x.texts.idle place none ∙ same.closings place;
+  };
   notes = x.notes;
 }

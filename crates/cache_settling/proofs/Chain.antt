@@ -1,5 +1,5 @@
 -- Connections that are told of their load, one after another.
-use Rattle.std.proofs.Common.{◌≡◌, ℕ, suc, ◌+◌, ◌-◌, ◌<◌, ◌≤◌, Bool, true, false, ◌==◌, List, [], ◌∷◌, ◌++◌, length, cond, take, drop, get_or, Some, None, if◌then◌else◌, refl, sym, ap, ◌∙◌, subst, arith}
+use Rattle.std.proofs.Common.{◌≡◌, ℕ, suc, ◌+◌, ◌-◌, ◌<◌, ◌≤◌, Bool, true, false, ◌==◌, List, [], ◌∷◌, ◌++◌, length, cond, take, drop, get_or, Some, None, if◌then◌else◌, refl, sym, ap, ◌∙◌, subst, arith, inl}
 use Rattle.std.specs.List.{filter, flat_map, slice_get}
 use Rattle.std.specs.Option.{option_map_or}
 use Rattle.std.proofs.Math.Seq.{drop-cons, take-suc}
@@ -20,19 +20,20 @@ use Rattle.cache_namespace.specs.Drawing.{Identifiers}
 use Rattle.cache_namespace.specs.Gathered.{reply_in}
 use Rattle.cache_namespace.specs.Making.{Making}
 use Rattle.cache_namespace.specs.Shown.{situation}
-use Rattle.cache_namespace.specs.Taken.{ReplacedAt, text_at}
+use Rattle.cache_namespace.specs.Taken.{ReplacedAt, closing_at, text_at}
 use Rattle.cache_namespace.specs.Waiting.{UnderWay, no_loads}
 use Rattle.cache_namespace.specs.Whole.{held_line}
 use Rattle.cache_namespace.specs.declared.connection.Connection.{Connection}
 use Rattle.cache_namespace.specs.declared.standing.Standing.TheVariants as now
-use Rattle.cache_namespace.proofs.Places.{replaced-is, replaced-others, text-is}
+use Rattle.cache_namespace.proofs.Places.{replaced-is, replaced-others, replaced-seen, text-is}
 use Rattle.load_laws.specs.Tidy.{Tidy, times_in}
 use Rattle.load_laws.proofs.Counts.{one_if}
 use Rattle.load_laws.proofs.Records.{told-delivers}
 use Rattle.load_laws.proofs.Turns.{told-once}
 use Rattle.cache_settling.specs.Leads.{Leads, told_in}
-use Rattle.cache_settling.specs.Told.{TellsThem, WritesTo, line_of, replies_to, steps_told, to_tell, when_idle}
+use Rattle.cache_settling.specs.Told.{TellsThem, WritesTo, line_of, own_steps, replies_to, steps_told, to_tell, when_idle}
 use Rattle.cache_settling.proofs.Leading.{nothing, on}
+use Rattle.cache_settling.proofs.Noting.{closes-both, none-first, own-both}
 use Rattle.cache_settling.proofs.Placed.{WaitsAt, found-back, leads-told}
 use Rattle.cache_settling.proofs.Turns.{counted}
 
@@ -166,20 +167,37 @@ same-place n i place e = go (i == place) refl
         other false is = is
         other true is = let same = eqb-true n (suc place) is in absurd (no-truth (sym at ∙ eq-eqb i place (omega arith)))
 
--- the texts, when one more is told
-pub texts-more : (outcome : Outcome) (writes : Bool) (gone : List ℕ) (old mid new : List Connection) (n i : ℕ) → n ≡ suc i → Tells outcome writes i mid new
-    → WritesTo writes (steps_told outcome old gone) old mid → WritesTo writes (steps_told outcome old (gone ++ n ∷ [])) old new
-texts-more outcome writes gone old mid new n i e told texts place =
+-- the one that was told was open, and stays so
+closing-told : (outcome : Outcome) (writes : Bool) (mid new : List Connection) (i : ℕ) → Tells outcome writes i mid new → (place : ℕ) → closing_at new place ≡ closing_at mid place
+closing-told outcome writes mid new i told place = replaced-seen (λ (c : Connection). c.closing) None mid new i told.replaced (told.is_open ∙ sym told.opened) place
+
+-- the text at a place, when one more is told
+replies-told : (outcome : Outcome) (writes : Bool) (gone : List ℕ) (old mid new : List Connection) (n i : ℕ) → n ≡ suc i → Tells outcome writes i mid new → WritesTo writes (steps_told outcome old gone) old mid
+    → (place : ℕ) → text_at new place ≡ text_at old place ++ (if writes then replies_to (suc place) (steps_told outcome old (gone ++ n ∷ [])) else [])
+replies-told outcome writes gone old mid new n i e told texts place =
     let step : Step = step_saying n (line_of old n) (outcome_text outcome) None [] in
     let before = replies_to (suc place) (steps_told outcome old gone) in
     text-told outcome writes mid new i place told (i == place) refl
-    ∙ ap (λ t. t ++ (if i == place then (if writes then outcome_text outcome else []) else [])) (texts place)
+    ∙ ap (λ t. t ++ (if i == place then (if writes then outcome_text outcome else []) else [])) (texts.replies place)
     ∙ append_assoc (text_at old place) (if writes then before else []) (if i == place then (if writes then outcome_text outcome else []) else [])
     ∙ ap (λ t. text_at old place ++ t)
     (sym (ap (λ steps. if writes then replies_to (suc place) steps else []) (map-append (λ k. step_saying k (line_of old k) (outcome_text outcome) None []) gone (n ∷ []))
     ∙ ap (λ t. if writes then t else []) (replies-more (suc place) (steps_told outcome old gone) step)
     ∙ ap (λ b. if writes then before ++ (if b then outcome_text outcome else []) else []) (same-place n i place e)
     ∙ if-more writes (i == place) before (outcome_text outcome)))
+
+-- the texts, when one more is told
+pub texts-more : (outcome : Outcome) (writes : Bool) (gone : List ℕ) (old mid new : List Connection) (n i : ℕ) → n ≡ suc i → Tells outcome writes i mid new
+    → WritesTo writes (steps_told outcome old gone) old mid → WritesTo writes (steps_told outcome old (gone ++ n ∷ [])) old new
+texts-more outcome writes gone old mid new n i e told texts = record {
+  replies = λ place. replies-told outcome writes gone old mid new n i e told texts place;
+  closings = λ place. closes-both (closing_at old place) (closing_at mid place) (closing_at new place) (texts.closings place) (inl (closing-told outcome writes mid new i told place));
+  idle = λ place none.
+      let step : Step = step_saying n (line_of old n) (outcome_text outcome) None [] in
+      let more = map-append (λ k. step_saying k (line_of old k) (outcome_text outcome) None []) gone (n ∷ []) in
+      let both = sym (own-both (suc place) (steps_told outcome old gone) (step ∷ [])) ∙ ap (own_steps (suc place)) (sym more) ∙ none in
+      closing-told outcome writes mid new i told place ∙ texts.idle place (none-first (own_steps (suc place) (steps_told outcome old gone)) (own_steps (suc place) (step ∷ [])) both);
+}
 
 -- ---- the next one of a list
 

@@ -1,5 +1,5 @@
 -- Given-up `LOAD`s that run again, one connection after another.
-use Rattle.std.proofs.Common.{◌≡◌, ℕ, max, Option, not, suc, ◌-◌, ◌≤◌, Bool, true, false, ◌==◌, List, [], ◌∷◌, ◌++◌, length, Some, None, if◌then◌else◌, refl, sym, ap, ◌∙◌, subst, arith}
+use Rattle.std.proofs.Common.{◌≡◌, ℕ, max, Option, not, suc, ◌-◌, ◌≤◌, Bool, true, false, ◌==◌, List, [], ◌∷◌, ◌++◌, length, Some, None, if◌then◌else◌, refl, sym, ap, ◌∙◌, subst, arith, inl}
 use Rattle.std.specs.Prelude.{is_none, slice_set, unwrap_or}
 use Rattle.std.specs.List.{flat_map, slice_get}
 use Rattle.std.specs.Option.{option_map_or}
@@ -71,7 +71,7 @@ again-resumed config making latest m i l k j cs after new dropped dropping last 
       (r.leads tasks);
   texts = writes-on told telling (x.step ∷ []) r.steps cs after new (noted-by p.was.output.items p.is.output.items told telling (x.step ∷ []) x.gathered)
       (text-wrote cs after m i (x.step ∷ []) (is_loose told) e p (wrote-by p.was.output.items p.is.output.items told telling (x.step ∷ []) x.gathered)
-      (λ number. own-joined m number x.step [] x.own (m == number) refl (no-replies (m == number)))) r.texts;
+      (λ number. own-joined m number x.step [] x.own (m == number) refl (no-replies (m == number))) (inl (is_open ∙ sym was_open)) (λ none. is_open ∙ sym was_open)) r.texts;
   notes = noted-both told telling tells (x.step ∷ []) r.steps (noted-by p.was.output.items p.is.output.items told telling (x.step ∷ []) x.gathered) r.notes;
   begins = x.unknown;
 }

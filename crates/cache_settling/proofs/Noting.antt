@@ -1,5 +1,5 @@
 -- What is noted of steps, one after another.
-use Rattle.std.proofs.Common.{◌≡◌, ℕ, suc, ◌+◌, ◌≤◌, Bool, true, false, ◌==◌, List, [], ◌++◌, Option, Some, None, if◌then◌else◌, refl, sym, ap, ◌∙◌, subst, arith}
+use Rattle.std.proofs.Common.{◌≡◌, ℕ, suc, ◌+◌, ◌≤◌, Bool, true, false, ◌==◌, List, [], ◌∷◌, ◌++◌, Option, Some, None, if◌then◌else◌, refl, sym, ap, ◌∙◌, subst, arith, inl, inr}
 use Rattle.std.specs.Prelude.{is_none, is_some, vec_len}
 use Rattle.std.specs.List.{filter, flat_map, slice_get}
 use Rattle.std.specs.Option.{option_map_or}
@@ -8,16 +8,17 @@ use Rattle.std.proofs.lemmas.Grind.{flat_map-append}
 use Rattle.std.proofs.lemmas.List.{append-nil, append_assoc}
 use Rattle.std.proofs.lemmas.List.Elements.{filter-append}
 use Rattle.std.proofs.lemmas.Option.{same_Some}
+use Rattle.audit_model.specs.declared.command.Closing.{Closing}
 use Rattle.audit_model.specs.declared.transcript.Note.{Note}
 use Rattle.audit_model.specs.declared.transcript.Step.{Step}
 use Rattle.cache_namespace.specs.Gathered.{Gathered, IsFresh, gather, reply_in}
 use Rattle.cache_namespace.specs.Kept.{HasMore, IsReadyToHold, KeepsRoom, gathered, more_in}
-use Rattle.cache_namespace.specs.Taken.{ReplacedAt, text_at}
+use Rattle.cache_namespace.specs.Taken.{ReplacedAt, closing_at, text_at}
 use Rattle.cache_namespace.specs.declared.connection.Connection.{Connection}
 use Rattle.cache_namespace.specs.declared.kept.Kept.{Kept}
 use Rattle.cache_namespace.proofs.Places.{replaced-is, replaced-others, text-is}
 use Rattle.cache_settling.specs.Noted.{Noted, NothingWaits, gathered_with, is_loose, noted_in, with_steps}
-use Rattle.cache_settling.specs.Told.{WritesTo, replies_to}
+use Rattle.cache_settling.specs.Told.{ClosesByLines, EndsByLines, WritesTo, own_steps, replies_to}
 
 -- ---- steps, and more of them
 
@@ -58,15 +59,48 @@ pub replies-both : (number : ℕ) (xs ys : List Step) → replies_to number (xs 
 replies-both number xs ys =
     ap (flat_map reply_in) (filter-append (λ (x : Step). x.conn == number) xs ys) ∙ flat_map-append reply_in (filter (λ (x : Step). x.conn == number) xs) (filter (λ (x : Step). x.conn == number) ys)
 
+-- none of two lists
+pub none-first : (xs ys : List Step) → xs ++ ys ≡ [] → xs ≡ []
+none-first [] ys e = refl
+none-first (x ∷ xs) ys e = let no : x ∷ (xs ++ ys) ≡ [] = e in cc
+
+pub none-second : (xs ys : List Step) → xs ++ ys ≡ [] → ys ≡ []
+none-second [] ys e = e
+none-second (x ∷ xs) ys e = let no : x ∷ (xs ++ ys) ≡ [] = e in cc
+
+-- the steps of a connection, in two lists
+pub own-both : (number : ℕ) (xs ys : List Step) → own_steps number (xs ++ ys) ≡ own_steps number xs ++ own_steps number ys
+own-both number xs ys = filter-append (λ (x : Step). x.conn == number) xs ys
+
+-- why a connection is closed, after what happened in two parts
+pub closes-both : (a b c : Option Closing) → ClosesByLines a b → ClosesByLines b c → ClosesByLines a c
+closes-both a b c (inl same) (inl kept) = inl (kept ∙ same)
+closes-both a b c (inr ends) (inl kept) = inr (ends.0, subst (λ o. EndsByLines o) (sym kept) ends.1)
+closes-both a b c (inl same) (inr ended) = inr (sym same ∙ ended.0, ended.1)
+closes-both a b c (inr ends) (inr ended) = inr (ends.0, ended.1)
+
 pub writes-none : (writes : Bool) (cs : List Connection) → WritesTo writes [] cs cs
-writes-none true cs = λ place. sym (append-nil (text_at cs place))
-writes-none false cs = λ place. sym (append-nil (text_at cs place))
+writes-none writes cs = record { replies = go writes; closings = λ place. inl refl; idle = λ place none. refl }
+  where
+    go : (b : Bool) (place : ℕ) → text_at cs place ≡ text_at cs place ++ (if b then [] else [])
+    go true place = sym (append-nil (text_at cs place))
+    go false place = sym (append-nil (text_at cs place))
 
 pub writes-both : (writes : Bool) (xs ys : List Step) (old mid new : List Connection) → WritesTo writes xs old mid → WritesTo writes ys mid new → WritesTo writes (xs ++ ys) old new
-writes-both true xs ys old mid new first second = λ place.
-    second place ∙ ap (λ t. t ++ replies_to (suc place) ys) (first place) ∙ append_assoc (text_at old place) (replies_to (suc place) xs) (replies_to (suc place) ys)
-    ∙ ap (λ t. text_at old place ++ t) (sym (replies-both (suc place) xs ys))
-writes-both false xs ys old mid new first second = λ place. second place ∙ append-nil (text_at mid place) ∙ first place
+writes-both writes xs ys old mid new first second = record {
+  replies = λ place. go writes place (first.replies place) (second.replies place);
+  closings = λ place. closes-both (closing_at old place) (closing_at mid place) (closing_at new place) (first.closings place) (second.closings place);
+  idle = λ place none.
+      let both = sym (own-both (suc place) xs ys) ∙ none in
+      second.idle place (none-second (own_steps (suc place) xs) (own_steps (suc place) ys) both) ∙ first.idle place (none-first (own_steps (suc place) xs) (own_steps (suc place) ys) both);
+}
+  where
+    go : (b : Bool) (place : ℕ) → text_at mid place ≡ text_at old place ++ (if b then replies_to (suc place) xs else []) → text_at new place ≡ text_at mid place ++ (if b then replies_to (suc place) ys else [])
+        → text_at new place ≡ text_at old place ++ (if b then replies_to (suc place) (xs ++ ys) else [])
+    go true place front behind =
+        behind ∙ ap (λ t. t ++ replies_to (suc place) ys) front ∙ append_assoc (text_at old place) (replies_to (suc place) xs) (replies_to (suc place) ys)
+        ∙ ap (λ t. text_at old place ++ t) (sym (replies-both (suc place) xs ys))
+    go false place front behind = behind ∙ append-nil (text_at mid place) ∙ front
 
 -- the same, where the second half was written as a record is made or not
 pub writes-on : (told telling : Noted) (xs ys : List Step) (old mid new : List Connection) → telling ≡ with_steps xs told → WritesTo (is_loose told) xs old mid → WritesTo (is_loose telling) ys mid new → WritesTo (is_loose told) (xs ++ ys) old new
@@ -123,7 +157,7 @@ fresh-told n steps old new none texts = go n.kept none texts
   where
     go : (kept : Option (List Step)) → NothingWaits (record n { kept = kept }) old → WritesTo (is_none kept) steps old new → NothingWaits (record n { kept = kept }) new
     go None h t = tt
-    go (Some before) h t = (λ place. t place ∙ append-nil (text_at old place) ∙ h.0 place, h.1)
+    go (Some before) h t = (λ place. t.replies place ∙ append-nil (text_at old place) ∙ h.0 place, h.1)
 
 -- ---- room
 

@@ -5,10 +5,11 @@ use Rattle.std.specs.List.{filter, flat_map, slice_get}
 use Rattle.std.specs.Option.{option_map_or}
 use Rattle.std.proofs.lemmas.Bool.{and_parts, eq-eqb, eqb-true}
 use Rattle.std.proofs.lemmas.List.{append-nil, set-get_or}
-use Rattle.std.proofs.lemmas.Option.{get_or_from_slice_get, slice_get_within}
+use Rattle.std.proofs.lemmas.Option.{get_or_from_slice_get, same_Some, slice_get_within}
 use Rattle.audit_model.specs.Changes.{after_step}
 use Rattle.audit_model.specs.Follows.{after_steps, placed_step_in}
-use Rattle.audit_model.specs.Places.{first_due, left_after, tasks_to_feed}
+use Rattle.audit_model.specs.Bytewise.{is_empty}
+use Rattle.audit_model.specs.Places.{due, first_due, left_after, tasks_to_feed}
 use Rattle.audit_model.specs.Situation as model
 use Rattle.audit_model.specs.Situation.{Situation, HeldValue, connection_in, is_overlong, is_ready, may_run_in, without_connection}
 use Rattle.audit_model.specs.Steps.{Task, RunLines, is_right}
@@ -24,7 +25,7 @@ use Rattle.cache_namespace.specs.Lines.{ArePartedIn, IsThere, are_timely, set_in
 use Rattle.cache_namespace.specs.Making.{Making}
 use Rattle.cache_namespace.specs.Ran.{RanFeed, RanReady, with_piece}
 use Rattle.cache_namespace.specs.Shown.{put_in, shown, situation, standing_as}
-use Rattle.cache_namespace.specs.Taken.{FeedsConnection, ReplacedAt, is_quit, text_at}
+use Rattle.cache_namespace.specs.Taken.{FeedsConnection, IsOpenOrEnded, ReplacedAt, closing_at, is_quit, text_at}
 use Rattle.cache_namespace.specs.Waiting.{UnderWay, when_left, with_under_way}
 use Rattle.cache_namespace.specs.Whole.{holds, waits}
 use Rattle.cache_namespace.specs.declared.connection.Connection.{Connection}
@@ -32,11 +33,11 @@ use Rattle.cache_namespace.specs.declared.kept.Kept.{Kept}
 use Rattle.cache_namespace.specs.declared.standing.Standing.{Standing}
 use Rattle.cache_namespace.specs.declared.standing.Standing.TheVariants as now
 use Rattle.cache_namespace.proofs.Following.{found-open, listed-open, put-situation}
-use Rattle.cache_namespace.proofs.Places.{replaced-is, replaced-others, text-is}
+use Rattle.cache_namespace.proofs.Places.{closing-is, replaced-is, replaced-others, text-is}
 use Rattle.cache_namespace.proofs.Putting.{feeds-to}
 use Rattle.cache_settling.specs.Resumed.{RunsThem, runs_at, runs_with}
 use Rattle.cache_settling.specs.Noted.{Noted, gathered_with, is_loose}
-use Rattle.cache_settling.specs.Told.{WritesTo, replies_to}
+use Rattle.cache_settling.specs.Told.{ClosesByLines, WritesTo, own_steps, replies_to}
 use Rattle.cache_settling.proofs.Chain.{same-place}
 use Rattle.cache_settling.proofs.Leading.{lines, no-lines, nothing, on}
 use Rattle.cache_settling.proofs.Noting.{noted-both, noted-by, noted-none, writes-none, writes-on, wrote-by}
@@ -93,6 +94,35 @@ pub own-replies : (config : Config) (s t : Situation) (m number : ℕ) (steps : 
 own-replies config s t m number [] e = same-if (m == number) []
 own-replies config s t m number (step ∷ more) e = may-step config s t m number step more (λ u h. own-replies config u t m number more h) (may_run_in s m) refl e
 
+-- the first of them
+first-right : (config : Config) (s t : Situation) (m : ℕ) (step : Step) (more : List Step)
+    → (b : Bool) → is_right config (placed_step_in config s (Some (RunLines m)) step) ≡ b
+    → (if b then after_steps config (after_step config s (Some (RunLines m)) step (placed_step_in config s (Some (RunLines m)) step).effect) (RunLines m ∷ []) more else None) ≡ Some t
+    → step.conn ≡ m
+first-right config s t m step more false is h = let no : None ≡ Some t = h in cc
+first-right config s t m step more true right h =
+    let parts = and_parts _ _ (and_parts _ _ (and_parts _ _ (and_parts _ _ (and_parts _ _ right).0).0).0).0 in
+    let own = and_parts _ _ parts.0 in
+    sym (eqb-true m step.conn (and_parts _ _ (and_parts _ _ own.0).0).0)
+
+first-may : (config : Config) (s t : Situation) (m : ℕ) (step : Step) (more : List Step)
+    → (may : Bool) → may_run_in s m ≡ may → after_one config s (if may_run_in s m then RunLines m ∷ [] else []) step more ≡ Some t → step.conn ≡ m
+first-may config s t m step more true is h =
+    first-right config s t m step more (is_right config (placed_step_in config s (Some (RunLines m)) step)) refl (sym (ap (λ b. after_one config s (if b then RunLines m ∷ [] else []) step more) is) ∙ h)
+first-may config s t m step more false is h =
+    let no : None ≡ Some t = sym (ap (λ b. after_one config s (if b then RunLines m ∷ [] else []) step more) is) ∙ h in cc
+
+first-own : (config : Config) (s t : Situation) (m : ℕ) (step : Step) (more : List Step) → after_steps config s (RunLines m ∷ []) (step ∷ more) ≡ Some t → step.conn ≡ m
+first-own config s t m step more e = first-may config s t m step more (may_run_in s m) refl e
+
+-- where none ran all is as it was
+none-ran : (config : Config) (s t : Situation) (m : ℕ) → after_steps config s (RunLines m ∷ []) [] ≡ Some t → s ≡ t
+none-ran config s t m e = go (is_empty (due (may_run_in s) (RunLines m ∷ []))) e
+  where
+    go : (b : Bool) → (if b then Some s else None) ≡ Some t → s ≡ t
+    go true h = same_Some s t h
+    go false h = let no : None ≡ Some t = h in cc
+
 -- ---- a connection whose lines ran
 
 -- lines of a connection that is ready, as those of a feed of nothing
@@ -140,19 +170,69 @@ text-ran cs after m i place steps e p output false at =
     ap (λ o. option_map_or (λ (c : Connection). c.output.items) o []) (replaced-others cs after i p place differs) ∙ sym (append-nil (text_at cs place))
     ∙ sym (ap (λ b. text_at cs place ++ (if b then flat_map reply_in steps else [])) at)
 
+-- why the one at a place is closed
+closing-ran : (cs after : List Connection) (i place : ℕ) → (p : ReplacedAt cs after i) → ClosesByLines p.was.closing p.is.closing → (b : Bool) → (i == place) ≡ b → ClosesByLines (closing_at cs place) (closing_at after place)
+closing-ran cs after i place p closes true at =
+    subst (λ j. ClosesByLines (closing_at cs j) (closing_at after j)) (eqb-true i place at)
+    (subst (λ o. ClosesByLines o (closing_at after i)) (sym (closing-is cs i p.was p.at)) (subst (λ o. ClosesByLines p.was.closing o) (sym (closing-is after i p.is (replaced-is cs after i p))) closes))
+closing-ran cs after i place p closes false at =
+    let differs : (place ≡ i) → ⊥ = λ same. no-truth (sym at ∙ eq-eqb i place (sym same)) in
+    inl (ap (λ o. option_map_or (λ (c : Connection). c.closing) o None) (replaced-others cs after i p place differs))
+
+-- as it was, where none of its lines ran
+idle-ran : (cs after : List Connection) (m i place : ℕ) (steps : List Step) → m ≡ suc i → (p : ReplacedAt cs after i) → (own_steps m steps ≡ [] → p.is.closing ≡ p.was.closing) → own_steps (suc place) steps ≡ []
+    → (b : Bool) → (i == place) ≡ b → closing_at after place ≡ closing_at cs place
+idle-ran cs after m i place steps e p idle none true at =
+    let is : i ≡ place = eqb-true i place at in
+    subst (λ j. closing_at after j ≡ closing_at cs j) is
+    (closing-is after i p.is (replaced-is cs after i p) ∙ idle (ap (λ k. own_steps k steps) (e ∙ ap suc is) ∙ none) ∙ sym (closing-is cs i p.was p.at))
+idle-ran cs after m i place steps e p idle none false at =
+    let differs : (place ≡ i) → ⊥ = λ same. no-truth (sym at ∙ eq-eqb i place (sym same)) in
+    ap (λ o. option_map_or (λ (c : Connection). c.closing) o None) (replaced-others cs after i p place differs)
+
 -- the texts, where its steps are its own
 pub text-wrote : (cs after : List Connection) (m i : ℕ) (steps : List Step) (writes : Bool) → m ≡ suc i → (p : ReplacedAt cs after i) → p.is.output.items ≡ p.was.output.items ++ (if writes then flat_map reply_in steps else [])
-    → ((number : ℕ) → replies_to number steps ≡ (if m == number then flat_map reply_in steps else [])) → WritesTo writes steps cs after
-text-wrote cs after m i steps true e p output own = λ place.
-    text-ran cs after m i place steps e p output (i == place) refl ∙ ap (λ b. text_at cs place ++ (if b then flat_map reply_in steps else [])) (sym (same-place m i place e)) ∙ ap (λ text. text_at cs place ++ text) (sym (own (suc place)))
-text-wrote cs after m i steps false e p output own = λ place. text-ran cs after m i place [] e p output (i == place) refl ∙ ap (λ text. text_at cs place ++ text) (sym (same-if (i == place) []))
+    → ((number : ℕ) → replies_to number steps ≡ (if m == number then flat_map reply_in steps else [])) → ClosesByLines p.was.closing p.is.closing → (own_steps m steps ≡ [] → p.is.closing ≡ p.was.closing)
+    → WritesTo writes steps cs after
+text-wrote cs after m i steps writes e p output own closes idle = record {
+  replies = go writes output;
+  closings = λ place. closing-ran cs after i place p closes (i == place) refl;
+  idle = λ place none. idle-ran cs after m i place steps e p idle none (i == place) refl;
+}
+  where
+    go : (b : Bool) → p.is.output.items ≡ p.was.output.items ++ (if b then flat_map reply_in steps else []) → (place : ℕ) → text_at after place ≡ text_at cs place ++ (if b then replies_to (suc place) steps else [])
+    go true wrote place =
+        text-ran cs after m i place steps e p wrote (i == place) refl ∙ ap (λ b. text_at cs place ++ (if b then flat_map reply_in steps else [])) (sym (same-place m i place e)) ∙ ap (λ text. text_at cs place ++ text) (sym (own (suc place)))
+    go false wrote place = text-ran cs after m i place [] e p wrote (i == place) refl ∙ ap (λ text. text_at cs place ++ text) (sym (same-if (i == place) []))
+
+-- an open connection of which no line ran stays open
+stays-open : (config : Config) (latest now m i : ℕ) (l k : UnderWay) (cs after : List Connection) (dropped dropping : Bool) (values left : List HeldValue) (steps : List Step)
+    → m ≡ suc i → (p : ReplacedAt cs after i) → p.was.closing ≡ None → after_steps config (situation latest l cs dropped values) (RunLines m ∷ []) steps ≡ Some (situation now k after dropping left) → own_steps m steps ≡ [] → p.is.closing ≡ None
+stays-open config latest now m i l k cs after dropped dropping values left [] e p was_open ran none =
+    let s = situation latest l cs dropped values in
+    let t = situation now k after dropping left in
+    let same = none-ran config s t m ran in
+    let found = found-open m i p.was cs e (slice_get_within cs i p.was p.at) (get_or_from_slice_get cs i p.was p.was p.at) (listed-open m p.was ∙ ap is_none was_open) in
+    let f = found-back m 1 (shown m p.was) after (ap (connection_in m) (sym same) ∙ found) in
+    let here : f.index ≡ i = (let place = f.place in omega arith) in
+    let is = same_Some f.is p.is (sym f.at ∙ ap (slice_get after) here ∙ replaced-is cs after i p) in
+    open-so p.is.closing (ap (λ (c : Connection). is_none c.closing) (sym is) ∙ sym (listed-open m f.is) ∙ f.listed)
+stays-open config latest now m i l k cs after dropped dropping values left (step ∷ more) e p was_open ran none =
+    let own = first-own config (situation latest l cs dropped values) (situation now k after dropping left) m step more ran in
+    let some = ap (λ b. cond b (step ∷ own_steps m more) (own_steps m more)) (eq-eqb step.conn m own) in
+    let no : step ∷ own_steps m more ≡ [] = sym some ∙ none in cc
+
+-- why it is closed, where it was open
+closed-by : (was is : Option Closing) → was ≡ None → IsOpenOrEnded is → ClosesByLines was is
+closed-by was is was_open (inl is_open) = inl (is_open ∙ sym was_open)
+closed-by was is was_open (inr ends) = inr (was_open, ends)
 
 -- what lines of a connection at its place lead to
 pub runs-placed : (config : Config) (making : Making) (latest m i : ℕ) (l j : UnderWay) (cs after : List Connection) (dropped dropping is_held : Bool) (values : List HeldValue) (Stands : List HeldValue → Type 0) (drawn drawing : Workings) (told telling : Noted)
-    → m ≡ suc i → (p : ReplacedAt cs after i) → p.was.standing ≡ now.Ready → p.was.closing ≡ None
+    → m ≡ suc i → (p : ReplacedAt cs after i) → p.was.standing ≡ now.Ready → p.was.closing ≡ None → IsOpenOrEnded p.is.closing
     → FeedsConnection config (situation latest l cs dropped values) m making values p.was [] p.is is_held Stands dropping j drawn drawing (gathered_with p.was.output.items told) (gathered_with p.is.output.items telling)
     → RunsThem config making latest values (m ∷ []) [] Stands l (when_left (is_none p.is.closing) m j) dropped dropping (identifiers_in drawn) (identifiers_in drawing) cs after told telling
-runs-placed config making latest m i l j cs after dropped dropping is_held values Stands drawn drawing told telling e p was_ready was_open f =
+runs-placed config making latest m i l j cs after dropped dropping is_held values Stands drawn drawing told telling e p was_ready was_open ended f =
     let s = situation latest l cs dropped values in
     let t = situation latest (when_left (is_none p.is.closing) m j) after dropping f.left in
     let place = get_or_from_slice_get cs i p.was p.was p.at in
@@ -174,7 +254,9 @@ runs-placed config making latest m i l j cs after dropped dropping is_held value
       held = f.left;
       stands = f.stands;
       leads = λ more. lines config making s t m f.steps more (identifiers_in drawn) (identifiers_in drawing) ran parted timely f.draws;
-      texts = text-wrote cs after m i f.steps (is_loose told) e p (wrote-by p.was.output.items p.is.output.items told telling f.steps f.gathered) (λ number. own-replies config s t m number f.steps ran);
+      texts = text-wrote cs after m i f.steps (is_loose told) e p (wrote-by p.was.output.items p.is.output.items told telling f.steps f.gathered) (λ number. own-replies config s t m number f.steps ran)
+          (closed-by p.was.closing p.is.closing was_open ended)
+          (λ none. stays-open config latest latest m i l (when_left (is_none p.is.closing) m j) cs after dropped dropping values f.left f.steps e p was_open ran none ∙ sym was_open);
       notes = noted-by p.was.output.items p.is.output.items told telling f.steps f.gathered;
     }
 
@@ -277,14 +359,14 @@ not-some (Some x) = refl
 
 -- the lines of one connection, in all that the code knows
 pub runs-resumed : (config : Config) (making : Making) (latest m i : ℕ) (l j left : UnderWay) (cs after : List Connection) (dropped dropping closed is_held : Bool) (values : List HeldValue) (Stands : List HeldValue → Type 0) (drawn drawing : Workings) (told telling : Noted)
-    → m ≡ suc i → (p : ReplacedAt cs after i) → runs_at (slice_get cs i) ≡ true → closed ≡ is_some p.is.closing → left ≡ when_left (not closed) m j
+    → m ≡ suc i → (p : ReplacedAt cs after i) → runs_at (slice_get cs i) ≡ true → closed ≡ is_some p.is.closing → IsOpenOrEnded p.is.closing → left ≡ when_left (not closed) m j
     → FeedsConnection config (situation latest l cs dropped values) m making values p.was [] p.is is_held Stands dropping j drawn drawing (gathered_with p.was.output.items told) (gathered_with p.is.output.items telling)
     → RunsThem config making latest values (m ∷ []) [] Stands l left dropped dropping (identifiers_in drawn) (identifiers_in drawing) cs after told telling
-runs-resumed config making latest m i l j left cs after dropped dropping closed is_held values Stands drawn drawing told telling e p runs closes leaves f =
+runs-resumed config making latest m i l j left cs after dropped dropping closed is_held values Stands drawn drawing told telling e p runs closes ended leaves f =
     let so = runs-here cs i p.was p.at runs in
     subst (λ u. RunsThem config making latest values (m ∷ []) [] Stands l u dropped dropping (identifiers_in drawn) (identifiers_in drawing) cs after told telling)
     (sym (leaves ∙ ap (λ b. when_left (not b) m j) closes ∙ ap (λ b. when_left b m j) (not-some p.is.closing)))
-    (runs-placed config making latest m i l j cs after dropped dropping is_held values Stands drawn drawing told telling e p so.0 so.1 f)
+    (runs-placed config making latest m i l j cs after dropped dropping is_held values Stands drawn drawing told telling e p so.0 so.1 ended f)
 
 -- it is there
 pub there-at : (latest m i : ℕ) (l : UnderWay) (cs : List Connection) (dropped : Bool) (values : List HeldValue) (c : Connection) → m ≡ suc i → slice_get cs i ≡ Some c → c.closing ≡ None → IsThere m (situation latest l cs dropped values)

@@ -8,7 +8,7 @@ ghost use Rattle.cache_namespace.specs.Kept.{HasMore, IsReadyToHold, KeepsRoom, 
 ghost use Rattle.cache_namespace.specs.Gathered.{IsFresh};
 ghost use Rattle.cache_namespace.specs.Lines.{IsThere};
 ghost use Rattle.cache_namespace.specs.Making.{making_of};
-ghost use Rattle.cache_namespace.specs.Taken.{FeedsConnection, ReplacedAt, text_at};
+ghost use Rattle.cache_namespace.specs.Taken.{FeedsConnection, IsOpenOrEnded, ReplacedAt, text_at};
 ghost use Rattle.cache_namespace.specs.Waiting.{loads_in, under_way, when_left};
 ghost use Rattle.cache_namespace.specs.declared.standing.Standing.TheVariants as stands;
 ghost use Rattle.cache_settling.specs.Noted.{NothingWaits, noted_in};
@@ -41,6 +41,7 @@ fn resume<S: Store>(
     ensures ran { (base : Situation) (values : List HeldValue) → base.latest ≡ now → base.dropped ≡ (S.frame store.old).dropped → loads_in base ≡ under_way loads.old → IsThere number base → S.stands store.old values → (is_held : Bool) × FeedsConnection config.now base number (making_of (S.frame store.old)) values connection.old [] connection.new is_held (S.stands store.new) (S.frame store.new).dropped (under_way loads.new) (workings (S.stream store.old) (S.registered store.old) (S.recency store.old)) (workings (S.stream store.new) (S.registered store.new) (S.recency store.new)) (gathered connection.old.output.items kept.old (S.untaken store.old)) (gathered connection.new.output.items kept.new (S.untaken store.new)) }
     ensures frame { KeepsFrame (S.frame store.old) (S.frame store.new) now }
     ensures closes { result ≡ is_some connection.new.closing }
+    ensures ended { IsOpenOrEnded connection.new.closing }
     ensures fresh { IsFresh (gathered connection.new.output.items kept.new (S.untaken store.new)) }
     ensures keeps_room { KeepsRoom kept.new }
     ensures more { more_in kept.new ≡ more_in kept.old }
@@ -138,7 +139,7 @@ fn resume_there<S: Store>(
     requires runs { runs_at (slice_get connections.old.items index) ≡ true }
     requires fresh { IsFresh (gathered (text_at connections.old.items index) kept.old (S.untaken store.old)) }
     requires room { IsReadyToHold kept.old }
-    ensures ran { (p : ReplacedAt connections.old.items connections.new.items index) × (result ≡ is_some p.is.closing) × ((base : Situation) (values : List HeldValue) → base.latest ≡ now → base.dropped ≡ (S.frame store.old).dropped → loads_in base ≡ under_way loads.old → IsThere number base → S.stands store.old values → (is_held : Bool) × FeedsConnection config.now base number (making_of (S.frame store.old)) values p.was [] p.is is_held (S.stands store.new) (S.frame store.new).dropped (under_way loads.new) (workings (S.stream store.old) (S.registered store.old) (S.recency store.old)) (workings (S.stream store.new) (S.registered store.new) (S.recency store.new)) (gathered p.was.output.items kept.old (S.untaken store.old)) (gathered p.is.output.items kept.new (S.untaken store.new))) × IsFresh (gathered p.is.output.items kept.new (S.untaken store.new)) }
+    ensures ran { (p : ReplacedAt connections.old.items connections.new.items index) × (result ≡ is_some p.is.closing) × ((base : Situation) (values : List HeldValue) → base.latest ≡ now → base.dropped ≡ (S.frame store.old).dropped → loads_in base ≡ under_way loads.old → IsThere number base → S.stands store.old values → (is_held : Bool) × FeedsConnection config.now base number (making_of (S.frame store.old)) values p.was [] p.is is_held (S.stands store.new) (S.frame store.new).dropped (under_way loads.new) (workings (S.stream store.old) (S.registered store.old) (S.recency store.old)) (workings (S.stream store.new) (S.registered store.new) (S.recency store.new)) (gathered p.was.output.items kept.old (S.untaken store.old)) (gathered p.is.output.items kept.new (S.untaken store.new))) × IsFresh (gathered p.is.output.items kept.new (S.untaken store.new)) × IsOpenOrEnded p.is.closing }
     ensures frame { KeepsFrame (S.frame store.old) (S.frame store.new) now }
     ensures keeps_room { KeepsRoom kept.new }
     ensures more { more_in kept.new ≡ more_in kept.old }

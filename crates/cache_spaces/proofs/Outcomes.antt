@@ -1,5 +1,5 @@
 -- What a namespace's settled loads come to.
-use Rattle.std.proofs.Common.{◌≡◌, ◌≢◌, ◌&&◌, ◌==◌, not, Option, ℕ, suc, ◌-◌, max, Bool, true, false, List, [], ◌∷◌, ◌++◌, None, Some, if◌then◌else◌, refl, sym, ap, ◌∙◌, subst, arith}
+use Rattle.std.proofs.Common.{◌≡◌, ◌≢◌, ◌&&◌, ◌==◌, not, Option, ℕ, suc, ◌-◌, max, Bool, true, false, List, [], ◌∷◌, ◌++◌, None, Some, if◌then◌else◌, refl, sym, ap, ◌∙◌, subst, arith, inl}
 use Rattle.std.specs.Prelude.{IsTrue, is_none}
 use Rattle.std.specs.List.{filter, flat_map, list_all}
 use Rattle.std.proofs.lemmas.List.{append_assoc, append-nil}
@@ -22,7 +22,7 @@ use Rattle.cache_namespace.specs.Drawing.{Identifiers, StepsDraw, identifiers}
 use Rattle.cache_namespace.specs.Making.{Making}
 use Rattle.cache_namespace.specs.Ordered.{OrdersSteps}
 use Rattle.cache_namespace.specs.Shown.{situation}
-use Rattle.cache_namespace.specs.Taken.{text_at}
+use Rattle.cache_namespace.specs.Taken.{closing_at, text_at}
 use Rattle.cache_namespace.specs.Waiting.{UnderWay}
 use Rattle.cache_namespace.specs.declared.connection.Connection.{Connection}
 use Rattle.cache_settling.proofs.Leading.{nothing}
@@ -31,7 +31,7 @@ use Rattle.cache_settling.specs.Answered.{answering, but_for, giving_up, knows_l
 use Rattle.cache_settling.specs.Laws.{record_given_up}
 use Rattle.cache_settling.specs.Leads as settling
 use Rattle.cache_settling.specs.Leads.{Leads, LeavesUnknown}
-use Rattle.cache_settling.specs.Told.{WritesTo, replies_to}
+use Rattle.cache_settling.specs.Told.{ClosesByLines, WritesTo, own_steps, replies_to}
 use Rattle.cache_steps.proofs.Ordering.{agrees-kept}
 use Rattle.cache_steps.specs.Order.{AgreesWith}
 use Rattle.cache_store.specs.Recency.{KeepsRecency}
@@ -45,7 +45,7 @@ use Rattle.rand_core.specs.Steps.{stream_of, steps_u64_high}
 use Rattle.rand_xoshiro.specs.Xoshiro256.{plus_plus}
 use Rattle.cache_spaces.specs.Recorded.{IsQuiet, LeadsOnIn}
 use Rattle.cache_spaces.specs.Serves.{Settles, known_of}
-use Rattle.cache_spaces.specs.Spaces.{Holds, Stands, config_of, connections_of, identifiers_of, loads_of, made_of, notices_of, output_of, recency_of}
+use Rattle.cache_spaces.specs.Spaces.{Holds, Stands, closing_of, config_of, connections_of, identifiers_of, loads_of, made_of, notices_of, output_of, recency_of}
 use Rattle.cache_spaces.specs.declared.space.Space.{Space}
 
 -- nothing is known of the order of use behind steps of a settled load
@@ -65,7 +65,19 @@ with_values space values = situation space.inner.latest (loads_of space) (connec
 pub outputs-by : (was is : Space) (steps : List Step) → WritesTo true steps (connections_of was) (connections_of is) → (place : ℕ) → output_of is (suc place) ≡ output_of was (suc place) ++ replies_to (suc place) steps
 outputs-by was is steps texts place =
     let e : suc place - 1 ≡ place = omega arith in
-    ap (text_at (connections_of is)) e ∙ texts place ∙ ap (λ k. text_at (connections_of was) k ++ replies_to (suc place) steps) (sym e)
+    ap (text_at (connections_of is)) e ∙ texts.replies place ∙ ap (λ k. text_at (connections_of was) k ++ replies_to (suc place) steps) (sym e)
+
+-- why each connection is closed
+pub closings-by : (was is : Space) (steps : List Step) → WritesTo true steps (connections_of was) (connections_of is) → (place : ℕ) → ClosesByLines (closing_of was (suc place)) (closing_of is (suc place))
+closings-by was is steps texts place =
+    let e : suc place - 1 ≡ place = omega arith in
+    subst (λ k. ClosesByLines (closing_at (connections_of was) k) (closing_at (connections_of is) k)) (sym e) (texts.closings place)
+
+-- as it was, where none of the steps is its own
+pub idle-by : (was is : Space) (steps : List Step) → WritesTo true steps (connections_of was) (connections_of is) → (place : ℕ) → own_steps (suc place) steps ≡ [] → closing_of is (suc place) ≡ closing_of was (suc place)
+idle-by was is steps texts place none =
+    let e : suc place - 1 ≡ place = omega arith in
+    subst (λ k. closing_at (connections_of is) k ≡ closing_at (connections_of was) k) (sym e) (texts.idle place none)
 
 -- that record of a settled load leads on from a situation for which the namespace stood
 pub record SettlesBy (was is : Space) (entry : Record) (s : Situation) : Type 0 where
@@ -116,6 +128,8 @@ settles-with was is entry s x texts notices = record {
   draws = x.draws;
   ordered = x.ordered;
   outputs = outputs-by was is entry.steps texts;
+  closings = closings-by was is entry.steps texts;
+  idle = idle-by was is entry.steps texts;
   notices = notices;
 }
 
@@ -183,7 +197,11 @@ drops-load was is load moment admitted none same left bounded parts s stands =
 
 -- no step tells a connection
 pub writes-none : (old new : List Connection) → new ≡ old → WritesTo true [] old new
-writes-none old new same = λ place. ap (λ cs. text_at cs place) same ∙ sym (append-nil (text_at old place))
+writes-none old new same = record {
+  replies = λ place. ap (λ cs. text_at cs place) same ∙ sym (append-nil (text_at old place));
+  closings = λ place. inl (ap (λ cs. closing_at cs place) same);
+  idle = λ place none. ap (λ cs. closing_at cs place) same;
+}
 
 -- nothing is known of the order of use behind an answer
 pub orders-answered : (config : Config) (making : Making) (old new : Bool → List (List ℕ) → Type 0) (s t : Situation) (load moment : ℕ) (outcome : Outcome) (entry : Record) (drawn drawing : Identifiers) → entry.event ≡ answering load outcome moment

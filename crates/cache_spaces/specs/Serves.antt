@@ -23,7 +23,7 @@ use Rattle.audit_model.specs.declared.input.ServiceError.{ServiceError}
 use Rattle.audit_model.specs.declared.input.ServiceError.TheVariants as error
 use Rattle.audit_model.specs.declared.transcript.Note.{Note}
 use Rattle.cache_namespace.specs.Taken.{IsOpenOrEnded, is_quit, record_of, known}
-use Rattle.cache_settling.specs.Told.{replies_to}
+use Rattle.cache_settling.specs.Told.{ClosesByLines, own_steps, replies_to}
 use Rattle.cache_store.specs.Recency.{KeepsRecency}
 use Rattle.cache_store.specs.Running.{is_bounded}
 use Rattle.cache_spaces.specs.Moves.{are_parted_in, are_timely_in}
@@ -78,7 +78,7 @@ known_of space = known_in (situation 0 (loads_of space) (connections_of space) f
 -- A load was settled, by an answer or a give-up: the event's record follows; behind the output of each connection stand the replies of its
 -- steps, and behind the notices the record's notes, those of an answer's own step first. Each value that it accepts stands in its key's part.
 -- Each `SYNC` leaves timely values, each part weighs at most its share and 64 values of 8192 bytes where a capacity is set, and identifiers
--- were drawn as its steps say.
+-- were drawn as its steps say. Each connection is closed as it was, or was open and is closed by its own lines, of which the record has a step.
 pub record Settles (was is : Space) (s : Situation) (happened : Event) : Type 0 where
   pub entry : Record
   pub event : entry.event ≡ happened
@@ -92,6 +92,9 @@ pub record Settles (was is : Space) (s : Situation) (happened : Event) : Type 0 
   -- under LRU over one part of weight one without times: the order of use is what these steps make of it, and so are the keys held
   pub ordered : OrdersSteps (config_of was) (recency_of was) (recency_of is) (after_event happened s) (tasks_in s happened) (steps_of entry)
   pub outputs : (place : ℕ) → output_of is (suc place) ≡ output_of was (suc place) ++ replies_to (suc place) entry.steps
+  pub closings : (place : ℕ) → ClosesByLines (closing_of was (suc place)) (closing_of is (suc place))
+  -- one that has no step in the record is closed as it was
+  pub idle : (place : ℕ) → own_steps (suc place) entry.steps ≡ [] → closing_of is (suc place) ≡ closing_of was (suc place)
   pub notices : notices_of is ≡ notices_of was ++ flat_map (λ step. step.notices) (steps_of entry)
 
 -- each situation that the namespace stood for goes on by the record of the settled load

@@ -1,23 +1,11 @@
-use Rattle.std.proofs.Common.{rules, ◌≡◌, ◌<◌, ◌≤◌, ◌^◌, ◌∷◌, [], None, Some, Bool, IsTrue, true, vec_len, vec_capacity, ℕ, ◌+◌, ◌-◌, ◌*◌, length, ◌/◌, ◌%◌, false, nat_eq, nat_lt, List, ◌++◌, slice_index_or, slice_set, bit_and, bit_or, Fits, w8, w32, w64, Bor, MutBor, refl, sym, ap, subst, ◌∙◌}
+use Rattle.std.proofs.Common.{◌∷◌, [], None, sym, ap, subst, ◌∙◌}
 use Rattle.audit_model.specs.Grammar.{reading}
-use Rattle.audit_model.specs.Situation.{Situation, connection_in}
-use Rattle.audit_model.specs.Stream.{behind_lines}
 use Rattle.cache_store.specs.Identifiers.{DrawsAlone}
-use Rattle.cache_store.specs.Promises.{IsUnchanged}
 use Rattle.cache_steps.specs.Loading.{step_silent}
-use Rattle.cache_steps.specs.Right.{KeepsFrame}
-use Rattle.cache_namespace.specs.Drawing.{identifiers, workings}
-use Rattle.cache_namespace.specs.Gathered.{IsFresh, gather}
-use Rattle.cache_namespace.specs.Kept.{IsReadyToHold, KeepsRoom, gathered, more_in}
-use Rattle.cache_namespace.specs.Lines.{held_step}
-use Rattle.cache_namespace.specs.Making.{making_of}
-use Rattle.cache_namespace.specs.Ran.{Misses, RanOne}
-use Rattle.cache_namespace.specs.Shown.{shown}
-use Rattle.cache_namespace.specs.Waiting.{is_load, loads_in, sent_by, under_way, when_waiting}
-use Rattle.cache_namespace.specs.Whole.{has_line, has_room, held_line}
-use Rattle.cache_namespace.specs.declared.standing.Standing.TheVariants as stands
-use Rattle.cache_settling.specs.GivenUp.{RunsAgain}
-use Rattle.cache_settling.specs.Noted.{noted_in}
+use Rattle.cache_namespace.specs.Gathered.{gather}
+use Rattle.cache_namespace.specs.Kept.{gathered}
+use Rattle.cache_namespace.specs.Waiting.{sent_by, under_way}
+use Rattle.cache_namespace.specs.Whole.{held_line}
 use Rattle.cache_settling.proofs.again.load_first.Goals as goal
 use Rattle.cache_steps.proofs.Drawn.{spends-none}
 use Rattle.cache_namespace.specs.Stops.{misses_now}

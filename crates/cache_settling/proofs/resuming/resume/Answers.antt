@@ -1,4 +1,4 @@
-use Rattle.std.proofs.Common.{◌≡◌, ◌||◌, false, true, List, None, sym, ap, refl, ◌∙◌}
+use Rattle.std.proofs.Common.{◌≡◌, ◌||◌, false, true, List, None, sym, ap, refl, ◌∙◌, inl, inr}
 use Rattle.audit_model.specs.Situation.{Situation, HeldValue}
 use Rattle.audit_model.specs.declared.command.Closing.TheVariants as by
 use Rattle.cache_lines.proofs.Lines.{long_from, IsPartial-not_long}
@@ -97,3 +97,21 @@ returns-else-close_where_behind-clause-ran g c = λ base values e d under there 
     resumed c.args.config.now base c.args.number (making_of (g.S.Store.frame was)) values c.args.connection.now _ false false target _ dropped loads (workings (g.S.Store.stream was) (g.S.Store.registered was) (g.S.Store.recency was)) (workings (g.S.Store.stream is) (g.S.Store.registered is) (g.S.Store.recency is))
     c.args.kept.now c.run_ready.new.kept c.args.connection.now.output.items c.run_ready.new.text.items (g.S.Store.untaken was) (g.S.Store.untaken is) c.requires.ready (c.in-Waits.ensures.ran base values e d under there m)
     (λ left. put-near after left c.args.number closing c.in-Waits.times rest opens (c.close_where_behind.ensures.near c.if-close_where_behind.false) ∙ ap (λ b. put_parts after left c.args.number closing now.Waiting c.in-Waits.times b) (sym stays)) (sym (ap is_quit opens))
+
+pub returns-in-More-clause-ended : goal.returns-in-More-clause-ended
+returns-in-More-clause-ended g c = inl c.requires.open
+
+pub returns-in-TooLong-clause-ended : goal.returns-in-TooLong-clause-ended
+returns-in-TooLong-clause-ended g c = inr (inl refl)
+
+pub returns-in-Quit-clause-ended : goal.returns-in-Quit-clause-ended
+returns-in-Quit-clause-ended g c = inr (inr (inl refl))
+
+pub returns-in-Held-clause-ended : goal.returns-in-Held-clause-ended
+returns-in-Held-clause-ended g c = inl c.requires.open
+
+pub returns-then-close_where_behind-clause-ended : goal.returns-then-close_where_behind-clause-ended
+returns-then-close_where_behind-clause-ended g c = inr (inr (inr (c.close_where_behind.ensures.closed c.if-close_where_behind.true)))
+
+pub returns-else-close_where_behind-clause-ended : goal.returns-else-close_where_behind-clause-ended
+returns-else-close_where_behind-clause-ended g c = inl (c.close_where_behind.ensures.open c.if-close_where_behind.false ∙ c.requires.open)

@@ -8,4 +8,5 @@ returns-clause-ran g c = (
   c.resume.ensures.closes,
   λ base values e d under there m. c.resume.ensures.ran base values e d under there m,
   c.resume.ensures.fresh,
+  c.resume.ensures.ended,
 )
