@@ -4,7 +4,6 @@ pub mod Going
 pub mod Delivering
 pub mod Carrying
 pub mod Turning
-pub mod Closings
 pub mod Settling
 pub mod Refusing
 pub mod Dropping

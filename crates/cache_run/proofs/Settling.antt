@@ -1,7 +1,7 @@
 -- A load that is settled.
 use Rattle.std.proofs.Common.{◌≡◌, ◌≢◌, ℕ, zero, suc, ◌<◌, ◌≤◌, ◌-◌, ◌==◌, ◌^◌, Bool, true, false, not, nat_le, List, [], ◌∷◌, ◌++◌, length, Option, None, Some, is_some, refl, sym, ap, ◌∙◌, subst, arith, inl, inr, ⊎_elim, cond}
 use Rattle.std.specs.Prelude.{◌⊎◌, ◌||◌, Result, Ok, Err, OnOk, IfErr}
-use Rattle.std.specs.List.{filter, flat_map, list_any}
+use Rattle.std.specs.List.{filter, flat_map}
 use Rattle.std.specs.Option.{option_or}
 use Rattle.std.proofs.Math.Logic.{∥∥₁_elim, ∥∥₁_map}
 use Rattle.std.proofs.Props.{props}
@@ -20,7 +20,7 @@ use Rattle.cache_namespace.specs.Gathered.{reply_in}
 use Rattle.cache_namespace.specs.Shown.{situation}
 use Rattle.cache_namespace.specs.Taken.{IsOpenOrEnded}
 use Rattle.cache_settling.specs.Answered.{answering, giving_up}
-use Rattle.cache_settling.specs.Told.{replies_to}
+use Rattle.cache_settling.specs.Told.{own_steps, replies_to}
 use Rattle.cache_spaces.proofs.Putting.{same-space}
 use Rattle.cache_spaces.specs.Moves.{At}
 use Rattle.cache_spaces.specs.Serves as served
@@ -34,7 +34,6 @@ use Rattle.cache_run.specs.Delivered.{Answered}
 use Rattle.cache_run.specs.Goes.{Goes}
 use Rattle.cache_run.specs.Happened.{Asking, Dropped, asking_of, IsGivenUpFor, IsSettledBy, Settled, notes_of, replies_of}
 use Rattle.cache_run.proofs.Carrying.{record-one}
-use Rattle.cache_run.proofs.Closings.{settled-closing}
 use Rattle.cache_run.proofs.Connecting.{ended-none}
 use Rattle.cache_run.proofs.Going.{goes-more, goes-same, seen-alike}
 use Rattle.cache_run.proofs.Placing.{at-is, at-map, at-more, at-same, at-was, at-with}
@@ -50,18 +49,13 @@ own-replies number (step ∷ steps) own = go (own-replies number steps own.1) (s
     go next true e = ap (λ l. reply_in step ++ l) next
     go next false e = cc
 
-no-replies : (number other : ℕ) (steps : List Step) → StepsOf number steps → other ≢ number → replies_to other steps ≡ []
-no-replies number other [] own ne = refl
-no-replies number other (step ∷ steps) own ne = go (no-replies number other steps own.1 ne) (step.conn == other) (ne_eqb step.conn other (λ e. ne (sym e ∙ own.0)))
+no-steps : (number other : ℕ) (steps : List Step) → StepsOf number steps → other ≢ number → own_steps other steps ≡ []
+no-steps number other [] own ne = refl
+no-steps number other (step ∷ steps) own ne = go (no-steps number other steps own.1 ne) (step.conn == other) (ne_eqb step.conn other (λ e. ne (sym e ∙ own.0)))
   where
-    go : replies_to other steps ≡ [] → (b : Bool) → b ≡ false → flat_map reply_in (cond b (step ∷ filter (λ (x : Step). x.conn == other) steps) (filter (λ (x : Step). x.conn == other) steps)) ≡ []
+    go : own_steps other steps ≡ [] → (b : Bool) → b ≡ false → cond b (step ∷ filter (λ (x : Step). x.conn == other) steps) (filter (λ (x : Step). x.conn == other) steps) ≡ []
     go next true e = cc
     go next false e = next
-
-no-steps : (number other : ℕ) (steps : List Step) → StepsOf number steps → other ≢ number → list_any (λ (step : Step). step.conn == other) steps ≡ false
-no-steps number other [] own ne = refl
-no-steps number other (step ∷ steps) own ne =
-    ap (λ b. b || list_any (λ (x : Step). x.conn == other) steps) (ne_eqb step.conn other (λ e. ne (sym e ∙ own.0))) ∙ no-steps number other steps own.1 ne
 
 -- ---- what a settled load leaves of a connection
 
@@ -73,10 +67,9 @@ other-left : (number place : ℕ) (was is : Space) (s : Situation) (happened : E
     → (output_of is (suc place) ≡ output_of was (suc place)) × (closing_of is (suc place) ≡ closing_of was (suc place))
 other-left number place was is s happened r own ne =
     let apart : suc place ≢ number = λ e. ne (ap (λ n. n - 1) e) in
-    let no_step = no-steps number (suc place) r.entry.steps own apart in
-    (
-      r.outputs place ∙ ap (λ l. output_of was (suc place) ++ l) (no-replies number (suc place) r.entry.steps own apart) ∙ append-nil (output_of was (suc place)),
-      ⊎_elim (λ same. same) (λ p. let h : true ≡ false = sym p.2 ∙ no_step in cc) (settled-closing was is s happened r place),
+    let no_step = no-steps number (suc place) r.entry.steps own apart in (
+      r.outputs place ∙ ap (λ steps. output_of was (suc place) ++ flat_map reply_in steps) no_step ∙ append-nil (output_of was (suc place)),
+      r.idle place no_step,
     )
 
 pub others-left : (number other : ℕ) (was is : Space) (s : Situation) (happened : Event) (r : Settles was is s happened) → StepsOf number r.entry.steps → other - 1 ≢ number - 1
@@ -86,7 +79,7 @@ others-left number (suc place) was is s happened r own ne = other-left number pl
 
 -- a closed connection stays so
 stays-closed : (n : ℕ) (was is : Space) (s : Situation) (happened : Event) → Settles was is s happened → closing_of was (suc n) ≢ None → closing_of is (suc n) ≢ None
-stays-closed n was is s happened r closed is_open = ⊎_elim (λ same. closed (sym same ∙ is_open)) (λ p. closed p.0) (settled-closing was is s happened r n)
+stays-closed n was is s happened r closed is_open = ⊎_elim (λ same. closed (sym same ∙ is_open)) (λ p. closed p.0) (r.closings n)
 
 is-left : (c : Option Closing) → c ≢ Some by.Asked → IsOpenOrEnded c
 is-left None h = inl refl
@@ -113,7 +106,7 @@ left-at : (n : ℕ) (was is : Space) (happened : Event) → served.Settled was i
 left-at n was is happened settled left =
     is-left (closing_of is (suc n)) (λ asked.
     ∥∥₁_elim (situated was) (Prim.hlevel props) (λ w.
-    ⊎_elim (λ same. not-asked (closing_of was (suc n)) left (sym same ∙ asked)) (λ p. not-asked-ended (closing_of is (suc n)) p.1 asked) (settled-closing was is w.0 happened (settled.settles w.0 w.1) n)))
+    ⊎_elim (λ same. not-asked (closing_of was (suc n)) left (sym same ∙ asked)) (λ p. not-asked-ended (closing_of is (suc n)) p.1 asked) ((settled.settles w.0 w.1).closings n)))
 
 settled-left : (number : ℕ) (was is : Space) (happened : Event) → 0 < number → served.Settled was is happened → IsOpenOrEnded (closing_of was number) → IsOpenOrEnded (closing_of is number)
 settled-left zero was is happened positive settled left = absurd (omega (arith, positive))

@@ -30,8 +30,8 @@ returns-in-Ok-outcome-clause-ok g c =
     let ran = c.converse-outcome in
     run-whole g.C.Clock.reads g.L.Loader.loads _ _ _ _ c.in-Ok-open_connection.conn.namespace c.args.namespace c.in-Ok-open_connection.conn.number _ _ o.0 o.1 (rw c.in-Ok-outcome.is at ran.ensures.ok) (rw c.in-Ok-outcome.is at ran.ensures.over) c.close_if_open.ensures.closes
 
-pub returns-in-Err-outcome-clause-err : goal.returns-in-Err-outcome-clause-err
-returns-in-Err-outcome-clause-err g c =
+pub returns-clause-err : goal.returns-clause-err
+returns-clause-err g c =
     let o = c.in-Ok-open_connection.ensures.ok in
     let ran = c.converse-outcome in
     run-partly g.C.Clock.reads g.L.Loader.loads _ _ _ _ c.in-Ok-open_connection.conn.namespace c.args.namespace c.in-Ok-open_connection.conn.number _ _ _ _ _ o.0 o.1 (rw c.in-Err-outcome.is at ran.ensures.err) c.close_if_open.ensures.closes c.drop_loads.ensures.dropped
