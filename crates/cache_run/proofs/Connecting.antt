@@ -119,9 +119,3 @@ pub ended-none : {A : Type 0} (closing : Option Closing) → IsEnded closing →
 ended-none closing (inl long) none = absurd (none-some by.Long (sym none ∙ long))
 ended-none closing (inr (inl quit)) none = absurd (none-some by.Quit (sym none ∙ quit))
 ended-none closing (inr (inr behind)) none = absurd (none-some by.Behind (sym none ∙ behind))
-
--- why it has
-pub why-ended : (closing : Option Closing) → IsEnded closing → (why : Closing) × (closing ≡ Some why)
-why-ended closing (inl long) = (by.Long, long)
-why-ended closing (inr (inl quit)) = (by.Quit, quit)
-why-ended closing (inr (inr behind)) = (by.Behind, behind)

@@ -1,17 +1,19 @@
 -- One connection, from its opening to its closing.
-use Rattle.std.proofs.Common.{◌≡◌, ℕ, ◌+◌, ◌-◌, ◌<◌, ◌≤◌, Bool, true, false, List, [], ◌∷◌, length, Option, Some, None, refl, sym, ap, ◌∙◌, subst, arith, inl, inr, if◌then◌else◌}
-use Rattle.std.specs.Prelude.{◌⊎◌, ◌++◌, Result, Ok, Err, OnOk, OnErr, IfErr}
+use Rattle.std.proofs.Common.{◌≡◌, ◌≢◌, ℕ, ◌+◌, ◌-◌, ◌<◌, ◌≤◌, Bool, true, false, List, [], ◌∷◌, length, Option, Some, None, refl, sym, ap, ◌∙◌, subst, arith, inl, inr, if◌then◌else◌}
+use Rattle.std.specs.Prelude.{◌⊎◌, ◌++◌, Result, Ok, Err, OnOk, OnErr}
 use Rattle.std.specs.List.{flat_map}
 use Rattle.std.proofs.lemmas.List.{append-nil}
 use Rattle.std.proofs.lemmas.Option.{none-some}
 use Rattle.audit_model.specs.Belongs.{refusal_of}
-use Rattle.audit_model.specs.Follows.{Follows}
+use Rattle.audit_model.specs.Follows.{Follows, after_records}
 use Rattle.audit_model.specs.Situation.{Situation}
+use Rattle.audit_model.specs.declared.command.Closing.{Closing}
 use Rattle.audit_model.specs.declared.command.Closing.TheVariants as by
 use Rattle.audit_model.specs.declared.config.Config.{Config}
 use Rattle.audit_model.specs.declared.event.Event.TheVariants as event
 use Rattle.audit_model.specs.declared.input.ServiceError.{ServiceError}
 use Rattle.audit_model.specs.declared.transcript.Note.{Note}
+use Rattle.audit_model.specs.declared.transcript.Record.{Record}
 use Rattle.audit_model.specs.declared.transcript.Step.{Step}
 use Rattle.cache_namespace.specs.Taken.{IsOpenOrEnded, record_of, known}
 use Rattle.cache_spaces.specs.Moves.{At}
@@ -25,13 +27,19 @@ use Rattle.cache_run.specs.Carried.{Broken, Carried, nothing_left}
 use Rattle.cache_run.specs.Connected.{Connected, IsEnded, IsFed, IsOver, IsReady}
 use Rattle.cache_run.specs.Delivered.{Unfed}
 use Rattle.cache_run.specs.Goes.{Goes}
+use Rattle.cache_run.specs.Loading.{GivesUp, GivesUpLoads}
 use Rattle.cache_run.specs.Runs.{Closes, Quiet, ServesPartly, ServesWhole, next_number}
 use Rattle.cache_run.specs.Worlds.{Outside, world}
 use Rattle.cache_run.specs.declared.errors.RunError.{RunError}
-use Rattle.cache_run.proofs.Carrying.{broken-more, carried-close, carried-more, carried-opened, carried-still}
-use Rattle.cache_run.proofs.Connecting.{close-refused, connected-map, ended-none, why-ended}
+use Rattle.cache_run.proofs.Carrying.{broken-more, carried-close, carried-drops, carried-more, carried-opened, carried-still}
+use Rattle.cache_run.proofs.Connecting.{close-refused, connected-map, ended-none}
 use Rattle.cache_run.proofs.Going.{goes-more, goes-same, seen-alike}
 use Rattle.cache_run.proofs.Placing.{at-is, at-map, at-more, at-with}
+
+-- why a connection that is not open has closed
+closed-why : (c : Option Closing) → c ≢ None → (why : Closing) × (c ≡ Some why)
+closed-why None closed = absurd (closed refl)
+closed-why (Some why) closed = (why, refl)
 
 chosen-none : (b : Bool) (t : Situation) → (if b then None else None) ≡ Some t → ⊥
 chosen-none true t e = none-some t e
@@ -192,38 +200,60 @@ module _ {C L : Type 0} (reads : C → ℕ → C → Type 0) (loads : L → List
     ends = subst IsEnded (sym closes.1) closes.0;
   }
 
-  partly : (x z w : Space) (e : RunError) → number ≡ next_number x → Goes number x z (λ s t. Broken (config_of x) number reads loads (world x s before) (world z t after) true false [] e)
-      → Closes number z w → ServesPartly reads loads x w before after e
-  partly x z w e next g (inl closes) = record {
-    number = number;
-    next = next;
-    closes = true;
-    goes = goes-more number x z w (λ s t. Broken (config_of x) number reads loads (world x s before) (world z t after) true false [] e) (λ s t. Quiet (config_of z) (event.Close number) s t (notices_of z) (notices_of w))
-        (λ s t. Broken (config_of x) number reads loads (world x s before) (world w t after) true true [] e) g closes.2
-        (λ s t u f q. record {
+  -- loads were given up behind the closing
+  dropped : (x w v : Space) (closes : Bool) (e : RunError) → Goes number x w (λ s t. Broken (config_of x) number reads loads (world x s before) (world w t after) true closes [] e) → GivesUpLoads number w v
+      → Goes number x v (λ s t. (drops : List Record) × Broken (config_of x) number reads loads (world x s before) (world v t after) true closes drops e)
+  dropped x w v closes e g d =
+      goes-more number x w v (λ s t. Broken (config_of x) number reads loads (world x s before) (world w t after) true closes [] e) (λ s t. GivesUp (config_of w) s t (notices_of w) (notices_of v))
+      (λ s t. (drops : List Record) × Broken (config_of x) number reads loads (world x s before) (world v t after) true closes drops e) g d.0
+      (λ s t u f q. (
+        q.drops,
+        record {
           left = f.left;
-          carried = carried-close (config_of x) number reads loads (world x s before) (world z t after) w u true f.left f.carried (subst (λ k. Follows k t (record_of (event.Close number) []) u) g.config q.follows) q.notices;
-          dropped = tt;
+          carried = carried-drops (config_of x) number reads loads (world x s before) (world w t after) v u true closes [] q.drops f.left f.carried (subst (λ k. after_records k t q.drops ≡ Some u) g.config q.follows) q.notices;
+          dropped = q.dropped;
           moment = f.moment;
-        });
-    why = by.Asked;
-    closed = closes.1;
-  }
-  partly x z w e next g (inr closes) = record {
-    number = number;
-    next = next;
-    closes = false;
-    goes = goes-more number x z w (λ s t. Broken (config_of x) number reads loads (world x s before) (world z t after) true false [] e) (λ s t. Unfed s t (notices_of z) (notices_of w))
-        (λ s t. Broken (config_of x) number reads loads (world x s before) (world w t after) true false [] e) g closes.2
-        (λ s t u f q. record {
-          left = f.left;
-          carried = carried-still (config_of x) number reads loads (world x s before) (world z t after) w u true false [] f.left f.carried q.same q.notices;
-          dropped = tt;
-          moment = f.moment;
-        });
-    why = (why-ended (closing_of z number) closes.0).0;
-    closed = closes.1 ∙ (why-ended (closing_of z number) closes.0).1;
-  }
+        },
+      ))
+
+  partly : (x z w v : Space) (e : RunError) → number ≡ next_number x → Goes number x z (λ s t. Broken (config_of x) number reads loads (world x s before) (world z t after) true false [] e)
+      → Closes number z w → GivesUpLoads number w v → ServesPartly reads loads x v before after e
+  partly x z w v e next g (inl closes) d =
+      let why = closed-why (closing_of v number) (d.1 (λ none. none-some by.Asked (sym none ∙ closes.1))) in
+      record {
+        number = number;
+        next = next;
+        closes = true;
+        goes = dropped x w v true e
+            (goes-more number x z w (λ s t. Broken (config_of x) number reads loads (world x s before) (world z t after) true false [] e) (λ s t. Quiet (config_of z) (event.Close number) s t (notices_of z) (notices_of w))
+            (λ s t. Broken (config_of x) number reads loads (world x s before) (world w t after) true true [] e) g closes.2
+            (λ s t u f q. record {
+              left = f.left;
+              carried = carried-close (config_of x) number reads loads (world x s before) (world z t after) w u true f.left f.carried (subst (λ k. Follows k t (record_of (event.Close number) []) u) g.config q.follows) q.notices;
+              dropped = tt;
+              moment = f.moment;
+            })) d;
+        why = why.0;
+        closed = why.1;
+      }
+  partly x z w v e next g (inr closes) d =
+      let why = closed-why (closing_of v number) (d.1 (λ none. ended-none (closing_of z number) closes.0 (sym closes.1 ∙ none))) in
+      record {
+        number = number;
+        next = next;
+        closes = false;
+        goes = dropped x w v false e
+            (goes-more number x z w (λ s t. Broken (config_of x) number reads loads (world x s before) (world z t after) true false [] e) (λ s t. Unfed s t (notices_of z) (notices_of w))
+            (λ s t. Broken (config_of x) number reads loads (world x s before) (world w t after) true false [] e) g closes.2
+            (λ s t u f q. record {
+              left = f.left;
+              carried = carried-still (config_of x) number reads loads (world x s before) (world z t after) w u true false [] f.left f.carried q.same q.notices;
+              dropped = tt;
+              moment = f.moment;
+            })) d;
+        why = why.0;
+        closed = why.1;
+      }
 
   pub at-whole : (first second third fourth : List Space) (n : ℕ)
       → At first second n (λ was is. (number ≡ next_number was) × Goes number was is (λ s t. Quiet (config_of was) (event.Open number) s t (notices_of was) (notices_of is)))
@@ -237,16 +267,17 @@ module _ {C L : Type 0} (reads : C → ℕ → C → Type 0) (loads : L → List
       (at-with (Closes number) (λ z w. IsOver after.remaining number z × Closes number z w) third fourth n c.space c.at d (λ w closes. (c.left, closes)))
       (λ x z w p q. whole x z w p.0 p.1 q.0 q.1)
 
-  pub at-partly : (first second third fourth : List Space) (n : ℕ) (e : RunError)
+  pub at-partly : (first second third fourth fifth : List Space) (n : ℕ) (e : RunError)
       → At first second n (λ was is. (number ≡ next_number was) × Goes number was is (λ s t. Quiet (config_of was) (event.Open number) s t (notices_of was) (notices_of is)))
       → At second third n (λ was is. Goes number was is (λ s t. Broken (config_of was) number reads loads (world was s before) (world is t after) false false [] e))
-      → At third fourth n (Closes number)
-      → At first fourth n (λ was is. ServesPartly reads loads was is before after e)
-  at-partly first second third fourth n e a b d =
+      → At third fourth n (Closes number) → At fourth fifth n (GivesUpLoads number)
+      → At first fifth n (λ was is. ServesPartly reads loads was is before after e)
+  at-partly first second third fourth fifth n e a b c d =
       at-more (λ x z. (number ≡ next_number x) × Goes number x z (λ s t. Broken (config_of x) number reads loads (world x s before) (world z t after) true false [] e))
-      (Closes number) (λ x w. ServesPartly reads loads x w before after e) first third fourth n
-      (at-begun-broken first second third n e a b) d
-      (λ x z w p q. partly x z w e p.0 p.1 q)
+      (λ z v. (w : Space) × Closes number z w × GivesUpLoads number w v) (λ x v. ServesPartly reads loads x v before after e) first third fifth n
+      (at-begun-broken first second third n e a b)
+      (at-more (Closes number) (GivesUpLoads number) (λ z v. (w : Space) × Closes number z w × GivesUpLoads number w v) third fourth fifth n c d (λ z w v p q. (w, p, q)))
+      (λ x z v p q. partly x z q.0 v e p.0 p.1 q.1 q.2)
 
 -- however it ended, the connection may only have closed for what it was fed
 pub fed-after : {X E : Type 0} (spaces : List Space) (n number : ℕ) (remaining : Option (List ℕ)) (r : Result X E) → OnOk r (Connected spaces n number (IsOver remaining)) → OnErr r (Connected spaces n number IsFed) → Connected spaces n number IsFed
@@ -257,36 +288,27 @@ fed-after spaces n number remaining (Ok x) over left = connected-map (IsOver rem
     fed space (inr p) = inr p
 fed-after spaces n number remaining (Err e) over left = left
 
-pub on-ok : {X E : Type 0} (A B D : Type 0) (r : Result X E) → OnOk r A → OnOk r B → (A → B → D) → OnOk r D
-on-ok A B D (Ok x) a b h = h a b
-on-ok A B D (Err e) a b h = tt
-
-pub on-err : {X E : Type 0} (P Q : E → Type 0) (r : Result X E) → IfErr r P → ((e : E) → P e → Q e) → IfErr r Q
-on-err P Q (Ok x) a h = tt
-on-err P Q (Err e) a h = h e a
-
 -- ---- what a run leaves
 
-module _ {C L X : Type 0} (reads : C → ℕ → C → Type 0) (loads : L → List ℕ → Option Outcome → L → Type 0) (first second third fourth : List Space) (m n number : ℕ) (before after : Outside C L) (r : Result X RunError) where
+module _ {C L : Type 0} (reads : C → ℕ → C → Type 0) (loads : L → List ℕ → Option Outcome → L → Type 0) (first second third fourth : List Space) (m n number : ℕ) (before after : Outside C L) where
   pub run-whole : m ≡ n
       → At first second n (λ was is. (number ≡ next_number was) × Goes number was is (λ s t. Quiet (config_of was) (event.Open number) s t (notices_of was) (notices_of is)))
-      → OnOk r (At second third m (λ was is. Goes number was is (λ s t. Carried (config_of was) number reads loads (world was s before) (world is t after) false false [] nothing_left)))
-      → OnOk r (Connected third m number (IsOver after.remaining)) → At third fourth m (Closes number)
-      → OnOk r (At first fourth n (λ was is. ServesWhole reads loads was is before after))
+      → At second third m (λ was is. Goes number was is (λ s t. Carried (config_of was) number reads loads (world was s before) (world is t after) false false [] nothing_left))
+      → Connected third m number (IsOver after.remaining) → At third fourth m (Closes number)
+      → At first fourth n (λ was is. ServesWhole reads loads was is before after)
   run-whole e opened carried over closes =
-      on-ok (At second third m (λ was is. Goes number was is (λ s t. Carried (config_of was) number reads loads (world was s before) (world is t after) false false [] nothing_left))) (Connected third m number (IsOver after.remaining)) (At first fourth n (λ was is. ServesWhole reads loads was is before after)) r carried over
-      (λ a b. at-whole reads loads number before after first second third fourth n opened
-      (subst (λ k. At second third k (λ was is. Goes number was is (λ s t. Carried (config_of was) number reads loads (world was s before) (world is t after) false false [] nothing_left))) e a)
-      (subst (λ k. Connected third k number (IsOver after.remaining)) e b) (subst (λ k. At third fourth k (Closes number)) e closes))
+      at-whole reads loads number before after first second third fourth n opened
+      (subst (λ k. At second third k (λ was is. Goes number was is (λ s t. Carried (config_of was) number reads loads (world was s before) (world is t after) false false [] nothing_left))) e carried)
+      (subst (λ k. Connected third k number (IsOver after.remaining)) e over) (subst (λ k. At third fourth k (Closes number)) e closes)
 
-  pub run-partly : (Else : RunError → Space → Space → Type 0) → m ≡ n
+  pub run-partly : (fifth : List Space) (Else : Space → Space → Type 0) (error : RunError) → m ≡ n
       → At first second n (λ was is. (number ≡ next_number was) × Goes number was is (λ s t. Quiet (config_of was) (event.Open number) s t (notices_of was) (notices_of is)))
-      → IfErr r (λ e. At second third m (λ was is. Goes number was is (λ s t. Broken (config_of was) number reads loads (world was s before) (world is t after) false false [] e)))
-      → At third fourth m (Closes number)
-      → IfErr r (λ e. At first fourth n (λ was is. Else e was is ⊎ ServesPartly reads loads was is before after e))
-  run-partly Else same opened broken closes =
-      on-err (λ e. At second third m (λ was is. Goes number was is (λ s t. Broken (config_of was) number reads loads (world was s before) (world is t after) false false [] e))) (λ e. At first fourth n (λ was is. Else e was is ⊎ ServesPartly reads loads was is before after e)) r broken
-      (λ e a. at-map (λ was is. ServesPartly reads loads was is before after e) (λ was is. Else e was is ⊎ ServesPartly reads loads was is before after e) first fourth n
-      (at-partly reads loads number before after first second third fourth n e opened
-      (subst (λ k. At second third k (λ was is. Goes number was is (λ s t. Broken (config_of was) number reads loads (world was s before) (world is t after) false false [] e))) same a) (subst (λ k. At third fourth k (Closes number)) same closes))
-      (λ x y p. inr p))
+      → At second third m (λ was is. Goes number was is (λ s t. Broken (config_of was) number reads loads (world was s before) (world is t after) false false [] error))
+      → At third fourth m (Closes number) → At fourth fifth m (GivesUpLoads number)
+      → At first fifth n (λ was is. Else was is ⊎ ServesPartly reads loads was is before after error)
+  run-partly fifth Else error same opened broken closes dropped =
+      at-map (λ was is. ServesPartly reads loads was is before after error) (λ was is. Else was is ⊎ ServesPartly reads loads was is before after error) first fifth n
+      (at-partly reads loads number before after first second third fourth fifth n error opened
+      (subst (λ k. At second third k (λ was is. Goes number was is (λ s t. Broken (config_of was) number reads loads (world was s before) (world is t after) false false [] error))) same broken)
+      (subst (λ k. At third fourth k (Closes number)) same closes) (subst (λ k. At fourth fifth k (GivesUpLoads number)) same dropped))
+      (λ x y p. inr p)

@@ -4,4 +4,7 @@ pub mod Going
 pub mod Delivering
 pub mod Carrying
 pub mod Turning
+pub mod Settling
+pub mod Refusing
+pub mod Dropping
 pub mod Ending

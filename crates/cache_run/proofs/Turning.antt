@@ -1,24 +1,28 @@
 -- One turn of a run.
-use Rattle.std.proofs.Common.{◌≢◌, ℕ, ◌+◌, ◌≤◌, ◌⊎◌, ◌++◌, false, List, [], Option, refl, subst, inl, inr, arith, length-append}
+use Rattle.std.proofs.Common.{◌≡◌, ◌≢◌, ℕ, ◌+◌, ◌≤◌, ◌⊎◌, ◌++◌, false, List, [], ◌∷◌, Option, refl, ap, subst, inl, inr, arith, length-append}
+use Rattle.std.specs.Prelude.{Err, IsErrOf}
 use Rattle.std.specs.Io.KnownBytes.{Consumes}
+use Rattle.std.specs.Result.{result_err}
+use Rattle.std.proofs.lemmas.Option.{same_Some}
 use Rattle.cache_devices.proofs.Sending.{failed_after, failed_before, same_appends}
 use Rattle.cache_devices.specs.Failures.{HasFailed}
-use Rattle.cache_run.specs.Turns.{HasRead}
+use Rattle.cache_run.specs.Turns.{HasAsked, HasRead}
 use Rattle.cache_spaces.specs.Moves.{At}
+use Rattle.cache_spaces.specs.Serves.{SameSpace}
 use Rattle.cache_spaces.specs.Spaces.{config_of, notices_of}
 use Rattle.cache_spaces.specs.declared.space.Space.{Space}
 use Rattle.audit_model.specs.declared.event.Outcome.{Outcome}
 use Rattle.cache_run.specs.Carried.{Askings, Broken, Carried, nothing_left}
-use Rattle.cache_run.specs.Happened.{Asking}
+use Rattle.cache_run.specs.Happened.{Asking, asking_of}
 use Rattle.cache_run.specs.Connected.{Connected, IsReady}
 use Rattle.cache_run.specs.Delivered.{Delivered, Undelivered}
 use Rattle.cache_run.specs.Goes.{Goes}
 use Rattle.cache_run.specs.Worlds.{Outside, outside, world}
 use Rattle.cache_run.specs.declared.errors.RunError.{RunError}
 use Rattle.cache_run.specs.declared.errors.RunError.TheVariants.{Moment}
-use Rattle.cache_run.proofs.Carrying.{consumes_more, same_consumes, broken-more, broken-one, carried-more, carried-none, carried-one, carried-same}
-use Rattle.cache_run.proofs.Going.{at-goes-map, at-goes-more}
-use Rattle.cache_run.proofs.Placing.{at-same}
+use Rattle.cache_run.proofs.Carrying.{askings_more, consumes_more, same_consumes, broken-more, broken-one, carried-more, carried-none, carried-one, carried-same}
+use Rattle.cache_run.proofs.Going.{at-goes-map, at-goes-more, goes-same}
+use Rattle.cache_run.proofs.Placing.{at-map, at-same}
 
 module _ {C L : Type 0} (reads : C → ℕ → C → Type 0) (loads : L → List ℕ → Option Outcome → L → Type 0) (old : List Space) (n number : ℕ) where
   -- where only the reader was called
@@ -95,3 +99,33 @@ turns-more f g h a b c count early late (inr x) (inr y) =
 -- no turn yet
 pub turns-none : (f : ℕ) (a : Option (List ℕ)) → HasFailed f f ⊎ HasRead a a 0
 turns-none f a = inr ([], same_consumes a, omega arith)
+
+-- ---- what the loader was asked
+
+pub asked-more : {L : Type 0} (loads : L → List ℕ → Option Outcome → L → Type 0) (a b c : L) (m n : ℕ) → HasAsked loads a m b → HasAsked loads b n c → HasAsked loads a (m + n) c
+asked-more loads a b c m n x y =
+    let most = x.2 in
+    let more = y.2 in
+    let both = length-append x.0 y.0 in
+    (x.0 ++ y.0, askings_more loads a x.0 b y.0 c x.1 y.1, omega arith)
+
+pub asked-none : {L : Type 0} (loads : L → List ℕ → Option Outcome → L → Type 0) (a : L) → HasAsked loads a 0 a
+asked-none loads a = ([], refl, omega arith)
+
+pub asked-one : {L : Type 0} (loads : L → List ℕ → Option Outcome → L → Type 0) (a b : L) (key : List ℕ) (said : Option Outcome) → loads a key said b → HasAsked loads a 1 b
+asked-one loads a b key said asks = (asking_of key said ∷ [], (b, asks, refl), omega arith)
+
+pub asked-fewer : {L : Type 0} (loads : L → List ℕ → Option Outcome → L → Type 0) (a b : L) (m n : ℕ) → n ≤ m → HasAsked loads a m b → HasAsked loads a n b
+asked-fewer loads a b m n fewer x = let most = x.2 in (x.0, x.1, omega arith)
+
+-- ---- where the namespace is left the same
+
+pub at-carried-same : {C L : Type 0} (reads : C → ℕ → C → Type 0) (loads : L → List ℕ → Option Outcome → L → Type 0) (old new : List Space) (n number : ℕ) (a : Outside C L) → At old new n SameSpace
+    → At old new n (λ was is. Goes number was is (λ s t. Carried (config_of was) number reads loads (world was s a) (world is t a) false false [] nothing_left))
+at-carried-same reads loads old new n number a same =
+    at-map SameSpace (λ was is. Goes number was is (λ s t. Carried (config_of was) number reads loads (world was s a) (world is t a) false false [] nothing_left)) old new n same
+    (λ x y p. goes-same number x y (λ s t. Carried (config_of x) number reads loads (world x s a) (world y t a) false false [] nothing_left) p (λ s. carried-same (config_of x) number reads loads x y s s a refl p.notices))
+
+-- the same error of another result
+pub still-err : {T U E : Type 0} (e v : E) → IsErrOf {T = T} (Err e) v → IsErrOf {T = U} (Err e) v
+still-err e v is = let same : e ≡ v = same_Some e v (ap result_err is) in ap (λ x. Err x) same

@@ -63,12 +63,19 @@ replies_in number turn = flat_map replies_of (records_in number turn)
 abbrev pub notes_in : ℕ → Turn → List Note
 notes_in number turn = flat_map notes_of (records_in number turn)
 
--- a load is answered with what the loader said; it is given up only where the loader gave no answer, or one that is refused for its bytes or
--- its time
+-- what a loader was asked, and what it said
+abbrev pub asking_of : List ℕ → Option Outcome → Asking
+asking_of key answer = record { key = key; answer = answer }
+
+-- a load is given up only where the loader gave no answer, or one that is refused for its bytes or its time
+abbrev pub IsGivenUpFor : Config → Option Outcome → Type 0
+IsGivenUpFor config answer = IfSome answer (λ outcome. is_some (refusal_of_outcome config outcome) ≡ true)
+
+-- a load is answered with what the loader said, or given up
 abbrev pub IsSettledBy : Config → Option Outcome → ℕ → Event → Type 0
 IsSettledBy config answer moment happened =
     ((load : ℕ) × (outcome : Outcome) × (answer ≡ Some outcome) × (happened ≡ answering load outcome moment))
-    ⊎ ((load : ℕ) × (happened ≡ giving_up load moment) × IfSome answer (λ outcome. is_some (refusal_of_outcome config outcome) ≡ true))
+    ⊎ ((load : ℕ) × (happened ≡ giving_up load moment) × IsGivenUpFor config answer)
 
 abbrev pub IsRight : Config → Turn → Type 0
 IsRight config (Fed piece moment steps) = Unit {0}

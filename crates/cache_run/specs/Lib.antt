@@ -5,4 +5,5 @@ pub mod Goes
 pub mod Connected
 pub mod Delivered
 pub mod Turns
+pub mod Loading
 pub mod Runs

@@ -9,6 +9,7 @@ use Rattle.audit_model.specs.declared.config.Config.{Config}
 use Rattle.audit_model.specs.declared.event.Event.{Event}
 use Rattle.audit_model.specs.declared.event.Event.TheVariants as event
 use Rattle.audit_model.specs.declared.transcript.Note.{Note}
+use Rattle.audit_model.specs.declared.transcript.Record.{Record}
 use Rattle.cache_namespace.specs.Taken.{record_of}
 use Rattle.cache_spaces.specs.Spaces.{closing_of, config_of, connections_of, notices_of}
 use Rattle.cache_spaces.specs.declared.space.Space.{Space}
@@ -35,7 +36,8 @@ Closes number was is =
     ((closing_of was number ≡ None) × (closing_of is number ≡ Some by.Asked) × Goes number was is (λ s t. Quiet (config_of was) (event.Close number) s t (notices_of was) (notices_of is)))
     ⊎ (IsEnded (closing_of was number) × (closing_of is number ≡ closing_of was number) × Goes number was is (λ s t. Unfed s t (notices_of was) (notices_of is)))
 
--- it closed as asked at the end of the input, or for what it was fed: too long a line, or a `QUIT`
+-- it closed as asked at the end of the input, or for what it was fed: too long a line, a `QUIT`, or too many bytes behind a `LOAD` that
+-- waits
 abbrev pub Ends : Bool → Option Closing → Option (List ℕ) → Type 0
 Ends true closing remaining = (closing ≡ Some by.Asked) × IsAtEnd remaining
 Ends false closing remaining = IsEnded closing
@@ -48,11 +50,11 @@ pub record ServesWhole {C L : Type 0} (reads : C → ℕ → C → Type 0) (load
   pub goes : Goes number was is (λ s t. Carried (config_of was) number reads loads (world was s before) (world is t after) true closes [] nothing_left)
   pub ends : Ends closes (closing_of is number) after.remaining
 
--- One connection was opened, fed, and closed after an error; the bytes written are a beginning of its replies.
+-- One connection was opened, fed, and closed after an error, and then loads were given up; the bytes written are a beginning of its replies.
 pub record ServesPartly {C L : Type 0} (reads : C → ℕ → C → Type 0) (loads : L → List ℕ → Option Outcome → L → Type 0) (was is : Space) (before after : Outside C L) (e : RunError) : Type 0 where
   pub number : ℕ
   pub next : number ≡ next_number was
   pub closes : Bool
-  pub goes : Goes number was is (λ s t. Broken (config_of was) number reads loads (world was s before) (world is t after) true closes [] e)
+  pub goes : Goes number was is (λ s t. (drops : List Record) × Broken (config_of was) number reads loads (world was s before) (world is t after) true closes drops e)
   pub why : Closing
   pub closed : closing_of is number ≡ Some why

@@ -1,7 +1,10 @@
 -- Whether a run goes on.
 use Rattle.std.specs.Prelude.{ℕ, ◌≤◌, ◌^◌, List, length, Option}
 use Rattle.std.specs.Io.KnownBytes.{Consumes}
+use Rattle.audit_model.specs.declared.event.Outcome.{Outcome}
+use Rattle.cache_run.specs.Carried.{Askings}
 use Rattle.cache_run.specs.Connected.{IsReady, IsOver}
+use Rattle.cache_run.specs.Happened.{Asking}
 use Rattle.cache_run.specs.declared.turns.Progress.{Progress}
 use Rattle.cache_run.specs.declared.turns.Progress.TheVariants.{More, Over}
 use Rattle.cache_spaces.specs.declared.space.Space.{Space}
@@ -18,3 +21,7 @@ HasRead before after count = (bytes : List ℕ) × Consumes before after bytes �
 -- the clock's last reading was a moment of 2 ^ 63 or more
 abbrev pub HasToldLate : {C : Type 0} → (C → ℕ → C → Type 0) → C → Type 0
 HasToldLate {C} reads clock = (before : C) × (moment : ℕ) × reads before moment clock × (2 ^ 63 ≤ moment)
+
+-- the loader was asked at least so often
+abbrev pub HasAsked : {L : Type 0} → (L → List ℕ → Option Outcome → L → Type 0) → L → ℕ → L → Type 0
+HasAsked loads before count after = (askings : List Asking) × Askings loads before askings after × (count ≤ length askings)

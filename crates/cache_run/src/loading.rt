@@ -1,61 +1,127 @@
 //! The loads of a connection, asked of the loader.
+ghost use Rattle.std.specs.Prelude.{◌≡◌, ◌≢◌, ◌≤◌, ◌<◌, ◌⊎◌, ◌^◌, ◌-◌, ℕ, List, [], ◌∷◌, Option, None, true, false, length, is_some, IfOk, IfErr, OnOk, OnErr, IsErrOf};
+ghost use Rattle.audit_model.specs.Belongs.{refusal_of_outcome};
+ghost use Rattle.cache_devices.specs.Failures.{HasFailed};
+ghost use Rattle.cache_devices.specs.Watched.{device, failures};
+ghost use Rattle.cache_spaces.specs.Moves.{At};
+ghost use Rattle.cache_spaces.specs.Serves.{SameSpace};
+ghost use Rattle.cache_spaces.specs.Services.{spaces_of};
+ghost use Rattle.cache_spaces.specs.Spaces.{config_of, notices_of, output_of};
+ghost use Rattle.cache_run.specs.Connected.{Connected, IsFed, IsTaken};
+ghost use Rattle.cache_run.specs.Delivered.{Answered, IsCause};
+ghost use Rattle.cache_run.specs.Goes.{Goes};
+ghost use Rattle.cache_run.specs.Happened.{Asking, IsGivenUpFor, asking_of};
+ghost use Rattle.cache_run.specs.Loading.{Breaks, Carries, GivesUpLoads};
+ghost use Rattle.cache_run.specs.Turns.{HasAsked, HasToldLate};
+ghost use Rattle.cache_run.specs.Worlds.{outside};
+
 use crate::errors::RunError;
 use crate::feeding::{deliver, take_replies, write_replies};
+use crate::turns::{Progress, progress_of};
 use audit_model::{Bytes, Conn, Instant, LoadId, Outcome, ServiceError};
 use cache_devices::{Clock, Loader, Watched};
 use cache_spaces::Service;
 use std::io::Write;
 
 /// Gives a load up. One that is not under way stays settled.
-fn give_up(service: &mut Service, load: LoadId, moment: u64) -> Result<(), RunError> {
-    match service.give_up(load, Instant { nanos: moment }) {
+fn give_up(service: &mut Service, conn: Conn, load: u64, moment: u64) -> Result<(), RunError>
+    requires taken { Connected (spaces_of service.old) conn.namespace conn.number IsTaken }
+    ensures ok { OnOk result (At (spaces_of service.old) (spaces_of service.new) conn.namespace (λ was is. (asking : Asking) → IsGivenUpFor (config_of was) asking.answer → Goes conn.number was is (λ s t. Answered (config_of was) conn.number [] moment (asking ∷ []) s t (notices_of was) (notices_of is) (output_of is conn.number)))) }
+    ensures left { OnOk result (Connected (spaces_of service.new) conn.namespace conn.number IsFed) }
+    ensures err { IfErr result (λ e. At (spaces_of service.old) (spaces_of service.new) conn.namespace SameSpace × IsCause moment e) }
+{
+    let id = LoadId {
+        namespace: conn.namespace,
+        number: load,
+    };
+    match service.give_up(id, Instant { nanos: moment }) {
         Ok(()) => Ok(()),
         Err(ServiceError::Moment) => Err(RunError::Moment),
+        // It is not under way.
         Err(_) => Ok(()),
     }
 }
 
-/// Answers a load with an outcome, or gives it up where the outcome is refused.
+/// Answers a load with an outcome. Answers whether it is settled: it is not where the outcome is refused for its bytes or its time. One
+/// that is not under way stays settled.
 fn answer(
     service: &mut Service,
-    load: LoadId,
+    conn: Conn,
+    load: u64,
     outcome: Outcome,
     moment: u64,
-) -> Result<(), RunError> {
-    let error = match service.answer(load, outcome, Instant { nanos: moment }) {
-        Ok(()) => return Ok(()),
+) -> Result<bool, RunError>
+    requires taken { Connected (spaces_of service.old) conn.namespace conn.number IsTaken }
+    ensures settled { IfOk result (λ settled. settled ≡ true → At (spaces_of service.old) (spaces_of service.new) conn.namespace (λ was is. (key : List ℕ) → Goes conn.number was is (λ s t. Answered (config_of was) conn.number [] moment (asking_of key (Some outcome) ∷ []) s t (notices_of was) (notices_of is) (output_of is conn.number)))) }
+    ensures refused { IfOk result (λ settled. settled ≡ false → At (spaces_of service.old) (spaces_of service.new) conn.namespace (λ was is. SameSpace was is × (is_some (refusal_of_outcome (config_of was) outcome) ≡ true))) }
+    ensures left { IfOk result (λ settled. settled ≡ true → Connected (spaces_of service.new) conn.namespace conn.number IsFed) }
+    ensures err { IfErr result (λ e. At (spaces_of service.old) (spaces_of service.new) conn.namespace SameSpace × IsCause moment e) }
+{
+    let id = LoadId {
+        namespace: conn.namespace,
+        number: load,
+    };
+    let error = match service.answer(id, outcome, Instant { nanos: moment }) {
+        Ok(()) => return Ok(true),
         Err(refused) => refused.error,
     };
     match error {
-        ServiceError::LineEnd | ServiceError::TooLong | ServiceError::Deadline => {
-            give_up(service, load, moment)
-        }
         ServiceError::Moment => Err(RunError::Moment),
-        ServiceError::UsedUp => Err(RunError::UsedUp),
         ServiceError::OutOfMemory => Err(RunError::OutOfMemory),
         // It is not under way.
-        _ => Ok(()),
+        ServiceError::NoLoad => Ok(true),
+        _ => Ok(false),
     }
 }
 
-/// Asks the loader for a load by its key, and settles it by what the loader answers.
-fn ask<C: Clock, L: Loader>(
+/// Settles a load by what the loader said: with its outcome, or by a give-up where there is none, or one that is refused for its bytes or
+/// its time.
+fn settle(
     service: &mut Service,
-    load: LoadId,
-    key: &[u8],
-    clock: &mut C,
-    loader: &mut L,
-) -> Result<(), RunError> {
-    let outcome = loader.load(key);
-    let moment = clock.now();
-    match outcome {
-        Some(outcome) => answer(service, load, outcome, moment),
-        None => give_up(service, load, moment),
+    conn: Conn,
+    load: u64,
+    said: Option<Outcome>,
+    moment: u64,
+) -> Result<(), RunError>
+    requires taken { Connected (spaces_of service.old) conn.namespace conn.number IsTaken }
+    ensures ok { OnOk result (At (spaces_of service.old) (spaces_of service.new) conn.namespace (λ was is. (key : List ℕ) → Goes conn.number was is (λ s t. Answered (config_of was) conn.number [] moment (asking_of key said ∷ []) s t (notices_of was) (notices_of is) (output_of is conn.number)))) }
+    ensures left { OnOk result (Connected (spaces_of service.new) conn.namespace conn.number IsFed) }
+    ensures err { IfErr result (λ e. At (spaces_of service.old) (spaces_of service.new) conn.namespace SameSpace × IsCause moment e) }
+{
+    let outcome = match said {
+        Some(outcome) => outcome,
+        None => return give_up(service, conn, load, moment),
+    };
+    match answer(service, conn, load, outcome, moment) {
+        Ok(true) => Ok(()),
+        Ok(false) => give_up(service, conn, load, moment),
+        Err(error) => Err(error),
     }
 }
 
-/// Asks the loader for the last of the loads that were taken, and sends the replies that come of it. Where there is an error, a load
-/// that is not settled is still one of them.
+/// Settles a load by what the loader said, and takes the replies that come of it.
+fn settle_load(
+    service: &mut Service,
+    conn: Conn,
+    load: u64,
+    said: Option<Outcome>,
+    moment: u64,
+) -> Result<Vec<u8>, RunError>
+    requires taken { Connected (spaces_of service.old) conn.namespace conn.number IsTaken }
+    ensures ok { IfOk result (λ text. (key : List ℕ) → At (spaces_of service.old) (spaces_of service.new) conn.namespace (λ was is. Goes conn.number was is (λ s t. Answered (config_of was) conn.number [] moment (asking_of key said ∷ []) s t (notices_of was) (notices_of is) text.items))) }
+    ensures taken { OnOk result (Connected (spaces_of service.new) conn.namespace conn.number IsTaken) }
+    ensures err { IfErr result (λ e. At (spaces_of service.old) (spaces_of service.new) conn.namespace SameSpace × IsCause moment e) }
+    ensures causes { IfErr result (λ e. (e ≢ RunError.Read) × (e ≢ RunError.Write) × (e ≢ RunError.UsedUp)) }
+    ensures moment { IsErrOf result RunError.Moment → 2 ^ 63 ≤ moment }
+{
+    match settle(service, conn, load, said, moment) {
+        Ok(()) => Ok(take_replies(service, conn)),
+        Err(error) => Err(error),
+    }
+}
+
+/// Asks the loader by its key for the last of the loads that were taken, settles it by what the loader says, and sends the replies that
+/// come of it. Answers whether there was one. Where there is an error, a load that is not settled is still one of them.
 fn settle_last<W: Write, C: Clock, L: Loader>(
     service: &mut Service,
     conn: Conn,
@@ -63,47 +129,53 @@ fn settle_last<W: Write, C: Clock, L: Loader>(
     writer: &mut Watched<W>,
     clock: &mut C,
     loader: &mut L,
-) -> Result<(), RunError> {
-    let Some((load, key)) = taken.last() else {
-        return Ok(());
+) -> Result<bool, RunError>
+    requires taken { Connected (spaces_of service.old) conn.namespace conn.number IsTaken }
+    ensures ok { OnOk result ((remaining : Option (List ℕ)) → Carries C.reads L.loads (spaces_of service.old) (spaces_of service.new) conn.namespace conn.number (outside remaining (W.contents (device writer.old)) clock.old loader.old) (outside remaining (W.contents (device writer.new)) clock.new loader.new)) }
+    ensures taken { OnOk result (Connected (spaces_of service.new) conn.namespace conn.number IsTaken) }
+    ensures err { IfErr result (λ e. (remaining : Option (List ℕ)) → Breaks C.reads L.loads (spaces_of service.old) (spaces_of service.new) conn.namespace conn.number (outside remaining (W.contents (device writer.old)) clock.old loader.old) (outside remaining (W.contents (device writer.new)) clock.new loader.new) e) }
+    ensures left { OnErr result (Connected (spaces_of service.new) conn.namespace conn.number IsFed) }
+    ensures asks { HasAsked L.loads loader.old 0 loader.new }
+    ensures asked { IfOk result (λ asked. asked ≡ true → HasAsked L.loads loader.old 1 loader.new) }
+    ensures cause { IsErrOf result RunError.Write → HasFailed (failures writer.old) (failures writer.new) }
+    ensures used_up { IsErrOf result RunError.UsedUp → HasFailed (failures writer.old) (failures writer.new) }
+    ensures moment { IsErrOf result RunError.Moment → HasToldLate C.reads clock.new }
+    ensures count { failures writer.old ≤ failures writer.new }
+    ensures causes { IfErr result (λ e. e ≢ RunError.Read) }
+{
+    let (load, said) = match taken.last() {
+        Some((load, key)) => (load.number, loader.load(key.as_slice())),
+        None => return Ok(false),
     };
-    match ask(service, *load, key.as_slice(), clock, loader) {
-        Ok(()) => {}
+    let moment = clock.now();
+    let replies = match settle_load(service, conn, load, said, moment) {
+        Ok(replies) => replies,
         Err(error) => return Err(error),
-    }
+    };
     let _ = taken.pop();
-    let replies = take_replies(service, conn);
-    write_replies(&replies, writer)
+    match write_replies(&replies, writer) {
+        Ok(()) => Ok(true),
+        Err(error) => Err(error),
+    }
 }
 
 /// Takes the loads of a namespace that have gone out, where none that was taken is left.
-fn take_more(service: &mut Service, namespace: u64, taken: &mut Vec<(LoadId, Bytes)>) {
+fn take_more(service: &mut Service, conn: Conn, taken: &mut Vec<(LoadId, Bytes)>)
+    requires taken { Connected (spaces_of service.old) conn.namespace conn.number IsTaken }
+    ensures same { At (spaces_of service.old) (spaces_of service.new) conn.namespace SameSpace }
+    ensures taken { Connected (spaces_of service.new) conn.namespace conn.number IsTaken }
+{
     if !taken.is_empty() {
         return;
     }
-    match service.take_loads(namespace) {
+    match service.take_loads(conn.namespace) {
         Ok(loads) => *taken = loads,
         Err(_) => unreachable!(),
     }
 }
 
-/// Runs what settling loads may have left held back, where the connection is open.
-fn run_held<W: Write, C: Clock>(
-    service: &mut Service,
-    conn: Conn,
-    writer: &mut Watched<W>,
-    clock: &mut C,
-) -> Result<(), RunError> {
-    match service.closed(conn) {
-        Ok(None) => {}
-        Ok(Some(_)) => return Ok(()),
-        Err(_) => unreachable!(),
-    }
-    let moment = clock.now();
-    deliver(service, conn, &[], moment, writer)
-}
-
-/// Settles one load more, or else runs what may be held back. Answers whether something may be held back now.
+/// Settles one load more of those that have gone out, if there is one, and runs what that may have left held back. Answers whether there
+/// was one.
 fn settle_next<W: Write, C: Clock, L: Loader>(
     service: &mut Service,
     conn: Conn,
@@ -111,21 +183,38 @@ fn settle_next<W: Write, C: Clock, L: Loader>(
     writer: &mut Watched<W>,
     clock: &mut C,
     loader: &mut L,
-) -> Result<bool, RunError> {
-    if taken.is_empty() {
-        match run_held(service, conn, writer, clock) {
-            Ok(()) => Ok(false),
-            Err(error) => Err(error),
-        }
-    } else {
-        match settle_last(service, conn, taken, writer, clock, loader) {
-            Ok(()) => Ok(true),
-            Err(error) => Err(error),
-        }
+) -> Result<bool, RunError>
+    requires taken { Connected (spaces_of service.old) conn.namespace conn.number IsTaken }
+    ensures ok { OnOk result ((remaining : Option (List ℕ)) → Carries C.reads L.loads (spaces_of service.old) (spaces_of service.new) conn.namespace conn.number (outside remaining (W.contents (device writer.old)) clock.old loader.old) (outside remaining (W.contents (device writer.new)) clock.new loader.new)) }
+    ensures taken { OnOk result (Connected (spaces_of service.new) conn.namespace conn.number IsTaken) }
+    ensures err { IfErr result (λ e. (remaining : Option (List ℕ)) → Breaks C.reads L.loads (spaces_of service.old) (spaces_of service.new) conn.namespace conn.number (outside remaining (W.contents (device writer.old)) clock.old loader.old) (outside remaining (W.contents (device writer.new)) clock.new loader.new) e) }
+    ensures left { OnErr result (Connected (spaces_of service.new) conn.namespace conn.number IsFed) }
+    ensures asks { HasAsked L.loads loader.old 0 loader.new }
+    ensures asked { IfOk result (λ asked. asked ≡ true → HasAsked L.loads loader.old 1 loader.new) }
+    ensures cause { IsErrOf result RunError.Write → HasFailed (failures writer.old) (failures writer.new) }
+    ensures used_up { IsErrOf result RunError.UsedUp → HasFailed (failures writer.old) (failures writer.new) }
+    ensures moment { IsErrOf result RunError.Moment → HasToldLate C.reads clock.new }
+    ensures count { failures writer.old ≤ failures writer.new }
+    ensures causes { IfErr result (λ e. e ≢ RunError.Read) }
+{
+    take_more(service, conn, taken);
+    match settle_last(service, conn, taken, writer, clock, loader) {
+        Ok(true) => {}
+        Ok(false) => return Ok(false),
+        Err(error) => return Err(error),
+    }
+    match progress_of(service, conn) {
+        Progress::More => {}
+        Progress::Over => return Ok(true),
+    }
+    let moment = clock.now();
+    match deliver(service, conn, &[], moment, writer) {
+        Ok(()) => Ok(true),
+        Err(error) => Err(error),
     }
 }
 
-/// Asks the loader for each load of a connection that has gone out, until all are settled and nothing is held back.
+/// Asks the loader for each load of a connection that has gone out, until all are settled.
 pub fn settle_loads<W: Write, C: Clock, L: Loader>(
     service: &mut Service,
     conn: Conn,
@@ -133,31 +222,65 @@ pub fn settle_loads<W: Write, C: Clock, L: Loader>(
     writer: &mut Watched<W>,
     clock: &mut C,
     loader: &mut L,
-) -> Result<(), RunError> {
-    let mut may_hold = false;
+) -> Result<(), RunError>
+    requires taken { Connected (spaces_of service.old) conn.namespace conn.number IsTaken }
+    ensures ok { OnOk result ((remaining : Option (List ℕ)) → Carries C.reads L.loads (spaces_of service.old) (spaces_of service.new) conn.namespace conn.number (outside remaining (W.contents (device writer.old)) clock.old loader.old) (outside remaining (W.contents (device writer.new)) clock.new loader.new)) }
+    ensures taken { OnOk result (Connected (spaces_of service.new) conn.namespace conn.number IsTaken) }
+    ensures err { IfErr result (λ e. (remaining : Option (List ℕ)) → Breaks C.reads L.loads (spaces_of service.old) (spaces_of service.new) conn.namespace conn.number (outside remaining (W.contents (device writer.old)) clock.old loader.old) (outside remaining (W.contents (device writer.new)) clock.new loader.new) e) }
+    ensures left { OnErr result (Connected (spaces_of service.new) conn.namespace conn.number IsFed) }
+    ensures asks { HasAsked L.loads loader.old 0 loader.new }
+    ensures cause { IsErrOf result RunError.Write → HasFailed (failures writer.old) (failures writer.new) }
+    ensures used_up { IsErrOf result RunError.UsedUp → HasFailed (failures writer.old) (failures writer.new) ⊎ HasAsked L.loads loader.old (2 ^ 64 - 1) loader.new }
+    ensures moment { IsErrOf result RunError.Moment → HasToldLate C.reads clock.new }
+    ensures count { failures writer.old ≤ failures writer.new }
+    ensures causes { IfErr result (λ e. e ≢ RunError.Read) }
+{
     for _turn in 0..u64::MAX {
-        take_more(service, conn.namespace, taken);
-        if taken.is_empty() && !may_hold {
-            return Ok(());
-        }
         match settle_next(service, conn, taken, writer, clock, loader) {
-            Ok(settled) => may_hold = settled,
+            Ok(true) => {}
+            Ok(false) => return Ok(()),
             Err(error) => return Err(error),
         }
     }
     Err(RunError::UsedUp)
 }
 
-/// Gives up the loads that were taken, at moment 0, which counts as the latest.
-fn drop_taken(service: &mut Service, taken: &mut Vec<(LoadId, Bytes)>) {
-    while let Some((load, _)) = taken.pop() {
-        let _ = service.give_up(load, Instant { nanos: 0 });
+/// Gives a load up at moment 0, which counts as the latest. One that is not under way stays settled.
+fn drop_load(service: &mut Service, conn: Conn, load: u64)
+    requires known { conn.namespace < length (spaces_of service.old) }
+    ensures dropped { At (spaces_of service.old) (spaces_of service.new) conn.namespace (GivesUpLoads conn.number) }
+    ensures known { conn.namespace < length (spaces_of service.new) }
+{
+    let id = LoadId {
+        namespace: conn.namespace,
+        number: load,
+    };
+    match service.give_up(id, Instant { nanos: 0 }) {
+        Ok(()) => (),
+        // It is not under way.
+        Err(_) => (),
+    }
+}
+
+/// Gives up these loads.
+fn drop_all(service: &mut Service, conn: Conn, loads: &[(LoadId, Bytes)])
+    requires known { conn.namespace < length (spaces_of service.old) }
+    ensures dropped { At (spaces_of service.old) (spaces_of service.new) conn.namespace (GivesUpLoads conn.number) }
+    ensures known { conn.namespace < length (spaces_of service.new) }
+{
+    for (load, _key) in loads {
+        drop_load(service, conn, load.number);
     }
 }
 
 /// Gives up the loads of a connection that has closed: those that were taken, and then those that have gone out.
-pub fn drop_loads(service: &mut Service, namespace: u64, taken: &mut Vec<(LoadId, Bytes)>) {
-    drop_taken(service, taken);
-    take_more(service, namespace, taken);
-    drop_taken(service, taken);
+pub fn drop_loads(service: &mut Service, conn: Conn, taken: &[(LoadId, Bytes)])
+    requires known { conn.namespace < length (spaces_of service.old) }
+    ensures dropped { At (spaces_of service.old) (spaces_of service.new) conn.namespace (GivesUpLoads conn.number) }
+{
+    drop_all(service, conn, taken);
+    match service.take_loads(conn.namespace) {
+        Ok(loads) => drop_all(service, conn, loads.as_slice()),
+        Err(_) => unreachable!(),
+    }
 }

@@ -11,7 +11,7 @@ ghost use Rattle.cache_run.specs.Carried.{Broken, Carried, nothing_left};
 ghost use Rattle.cache_run.specs.Connected.{Connected, IsFed, IsOver, IsReady};
 ghost use Rattle.cache_run.specs.Goes.{Goes};
 ghost use Rattle.cache_run.specs.Runs.{Closes, Quiet, ServesPartly, ServesWhole, next_number};
-ghost use Rattle.cache_run.specs.Turns.{HasRead, HasToldLate};
+ghost use Rattle.cache_run.specs.Turns.{HasAsked, HasRead, HasToldLate};
 ghost use Rattle.cache_run.specs.Worlds.{outside, world};
 
 use crate::errors::RunError;
@@ -42,7 +42,8 @@ fn open_connection(service: &mut Service, namespace: u64) -> Result<Conn, RunErr
 /// Closes a connection, unless it has closed.
 fn close_if_open(service: &mut Service, conn: Conn)
     requires fed { Connected (spaces_of service.old) conn.namespace conn.number IsFed }
-    ensures { At (spaces_of service.old) (spaces_of service.new) conn.namespace (Closes conn.number) }
+    ensures closes { At (spaces_of service.old) (spaces_of service.new) conn.namespace (Closes conn.number) }
+    ensures known { conn.namespace < length (spaces_of service.new) }
 {
     match service.close(conn) {
         Ok(()) => (),
@@ -75,7 +76,7 @@ fn converse<R: Read, W: Write, C: Clock, L: Loader>(
     ensures read { IsErrOf result RunError.Read → HasFailed (failures reader.old) (failures reader.new) }
     ensures write { IsErrOf result RunError.Write → HasFailed (failures writer.old) (failures writer.new) }
     ensures moment { IsErrOf result RunError.Moment → HasToldLate C.reads clock.new }
-    ensures used_up { IsErrOf result RunError.UsedUp → HasFailed (failures writer.old) (failures writer.new) ⊎ (HasFailed (failures reader.old) (failures reader.new) ⊎ HasRead (R.remaining (device reader.old)) (R.remaining (device reader.new)) (2 ^ 64 - 1)) }
+    ensures used_up { IsErrOf result RunError.UsedUp → HasFailed (failures writer.old) (failures writer.new) ⊎ (HasFailed (failures reader.old) (failures reader.new) ⊎ (HasRead (R.remaining (device reader.old)) (R.remaining (device reader.new)) (2 ^ 64 - 1) ⊎ HasAsked L.loads loader.old (2 ^ 64 - 1) loader.new)) }
 {
     for _turn in 0..u64::MAX {
         match take_turn(service, conn, buffer, reader, writer, clock, loader, taken) {
@@ -117,8 +118,9 @@ pub fn run<R: Read, W: Write, C: Clock, L: Loader>(
     ensures write { IsErrOf result RunError.Write → HasFailed (failures writer.old) (failures writer.new) }
     ensures moment { IsErrOf result RunError.Moment → HasToldLate C.reads clock.new }
 
-    // Numbers are used up only where a device failed or as many bytes were read as turns are counted.
-    ensures used_up { IsErrOf result RunError.UsedUp → HasFailed (failures writer.old) (failures writer.new) ⊎ (HasFailed (failures reader.old) (failures reader.new) ⊎ HasRead (R.remaining (device reader.old)) (R.remaining (device reader.new)) (2 ^ 64 - 1)) }
+    // Numbers are used up only where a device failed, or where as many bytes were read, or the loader was asked as often, as turns are
+    // counted.
+    ensures used_up { IsErrOf result RunError.UsedUp → HasFailed (failures writer.old) (failures writer.new) ⊎ (HasFailed (failures reader.old) (failures reader.new) ⊎ (HasRead (R.remaining (device reader.old)) (R.remaining (device reader.new)) (2 ^ 64 - 1) ⊎ HasAsked L.loads loader.old (2 ^ 64 - 1) loader.new)) }
 {
     let mut buffer = match vec![in alloc; 0u8; PIECE_BYTES] {
         Ok(buffer) => buffer,
@@ -140,6 +142,11 @@ pub fn run<R: Read, W: Write, C: Clock, L: Loader>(
         &mut taken,
     );
     close_if_open(service, conn);
-    drop_loads(service, namespace, &mut taken);
-    outcome
+    match outcome {
+        Ok(()) => Ok(()),
+        Err(error) => {
+            drop_loads(service, conn, taken.as_slice());
+            Err(error)
+        }
+    }
 }

@@ -1,5 +1,5 @@
 //! One turn of a run.
-ghost use Rattle.std.specs.Prelude.{◌≡◌, ◌≤◌, ◌<◌, ◌⊎◌, ℕ, [], List, Option, false, length, IfOk, IfErr, OnOk, OnErr, IsErrOf};
+ghost use Rattle.std.specs.Prelude.{◌≡◌, ◌≤◌, ◌<◌, ◌⊎◌, ◌^◌, ◌-◌, ℕ, [], List, Option, false, length, IfOk, IfErr, OnOk, OnErr, IsErrOf};
 ghost use Rattle.cache_devices.specs.Failures.{HasFailed};
 ghost use Rattle.cache_devices.specs.Watched.{device, failures};
 ghost use Rattle.cache_spaces.specs.Moves.{At};
@@ -8,7 +8,7 @@ ghost use Rattle.cache_spaces.specs.Spaces.{config_of};
 ghost use Rattle.cache_run.specs.Carried.{Broken, Carried, nothing_left};
 ghost use Rattle.cache_run.specs.Connected.{Connected, IsFed, IsReady, IsTaken};
 ghost use Rattle.cache_run.specs.Goes.{Goes};
-ghost use Rattle.cache_run.specs.Turns.{HasRead, HasToldLate, LeavesSo};
+ghost use Rattle.cache_run.specs.Turns.{HasAsked, HasRead, HasToldLate, LeavesSo};
 ghost use Rattle.cache_run.specs.Worlds.{outside, world};
 
 use crate::errors::RunError;
@@ -29,7 +29,7 @@ pub enum Progress {
 }
 
 /// Whether a run goes on behind a piece: not where the connection has closed.
-fn progress_of(service: &Service, conn: Conn) -> Progress
+pub fn progress_of(service: &Service, conn: Conn) -> Progress
     requires taken { Connected (spaces_of service.now) conn.namespace conn.number IsTaken }
     ensures { (remaining : Option (List ℕ)) → Connected (spaces_of service.now) conn.namespace conn.number (LeavesSo result remaining) }
 {
@@ -63,7 +63,8 @@ pub fn take_turn<R: Read, W: Write, C: Clock, L: Loader>(
     ensures left { OnErr result (Connected (spaces_of service.new) conn.namespace conn.number IsFed) }
     ensures read { IsErrOf result RunError.Read → HasFailed (failures reader.old) (failures reader.new) }
     ensures write { IsErrOf result RunError.Write → HasFailed (failures writer.old) (failures writer.new) }
-    ensures used_up { IsErrOf result RunError.UsedUp → HasFailed (failures writer.old) (failures writer.new) }
+    ensures used_up { IsErrOf result RunError.UsedUp → HasFailed (failures writer.old) (failures writer.new) ⊎ HasAsked L.loads loader.old (2 ^ 64 - 1) loader.new }
+    ensures asks { HasAsked L.loads loader.old 0 loader.new }
     ensures moment { IsErrOf result RunError.Moment → HasToldLate C.reads clock.new }
     ensures more { IfOk result (λ progress. progress ≡ Progress.More → HasFailed (failures reader.old) (failures reader.new) ⊎ HasRead (R.remaining (device reader.old)) (R.remaining (device reader.new)) 1) }
     ensures reads { failures reader.old ≤ failures reader.new }

@@ -1,8 +1,9 @@
-use Rattle.std.proofs.Common.{◌≡◌, arith, inl}
+use Rattle.std.proofs.Common.{◌≡◌, ◌^◌, ◌-◌, ⊎_elim, arith, inl, inr}
+use Rattle.cache_devices.proofs.Sending.{failed_after}
 use Rattle.cache_run.specs.Connected.{IsFed, IsReady}
 use Rattle.cache_run.specs.declared.errors.RunError.TheVariants.{Moment, UsedUp}
 use Rattle.cache_run.proofs.Connecting.{connected-map}
-use Rattle.cache_run.proofs.Turning.{at-broken, at-broken-more, at-carried-more, at-carried-start, turns-more, turns-none}
+use Rattle.cache_run.proofs.Turning.{asked-fewer, asked-more, asked-none, at-broken, at-broken-more, at-carried-more, at-carried-start, still-err, turns-more, turns-none}
 use Rattle.cache_run.proofs.serving.converse.Goals as goal
 
 pub loop-turn-init : goal.loop-turn-init
@@ -13,6 +14,7 @@ loop-turn-init g c = record {
   writes = omega arith;
   room = c.requires.room;
   turns = turns-none _ _;
+  asked = asked-none g.L.Loader.loads _;
 }
 
 pub loop-turn-preserved : goal.loop-turn-preserved
@@ -23,6 +25,7 @@ loop-turn-preserved g c = record {
   writes = omega (arith, c.loop-turn.invariant.writes, c.in-Ok-More.ensures.writes);
   room = omega (arith, c.loop-turn.invariant.room, c.in-Ok-More.ensures.room);
   turns = turns-more _ _ _ _ _ _ c.loop-turn._turn c.loop-turn.invariant.reads c.in-Ok-More.ensures.reads c.loop-turn.invariant.turns (c.in-Ok-More.ensures.more c.in-Ok-More.field-0-is);
+  asked = asked-fewer g.L.Loader.loads _ _ _ 0 (omega arith) (asked-more g.L.Loader.loads _ _ _ 0 0 c.loop-turn.invariant.asked c.in-Ok-More.ensures.asks);
 }
 
 pub returns-in-Ok-Over-clause-ok : goal.returns-in-Ok-Over-clause-ok
@@ -33,6 +36,11 @@ returns-in-Ok-Over-clause-over g c = rw c.in-Ok-Over.field-0-is at c.in-Ok-Over.
 
 pub returns-in-Err-clause-err : goal.returns-in-Err-clause-err
 returns-in-Err-clause-err g c = at-broken-more g.C.Clock.reads g.L.Loader.loads _ _ _ _ _ _ _ _ _ c.loop-turn.invariant.carried c.in-Err.ensures.err
+
+pub returns-in-Err-clause-used_up : goal.returns-in-Err-clause-used_up
+returns-in-Err-clause-used_up g c = λ is.
+    ⊎_elim (λ failed. inl (failed_after _ _ _ c.loop-turn.invariant.writes c.in-Err.ensures.writes failed))
+    (λ asked. inr (inr (inr (asked-fewer g.L.Loader.loads _ _ _ (2 ^ 64 - 1) (omega arith) (asked-more g.L.Loader.loads _ _ _ 0 (2 ^ 64 - 1) c.loop-turn.invariant.asked asked))))) (c.in-Err.ensures.used_up (still-err c.in-Err.error UsedUp is))
 
 pub returns-clause-err : goal.returns-clause-err
 returns-clause-err g c = at-broken g.C.Clock.reads g.L.Loader.loads _ _ _ _ _ _ _ _ _ _ _ _ UsedUp (λ is. let h : UsedUp ≡ Moment = is in cc) c.loop-turn.invariant.carried

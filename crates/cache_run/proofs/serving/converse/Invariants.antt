@@ -6,7 +6,7 @@ use Rattle.cache_spaces.specs.Spaces.{config_of}
 use Rattle.cache_run.specs.Carried.{Carried, nothing_left}
 use Rattle.cache_run.specs.Connected.{Connected, IsReady}
 use Rattle.cache_run.specs.Goes.{Goes}
-use Rattle.cache_run.specs.Turns.{HasRead}
+use Rattle.cache_run.specs.Turns.{HasAsked, HasRead}
 use Rattle.cache_devices.specs.Failures.{HasFailed}
 use Rattle.cache_run.specs.Worlds.{outside, world}
 use Rattle.cache_run.proofs.serving.converse.Given as goal
@@ -22,4 +22,5 @@ invariant-loop-turn g l = record {
   writes : failures l.fn.writer ≤ failures l.writer;
   room : 0 < length l.buffer;
   turns : HasFailed (failures l.fn.reader) (failures l.reader) ⊎ HasRead (g.R.Read.remaining (device l.fn.reader)) (g.R.Read.remaining (device l.reader)) l._turn;
+  asked : HasAsked g.L.Loader.loads l.fn.loader 0 l.loader;
 }

@@ -21,14 +21,17 @@ pub close_if_open-requires : goal.close_if_open-requires
 close_if_open-requires g c =
     record { fed = fed-after _ _ _ (g.R.Read.remaining (device c.converse-outcome.new.reader)) c.converse-outcome.result c.converse-outcome.ensures.over c.converse-outcome.ensures.left }
 
-pub returns-clause-ok : goal.returns-clause-ok
-returns-clause-ok g c =
+pub drop_loads-requires : goal.drop_loads-requires
+drop_loads-requires g c = record { known = c.close_if_open.ensures.known }
+
+pub returns-in-Ok-outcome-clause-ok : goal.returns-in-Ok-outcome-clause-ok
+returns-in-Ok-outcome-clause-ok g c =
     let o = c.in-Ok-open_connection.ensures.ok in
     let ran = c.converse-outcome in
-    run-whole g.C.Clock.reads g.L.Loader.loads _ _ _ _ c.in-Ok-open_connection.conn.namespace c.args.namespace c.in-Ok-open_connection.conn.number _ _ ran.result o.0 o.1 ran.ensures.ok ran.ensures.over c.close_if_open.ensures
+    run-whole g.C.Clock.reads g.L.Loader.loads _ _ _ _ c.in-Ok-open_connection.conn.namespace c.args.namespace c.in-Ok-open_connection.conn.number _ _ o.0 o.1 (rw c.in-Ok-outcome.is at ran.ensures.ok) (rw c.in-Ok-outcome.is at ran.ensures.over) c.close_if_open.ensures.closes
 
 pub returns-clause-err : goal.returns-clause-err
 returns-clause-err g c =
     let o = c.in-Ok-open_connection.ensures.ok in
     let ran = c.converse-outcome in
-    run-partly g.C.Clock.reads g.L.Loader.loads _ _ _ _ c.in-Ok-open_connection.conn.namespace c.args.namespace c.in-Ok-open_connection.conn.number _ _ ran.result _ o.0 o.1 ran.ensures.err c.close_if_open.ensures
+    run-partly g.C.Clock.reads g.L.Loader.loads _ _ _ _ c.in-Ok-open_connection.conn.namespace c.args.namespace c.in-Ok-open_connection.conn.number _ _ _ _ _ o.0 o.1 (rw c.in-Err-outcome.is at ran.ensures.err) c.close_if_open.ensures.closes c.drop_loads.ensures.dropped

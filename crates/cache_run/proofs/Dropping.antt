@@ -1,0 +1,118 @@
+-- Loads that are given up behind a closing.
+use Rattle.std.proofs.Common.{◌≡◌, ◌≢◌, ℕ, ◌<◌, ◌-◌, List, [], ◌∷◌, ◌++◌, length, None, Some, refl, sym, ap, ◌∙◌, subst, append_assoc}
+use Rattle.std.specs.List.{flat_map}
+use Rattle.std.proofs.lemmas.List.{append-nil}
+use Rattle.std.proofs.lemmas.Option.{slice_get_within}
+use Rattle.std.proofs.lemmas.Grind.{flat_map-append}
+use Rattle.audit_model.specs.Follows.{after_records}
+use Rattle.audit_model.specs.Situation.{Situation}
+use Rattle.audit_model.specs.declared.config.Config.{Config}
+use Rattle.audit_model.specs.declared.transcript.Note.{Note}
+use Rattle.audit_model.specs.declared.transcript.Record.{Record}
+use Rattle.audit_model.specs.declared.input.LoadId.{LoadId}
+use Rattle.cache_namespace.specs.Taken.{closing_at, text_at}
+use Rattle.cache_settling.specs.Answered.{giving_up}
+use Rattle.cache_spaces.proofs.Putting.{same-space}
+use Rattle.cache_spaces.specs.Moves.{At}
+use Rattle.cache_spaces.specs.Serves as served
+use Rattle.cache_spaces.specs.Serves.{SameSpace, TakesLoads}
+use Rattle.cache_spaces.specs.Spaces.{closing_of, config_of, notices_of, output_of}
+use Rattle.cache_spaces.specs.declared.space.Space.{Space}
+use Rattle.cache_run.specs.Goes.{Goes}
+use Rattle.cache_run.specs.Happened.{AreDrops, notes_of}
+use Rattle.cache_run.specs.Loading.{GivesUp, GivesUpLoads}
+use Rattle.cache_run.proofs.Carrying.{record-one, records-more}
+use Rattle.cache_run.proofs.Connecting.{found-at}
+use Rattle.cache_run.proofs.Going.{goes-more, goes-same}
+use Rattle.cache_run.proofs.Placing.{at-is, at-map, at-more, at-same}
+use Rattle.cache_run.proofs.Settling.{others-left, settled-alone, settled-closed}
+
+pub drops-more : (xs ys : List Record) → AreDrops xs → AreDrops ys → AreDrops (xs ++ ys)
+drops-more [] ys a b = b
+drops-more (x ∷ xs) ys a b = (a.0, drops-more xs ys a.1 b)
+
+-- loads that were taken leave the namespace the same
+pub taken-same : (was is : Space) (loads : List (LoadId × List ℕ)) → TakesLoads was is loads → SameSpace was is
+taken-same was is loads t = record {
+  stands = t.stands;
+  recency = t.recency;
+  config = t.config;
+  made = t.made;
+  outputs = λ number. ap (λ cs. text_at cs (number - 1)) t.connections;
+  closings = λ number. ap (λ cs. closing_at cs (number - 1)) t.connections;
+  notices = t.notices;
+  count = ap length t.connections;
+}
+
+given-none : (config : Config) (s t : Situation) (before after : List Note) → t ≡ s → after ≡ before → GivesUp config s t before after
+given-none config s t before after same notices = record { drops = []; dropped = tt; follows = ap (λ x. Some x) (sym same); notices = notices ∙ sym (append-nil before) }
+
+given-more : (config : Config) (s t u : Situation) (a b c : List Note) → GivesUp config s t a b → GivesUp config t u b c → GivesUp config s u a c
+given-more config s t u a b c x y = record {
+  drops = x.drops ++ y.drops;
+  dropped = drops-more x.drops y.drops x.dropped y.dropped;
+  follows = records-more config s x.drops t y.drops u x.follows y.follows;
+  notices = y.notices ∙ ap (λ l. l ++ flat_map notes_of y.drops) x.notices ∙ append_assoc a (flat_map notes_of x.drops) (flat_map notes_of y.drops) ∙ ap (λ l. a ++ l) (sym (flat_map-append notes_of x.drops y.drops));
+}
+
+-- nothing was given up
+pub drops-none : (number : ℕ) (was is : Space) → SameSpace was is → GivesUpLoads number was is
+drops-none number was is same = (
+  goes-same number was is (λ s t. GivesUp (config_of was) s t (notices_of was) (notices_of is)) same (λ s. given-none (config_of was) s s (notices_of was) (notices_of is) refl same.notices),
+  λ closed is_open. closed (sym (same.closings number) ∙ is_open),
+)
+
+-- one after another
+pub drops-again : (number : ℕ) (x y z : Space) → GivesUpLoads number x y → GivesUpLoads number y z → GivesUpLoads number x z
+drops-again number x y z a b = (
+  goes-more number x y z (λ s t. GivesUp (config_of x) s t (notices_of x) (notices_of y)) (λ s t. GivesUp (config_of y) s t (notices_of y) (notices_of z)) (λ s t. GivesUp (config_of x) s t (notices_of x) (notices_of z)) a.0 b.0
+      (λ s t u f g. given-more (config_of x) s t u (notices_of x) (notices_of y) (notices_of z) f (subst (λ k. GivesUp k t u (notices_of y) (notices_of z)) a.0.config g)),
+  λ closed. b.1 (a.1 closed),
+)
+
+-- one load was given up
+pub drops-one : (number : ℕ) (was is : Space) (load : ℕ) → served.Settled was is (giving_up load 0) → GivesUpLoads number was is
+drops-one number was is load settled = (
+  record {
+    each = λ s stands alone.
+        let r = settled.settles s stands in
+        let law = settled-alone number was is s (giving_up load 0) r (λ n. tt) alone in
+        record {
+          next = r.next;
+          stands = r.stands;
+          alone = law.1;
+          fact = record {
+            drops = r.entry ∷ [];
+            dropped = ((load, r.event), tt);
+            follows = record-one (config_of was) s r.entry r.next r.follows;
+            notices = r.notices ∙ ap (λ l. notices_of was ++ l) (sym (append-nil (notes_of r.entry)));
+          };
+          others = λ other ne. others-left number other was is s (giving_up load 0) r law.0 ne;
+        };
+    config = settled.config;
+  },
+  settled-closed number was is (giving_up load 0) settled,
+)
+
+-- ---- among many
+
+pub known-still : {X : Type 0} (F : X → X → Type 0) (old new : List X) (n : ℕ) → At old new n F → n < length new
+known-still F old new n a = slice_get_within new n a.is (at-is F old new n a)
+
+-- nothing was called
+pub same-at : (spaces : List Space) (n : ℕ) → n < length spaces → At spaces spaces n SameSpace
+same-at spaces n known = let found = found-at spaces n known in at-same SameSpace spaces n found.0 found.1 (same-space found.0 found.0 refl)
+
+-- loads were taken
+pub at-taken : (old new : List Space) (n : ℕ) (loads : List (LoadId × List ℕ)) → At old new n (λ was is. TakesLoads was is loads) → At old new n SameSpace
+at-taken old new n loads a = at-map (λ was is. TakesLoads was is loads) SameSpace old new n a (λ x y t. taken-same x y loads t)
+
+module _ (number n : ℕ) where
+  pub at-drop : (old new : List Space) (load : ℕ) → At old new n (λ was is. served.Settled was is (giving_up load 0)) → At old new n (GivesUpLoads number)
+  at-drop old new load a = at-map (λ was is. served.Settled was is (giving_up load 0)) (GivesUpLoads number) old new n a (λ x y settled. drops-one number x y load settled)
+
+  pub at-undropped : (old new : List Space) → At old new n SameSpace → At old new n (GivesUpLoads number)
+  at-undropped old new a = at-map SameSpace (GivesUpLoads number) old new n a (λ x y same. drops-none number x y same)
+
+  pub at-drops-more : (first second third : List Space) → At first second n (GivesUpLoads number) → At second third n (GivesUpLoads number) → At first third n (GivesUpLoads number)
+  at-drops-more first second third a b = at-more (GivesUpLoads number) (GivesUpLoads number) (GivesUpLoads number) first second third n a b (λ x y z p q. drops-again number x y z p q)

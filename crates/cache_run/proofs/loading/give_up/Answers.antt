@@ -1,0 +1,34 @@
+use Rattle.std.proofs.Common.{refl, inl, inr}
+use Rattle.audit_model.specs.declared.input.ServiceError.TheVariants as error
+use Rattle.cache_spaces.specs.Serves.{SameSpace, known_of}
+use Rattle.cache_spaces.specs.Spaces.{config_of}
+use Rattle.cache_run.specs.Connected.{IsFed, IsTaken}
+use Rattle.cache_run.proofs.Connecting.{connected-map, refused-here}
+use Rattle.cache_run.proofs.Placing.{at-map}
+use Rattle.cache_run.proofs.Refusing.{give-up-late}
+use Rattle.cache_run.proofs.Settling.{at-dropped, at-given-up, connected-kept, connected-settled}
+use Rattle.cache_run.proofs.loading.give_up.Goals as goal
+
+pub returns-in-Ok-clause-ok : goal.returns-in-Ok-clause-ok
+returns-in-Ok-clause-ok c = at-given-up _ _ _ _ c.args.moment c.requires.taken c.args.load c.in-Ok.ensures.taken
+
+pub returns-in-Ok-clause-left : goal.returns-in-Ok-clause-left
+returns-in-Ok-clause-left c = connected-settled _ _ _ _ c.requires.taken _ c.in-Ok.ensures.taken
+
+pub returns-in-Err-Moment-clause-err : goal.returns-in-Err-Moment-clause-err
+returns-in-Err-Moment-clause-err c =
+    let r = c.requires.taken in
+    let a = refused-here _ _ _ error.Moment _ r.space r.at (rw c.in-Err-Moment.field-0-is at c.in-Err-Moment.ensures.refused) in
+    (at-map _ SameSpace _ _ _ a (λ x y p. p.0), inr (refl, give-up-late (config_of a.was) (known_of a.was) c.args.load c.args.moment a.fact.1))
+
+pub returns-in-Err-clause-ok : goal.returns-in-Err-clause-ok
+returns-in-Err-clause-ok c =
+    let r = c.requires.taken in
+    let a = at-map _ SameSpace _ _ _ (refused-here _ _ _ _ _ r.space r.at c.in-Err.ensures.refused) (λ x y p. p.0) in
+    at-map _ _ _ _ _ (at-dropped _ _ _ _ c.args.moment r a) (λ x y goes asking refused. goes asking)
+
+pub returns-in-Err-clause-left : goal.returns-in-Err-clause-left
+returns-in-Err-clause-left c =
+    let r = c.requires.taken in
+    let a = at-map _ SameSpace _ _ _ (refused-here _ _ _ _ _ r.space r.at c.in-Err.ensures.refused) (λ x y p. p.0) in
+    connected-map IsTaken IsFed _ _ _ (connected-kept _ _ _ _ r a) (λ x left. left.0)

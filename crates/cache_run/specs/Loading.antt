@@ -1,0 +1,39 @@
+-- What settling a connection's loads carries, and what giving them up does.
+use Rattle.std.specs.Prelude.{◌≡◌, ◌≢◌, ℕ, List, [], ◌++◌, false, Option, Some, None}
+use Rattle.std.specs.List.{flat_map}
+use Rattle.audit_model.specs.Follows.{after_records}
+use Rattle.audit_model.specs.Situation.{Situation}
+use Rattle.audit_model.specs.declared.config.Config.{Config}
+use Rattle.audit_model.specs.declared.event.Outcome.{Outcome}
+use Rattle.audit_model.specs.declared.transcript.Note.{Note}
+use Rattle.audit_model.specs.declared.transcript.Record.{Record}
+use Rattle.cache_spaces.specs.Moves.{At}
+use Rattle.cache_spaces.specs.Spaces.{closing_of, config_of, notices_of}
+use Rattle.cache_spaces.specs.declared.space.Space.{Space}
+use Rattle.cache_run.specs.Carried.{Broken, Carried, nothing_left}
+use Rattle.cache_run.specs.Goes.{Goes}
+use Rattle.cache_run.specs.Happened.{AreDrops, notes_of}
+use Rattle.cache_run.specs.Worlds.{Outside, world}
+use Rattle.cache_run.specs.declared.errors.RunError.{RunError}
+
+-- turns came, and nothing was left
+abbrev pub Carries : {C L : Type 0} → (C → ℕ → C → Type 0) → (L → List ℕ → Option Outcome → L → Type 0) → List Space → List Space → ℕ → ℕ → Outside C L → Outside C L → Type 0
+Carries reads loads old new namespace number a b =
+    At old new namespace (λ was is. Goes number was is (λ s t. Carried (config_of was) number reads loads (world was s a) (world is t b) false false [] nothing_left))
+
+-- turns came, and then an error
+abbrev pub Breaks : {C L : Type 0} → (C → ℕ → C → Type 0) → (L → List ℕ → Option Outcome → L → Type 0) → List Space → List Space → ℕ → ℕ → Outside C L → Outside C L → RunError → Type 0
+Breaks reads loads old new namespace number a b e =
+    At old new namespace (λ was is. Goes number was is (λ s t. Broken (config_of was) number reads loads (world was s a) (world is t b) false false [] e))
+
+-- loads were given up at moment 0, and nothing else came
+pub record GivesUp (config : Config) (s t : Situation) (before after : List Note) : Type 0 where
+  pub drops : List Record
+  pub dropped : AreDrops drops
+  pub follows : after_records config s drops ≡ Some t
+  pub notices : after ≡ before ++ flat_map notes_of drops
+
+-- loads of a connection's namespace were given up, and the connection stays closed if it was
+abbrev pub GivesUpLoads : ℕ → Space → Space → Type 0
+GivesUpLoads number was is =
+    Goes number was is (λ s t. GivesUp (config_of was) s t (notices_of was) (notices_of is)) × (closing_of was number ≢ None → closing_of is number ≢ None)
