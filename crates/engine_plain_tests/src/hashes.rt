@@ -22,7 +22,12 @@ fn cache_of(alloc: Global) -> Result<Cache, AllocError> {
         takes_predicates: false,
         made: 0,
     };
-    BaseCache::new(alloc, settings, Folding::new(), Bundle::new(NoExpiry, WeighOne))
+    BaseCache::new(
+        alloc,
+        settings,
+        Folding::new(),
+        Bundle::new(NoExpiry, WeighOne),
+    )
 }
 
 #[test]
