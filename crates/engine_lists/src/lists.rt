@@ -1,9 +1,10 @@
 //! The lists, and one change of them for each method.
-ghost use Rattle.std.specs.Prelude.{◌≡◌, ℕ, ◌+◌, ◌-◌, ◌<◌, ◌≤◌, ◌^◌, Bool, true, false, [], ◌∷◌, ◌⊎◌, ◌++◌, length, vec_len, vec_capacity, drop, min, remove, slice_get, slice_set, is_some, Some, None, IfSome, IfNone, IfOk, OnOk, OnErr, if◌then◌else◌};
+ghost use Rattle.std.specs.Prelude.{◌≡◌, ℕ, ◌+◌, ◌-◌, ◌<◌, ◌≤◌, ◌^◌, Bool, true, false, [], ◌∷◌, ◌⊎◌, ◌++◌, length, vec_len, vec_capacity, drop, min, remove, slice_get, slice_set, is_some, Some, None, IfSome, IfNone, IfOk, OnOk, OnErr, if◌then◌else◌, option_map};
+ghost use Rattle.std.specs.String.{string_bytes};
 ghost use Rattle.std.specs.Result.{IsErrOf};
 ghost use Rattle.std.specs.Int.{IsNextPowerOfTwo};
 ghost use Rattle.policy_sketch.specs.Counts.{incremented, grown};
-ghost use Rattle.engine_reference.specs.Calls.{IsNew, cleared_by, without_notice};
+ghost use Rattle.engine_reference.specs.Calls.{IsNew, cleared_by, without_notice, with_name};
 ghost use Rattle.engine_reference.specs.Visible.{is_covered, told};
 ghost use Rattle.engine_reference.specs.Records.{held_at, without, moved_to_back};
 ghost use Rattle.engine_reference.specs.Times.{has_come};
@@ -46,13 +47,15 @@ pub struct Lists<K: Eq, V, S, R: Rules<K, V>> {
     next_number: u64,
     next_ticket: u64,
     reserved: u64,
+    name: Option<String>,
     settings: Settings,
     hasher: S,
     rules: R,
 }
 
 impl<K: Eq, V, S, R: Rules<K, V>> Model for Lists<K, V, S, R> {
-    ghost use Rattle.std.specs.Prelude.{ℕ, ◌+◌, ◌-◌, ◌≤◌, ◌<◌, ◌^◌, vec_len, vec_capacity};
+    ghost use Rattle.std.specs.Prelude.{ℕ, ◌+◌, ◌-◌, ◌≤◌, ◌<◌, ◌^◌, vec_len, vec_capacity, option_map};
+    ghost use Rattle.std.specs.String.{string_bytes};
     ghost use Rattle.engine_reference.specs.State.{State};
     ghost use Rattle.engine_reference.specs.Soundness.{Each};
 
@@ -74,6 +77,7 @@ impl<K: Eq, V, S, R: Rules<K, V>> Model for Lists<K, V, S, R> {
       next_number = c.next_number;
       next_ticket = c.next_ticket;
       reserved = c.reserved;
+      name = option_map string_bytes c.name;
       settings = c.settings;
       hasher = c.hasher;
       rules = c.rules;
@@ -121,6 +125,7 @@ impl<K: Eq, V, S, R: Rules<K, V>> Lists<K, V, S, R> {
             next_number: 0,
             next_ticket: 0,
             reserved: 0,
+            name: None,
             settings,
             hasher,
             rules,
@@ -218,9 +223,28 @@ impl<K: Eq, V, S, R: Rules<K, V>> Lists<K, V, S, R> {
         self.settings
     }
 
-    /// Where the lists get their memory.
-    pub fn alloc(&self) -> Global {
-        *self.records.allocator()
+    /// An empty list, over the memory of these.
+    pub fn empty<T>(&self) -> Vec<T>
+        ensures { result.items ≡ [] }
+    {
+        Vec::new(*self.records.allocator())
+    }
+
+    /// What the cache is called.
+    pub fn name(&self) -> Option<&str>
+        ensures { option_map (λ text. text.now) result ≡ self.now.name }
+    {
+        match &self.name {
+            Some(name) => Some(name.as_str()),
+            None => None,
+        }
+    }
+
+    /// Calls the cache so.
+    pub fn set_name(&mut self, name: String)
+        ensures { self.new ≡ with_name (string_bytes name) self.old }
+    {
+        self.name = Some(name);
     }
 
     /// What hashes keys.

@@ -121,6 +121,7 @@ impl<K: Eq, V, S, R: Rules<K, V>> BaseCache<K, V, S, R> {
         ensures ok { OnOk result (self.new ≡ with_room self.old) }
         ensures err { OnErr result (self.new ≡ self.old) }
         ensures used_up { IsErrOf result Refusal.UsedUp → 2 ^ 64 ≤ self.old.next_ticket + self.old.reserved + 1 }
+        ensures only { OnErr result ((IsErrOf result Refusal.OutOfMemory) ⊎ (IsErrOf result Refusal.UsedUp)) }
     {
         self.lists.make_room(1)?;
         Ok(())
@@ -235,6 +236,8 @@ impl<K: Eq, V, S, R: Rules<K, V>> BaseCache<K, V, S, R> {
         ensures removed { OnOk result (self.new ≡ removed_by K.eq key.now self.old) }
         ensures entry { IfOk result (λ gone. gone ≡ option_map (λ r. (r.entry, self.old.next_ticket)) (held_at K.eq self.old.records key.now)) }
         ensures err { OnErr result (self.new ≡ self.old) }
+        ensures used_up { IsErrOf result Refusal.UsedUp → 2 ^ 64 ≤ self.old.next_ticket + self.old.reserved + (if self.old.settings.tells then 2 else 1) }
+        ensures only { OnErr result ((IsErrOf result Refusal.OutOfMemory) ⊎ (IsErrOf result Refusal.UsedUp)) }
     {
         match self.lists.place_of(key) {
             Some(place) => {
@@ -252,6 +255,8 @@ impl<K: Eq, V, S, R: Rules<K, V>> BaseCache<K, V, S, R> {
         requires { (r : Record K V) × (slice_get self.old.records place ≡ Some r) × (held_at K.eq self.old.records key.now ≡ Some r) }
         ensures ok { OnOk result (self.new ≡ removed_by K.eq key.now self.old) }
         ensures err { OnErr result (self.new ≡ self.old) }
+        ensures used_up { IsErrOf result Refusal.UsedUp → 2 ^ 64 ≤ self.old.next_ticket + self.old.reserved + (if self.old.settings.tells then 2 else 1) }
+        ensures only { OnErr result ((IsErrOf result Refusal.OutOfMemory) ⊎ (IsErrOf result Refusal.UsedUp)) }
     {
         let by = rooms_of_removal(self.lists.settings());
         self.lists.make_room(by)?;

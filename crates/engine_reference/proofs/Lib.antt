@@ -2,6 +2,7 @@ pub mod HeldRecords
 pub mod TellingSteps
 pub mod StayingVisible
 pub mod CountsKept
+pub mod NameKept
 pub mod Seeing
 pub mod Unapplied
 pub mod Accounts

@@ -53,7 +53,7 @@ module _ {K V P S R : Type 0} where
   abbrev pub removed_by : (K → K → Bool) → K → State K V P S R → State K V P S R
   removed_by eq key s = with_removed (held_at eq s.records key) s
 
-  -- ---- clears, predicates, room, notices
+  -- ---- clears, predicates, room, notices, the name
 
   -- every entry of an earlier step is covered
   abbrev pub cleared_by : ℕ → State K V P S R → State K V P S R
@@ -67,6 +67,10 @@ module _ {K V P S R : Type 0} where
 
   abbrev pub without_notice : State K V P S R → State K V P S R
   without_notice s = record s { notices = drop 1 s.notices }
+
+  -- the cache is called so
+  abbrev pub with_name : List ℕ → State K V P S R → State K V P S R
+  with_name text s = record s { name = Some text }
 
 module _ {K V P S R : Type 0} (answers : Answers K V P R) where
   -- ---- writing
@@ -182,6 +186,7 @@ pub record IsNew {K V P S R : Type 0} (settings : Settings) (hasher : S) (rules 
   pub next_number : s.next_number ≡ 0
   pub next_ticket : s.next_ticket ≡ 0
   pub reserved : s.reserved ≡ 0
+  pub name : s.name ≡ None
   pub settings_are : s.settings ≡ settings
   pub hasher_is : s.hasher ≡ hasher
   pub rules_are : s.rules ≡ rules

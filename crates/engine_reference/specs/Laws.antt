@@ -86,6 +86,21 @@ module _ (K V P S R : Type 0) where
     pub covered : (p : Registered P) (s : State K V P S R) → (with_predicate p s).sketch ≡ s.sketch
     pub sent : (ticket : ℕ) (s : State K V P S R) → (sent ticket s).sketch ≡ s.sketch
 
+  -- ---- what the cache is called
+
+  -- no call changes it but the one that gives it, and no run does
+  pub record NameIsKept : Type 0 where
+    pub runs : (answers : Answers K V P R) (now : ℕ) (old new : State K V P S R) → Runs answers now old new → new.name ≡ old.name
+    pub written : (eq : K → K → Bool) (answers : Answers K V P R) (s : State K V P S R) (key : K) (hash : ℕ) (value : V) (now step : ℕ) → (written answers eq s key hash value now step).name ≡ s.name
+    pub sent : (ticket : ℕ) (s : State K V P S R) → (sent ticket s).name ≡ s.name
+    pub removed : (eq : K → K → Bool) (key : K) (s : State K V P S R) → (removed_by eq key s).name ≡ s.name
+    pub removal_told : (answers : Answers K V P R) (e : Entry K V) (now : ℕ) (s : State K V P S R) → (removal_told answers e now s).name ≡ s.name
+    pub looks_up : (answers : Answers K V P R) (eq : K → K → Bool) (key : K) (hash now : ℕ) (old new : State K V P S R) → LooksUp answers eq key hash now old new → new.name ≡ old.name
+    pub cleared : (step : ℕ) (s : State K V P S R) → (cleared_by step s).name ≡ s.name
+    pub covered : (p : Registered P) (s : State K V P S R) → (with_predicate p s).name ≡ s.name
+    pub room : (s : State K V P S R) → (with_room s).name ≡ s.name
+    pub taken : (s : State K V P S R) → (without_notice s).name ≡ s.name
+
   -- ---- look-ups and the order of sending
 
   -- sending a ticket changes no look-up, whichever it is

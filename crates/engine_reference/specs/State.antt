@@ -44,6 +44,8 @@ pub record State (K V P S R : Type 0) : Type 0 where
   pub next_ticket : ℕ
   -- for how many writes there is room
   pub reserved : ℕ
+  -- what it is called, as the bytes of a text, if it was given a name
+  pub name : Option (List ℕ)
   pub settings : Settings
   pub hasher : S
   pub rules : R

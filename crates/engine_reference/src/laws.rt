@@ -1,5 +1,5 @@
 //! Laws of the reference cache. Each function does nothing: its contract is the law.
-ghost use Rattle.engine_reference.specs.Laws.{StepsTell, RunsTell, NothingTakenForSize, RunsKeepVisible, CountsAreKept, SendingKeepsVisible, CoverShowsNothing, UnappliedStay, CallsStaySound, RunsStaySound, CountsAreExact, EvictsShortestFront};
+ghost use Rattle.engine_reference.specs.Laws.{StepsTell, RunsTell, NothingTakenForSize, RunsKeepVisible, CountsAreKept, NameIsKept, SendingKeepsVisible, CoverShowsNothing, UnappliedStay, CallsStaySound, RunsStaySound, CountsAreExact, EvictsShortestFront};
 
 /// A step of a run tells what it takes away once, and takes for weight only where a running weight is above the capacity.
 pub fn steps_tell<K, V, P, S, R>()
@@ -24,6 +24,11 @@ pub fn runs_keep_visible<K, V, P, S, R>()
 /// No write, removal, clear, predicate or eviction changes how often hashes count as asked for: a run changes it only where it counts a read or makes the table.
 pub fn counts_are_kept<K, V, P, S, R>()
     ensures { CountsAreKept K V P S R }
+{}
+
+/// No write, look-up, removal, clear, predicate, notice or run changes what the cache is called.
+pub fn name_is_kept<K, V, P, S, R>()
+    ensures { NameIsKept K V P S R }
 {}
 
 /// Sending a ticket changes no look-up, whichever ticket it is.

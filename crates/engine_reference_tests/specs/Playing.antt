@@ -49,6 +49,7 @@ new_small policy capacity live idle rules = record {
   next_number = 0;
   next_ticket = 0;
   reserved = 1000;
+  name = None;
   settings = record { capacity = capacity; live = live; idle = idle; policy = policy; tells = true; takes_predicates = true; made = 0 };
   hasher = 0;
   rules = rules;

@@ -34,7 +34,7 @@ pub fn held_keys<K: Eq + Clone + Drop, V, S, R: Rules<K, V>>(
     ensures { IfOk result (λ keys. keys.items ≡ held_keys lists.now.records) }
 {
     let records = lists.records();
-    let mut keys = Vec::new(lists.alloc());
+    let mut keys = lists.empty();
     for found in records {
         push_held(&mut keys, found)?;
     }

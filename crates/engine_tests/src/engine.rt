@@ -84,6 +84,12 @@ pub trait Engine: Drop {
     fn is_removal_notifier_enabled(&self) -> bool;
 
     fn policy(&self) -> Policy;
+
+    fn is_map_disabled(&self) -> bool;
+
+    fn set_name(&mut self, name: String);
+
+    fn name(&self) -> Option<&str>;
 }
 
 /// The plain engine.
@@ -211,5 +217,17 @@ impl Engine for Plain {
 
     fn policy(&self) -> Policy {
         self.policy()
+    }
+
+    fn is_map_disabled(&self) -> bool {
+        self.is_map_disabled()
+    }
+
+    fn set_name(&mut self, name: String) {
+        self.set_name(name);
+    }
+
+    fn name(&self) -> Option<&str> {
+        self.name()
     }
 }

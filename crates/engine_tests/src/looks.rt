@@ -4,7 +4,7 @@ use crate::engine::{Engine, Plain};
 use crate::rows::{SECOND, at, keys, made, none_told, put_and_send, remove, settings_for};
 use crate::rules::ONE;
 use engine_reference::Settings;
-use std::alloc::Global;
+use std::alloc::{AllocError, Global};
 use std::process::Abort;
 use std::test::Fail;
 
@@ -24,6 +24,7 @@ fn an_empty_cache_shows_nothing<E: Engine>(rt: &impl Abort, alloc: Global) -> Re
     let policy = cache.policy();
     assert!(rt; policy.max_capacity() == Some(2));
     assert_eq!(rt; policy.num_segments(), 1);
+    assert!(rt; !cache.is_map_disabled());
     assert!(rt; policy.time_to_live().is_none() && policy.time_to_idle().is_none());
     Ok(())
 }
@@ -77,10 +78,35 @@ fn keys_are_those_held<E: Engine>(rt: &impl Abort, alloc: Global) -> Result<(), 
     Ok(())
 }
 
+// A text, at the second try where memory is refused.
+fn text(alloc: Global, of: &str) -> Result<String, AllocError> {
+    match String::from_str(alloc, of) {
+        Ok(made) => Ok(made),
+        Err(_) => String::from_str(alloc, of),
+    }
+}
+
+// A name stays until another is given. A capacity of 0 says that nothing is to be held.
+fn a_name_stays<E: Engine>(rt: &impl Abort, alloc: Global) -> Result<(), Fail> {
+    let mut cache: E = made(alloc, settings_for(Some(0)), None, ONE)?;
+    assert!(rt; cache.is_map_disabled());
+    assert!(rt; cache.name().is_none());
+    let first = text(alloc, "first")?;
+    cache.set_name(first);
+    put_and_send(&mut cache, 1, 10, at(0), 1)?;
+    cache.run_pending_tasks(at(0));
+    assert!(rt; cache.name() == Some("first"));
+    let second = text(alloc, "second")?;
+    cache.set_name(second);
+    assert!(rt; cache.name() == Some("second"));
+    Ok(())
+}
+
 #[test]
 fn looks_of_the_plain_engine(rt: HostRuntime) -> Result<(), Fail> {
     an_empty_cache_shows_nothing::<Plain>(&rt, rt.alloc())?;
     a_scan_is_no_use::<Plain>(&rt, rt.alloc())?;
     keys_are_those_held::<Plain>(&rt, rt.alloc())?;
+    a_name_stays::<Plain>(&rt, rt.alloc())?;
     Ok(())
 }

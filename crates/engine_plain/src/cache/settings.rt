@@ -1,6 +1,8 @@
-//! What a cache was made with, and the hash of a key.
-ghost use Rattle.std.specs.Prelude.{◌≡◌, ◌↔◌, IsTrue, Some};
+//! What a cache was made with, what it is called, and the hash of a key.
+ghost use Rattle.std.specs.Prelude.{◌≡◌, ◌↔◌, IsTrue, Some, option_map};
 ghost use Rattle.std.specs.List.{fold};
+ghost use Rattle.std.specs.String.{string_bytes};
+ghost use Rattle.engine_reference.specs.Calls.{with_name};
 
 use crate::cache::BaseCache;
 use engine_rules::Rules;
@@ -12,6 +14,20 @@ impl<K: Eq, V, S, R: Rules<K, V>> BaseCache<K, V, S, R> {
         ensures { IsTrue result ↔ (self.now.settings.capacity ≡ Some 0) }
     {
         matches!(self.lists.settings().capacity, Some(0))
+    }
+
+    /// What the cache is called, if it was given a name.
+    pub fn name(&self) -> Option<&str>
+        ensures name { option_map (λ text. text.now) result ≡ self.now.name }
+    {
+        self.lists.name()
+    }
+
+    /// Gives the cache a name, in place of the one that it had. Nothing else changes.
+    pub fn set_name(&mut self, name: String)
+        ensures name { self.new ≡ with_name (string_bytes name) self.old }
+    {
+        self.lists.set_name(name);
     }
 
     /// The hash of a key, as the cache's hasher has it.
