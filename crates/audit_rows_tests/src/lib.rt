@@ -3,3 +3,5 @@
 
 #[cfg(test)]
 mod played;
+#[cfg(test)]
+mod rows;

@@ -1,5 +1,8 @@
-//! The worked scripts, played from a service, and judged.
-use audit_model::{Config, Conn, EvictionPolicy, Input, Instant, Seq, Weight};
+//! The rows played from a service, whole and byte by byte, and judged.
+use crate::rows::{Came, NOTHING, ROWS_OF_LIMITS, ROWS_OF_LINES, ROWS_OF_LOADS, Row};
+use audit_model::{
+    Bytes, Config, Conn, Input, Instant, LoadId, Outcome, Seq, ServiceError, Transcript,
+};
 use audit_records::{Verdict, audit};
 use cache_spaces::play;
 use rand_core::SeedableRng;
@@ -7,188 +10,290 @@ use rand_xoshiro::Xoshiro256PlusPlus;
 use std::alloc::{AllocError, Global};
 use std::test::Fail;
 
-/// Without capacity, times and own deadlines, with one part.
-const PLAIN: Config = Config {
-    capacity: None,
-    policy: EvictionPolicy::Lru,
-    parts: 1,
-    weight: Weight::One,
-    live_ms: None,
-    idle_ms: None,
-    own_deadlines: false,
-};
+const START: Instant = Instant { nanos: 0 };
 
-const OWN: Config = Config {
-    own_deadlines: true,
-    ..PLAIN
-};
+/// How pieces come.
+#[derive(Clone, Copy)]
+enum Cut {
+    Whole,
+    ByteByByte,
+}
 
-const TWO_VALUES: Config = Config {
-    capacity: Some(2),
-    ..PLAIN
-};
+fn bytes(alloc: Global, text: &[u8]) -> Result<Bytes, AllocError> {
+    Ok(Seq::from_vec(Vec::from_slice(alloc, text)?))
+}
 
-const THREE_BYTES: Config = Config {
-    capacity: Some(3),
-    weight: Weight::Bytes,
-    ..PLAIN
-};
+fn load_of(number: u64) -> LoadId {
+    LoadId {
+        namespace: 0,
+        number,
+    }
+}
 
-const TWELVE_BYTES: Config = Config {
-    capacity: Some(12),
-    policy: EvictionPolicy::TinyLfu,
-    weight: Weight::Bytes,
-    ..PLAIN
-};
-
-const NOTHING: Config = Config {
-    capacity: Some(0),
-    ..PLAIN
-};
-
-const IDLE: Config = Config {
-    idle_ms: Some(7),
-    ..PLAIN
-};
-
-/// A moment in nanoseconds, and a piece for connection 1.
-type Piece<'a> = (u64, &'a [u8]);
-
-/// A configuration, and what comes.
-type Script<'a> = (&'a Config, &'a [Piece<'a>]);
-
-const SCRIPTS: &[Script<'static>] = &[
-    (
-        &PLAIN,
-        &[(0, b"SET a - 1\nGE"), (0, b"T a\nGET"), (0, b" b\n")],
-    ),
-    (
-        &OWN,
-        &[
-            (0, b"SET a 1 x\n"),
-            (999_423, b"GET a\n"),
-            (999_424, b"GET a\nSYNC\n"),
-            (1_073_741_824, b"SYNC\n"),
-        ],
-    ),
-    (
-        &TWO_VALUES,
-        &[(
-            0,
-            b"SET a - 1\nSYNC\nSET b - 2\nSYNC\nSET c - 3\nSYNC\nGET a\n",
-        )],
-    ),
-    (
-        &TWO_VALUES,
-        &[(
-            0,
-            b"SET a - 1\nSYNC\nSET b - 2\nSYNC\nGET a\nSYNC\nSET c - 3\nSYNC\nKEYS\n",
-        )],
-    ),
-    (
-        &PLAIN,
-        &[(0, b"SET a - 1\nCLEAR\nGET a\nSET a - 2\nGET a\n")],
-    ),
-    (
-        &PLAIN,
-        &[(0, b"SET ab - 1\nSET b - 2\nDROPIF a\nSET ac - 3\nKEYS\n")],
-    ),
-    (
-        &PLAIN,
-        &[(
-            0,
-            b"ADD n - 2\nADD n - 3\nSET n - x\nADD n - 1\nGET n\nSET n - 18446744073709551615\nADD n - 1\n",
-        )],
-    ),
-    (&THREE_BYTES, &[(0, b"SET a - four\nSYNC\nGET a\n")]),
-    (&NOTHING, &[(0, b"SET a - 1\nGET a\nSYNC\nGET k\n")]),
-    (
-        &TWELVE_BYTES,
-        &[(
-            0,
-            b"SET a - aaaaaaaaaa\nSYNC\nSET b - bbbbb\nSET a - c\nSYNC\n",
-        )],
-    ),
-    (
-        &IDLE,
-        &[
-            (0, b"SET a - 1\n"),
-            (6_999_999, b"GET a\n"),
-            (13_999_998, b"GET a\n"),
-            (20_999_997, b"HAS a\n"),
-            (20_999_998, b"GET a\n"),
-        ],
-    ),
-    (
-        &OWN,
-        &[
-            (2_000_000, b"SET a 1 x\n"),
-            (0, b"GET a\n"),
-            (2_998_272, b"GET a\n"),
-        ],
-    ),
-    (
-        &PLAIN,
-        &[(
-            0,
-            b"\nget a\nGET\nGET  a\nSET a -\nSET a - \nGET a\nSET a 5 x\nADD a - 1x\n",
-        )],
-    ),
-    (&PLAIN, &[(0, b"SET a - 1\nQUIT\nGET a\n"), (0, b"GET a\n")]),
-];
-
-fn feed(alloc: Global, bytes: &[u8], nanos: u64) -> Result<Input, AllocError> {
-    let piece = Vec::from_slice(alloc, bytes)?;
+fn feed(alloc: Global, number: u64, nanos: u64, piece: &[u8]) -> Result<Input, AllocError> {
     Ok(Input::Feed {
         conn: Conn {
             namespace: 0,
-            number: 1,
+            number,
         },
-        piece: Seq::from_vec(piece),
+        piece: bytes(alloc, piece)?,
         moment: Instant { nanos },
     })
 }
 
-/// The verdict on the transcript of a connection that opens and is fed these.
-fn verdict_on(alloc: Global, config: &Config, inputs: &[Input]) -> Result<Verdict, Fail> {
+/// Adds a piece for a connection at a moment.
+fn push_piece(
+    alloc: Global,
+    inputs: &mut Vec<Input>,
+    cut: Cut,
+    conn: u64,
+    nanos: u64,
+    piece: &[u8],
+) -> Result<(), AllocError> {
+    match cut {
+        Cut::Whole => inputs.push(feed(alloc, conn, nanos, piece)?)?,
+        Cut::ByteByByte => {
+            for byte in piece {
+                inputs.push(feed(alloc, conn, nanos, &[*byte])?)?;
+            }
+        }
+    }
+    Ok(())
+}
+
+/// Adds so many bytes for a connection, and those behind them.
+fn push_filled(
+    alloc: Global,
+    inputs: &mut Vec<Input>,
+    cut: Cut,
+    conn: u64,
+    many: usize,
+    behind: &[u8],
+) -> Result<(), AllocError> {
+    let mut piece = vec![in alloc; b'x'; many]?;
+    piece.extend_from_slice(behind)?;
+    push_piece(alloc, inputs, cut, conn, 0, &piece)
+}
+
+/// Adds an answer of a load.
+fn push_answer(inputs: &mut Vec<Input>, load: u64, outcome: Outcome) -> Result<(), AllocError> {
+    inputs.push(Input::Answer {
+        load: load_of(load),
+        outcome,
+        moment: START,
+    })?;
+    Ok(())
+}
+
+/// Adds the give-ups of these loads.
+fn push_give_ups(inputs: &mut Vec<Input>, first: u64, last: u64) -> Result<(), AllocError> {
+    for load in first..=last {
+        inputs.push(Input::GiveUp {
+            load: load_of(load),
+            moment: START,
+        })?;
+    }
+    Ok(())
+}
+
+/// Adds what comes.
+fn push(
+    alloc: Global,
+    inputs: &mut Vec<Input>,
+    cut: Cut,
+    came: Came<'_>,
+) -> Result<(), AllocError> {
+    match came {
+        Came::Open => inputs.push(Input::Open { namespace: 0 })?,
+        Came::Piece(conn, piece) => push_piece(alloc, inputs, cut, conn, 0, piece)?,
+        Came::At(conn, nanos, piece) => push_piece(alloc, inputs, cut, conn, nanos, piece)?,
+        Came::Filled(conn, many, behind) => push_filled(alloc, inputs, cut, conn, many, behind)?,
+        Came::Value(load, value) => {
+            push_answer(inputs, load, Outcome::Value(bytes(alloc, value)?, None))?
+        }
+        Came::Fault(load, text) => push_answer(inputs, load, Outcome::Fault(bytes(alloc, text)?))?,
+        Came::GiveUps(first, last) => push_give_ups(inputs, first, last)?,
+    }
+    Ok(())
+}
+
+/// All that comes.
+fn inputs_of(alloc: Global, cut: Cut, came: &[Came<'_>]) -> Result<Vec<Input>, AllocError> {
+    let mut inputs = Vec::new(alloc);
+    for one in came {
+        push(alloc, &mut inputs, cut, *one)?;
+    }
+    Ok(inputs)
+}
+
+/// The transcripts of the namespaces, of which there is one, to which these come.
+fn play_row(
+    alloc: Global,
+    row: &Row<'_>,
+    inputs: &[Input],
+) -> Result<Vec<Transcript>, ServiceError> {
     let generator = Xoshiro256PlusPlus::seed_from_u64(1);
-    let transcripts = play(alloc, &[*config], generator, Instant { nanos: 0 }, inputs)?;
-    match transcripts.first() {
-        Some(transcript) => Ok(audit(alloc, config, transcript)),
+    play(alloc, &[*row.config], generator, START, inputs)
+}
+
+/// The last transcript.
+fn last_of(transcripts: Vec<Transcript>) -> Result<Transcript, Fail> {
+    let mut transcripts = transcripts;
+    match transcripts.pop() {
+        Some(transcript) => Ok(transcript),
         None => Err(Fail::new("no transcript")),
     }
 }
 
-/// What comes, whole.
-fn inputs_of(alloc: Global, pieces: &[Piece<'_>]) -> Result<Vec<Input>, AllocError> {
-    let mut inputs = Vec::new(alloc);
-    inputs.push(Input::Open { namespace: 0 })?;
-    for (moment, bytes) in pieces {
-        inputs.push(feed(alloc, bytes, *moment)?)?;
-    }
-    Ok(inputs)
-}
-
-/// What comes, byte by byte.
-fn bytes_of(alloc: Global, pieces: &[Piece<'_>]) -> Result<Vec<Input>, AllocError> {
-    let mut inputs = Vec::new(alloc);
-    inputs.push(Input::Open { namespace: 0 })?;
-    for (moment, bytes) in pieces {
-        for byte in bytes.iter() {
-            inputs.push(feed(alloc, &[*byte], *moment)?)?;
+/// The replies to a connection.
+fn replies_to(alloc: Global, transcript: &Transcript, conn: u64) -> Result<Vec<u8>, AllocError> {
+    let mut replies = Vec::new(alloc);
+    for entry in transcript.records.as_slice() {
+        for step in entry.steps.as_slice() {
+            if let Some(reply) = &step.reply {
+                if step.conn == conn {
+                    replies.extend_from_slice(reply.as_slice())?;
+                }
+            }
         }
     }
-    Ok(inputs)
+    Ok(replies)
+}
+
+/// How many loads went out.
+fn loads_of(transcript: &Transcript) -> u64 {
+    let mut loads: u64 = 0;
+    for entry in transcript.records.as_slice() {
+        for step in entry.steps.as_slice() {
+            if step.load.is_some() {
+                loads = loads.saturating_add(1);
+            }
+        }
+    }
+    loads
+}
+
+/// Whether each connection is replied what the row says.
+fn has_replies(alloc: Global, transcript: &Transcript, row: &Row<'_>) -> Result<bool, AllocError> {
+    for (place, wanted) in row.replies.iter().enumerate() {
+        let replies = replies_to(alloc, transcript, place as u64 + 1)?;
+        if replies.as_slice() != *wanted {
+            return Ok(false);
+        }
+    }
+    Ok(true)
+}
+
+/// The place of the first row that does not come out as it says, or is not judged to be right.
+fn first_wrong(alloc: Global, cut: Cut, rows: &[Row<'_>]) -> Result<Option<usize>, Fail> {
+    for (place, row) in rows.iter().enumerate() {
+        let inputs = inputs_of(alloc, cut, row.came)?;
+        let transcript = last_of(play_row(alloc, row, &inputs)?)?;
+        let right = audit(alloc, row.config, &transcript) == Verdict::Yes;
+        let replied = has_replies(alloc, &transcript, row)?;
+        if !right || !replied || loads_of(&transcript) != row.loads {
+            return Ok(Some(place));
+        }
+    }
+    Ok(None)
+}
+
+/// All that comes, whole, at the second try where memory is refused.
+fn inputs_again(alloc: Global, came: &[Came<'_>]) -> Result<Vec<Input>, AllocError> {
+    match inputs_of(alloc, Cut::Whole, came) {
+        Ok(inputs) => Ok(inputs),
+        Err(_) => inputs_of(alloc, Cut::Whole, came),
+    }
+}
+
+/// The transcript, at the second try where memory is refused.
+fn played_again(alloc: Global, row: &Row<'_>) -> Result<Transcript, Fail> {
+    let inputs = inputs_again(alloc, row.came)?;
+    match play_row(alloc, row, &inputs) {
+        Ok(transcripts) => last_of(transcripts),
+        Err(_) => last_of(play_row(alloc, row, &inputs)?),
+    }
+}
+
+/// The verdict, at the second try where memory is refused.
+fn verdict_again(alloc: Global, config: &Config, transcript: &Transcript) -> Verdict {
+    match audit(alloc, config, transcript) {
+        Verdict::OutOfMemory => audit(alloc, config, transcript),
+        verdict => verdict,
+    }
+}
+
+/// Whether the transcript obeys, and has one verdict by a configuration that it may break.
+fn is_steady(alloc: Global, row: &Row<'_>, other: &Config) -> Result<bool, Fail> {
+    let transcript = played_again(alloc, row)?;
+    let first = verdict_again(alloc, other, &transcript);
+    let second = verdict_again(alloc, other, &transcript);
+    Ok(verdict_again(alloc, row.config, &transcript) == Verdict::Yes && first == second)
+}
+
+/// The place of the first row with another verdict where memory was refused once.
+fn first_unsteady(alloc: Global, rows: &[Row<'_>]) -> Result<Option<usize>, Fail> {
+    for (place, row) in rows.iter().enumerate() {
+        if !is_steady(alloc, row, &NOTHING)? {
+            return Ok(Some(place));
+        }
+    }
+    Ok(None)
 }
 
 #[test]
-fn scripts_are_right(rt: HostRuntime) -> Result<(), Fail> {
-    let alloc = rt.alloc();
-    for (config, pieces) in SCRIPTS {
-        let whole = inputs_of(alloc, pieces)?;
-        assert_eq!(rt; verdict_on(alloc, config, &whole)?, Verdict::Yes);
-        let cut = bytes_of(alloc, pieces)?;
-        assert_eq!(rt; verdict_on(alloc, config, &cut)?, Verdict::Yes);
-    }
+fn lines_with_memory_refused_once(rt: HostRuntime) -> Result<(), Fail> {
+    assert_eq!(rt; first_unsteady(rt.alloc(), ROWS_OF_LINES)?, None);
+    Ok(())
+}
+
+#[test]
+fn loads_with_memory_refused_once(rt: HostRuntime) -> Result<(), Fail> {
+    assert_eq!(rt; first_unsteady(rt.alloc(), ROWS_OF_LOADS)?, None);
+    Ok(())
+}
+
+#[test]
+fn lines_whole(rt: HostRuntime) -> Result<(), Fail> {
+    assert_eq!(rt; first_wrong(rt.alloc(), Cut::Whole, ROWS_OF_LINES)?, None);
+    Ok(())
+}
+
+#[test]
+fn lines_byte_by_byte(rt: HostRuntime) -> Result<(), Fail> {
+    assert_eq!(rt;
+        first_wrong(rt.alloc(), Cut::ByteByByte, ROWS_OF_LINES)?,
+        None
+    );
+    Ok(())
+}
+
+#[test]
+fn loads_whole(rt: HostRuntime) -> Result<(), Fail> {
+    assert_eq!(rt; first_wrong(rt.alloc(), Cut::Whole, ROWS_OF_LOADS)?, None);
+    Ok(())
+}
+
+#[test]
+fn loads_byte_by_byte(rt: HostRuntime) -> Result<(), Fail> {
+    assert_eq!(rt;
+        first_wrong(rt.alloc(), Cut::ByteByByte, ROWS_OF_LOADS)?,
+        None
+    );
+    Ok(())
+}
+
+#[test]
+fn limits_whole(rt: HostRuntime) -> Result<(), Fail> {
+    assert_eq!(rt; first_wrong(rt.alloc(), Cut::Whole, ROWS_OF_LIMITS)?, None);
+    Ok(())
+}
+
+#[test]
+fn limits_byte_by_byte(rt: HostRuntime) -> Result<(), Fail> {
+    assert_eq!(rt;
+        first_wrong(rt.alloc(), Cut::ByteByByte, ROWS_OF_LIMITS)?,
+        None
+    );
     Ok(())
 }
