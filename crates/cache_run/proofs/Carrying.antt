@@ -18,7 +18,7 @@ use Rattle.cache_namespace.specs.Taken.{record_of}
 use Rattle.cache_spaces.specs.Spaces.{notices_of}
 use Rattle.cache_spaces.specs.declared.space.Space.{Space}
 use Rattle.cache_run.specs.Carried.{Askings, Broken, Carried, Left, Readings, close_records, nothing_left, open_records, records_of}
-use Rattle.cache_run.specs.Happened.{Asking, Turn, AreDrops, AreRight, IsRight, asked_in, moment_in, notes_in, notes_of, piece_in, records_in, replies_in}
+use Rattle.cache_run.specs.Happened.{Asking, Turn, AreRight, asked_in, moment_in, notes_in, notes_of, piece_in, records_in, replies_in}
 use Rattle.cache_run.specs.Delivered.{Delivered, Undelivered}
 use Rattle.cache_run.specs.Worlds.{Outside, World, outside, world}
 use Rattle.cache_run.specs.declared.errors.RunError.{RunError}

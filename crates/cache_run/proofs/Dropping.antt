@@ -1,10 +1,9 @@
 -- Loads that are given up behind a closing.
-use Rattle.std.proofs.Common.{◌≡◌, ◌≢◌, ℕ, ◌<◌, ◌-◌, List, [], ◌∷◌, ◌++◌, length, None, Some, refl, sym, ap, ◌∙◌, subst, append_assoc}
+use Rattle.std.proofs.Common.{◌≡◌, ℕ, ◌<◌, ◌-◌, List, [], ◌∷◌, ◌++◌, length, Some, refl, sym, ap, ◌∙◌, subst, append_assoc}
 use Rattle.std.specs.List.{flat_map}
 use Rattle.std.proofs.lemmas.List.{append-nil}
 use Rattle.std.proofs.lemmas.Option.{slice_get_within}
 use Rattle.std.proofs.lemmas.Grind.{flat_map-append}
-use Rattle.audit_model.specs.Follows.{after_records}
 use Rattle.audit_model.specs.Situation.{Situation}
 use Rattle.audit_model.specs.declared.config.Config.{Config}
 use Rattle.audit_model.specs.declared.transcript.Note.{Note}
@@ -16,9 +15,8 @@ use Rattle.cache_spaces.proofs.Putting.{same-space}
 use Rattle.cache_spaces.specs.Moves.{At}
 use Rattle.cache_spaces.specs.Serves as served
 use Rattle.cache_spaces.specs.Serves.{SameSpace, TakesLoads}
-use Rattle.cache_spaces.specs.Spaces.{closing_of, config_of, notices_of, output_of}
+use Rattle.cache_spaces.specs.Spaces.{config_of, notices_of}
 use Rattle.cache_spaces.specs.declared.space.Space.{Space}
-use Rattle.cache_run.specs.Goes.{Goes}
 use Rattle.cache_run.specs.Happened.{AreDrops, notes_of}
 use Rattle.cache_run.specs.Loading.{GivesUp, GivesUpLoads}
 use Rattle.cache_run.proofs.Carrying.{record-one, records-more}

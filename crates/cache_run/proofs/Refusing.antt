@@ -1,9 +1,9 @@
 -- Why a load is not settled.
-use Rattle.std.proofs.Common.{◌≡◌, ◌≢◌, ℕ, ◌≤◌, ◌^◌, Bool, true, false, not, nat_le, nat_lt, Option, None, Some, is_some, refl, sym, ap, ◌∙◌, length, inl, inr, ⊎_elim}
+use Rattle.std.proofs.Common.{◌≡◌, ◌≢◌, ℕ, ◌≤◌, ◌^◌, Bool, true, false, not, nat_le, nat_lt, Option, None, Some, is_some, refl, sym, ap, length, inl, inr}
 use Rattle.std.specs.Prelude.{◌⊎◌, ◌||◌, MatchOption}
 use Rattle.std.specs.Option.{option_or}
 use Rattle.std.proofs.lemmas.Bool.{leb-true}
-use Rattle.audit_model.specs.Belongs.{Known, refusal_of, refusal_of_bytes, refusal_of_moment, refusal_of_ms, refusal_of_outcome, refusal_where}
+use Rattle.audit_model.specs.Belongs.{Known, refusal_of, refusal_of_outcome, refusal_where}
 use Rattle.audit_model.specs.Grammar.{is_value}
 use Rattle.audit_model.specs.declared.config.Config.{Config}
 use Rattle.audit_model.specs.declared.event.Outcome.{Outcome}

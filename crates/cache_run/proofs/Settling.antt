@@ -1,8 +1,7 @@
 -- A load that is settled.
-use Rattle.std.proofs.Common.{◌≡◌, ◌≢◌, ℕ, zero, suc, ◌<◌, ◌≤◌, ◌-◌, ◌==◌, ◌^◌, Bool, true, false, not, nat_le, List, [], ◌∷◌, ◌++◌, length, Option, None, Some, is_some, refl, sym, ap, ◌∙◌, subst, arith, inl, inr, ⊎_elim, cond}
-use Rattle.std.specs.Prelude.{◌⊎◌, ◌||◌, Result, Ok, Err, OnOk, IfErr}
+use Rattle.std.proofs.Common.{◌≡◌, ◌≢◌, ℕ, zero, suc, ◌<◌, ◌-◌, ◌==◌, Bool, true, false, List, [], ◌∷◌, ◌++◌, length, Option, None, Some, is_some, refl, sym, ap, ◌∙◌, subst, arith, inl, inr, ⊎_elim, cond}
+use Rattle.std.specs.Prelude.{Result, Ok, Err, OnOk, IfErr}
 use Rattle.std.specs.List.{filter, flat_map}
-use Rattle.std.specs.Option.{option_or}
 use Rattle.std.proofs.Math.Logic.{∥∥₁_elim, ∥∥₁_map}
 use Rattle.std.proofs.Props.{props}
 use Rattle.std.proofs.lemmas.Bool.{eq-eqb, ne_eqb}
@@ -14,7 +13,6 @@ use Rattle.audit_model.specs.declared.command.Closing.TheVariants as by
 use Rattle.audit_model.specs.declared.config.Config.{Config}
 use Rattle.audit_model.specs.declared.event.Event.{Event}
 use Rattle.audit_model.specs.declared.event.Outcome.{Outcome}
-use Rattle.audit_model.specs.declared.transcript.Note.{Note}
 use Rattle.audit_model.specs.declared.transcript.Step.{Step}
 use Rattle.cache_namespace.specs.Gathered.{reply_in}
 use Rattle.cache_namespace.specs.Shown.{situation}
@@ -34,7 +32,6 @@ use Rattle.cache_run.specs.Delivered.{Answered}
 use Rattle.cache_run.specs.Goes.{Goes}
 use Rattle.cache_run.specs.Happened.{Asking, Dropped, asking_of, IsGivenUpFor, IsSettledBy, Settled, notes_of, replies_of}
 use Rattle.cache_run.proofs.Carrying.{record-one}
-use Rattle.cache_run.proofs.Connecting.{ended-none}
 use Rattle.cache_run.proofs.Going.{goes-more, goes-same, seen-alike}
 use Rattle.cache_run.proofs.Placing.{at-is, at-map, at-more, at-same, at-was, at-with}
 

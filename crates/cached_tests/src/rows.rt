@@ -67,6 +67,21 @@ fn a_deletion_of_nothing(rt: HostRuntime) -> Result<(), Fail> {
 }
 
 #[test]
+fn a_load_finds_nothing(rt: HostRuntime) -> Result<(), Fail> {
+    let ran = script(
+        rt.alloc(),
+        b"LOAD k\nSET a - 1\nLOAD a\nLOAD k\nKEYS\nSYNC\n",
+    );
+    assert_eq!(rt; ran.status, 0);
+    assert_eq!(rt;
+        ran.output.as_slice(),
+        b"NONE\nOK\nVAL 1\nNONE\nKEYS 1\na\nSYNC 1 1\n".as_slice()
+    );
+    assert_eq!(rt; ran.errors.as_slice(), b"".as_slice());
+    Ok(())
+}
+
+#[test]
 fn no_own_deadlines(rt: HostRuntime) -> Result<(), Fail> {
     let ran = script(rt.alloc(), b"SET a 5 x\n");
     assert_eq!(rt; ran.status, 0);

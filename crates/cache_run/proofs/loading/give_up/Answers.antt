@@ -1,4 +1,4 @@
-use Rattle.std.proofs.Common.{refl, inl, inr}
+use Rattle.std.proofs.Common.{refl, inr}
 use Rattle.audit_model.specs.declared.input.ServiceError.TheVariants as error
 use Rattle.cache_spaces.specs.Serves.{SameSpace, known_of}
 use Rattle.cache_spaces.specs.Spaces.{config_of}
