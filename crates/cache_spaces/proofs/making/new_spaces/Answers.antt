@@ -16,6 +16,8 @@ loop-config-preserved c = record {
         served = all-at is_served c.args.configs.now c.loop-config.config-index _ c.loop-config-test.true c.requires.configs;
         connections = c.in_ok-new.ensures.connections;
         notices = c.in_ok-new.ensures.notices;
+        placed = c.in_ok-new.ensures.place ∙ c.len.ensures ∙ c.loop-config.invariant.number;
+        untaken = c.in_ok-new.ensures.untaken;
         forked = c.in_ok-new.ensures.generator ∙ c.fork.ensures.seeded ∙ ap (λ s. of_seed (fill_bytes 32 s).0) c.loop-config.invariant.forked;
       })
       c.in_ok-push.ensures.items;
