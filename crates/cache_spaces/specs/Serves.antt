@@ -160,6 +160,7 @@ pub record TakesLoads (was is : Space) (loads : List (LoadId × List ℕ)) : Typ
   pub made : made_of is ≡ made_of was
   pub notices : notices_of is ≡ notices_of was
   pub in_turn : IsTrue (are_in_turn (place_of was) (taken_of was) loads)
+  pub count : (s : Situation) → Stands was s → taken_of was + length loads ≡ s.sent
   pub all : (s : Situation) → Stands was s → taken_of is ≡ s.sent
   pub keys : (s : Situation) → Stands was s → IsTrue (have_their_keys s.pending loads)
   pub place : place_of is ≡ place_of was

@@ -202,6 +202,7 @@ impl Space {
         ensures made { made_of self.new ≡ made_of self.old }
         ensures notices { notices_of self.new ≡ notices_of self.old }
         ensures in_turn { IsTrue (are_in_turn (place_of self.old) (taken_of self.old) result.items) }
+        ensures count { (s : Situation) → Stands self.old s → taken_of self.old + length result.items ≡ s.sent }
         ensures all { (s : Situation) → Stands self.old s → taken_of self.new ≡ s.sent }
         ensures keys { (s : Situation) → Stands self.old s → IsTrue (have_their_keys s.pending result.items) }
         ensures place { place_of self.new ≡ place_of self.old }
