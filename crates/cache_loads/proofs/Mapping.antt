@@ -7,7 +7,8 @@ use Rattle.std.proofs.lemmas.Option.{slice_get-get_or, slice_get_within, same_So
 use Rattle.std.specs.declared.vec.Vec.{Vec}
 use Rattle.std.specs.declared.alloc.Global.{Global}
 use Rattle.audit_model.specs.Situation.{PendingLoad}
-use Rattle.cache_loads.specs.Pending.{pending, load_numbered, IsPlaceOf}
+use Rattle.cache_loads.specs.Keys.{pending}
+use Rattle.cache_loads.specs.Pending.{load_numbered, IsPlaceOf}
 use Rattle.cache_loads.specs.declared.load.Load.{Load}
 
 -- an element is seen as before

@@ -1,16 +1,13 @@
 -- Loads under way, as the definitions list them.
-use Rattle.std.specs.Prelude.{◌≡◌, ℕ, suc, ◌<◌, ◌==◌, true, List, [], ◌∷◌, map, Option, Some, None, if◌then◌else◌, is_some, vec_len, vec_capacity}
+use Rattle.std.specs.Prelude.{◌≡◌, ℕ, suc, ◌-◌, ◌<◌, ◌==◌, true, List, [], ◌∷◌, length, map, Option, Some, None, if◌then◌else◌, is_some, vec_len, vec_capacity}
 use Rattle.std.specs.List.{find, slice_get}
 use Rattle.std.specs.Option.{option_map}
 use Rattle.audit_model.specs.Bytewise.{same}
 use Rattle.audit_model.specs.Situation.{PendingLoad, with_waiting}
 use Rattle.audit_model.specs.declared.input.LoadId.{LoadId}
+use Rattle.cache_loads.specs.Keys.{pending}
 use Rattle.cache_loads.specs.declared.load.Load.{Load}
 use Rattle.cache_loads.specs.declared.loads.Loads.{Loads}
-
--- the load, with those that wait for it
-abbrev pub pending : Load → PendingLoad
-pending load = record { number = load.number; key = load.key; waiting = load.waiting.items }
 
 -- there is room for one more connection, where it is a load of the key
 abbrev pub HasRoom : List ℕ → Load → Type 0
@@ -27,6 +24,10 @@ sent_of loads = loads.sent
 -- those that went out and were not taken, with their keys, in the order in which they were sent
 abbrev pub outgoing_of : Loads → List (LoadId × List ℕ)
 outgoing_of loads = loads.outgoing.items
+
+-- how many were taken
+abbrev pub taken_of : Loads → ℕ
+taken_of loads = sent_of loads - length (outgoing_of loads)
 
 -- the namespace whose loads they are
 abbrev pub namespace_of : Loads → ℕ
@@ -64,6 +65,11 @@ pub record SameLoads (old new : Loads) : Type 0 where
   pub pending : pending_of new ≡ pending_of old
   pub sent : sent_of new ≡ sent_of old
   pub outgoing : outgoing_of new ≡ outgoing_of old
+  pub namespace : namespace_of new ≡ namespace_of old
+
+-- the same loads were taken, of the same namespace
+pub record SameTaken (old new : Loads) : Type 0 where
+  pub taken : taken_of new ≡ taken_of old
   pub namespace : namespace_of new ≡ namespace_of old
 
 -- the first of the loads with that number stands there, or there is none

@@ -2,7 +2,8 @@
 ghost use Rattle.std.specs.Prelude.{◌≡◌, ◌<◌, ◌≤◌, ◌+◌, ◌++◌, ◌∷◌, [], IfOk, OnOk, true, length, vec_len, vec_capacity};
 ghost use Rattle.audit_model.specs.Bytewise.{same};
 ghost use Rattle.audit_model.specs.Situation.{with_waiting, without_waiting};
-ghost use Rattle.cache_loads.specs.Pending.{pending, HasRoom};
+ghost use Rattle.cache_loads.specs.Keys.{pending};
+ghost use Rattle.cache_loads.specs.Pending.{HasRoom};
 
 use audit_model::Bytes;
 use std::alloc::{AllocError, Global};

@@ -1,11 +1,12 @@
 //! The loads of one namespace.
-ghost use Rattle.std.specs.Prelude.{◌≡◌, ℕ, suc, ◌+◌, ◌++◌, ◌∷◌, ◌==◌, ◌<◌, [], not, map, vec_len, vec_capacity, None, Some, IfOk, IfErr, OnOk, OnErr, All, List, length};
+ghost use Rattle.std.specs.Prelude.{◌≡◌, ℕ, suc, ◌+◌, ◌-◌, ◌≤◌, IsTrue, ◌++◌, ◌==◌, [], not, map, Some, IfOk, OnOk, OnErr, length};
 ghost use Rattle.std.specs.List.{filter};
 ghost use Rattle.std.specs.Option.{option_map};
 ghost use Rattle.audit_model.specs.Situation.{with_waiting, without_waiting};
-ghost use Rattle.cache_loads.specs.Pending.{pending, pending_of, sent_of, outgoing_of, namespace_of, load_with_key, load_numbered, number_to_send, when_joined, when_sent, sending, HasRoom, IsPlaceOf, SameLoads};
+ghost use Rattle.cache_loads.specs.Keys.{pending, are_in_turn, have_their_keys, were_sent};
 
-use crate::load::{Load, alone, is_of_key, join, leave, reserve_joining};
+use crate::lists::{join_all, leave_all, put_first, put_last, take_out};
+use crate::load::{Load, alone, is_of_key};
 use audit_model::{Bytes, LoadId, Seq};
 use std::alloc::{AllocError, Global};
 use std::mem;
@@ -17,9 +18,15 @@ pub struct Loads {
     sent: u64,
     under_way: Vec<Load>,
     outgoing: Vec<(LoadId, Bytes)>,
+    ghost fewer: { length outgoing.items ≤ sent },
+    ghost in_turn: { IsTrue (are_in_turn namespace (sent - length outgoing.items) outgoing.items) },
+    ghost sent_before: { IsTrue (were_sent sent (map pending under_way.items)) },
+    ghost keyed: { IsTrue (have_their_keys (map pending under_way.items) outgoing.items) },
 }
 
 impl Loads {
+    ghost use Rattle.cache_loads.specs.Pending.{pending_of, sent_of, outgoing_of, namespace_of, load_with_key, load_numbered, number_to_send, when_joined, when_sent, sending, SameLoads, SameTaken, taken_of};
+
     /// No loads yet, which takes no memory.
     pub fn new(alloc: Global, namespace: u64) -> Loads
         ensures none { pending_of result ≡ [] }
@@ -73,7 +80,7 @@ impl Loads {
         ensures pending { IfOk result (λ number. pending_of self.new ≡ when_joined conn key.now number (pending_of self.old)) }
         ensures sent { IfOk result (λ number. sent_of self.new ≡ when_sent number (sent_of self.old)) }
         ensures outgoing { IfOk result (λ number. outgoing_of self.new ≡ outgoing_of self.old ++ sending (namespace_of self.old) key.now number) }
-        ensures namespace { namespace_of self.new ≡ namespace_of self.old }
+        ensures goes { SameTaken self.old self.new }
         ensures same { OnErr result (SameLoads self.old self.new) }
     {
         match self.find(key) {
@@ -97,7 +104,7 @@ impl Loads {
         ensures pending { IfOk result (λ number. pending_of self.new ≡ when_joined conn key.now (Some number) (pending_of self.old)) }
         ensures sent { OnOk result (sent_of self.new ≡ suc (sent_of self.old)) }
         ensures outgoing { IfOk result (λ number. outgoing_of self.new ≡ outgoing_of self.old ++ sending (namespace_of self.old) key.now (Some number)) }
-        ensures namespace { namespace_of self.new ≡ namespace_of self.old }
+        ensures goes { SameTaken self.old self.new }
         ensures same { OnErr result (SameLoads self.old self.new) }
     {
         if self.sent == u64::MAX {
@@ -127,7 +134,7 @@ impl Loads {
         ensures pending { pending_of self.new ≡ map (without_waiting conn) (pending_of self.old) }
         ensures sent { sent_of self.new ≡ sent_of self.old }
         ensures outgoing { outgoing_of self.new ≡ outgoing_of self.old }
-        ensures namespace { namespace_of self.new ≡ namespace_of self.old }
+        ensures goes { SameTaken self.old self.new }
     {
         leave_all(&mut self.under_way, conn);
     }
@@ -138,7 +145,7 @@ impl Loads {
         ensures pending { pending_of self.new ≡ filter (λ load. not (load.number == number)) (pending_of self.old) }
         ensures sent { sent_of self.new ≡ sent_of self.old }
         ensures outgoing { outgoing_of self.new ≡ outgoing_of self.old }
-        ensures namespace { namespace_of self.new ≡ namespace_of self.old }
+        ensures goes { SameTaken self.old self.new }
     {
         take_out(&mut self.under_way, number)
     }
@@ -150,94 +157,11 @@ impl Loads {
         ensures pending { pending_of self.new ≡ pending_of self.old }
         ensures sent { sent_of self.new ≡ sent_of self.old }
         ensures namespace { namespace_of self.new ≡ namespace_of self.old }
+        // each goes out once: they are the namespace's loads behind those that were taken before
+        ensures in_turn { IsTrue (are_in_turn (namespace_of self.old) (taken_of self.old) result.items) }
+        ensures all { taken_of self.new ≡ sent_of self.old }
+        ensures keys { IsTrue (have_their_keys (pending_of self.old) result.items) }
     {
         mem::replace(&mut self.outgoing, Vec::new(alloc))
     }
-}
-
-/// Adds a load in front of the others; there is room for it.
-fn put_first(loads: &mut Vec<Load>, load: Load)
-    requires { vec_len loads.old < vec_capacity loads.old }
-    ensures { loads.new.items ≡ load ∷ loads.old.items }
-{
-    let Ok(()) = loads.insert(0, load) else {
-        unreachable!();
-    };
-}
-
-/// Adds what goes out behind the others; there is room for it.
-fn put_last(outgoing: &mut Vec<(LoadId, Bytes)>, id: LoadId, key: Bytes)
-    requires { vec_len outgoing.old < vec_capacity outgoing.old }
-    ensures { outgoing.new.items ≡ outgoing.old.items ++ (id, key) ∷ [] }
-{
-    let Ok(()) = outgoing.push((id, key)) else {
-        unreachable!();
-    };
-}
-
-/// Has a connection wait for the loads of a key. An `Err` changes nothing.
-fn join_all(loads: &mut Vec<Load>, key: &[u8], conn: u64) -> Result<(), AllocError>
-    ensures joined { OnOk result (map pending loads.new.items ≡ map (with_waiting conn key.now) (map pending loads.old.items)) }
-    ensures same { OnErr result (map pending loads.new.items ≡ map pending loads.old.items) }
-{
-    match reserve_all(loads.as_mut_slice(), key) {
-        Ok(()) => {
-            add_to_all(loads.as_mut_slice(), key, conn);
-            Ok(())
-        }
-        Err(error) => Err(error),
-    }
-}
-
-/// Makes room for one more connection in each load of a key.
-fn reserve_all(loads: &mut [Load], key: &[u8]) -> Result<(), AllocError>
-    ensures same { map pending loads.new ≡ map pending loads.old }
-    ensures room { OnOk result (All (HasRoom key.now) loads.new) }
-{
-    for load in loads.iter_mut() {
-        reserve_joining(load, key)?;
-    }
-    Ok(())
-}
-
-/// Adds a connection to each load of a key; there is room for it.
-fn add_to_all(loads: &mut [Load], key: &[u8], conn: u64)
-    requires room { All (HasRoom key.now) loads.old }
-    ensures joined { map pending loads.new ≡ map (with_waiting conn key.now) (map pending loads.old) }
-{
-    for load in loads.iter_mut() {
-        join(load, key, conn);
-    }
-}
-
-/// Takes a connection out of all loads.
-fn leave_all(loads: &mut [Load], conn: u64)
-    ensures left { map pending loads.new ≡ map (without_waiting conn) (map pending loads.old) }
-{
-    for load in loads.iter_mut() {
-        leave(load, conn);
-    }
-}
-
-/// Takes out the load of that number.
-fn take_out(loads: &mut Vec<Load>, number: u64) -> Option<Load>
-    ensures found { option_map pending result ≡ load_numbered number (map pending loads.old.items) }
-    ensures left { map pending loads.new.items ≡ filter (λ load. not (load.number == number)) (map pending loads.old.items) }
-{
-    let index = place_of(loads, number)?;
-    let load = loads.remove(index);
-    loads.retain(|other| other.number != number);
-    Some(load)
-}
-
-/// The place of the first load of that number.
-fn place_of(loads: &[Load], number: u64) -> Option<usize>
-    ensures { IsPlaceOf number loads.now result }
-{
-    for (index, load) in loads.iter().enumerate() {
-        if load.number == number {
-            return Some(index);
-        }
-    }
-    None
 }

@@ -13,7 +13,7 @@ ghost use Rattle.cache_namespace.specs.Making.{making_of};
 ghost use Rattle.cache_namespace.specs.Lines.{IsThere, held_step};
 ghost use Rattle.cache_namespace.specs.Ends.{left_by};
 ghost use Rattle.cache_namespace.specs.Waiting.{loads_in, under_way};
-ghost use Rattle.cache_loads.specs.Pending.{SameLoads};
+ghost use Rattle.cache_loads.specs.Pending.{SameLoads, SameTaken};
 ghost use Rattle.cache_namespace.specs.Ran.{RanReady, RanFeed};
 ghost use Rattle.cache_namespace.specs.Stops.{EndsFor, ends_by_quit, holds_back, standing_at};
 ghost use Rattle.cache_namespace.specs.Whole.{has_line, has_room, held_line, waits};
@@ -143,6 +143,7 @@ pub fn run_ready<S: Store>(
     ensures fresh { IsFresh (gathered text.new.items kept.new (S.untaken store.new)) }
     ensures keeps_room { KeepsRoom kept.new }
     ensures more { more_in kept.new ≡ more_in kept.old }
+    ensures goes { SameTaken loads.old loads.new }
 {
     unread.append(piece);
     match run_lines(store, alloc, config, now, number, unread, text, kept) {
@@ -200,6 +201,7 @@ pub fn feed_lines<S: Store>(
     ensures ungathered { OnErr result (gathered text.new.items kept.new (S.untaken store.new) ≡ gathered text.old.items kept.old (S.untaken store.old)) }
     ensures same { OnErr result (SameLoads loads.old loads.new) }
     ensures again { IsErrOf result FeedError.HeldAgain → held ≡ true }
+    ensures goes { SameTaken loads.old loads.new }
 {
     if unread.reserve(piece.len()).is_err() {
         return Err(FeedError::OutOfMemory);

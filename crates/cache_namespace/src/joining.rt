@@ -3,7 +3,7 @@ ghost use Rattle.std.specs.Prelude.{◌≡◌, ◌∷◌, [], None, Ok, true, �
 ghost use Rattle.audit_model.specs.Grammar.{reading};
 ghost use Rattle.audit_model.specs.declared.command.Command.TheVariants as says;
 ghost use Rattle.audit_model.specs.declared.transcript.Note.{Note};
-ghost use Rattle.cache_loads.specs.Pending.{SameLoads};
+ghost use Rattle.cache_loads.specs.Pending.{SameLoads, SameTaken};
 ghost use Rattle.cache_namespace.specs.Gathered.{gather};
 ghost use Rattle.cache_namespace.specs.Kept.{IsReadyToHold, gathered, more_in, steps_of};
 ghost use Rattle.cache_namespace.specs.Waiting.{is_load, sent_by, under_way, when_waiting};
@@ -49,6 +49,7 @@ fn wait_for(
     ensures more { more_in kept.new ≡ more_in kept.old }
     ensures same { OnErr result (SameLoads loads.old loads.new) }
     ensures kept { OnErr result (steps_of kept.new ≡ steps_of kept.old) }
+    ensures goes { SameTaken loads.old loads.new }
 {
     match kept {
         None => {
@@ -86,6 +87,7 @@ fn join_load(
     ensures more { more_in kept.new ≡ more_in kept.old }
     ensures same { OnErr result (SameLoads loads.old loads.new) }
     ensures kept { OnErr result (steps_of kept.new ≡ steps_of kept.old) }
+    ensures goes { SameTaken loads.old loads.new }
 {
     reserve_room(output, spare)?;
     match read_line(config, line) {
@@ -126,6 +128,7 @@ pub fn join_first(
     ensures more { more_in kept.new ≡ more_in kept.old }
     ensures same { OnErr result (SameLoads loads.old loads.new) }
     ensures kept { OnErr result (steps_of kept.new ≡ steps_of kept.old) }
+    ensures goes { SameTaken loads.old loads.new }
 {
     match unread.next() {
         Next::Line(len) => {

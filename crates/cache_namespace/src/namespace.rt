@@ -3,7 +3,7 @@ ghost use Rattle.std.specs.Prelude.{◌-◌, ◌≡◌, ◌≢◌, ◌<◌, ◌�
 ghost use Rattle.cache_namespace.specs.declared.connection.Connection.{Connection as Open};
 ghost use Rattle.std.specs.List.{slice_get};
 ghost use Rattle.audit_model.specs.Situation.{Situation, HeldValue};
-ghost use Rattle.cache_loads.specs.Pending.{SameLoads};
+ghost use Rattle.cache_loads.specs.Pending.{SameLoads, SameTaken};
 ghost use Rattle.cache_store.specs.Identifiers.{DrawsAlone};
 ghost use Rattle.cache_store.specs.Promises.{IsUnchanged};
 ghost use Rattle.cache_store.specs.Recency.{KeepsRecency};
@@ -65,6 +65,7 @@ fn feed_ready<S: Store>(
     ensures again { IsErrOf result FeedError.HeldAgain → holds connection.old.standing ≡ true }
     ensures loads { OnErr result (SameLoads loads.old loads.new) }
     ensures closing { OnOk result (IsOpenOrEnded connection.new.closing) }
+    ensures goes { SameTaken loads.old loads.new }
 {
     let held = is_holding(connection.standing);
     let waited = connection.waited;
@@ -150,6 +151,7 @@ fn feed_connection<S: Store>(
     ensures again { IsErrOf result FeedError.HeldAgain → holds connection.old.standing ≡ true }
     ensures loads { OnErr result (SameLoads loads.old loads.new) }
     ensures closing { OnOk result (IsOpenOrEnded connection.new.closing) }
+    ensures goes { SameTaken loads.old loads.new }
 {
     if !is_waiting(connection.standing) {
         return feed_ready(
@@ -194,6 +196,7 @@ fn feed_at<S: Store>(
     ensures closing { OnOk result (IsOpenOrEnded (closing_at connections.new.items index)) }
     ensures loads { OnErr result (SameLoads loads.old loads.new) }
     ensures count { length connections.new.items ≡ length connections.old.items }
+    ensures goes { SameTaken loads.old loads.new }
 {
     let connection = &mut connections[index];
     match feed_connection(
@@ -287,6 +290,7 @@ impl<S: Store> Namespace<S> {
         ensures kept { OnErr result (steps_of kept.new ≡ steps_of kept.old) }
         ensures closing { OnOk result (IsOpenOrEnded (closing_at self.new.connections.items (number - 1))) }
         ensures count { length self.new.connections.items ≡ length self.old.connections.items }
+        ensures goes { SameTaken self.old.loads self.new.loads }
     {
         let index = match find_open(&self.connections, number) {
             Ok(index) => index,
@@ -331,6 +335,7 @@ impl<S: Store> Namespace<S> {
         ensures rest { self.new ≡ record self.old { connections = self.new.connections; loads = self.new.loads } }
         ensures refused { IfErr result (λ e. refusal_of self.old.config (known self.old.connections.items) (event.Close number) ≡ Some e) }
         ensures err { OnErr result (self.new ≡ self.old) }
+        ensures goes { SameTaken self.old.loads self.new.loads }
     {
         let index = match find_open(&self.connections, number) {
             Ok(index) => index,
@@ -403,7 +408,8 @@ fn find_opened(connections: &[Connection], number: u64) -> Result<usize, Service
 /// Takes the connection at a place out of those that wait, where it is closed.
 fn leave_closed(loads: &mut Loads, number: u64, connections: &[Connection], index: usize)
     requires { index < length connections.now }
-    ensures { under_way loads.new ≡ when_left (is_none (closing_at connections.now index)) number (under_way loads.old) }
+    ensures left { under_way loads.new ≡ when_left (is_none (closing_at connections.now index)) number (under_way loads.old) }
+    ensures goes { SameTaken loads.old loads.new }
 {
     if closing_of(connections, index).is_some() {
         loads.leave(number);

@@ -1,5 +1,6 @@
 //! A given-up `LOAD` that runs again as a whole command.
 ghost use Rattle.std.specs.Prelude.{◌≡◌, ◌<◌, ◌≤◌, ◌^◌, ◌∷◌, [], None, Some, Bool, IsTrue, true, vec_len, vec_capacity};
+ghost use Rattle.cache_loads.specs.Pending.{SameTaken};
 ghost use Rattle.audit_model.specs.Grammar.{reading};
 ghost use Rattle.audit_model.specs.Situation.{Situation, connection_in};
 ghost use Rattle.audit_model.specs.Stream.{behind_lines};
@@ -81,6 +82,7 @@ fn load_first<S: Store>(
     ensures fresh { IsFresh (gathered output.new.items kept.new (S.untaken store.new)) }
     ensures keeps_room { KeepsRoom kept.new }
     ensures more { more_in kept.new ≡ more_in kept.old }
+    ensures goes { SameTaken loads.old loads.new }
 {
     match release(store, alloc, config, now, number, unread, output, kept) {
         Ok(Done::Stays) => Again::Answered,
@@ -127,6 +129,7 @@ pub fn run_again<S: Store>(
     ensures fresh { IsFresh (gathered connection.new.output.items kept.new (S.untaken store.new)) }
     ensures keeps_room { KeepsRoom kept.new }
     ensures more { more_in kept.new ≡ more_in kept.old }
+    ensures goes { SameTaken loads.old loads.new }
 {
     if connection.waited >= MAX_WAITS {
         connection.standing = Standing::Ready;

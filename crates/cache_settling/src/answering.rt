@@ -9,7 +9,7 @@ ghost use Rattle.cache_namespace.specs.Making.{making_of};
 ghost use Rattle.cache_namespace.specs.Shown.{situation};
 ghost use Rattle.cache_namespace.specs.Waiting.{no_loads, under_way};
 ghost use Rattle.load_laws.specs.Tidy.{Tidy};
-ghost use Rattle.cache_loads.specs.Pending.{load_numbered, pending_of};
+ghost use Rattle.cache_loads.specs.Pending.{load_numbered, pending_of, SameTaken};
 ghost use Rattle.cache_settling.specs.Answered.{HandsOut, but_for, waiting_for};
 ghost use Rattle.cache_settling.specs.Noted.{NothingWaits, none_noted, noted_in};
 ghost use Rattle.cache_settling.specs.Told.{HaveRoom, steps_told};
@@ -55,6 +55,7 @@ pub fn hand_out<S: Store>(
     ensures count { length connections.new.items ≡ length connections.old.items }
     ensures fresh { NothingWaits (noted_in kept.new (S.untaken store.new)) connections.new.items }
     ensures made { is_some kept.new ≡ is_some kept.old }
+    ensures goes { SameTaken loads.old loads.new }
 {
     let writes = writes_replies(kept);
     tell_all(config, connections, waiting, outcome, writes);
@@ -87,6 +88,7 @@ pub fn settle_answer<S: Store>(
     ensures count { length connections.new.items ≡ length connections.old.items }
     ensures fresh { NothingWaits (noted_in kept.new (S.untaken store.new)) connections.new.items }
     ensures made { is_some kept.new ≡ is_some kept.old }
+    ensures goes { SameTaken loads.old loads.new }
 {
     let Some(settled) = loads.settle(load) else {
         unreachable!();

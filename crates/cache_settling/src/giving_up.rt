@@ -2,7 +2,7 @@
 ghost use Rattle.std.specs.Prelude.{◌≡◌, ◌≢◌, ◌-◌, ◌<◌, ◌≤◌, ◌^◌, ◌∷◌, ◌+◌, [], None, Some, List, ℕ, suc, false, is_some, length, max, true};
 ghost use Rattle.std.specs.List.{slice_get};
 ghost use Rattle.audit_model.specs.Belongs.{refusal_of};
-ghost use Rattle.cache_loads.specs.Pending.{load_numbered, pending_of};
+ghost use Rattle.cache_loads.specs.Pending.{load_numbered, pending_of, SameTaken};
 ghost use Rattle.audit_model.specs.Situation.{Situation, HeldValue, connection_in};
 ghost use Rattle.cache_steps.specs.Right.{KeepsFrame};
 ghost use Rattle.cache_namespace.specs.Drawing.{identifiers};
@@ -49,6 +49,7 @@ fn run_again_there<S: Store>(
     ensures frame { KeepsFrame (S.frame store.old) (S.frame store.new) now }
     ensures keeps_room { KeepsRoom kept.new }
     ensures more { more_in kept.new ≡ more_in kept.old }
+    ensures goes { SameTaken loads.old loads.new }
 {
     let connection = &mut connections[index];
     run_again(store, alloc, config, now, number, loads, connection, kept);
@@ -80,6 +81,7 @@ fn give_up_one<S: Store>(
     ensures fresh { NothingWaits (noted_in kept.new (S.untaken store.new)) connections.new.items }
     ensures made { is_some kept.new ≡ is_some kept.old }
     ensures stocked { (count : ℕ) → HasMore (suc (suc count)) kept.old → HasMore count kept.new }
+    ensures goes { SameTaken loads.old loads.new }
 {
     let index = (number - 1) as usize;
     restock_where(kept);
@@ -120,6 +122,7 @@ pub fn give_up_all<S: Store>(
     ensures count { length connections.new.items ≡ length connections.old.items }
     ensures fresh { NothingWaits (noted_in kept.new (S.untaken store.new)) connections.new.items }
     ensures made { is_some kept.new ≡ is_some kept.old }
+    ensures goes { SameTaken loads.old loads.new }
 {
     for number in waiting {
         give_up_one(store, alloc, config, now, *number, loads, connections, kept);
@@ -150,6 +153,7 @@ pub fn settle_give_up<S: Store>(
     ensures count { length connections.new.items ≡ length connections.old.items }
     ensures fresh { NothingWaits (noted_in kept.new (S.untaken store.new)) connections.new.items }
     ensures made { is_some kept.new ≡ is_some kept.old }
+    ensures goes { SameTaken loads.old loads.new }
 {
     let Some(settled) = loads.settle(load) else {
         unreachable!();
@@ -177,6 +181,7 @@ pub fn give_up_load<S: Store>(
     ensures ran { (values : List HeldValue) → S.stands store.old values → GivesUpLoad config.now (making_of (S.frame store.old)) load latest moment values (S.stands store.new) (under_way loads.old) (under_way loads.new) (S.frame store.old).dropped (S.frame store.new).dropped (identifiers (S.stream store.old) (S.registered store.old)) (identifiers (S.stream store.new) (S.registered store.new)) connections.old.items connections.new.items (S.untaken store.old) (S.untaken store.new) }
     ensures frame { KeepsFrame (S.frame store.old) (S.frame store.new) (max moment latest) }
     ensures count { length connections.new.items ≡ length connections.old.items }
+    ensures goes { SameTaken loads.old loads.new }
 {
     let now = moment.max(latest);
     let mut kept: Option<Kept> = None;

@@ -1,5 +1,6 @@
 //! The calls of a namespace that settle a load and keep its record.
 ghost use Rattle.std.specs.Prelude.{◌≡◌, ℕ, max, [], IfErr, IfOk, MatchOption, None, OnErr, OnOk, Some, false, List, length};
+ghost use Rattle.cache_loads.specs.Pending.{SameTaken};
 ghost use Rattle.audit_model.specs.Belongs.{refusal_of};
 ghost use Rattle.audit_model.specs.Situation.{HeldValue};
 ghost use Rattle.cache_store.specs.Identifiers.{KeepsIdentifiers};
@@ -54,6 +55,7 @@ pub fn answer_kept<S: Store>(
     ensures identifiers { OnErr result (KeepsIdentifiers (S.stream namespace.old.store) (S.stream namespace.new.store) (S.registered namespace.old.store) (S.registered namespace.new.store)) }
     ensures unchanged { OnErr result (IsUnchanged (S.stands namespace.old.store) (S.stands namespace.new.store) (S.frame namespace.old.store) (S.frame namespace.new.store) (S.untaken namespace.old.store) (S.untaken namespace.new.store)) }
     ensures timeless { OnErr result (namespace.new.latest ≡ namespace.old.latest) }
+    ensures goes { SameTaken namespace.old.loads namespace.new.loads }
 {
     match refuse_answer(&namespace.config, &namespace.loads, load, &outcome, moment) {
         Some(error) => return Err((error, outcome)),
@@ -113,6 +115,7 @@ pub fn give_up_kept<S: Store>(
     ensures admitted { OnOk result (refusal_of namespace.old.config (knows_loads (under_way namespace.old.loads)) (giving_up load moment) ≡ None) }
     ensures refused { IfErr result (λ e. MatchOption (refusal_of namespace.old.config (knows_loads (under_way namespace.old.loads)) (giving_up load moment)) (e ≡ ServiceError.OutOfMemory) (λ refusal. e ≡ refusal)) }
     ensures err { OnErr result (namespace.new ≡ namespace.old) }
+    ensures goes { SameTaken namespace.old.loads namespace.new.loads }
 {
     match refuse_load(&namespace.config, &namespace.loads, load, moment) {
         Some(error) => return Err(error),

@@ -1,5 +1,6 @@
 //! Answering a load that is under way, where no record is made.
 ghost use Rattle.std.specs.Prelude.{◌≡◌, ◌<◌, ◌≤◌, ◌^◌, max, [], None, IfOk, OnErr, OnOk, false, List, length};
+ghost use Rattle.cache_loads.specs.Pending.{SameTaken};
 ghost use Rattle.audit_model.specs.Belongs.{refusal_of, refusal_of_outcome};
 ghost use Rattle.audit_model.specs.Replies.{outcome_text};
 ghost use Rattle.audit_model.specs.Situation.{HeldValue};
@@ -59,6 +60,7 @@ pub fn answer_load<S: Store>(
     ensures identifiers { OnErr result (KeepsIdentifiers (S.stream store.old) (S.stream store.new) (S.registered store.old) (S.registered store.new)) }
     ensures unchanged { OnErr result (IsUnchanged (S.stands store.old) (S.stands store.new) (S.frame store.old) (S.frame store.new) (S.untaken store.old) (S.untaken store.new)) }
     ensures unmoved { OnErr result (KeepsRecency (S.recency store.old) (S.recency store.new)) }
+    ensures goes { SameTaken loads.old loads.new }
 {
     let size = reply_len(outcome);
     let now = moment.max(latest);

@@ -1,5 +1,6 @@
 //! Settling a load of which a record is made.
 ghost use Rattle.std.specs.Prelude.{◌≡◌, ℕ, max, [], IfOk, None, OnErr, OnOk, false, List, length, unwrap_or};
+ghost use Rattle.cache_loads.specs.Pending.{SameTaken};
 ghost use Rattle.audit_model.specs.Belongs.{refusal_of};
 ghost use Rattle.audit_model.specs.Situation.{HeldValue};
 ghost use Rattle.cache_steps.specs.Right.{KeepsFrame};
@@ -77,6 +78,7 @@ pub fn record_answer<S: Store>(
     ensures identifiers { OnErr result (KeepsIdentifiers (S.stream store.old) (S.stream store.new) (S.registered store.old) (S.registered store.new)) }
     ensures unchanged { OnErr result (IsUnchanged (S.stands store.old) (S.stands store.new) (S.frame store.old) (S.frame store.new) (S.untaken store.old) (S.untaken store.new)) }
     ensures unmoved { OnErr result (KeepsRecency (S.recency store.old) (S.recency store.new)) }
+    ensures goes { SameTaken loads.old loads.new }
 {
     let size = reply_len(outcome);
     let now = moment.max(latest);
@@ -129,6 +131,7 @@ pub fn record_give_up<S: Store>(
     ensures store { OnErr result (store.new ≡ store.old) }
     ensures same { OnErr result (connections.new ≡ connections.old) }
     ensures loads { OnErr result (loads.new ≡ loads.old) }
+    ensures goes { SameTaken loads.old loads.new }
 {
     let now = moment.max(latest);
     let kept = draft_give_up(alloc, loads, load)?;

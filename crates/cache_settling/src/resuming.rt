@@ -1,5 +1,6 @@
 //! Running the lines of connections that were told of their load.
 ghost use Rattle.std.specs.Prelude.{◌≡◌, ◌≢◌, ◌-◌, ◌<◌, ◌≤◌, ◌^◌, ◌∷◌, [], Some, List, ℕ, Bool, suc, true, length, not, is_some};
+ghost use Rattle.cache_loads.specs.Pending.{SameTaken};
 ghost use Rattle.std.specs.List.{slice_get};
 ghost use Rattle.audit_model.specs.Situation.{Situation, HeldValue};
 ghost use Rattle.cache_steps.specs.Right.{KeepsFrame};
@@ -45,6 +46,7 @@ fn resume<S: Store>(
     ensures fresh { IsFresh (gathered connection.new.output.items kept.new (S.untaken store.new)) }
     ensures keeps_room { KeepsRoom kept.new }
     ensures more { more_in kept.new ≡ more_in kept.old }
+    ensures goes { SameTaken loads.old loads.new }
 {
     match run_ready(
         store,
@@ -143,6 +145,7 @@ fn resume_there<S: Store>(
     ensures frame { KeepsFrame (S.frame store.old) (S.frame store.new) now }
     ensures keeps_room { KeepsRoom kept.new }
     ensures more { more_in kept.new ≡ more_in kept.old }
+    ensures goes { SameTaken loads.old loads.new }
 {
     let connection = &mut connections[index];
     resume(store, alloc, config, now, number, loads, connection, kept)
@@ -150,7 +153,8 @@ fn resume_there<S: Store>(
 
 /// Takes a connection that closed out of those that wait.
 fn leave_where(loads: &mut Loads, number: u64, closed: bool)
-    ensures { under_way loads.new ≡ when_left (not closed) number (under_way loads.old) }
+    ensures left { under_way loads.new ≡ when_left (not closed) number (under_way loads.old) }
+    ensures goes { SameTaken loads.old loads.new }
 {
     if closed {
         loads.leave(number);
@@ -194,6 +198,7 @@ pub fn resume_at<S: Store>(
     ensures fresh { NothingWaits (noted_in kept.new (S.untaken store.new)) connections.new.items }
     ensures made { is_some kept.new ≡ is_some kept.old }
     ensures stocked { (count : ℕ) → HasMore (suc count) kept.old → HasMore count kept.new }
+    ensures goes { SameTaken loads.old loads.new }
 {
     restock_where(kept);
     if number == 0 || number > connections.len() as u64 {
@@ -238,6 +243,7 @@ pub fn resume_all<S: Store>(
     ensures count { length connections.new.items ≡ length connections.old.items }
     ensures fresh { NothingWaits (noted_in kept.new (S.untaken store.new)) connections.new.items }
     ensures made { is_some kept.new ≡ is_some kept.old }
+    ensures goes { SameTaken loads.old loads.new }
 {
     for number in told {
         resume_at(store, alloc, config, now, *number, loads, connections, kept);

@@ -41,13 +41,13 @@ stream_from generator = stream_of (steps_u64_high plus_plus) generator
 
 -- one namespace more
 pub new-more : (spaces more : List Space) (configs : List Config) (generator : List ℕ) (made i : ℕ) (space : Space) (d : Config) → i < length configs → length spaces ≡ i
-    → AreNew spaces (take i configs) generator made → IsNew space (get_or configs i d) (fork_after i generator) made → more ≡ spaces ++ space ∷ [] → AreNew more (take (i + 1) configs) generator made
+    → AreNew spaces (take i configs) generator made → IsNew space i (get_or configs i d) (fork_after i generator) made → more ≡ spaces ++ space ∷ [] → AreNew more (take (i + 1) configs) generator made
 new-more spaces more configs generator made i space d lt number new added last =
     subst (λ l. AreNew l (take (i + 1) configs) generator made) (sym last) (subst (λ l. AreNew (spaces ++ space ∷ []) l generator made) (sym one-more) (record {
       count = length-append spaces (space ∷ []) ∙ ap (λ n. n + 1) new.count ∙ sym (length-append (take i configs) (get_or configs i d ∷ []));
       each = λ k c s at_c at_s.
-          each-more (λ k s c. IsNew s c (fork_after k generator) made) spaces (take i configs) space (get_or configs i d) new.count (λ j s c at_s at_c. new.each j c s at_c at_s)
-          (subst (λ n. IsNew space (get_or configs i d) (fork_after n generator) made) (sym number) added) k s c at_s at_c;
+          each-more (λ k s c. IsNew s k c (fork_after k generator) made) spaces (take i configs) space (get_or configs i d) new.count (λ j s c at_s at_c. new.each j c s at_c at_s)
+          (subst (λ n. IsNew space n (get_or configs i d) (fork_after n generator) made) (sym number) added) k s c at_s at_c;
     }))
   where
     one-more : take (i + 1) configs ≡ take i configs ++ get_or configs i d ∷ []

@@ -21,4 +21,4 @@ refuses-at Cause old new i j e same a = inr (subst (λ k. At old new k (λ was i
 -- a namespace that was left alone is the same
 pub same-space : (was is : Space) → is ≡ was → SameSpace was is
 same-space was is e =
-    subst (λ x. SameSpace was x) (sym e) (record { stands = λ s stands. stands; recency = λ b keys r. r; config = refl; made = refl; outputs = λ number. refl; closings = λ number. refl; notices = refl; count = refl })
+    subst (λ x. SameSpace was x) (sym e) (record { stands = λ s stands. stands; recency = λ b keys r. r; config = refl; made = refl; outputs = λ number. refl; closings = λ number. refl; notices = refl; count = refl; goes = record { taken = refl; namespace = refl } })

@@ -11,6 +11,7 @@ use Rattle.audit_model.specs.declared.event.Event.{Event}
 use Rattle.audit_model.specs.declared.event.Event.TheVariants as event
 use Rattle.audit_model.specs.declared.transcript.Record.{Record}
 use Rattle.audit_model.specs.declared.transcript.Step.{Step}
+use Rattle.cache_loads.specs.Keys.{are_in_turn, have_their_keys}
 use Rattle.cache_namespace.specs.Drawing.{StepsDraw}
 use Rattle.cache_namespace.specs.Gathered.{reply_in}
 use Rattle.cache_namespace.specs.Lines.{ends_quit}
@@ -27,7 +28,7 @@ use Rattle.cache_settling.specs.Told.{ClosesByLines, own_steps, replies_to}
 use Rattle.cache_store.specs.Recency.{KeepsRecency}
 use Rattle.cache_store.specs.Running.{is_bounded}
 use Rattle.cache_spaces.specs.Moves.{are_parted_in, are_timely_in}
-use Rattle.cache_spaces.specs.Spaces.{Stands, config_of, connections_of, identifiers_of, made_of, notices_of, outgoing_of, output_of, closing_of, loads_of, recency_of}
+use Rattle.cache_spaces.specs.Spaces.{Stands, TakesNoLoads, config_of, connections_of, identifiers_of, made_of, notices_of, outgoing_of, output_of, closing_of, loads_of, place_of, recency_of, taken_of}
 use Rattle.cache_spaces.specs.declared.space.Space.{Space}
 
 -- The event's record follows; its replies stand behind the output of that connection, and its notes behind the notices. Each value that
@@ -70,6 +71,7 @@ pub record Takes (was is : Space) (number : ℕ) (happened : Event) (is_held : B
   pub made : made_of is ≡ made_of was
   pub left : Leaves happened (closing_of was number) (closing_of is number) (output_of is number)
   pub count : length (connections_of is) ≡ count_after happened (length (connections_of was))
+  pub goes : TakesNoLoads was is
 
 -- what is known of a namespace's connections and loads
 abbrev pub known_of : Space → Known
@@ -103,6 +105,7 @@ pub record Settled (was is : Space) (happened : Event) : Type 0 where
   pub config : config_of is ≡ config_of was
   pub made : made_of is ≡ made_of was
   pub count : length (connections_of is) ≡ length (connections_of was)
+  pub goes : TakesNoLoads was is
 
 -- the definition refuses the answer with that, or else memory was wanted
 abbrev pub RefusedAnswer : Space → Event → ServiceError → Type 0
@@ -118,6 +121,7 @@ pub record SameSpace (was is : Space) : Type 0 where
   pub closings : (number : ℕ) → closing_of is number ≡ closing_of was number
   pub notices : notices_of is ≡ notices_of was
   pub count : length (connections_of is) ≡ length (connections_of was)
+  pub goes : TakesNoLoads was is
 
 -- The replies of a connection are moved out, and nothing else changes.
 pub record TakesOutput (was is : Space) (number : ℕ) (text : List ℕ) : Type 0 where
@@ -131,6 +135,7 @@ pub record TakesOutput (was is : Space) (number : ℕ) (text : List ℕ) : Type 
   pub made : made_of is ≡ made_of was
   pub notices : notices_of is ≡ notices_of was
   pub count : length (connections_of is) ≡ length (connections_of was)
+  pub goes : TakesNoLoads was is
 
 -- The oldest note is taken, if there is one, and nothing else changes.
 pub record TakesNotice (was is : Space) (note : Option Note) : Type 0 where
@@ -141,8 +146,10 @@ pub record TakesNotice (was is : Space) (note : Option Note) : Type 0 where
   pub connections : connections_of is ≡ connections_of was
   pub config : config_of is ≡ config_of was
   pub made : made_of is ≡ made_of was
+  pub goes : TakesNoLoads was is
 
--- The loads that went out are moved out, and nothing else changes.
+-- The loads that went out are moved out, and nothing else changes: they are the namespace's loads in turn, from the first that was not taken
+-- before to the last that was sent, and each that is under way comes with its key.
 pub record TakesLoads (was is : Space) (loads : List (LoadId × List ℕ)) : Type 0 where
   pub stands : (s : Situation) → Stands was s → Stands is s
   pub recency : KeepsRecency (recency_of was) (recency_of is)
@@ -152,6 +159,11 @@ pub record TakesLoads (was is : Space) (loads : List (LoadId × List ℕ)) : Typ
   pub config : config_of is ≡ config_of was
   pub made : made_of is ≡ made_of was
   pub notices : notices_of is ≡ notices_of was
+  pub in_turn : IsTrue (are_in_turn (place_of was) (taken_of was) loads)
+  pub count : (s : Situation) → Stands was s → taken_of was + length loads ≡ s.sent
+  pub all : (s : Situation) → Stands was s → taken_of is ≡ s.sent
+  pub keys : (s : Situation) → Stands was s → IsTrue (have_their_keys s.pending loads)
+  pub place : place_of is ≡ place_of was
 
 -- the connection was never opened
 pub record IsUnknown (space : Space) (number : ℕ) (e : ServiceError) : Type 0 where

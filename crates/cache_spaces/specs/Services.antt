@@ -13,7 +13,7 @@ use Rattle.rand_xoshiro.specs.Xoshiro256.{of_seed, plus_plus}
 use Rattle.audit_model.specs.Situation.{empty_situation}
 use Rattle.audit_model.specs.declared.config.Config.{Config}
 use Rattle.cache_spaces.specs.Served.{is_served}
-use Rattle.cache_spaces.specs.Spaces.{Stands, config_of, connections_of, generator_of, made_of, notices_of, recency_of}
+use Rattle.cache_spaces.specs.Spaces.{Stands, config_of, connections_of, generator_of, made_of, notices_of, recency_of, place_of, taken_of}
 use Rattle.cache_spaces.specs.declared.service.Service.{Service}
 use Rattle.cache_spaces.specs.declared.space.Space.{Space}
 
@@ -25,8 +25,8 @@ spaces_of service = service.spaces.items
 abbrev pub are_taken : List Config → Bool
 are_taken configs = nat_le 1 (length configs) && nat_le (length configs) 16 && list_all is_served configs
 
--- a namespace just made
-pub record IsNew (space : Space) (config : Config) (generator : List ℕ) (made : ℕ) : Type 0 where
+-- a namespace just made, at that place
+pub record IsNew (space : Space) (namespace : ℕ) (config : Config) (generator : List ℕ) (made : ℕ) : Type 0 where
   pub stands : Stands space (empty_situation made)
   pub configured : config_of space ≡ config
   pub made_is : made_of space ≡ made
@@ -35,6 +35,8 @@ pub record IsNew (space : Space) (config : Config) (generator : List ℕ) (made 
   pub connections : connections_of space ≡ []
   pub notices : notices_of space ≡ []
   pub forked : generator_of space ≡ generator
+  pub placed : place_of space ≡ namespace
+  pub untaken : taken_of space ≡ 0
 
 -- what a generator still gives after so many forks
 abbrev pub stream_after : ℕ → Stream → Stream
@@ -49,7 +51,7 @@ fork_after n generator = of_seed (fill_bytes 32 (stream_after n (stream_of (step
 pub record AreNew (spaces : List Space) (configs : List Config) (generator : List ℕ) (made : ℕ) : Type 0 where
   pub count : length spaces ≡ length configs
   pub each : (namespace : ℕ) (config : Config) (space : Space)
-      → slice_get configs namespace ≡ Some config → slice_get spaces namespace ≡ Some space → IsNew space config (fork_after namespace generator) made
+      → slice_get configs namespace ≡ Some config → slice_get spaces namespace ≡ Some space → IsNew space namespace config (fork_after namespace generator) made
 
 abbrev pub is_held : Fed → Bool
 is_held All = false

@@ -43,6 +43,18 @@ loads_of space = under_way space.inner.loads
 abbrev pub outgoing_of : Space → List (LoadId × List ℕ)
 outgoing_of space = table.outgoing_of space.inner.loads
 
+-- how many loads were taken
+abbrev pub taken_of : Space → ℕ
+taken_of space = table.taken_of space.inner.loads
+
+-- the place of the namespace whose loads they are
+abbrev pub place_of : Space → ℕ
+place_of space = table.namespace_of space.inner.loads
+
+-- no load was taken meanwhile, and its place is the same
+abbrev pub TakesNoLoads : Space → Space → Type 0
+TakesNoLoads was is = table.SameTaken was.inner.loads is.inner.loads
+
 -- the notes that were told and not taken
 abbrev pub notices_of : Space → List Note
 notices_of space = space.inner.store.notes.items

@@ -31,6 +31,7 @@ impl Space {
     ghost use Rattle.audit_model.specs.Belongs.{refusal_of};
     ghost use Rattle.audit_model.specs.Situation.{Situation, empty_situation};
     ghost use Rattle.audit_model.specs.declared.event.Event.TheVariants as event;
+    ghost use Rattle.cache_loads.specs.Keys.{are_in_turn, have_their_keys};
     ghost use Rattle.cache_namespace.specs.Gathered.{Gathered, IsFresh};
     ghost use Rattle.cache_namespace.specs.Kept.{IsReadyToHold, steps_of};
     ghost use Rattle.cache_namespace.specs.Taken.{IsOpenOrEnded, RefusedFor, fed, holds_at, is_quit, is_waiting_in, known};
@@ -41,7 +42,7 @@ impl Space {
     ghost use Rattle.cache_settling.specs.Laws.{record_given_up};
     ghost use Rattle.cache_spaces.specs.Recorded.{IsQuiet, LeadsOnIn};
     ghost use Rattle.cache_spaces.specs.Serves.{Serves, Settled, Takes, RefusedAnswer, SameSpace, known_of};
-    ghost use Rattle.cache_spaces.specs.Spaces.{Stands, config_of, connections_of, generator_of, loads_of, notices_of, outgoing_of, output_of, closing_of, gathered_in, made_of, recency_of, workings_of};
+    ghost use Rattle.cache_spaces.specs.Spaces.{Stands, TakesNoLoads, config_of, connections_of, generator_of, loads_of, notices_of, outgoing_of, output_of, closing_of, gathered_in, made_of, place_of, recency_of, taken_of, workings_of};
 
     /// A namespace without connections, loads and values, with a generator of its own; its place in the service.
     pub fn new(
@@ -60,6 +61,8 @@ impl Space {
         ensures generator { IfOk result (λ space. generator_of space ≡ generator) }
         ensures made { IfOk result (λ space. made_of space ≡ made) }
         ensures recency { IfOk result (λ space. recency_of space true []) }
+        ensures place { IfOk result (λ space. place_of space ≡ namespace) }
+        ensures untaken { IfOk result (λ space. taken_of space ≡ 0) }
     {
         let store = PlainStore::new(alloc, config, made, generator, FixedHasher)?;
         let inner = Namespace {
@@ -97,6 +100,7 @@ impl Space {
         ensures kept { OnErr result (steps_of kept.new ≡ steps_of kept.old) }
         ensures closing { OnOk result (IsOpenOrEnded (closing_of self.new number)) }
         ensures count { length (connections_of self.new) ≡ length (connections_of self.old) }
+        ensures goes { TakesNoLoads self.old self.new }
     {
         match self.inner.feed(alloc, number, piece, moment, kept) {
             Ok(is_held) => Ok(is_held),
@@ -151,6 +155,7 @@ impl Space {
         ensures refused { IsErr result ↔ ((known (connections_of self.old)).was_opened number ≡ false) }
         ensures error { IfErr result (λ e. e ≡ ServiceError.NoConnection) }
         ensures err { OnErr result (self.new ≡ self.old) }
+        ensures goes { TakesNoLoads self.old self.new }
     {
         match self.inner.take_output(alloc, number) {
             Ok(text) => Ok(text),
@@ -196,6 +201,11 @@ impl Space {
         ensures config { config_of self.new ≡ config_of self.old }
         ensures made { made_of self.new ≡ made_of self.old }
         ensures notices { notices_of self.new ≡ notices_of self.old }
+        ensures in_turn { IsTrue (are_in_turn (place_of self.old) (taken_of self.old) result.items) }
+        ensures count { (s : Situation) → Stands self.old s → taken_of self.old + length result.items ≡ s.sent }
+        ensures all { (s : Situation) → Stands self.old s → taken_of self.new ≡ s.sent }
+        ensures keys { (s : Situation) → Stands self.old s → IsTrue (have_their_keys s.pending result.items) }
+        ensures place { place_of self.new ≡ place_of self.old }
     {
         self.inner.loads.take(alloc)
     }
@@ -210,6 +220,7 @@ impl Space {
         ensures connections { connections_of self.new ≡ connections_of self.old }
         ensures config { config_of self.new ≡ config_of self.old }
         ensures made { made_of self.new ≡ made_of self.old }
+        ensures goes { TakesNoLoads self.old self.new }
     {
         self.inner.store.next_notice()
     }

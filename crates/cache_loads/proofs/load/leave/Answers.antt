@@ -1,6 +1,6 @@
 use Rattle.std.proofs.Common.{rules, ap, not, ◌==◌}
 use Rattle.std.proofs.lemmas.Fn.{filter_same}
-use Rattle.cache_loads.specs.Pending.{pending}
+use Rattle.cache_loads.specs.Keys.{pending}
 use Rattle.cache_loads.proofs.load.leave.Goals as goal
 
 pub returns : goal.returns

@@ -26,6 +26,7 @@ loop-number-init g c =
       made = refl;
       stocked = c.requires.stocked;
       count = refl;
+      goes = record { taken = refl; namespace = refl };
     }
 
 pub give_up_one-requires-clause-above : goal.give_up_one-requires-clause-above
@@ -94,6 +95,7 @@ loop-number-preserved g c =
       made = c.give_up_one.ensures.made ∙ i.made;
       stocked = c.give_up_one.ensures.stocked (length rest + length rest) (twice-more c.loop-number.kept (length rest) (subst (λ xs. HasMore (length xs + length xs) c.loop-number.kept) next i.stocked));
       count = c.give_up_one.ensures.count ∙ i.count;
+      goes = record { taken = c.give_up_one.ensures.goes.taken ∙ i.goes.taken; namespace = c.give_up_one.ensures.goes.namespace ∙ i.goes.namespace };
     }
 
 pub returns-clause-ran : goal.returns-clause-ran

@@ -1,6 +1,7 @@
 use Rattle.std.proofs.Common.{◌≡◌, ◌≤◌, ◌+◌, ℕ, List, length, drop}
 use Rattle.std.specs.Prelude.{is_some}
 use Rattle.audit_model.specs.Situation.{HeldValue}
+use Rattle.cache_loads.specs.Pending.{SameTaken}
 use Rattle.cache_steps.specs.Right.{KeepsFrame}
 use Rattle.cache_namespace.specs.Drawing.{identifiers}
 use Rattle.cache_namespace.specs.Making.{making_of}
@@ -21,4 +22,5 @@ invariant-loop-number g l = record {
   made : is_some l.kept ≡ is_some l.fn.kept;
   stocked : HasMore (length (drop l.number-index l.waiting) + length (drop l.number-index l.waiting)) l.kept;
   count : length l.connections.items ≡ length l.fn.connections.items;
+  goes : SameTaken l.fn.loads l.loads;
 }

@@ -22,6 +22,7 @@ loop-number-init g c =
       made = refl;
       stocked = c.requires.stocked;
       count = refl;
+      goes = record { taken = refl; namespace = refl };
     }
 
 pub loop-number-preserved : goal.loop-number-preserved
@@ -64,6 +65,7 @@ loop-number-preserved g c =
       made = c.resume_at.ensures.made ∙ i.made;
       stocked = c.resume_at.ensures.stocked (length rest) (subst (λ xs. HasMore (length xs) c.loop-number.kept) (rest-next ns at c.loop-number-test.true) i.stocked);
       count = c.resume_at.ensures.count ∙ i.count;
+      goes = record { taken = c.resume_at.ensures.goes.taken ∙ i.goes.taken; namespace = c.resume_at.ensures.goes.namespace ∙ i.goes.namespace };
     }
 
 pub resume_at-requires-clause-stocked : goal.resume_at-requires-clause-stocked

@@ -61,7 +61,7 @@ returns-clause-ran g c = λ values m.
     subst (λ (n : Noted). RunsThem c.args.config.now (making_of (g.S.Store.frame was)) c.args.now values (c.args.number ∷ []) [] (g.S.Store.stands is) l (under_way c.leave_where.new.loads) dropped (g.S.Store.frame is).dropped (identifiers (g.S.Store.stream was) (g.S.Store.registered was)) (identifiers (g.S.Store.stream is) (g.S.Store.registered is)) cs after n (noted_in c.resume_there-closed.new.kept (g.S.Store.untaken is))) same
     (runs-resumed c.args.config.now (making_of (g.S.Store.frame was)) c.args.now c.args.number (c.args.number - 1) l (under_way c.resume_there-closed.new.loads) (under_way c.leave_where.new.loads) cs after dropped (g.S.Store.frame is).dropped c.resume_there-closed.result f.0 values (g.S.Store.stands is)
     (workings (g.S.Store.stream was) (g.S.Store.registered was) (g.S.Store.recency was)) (workings (g.S.Store.stream is) (g.S.Store.registered is) (g.S.Store.recency is)) (noted_in c.restock_where.new.kept told) (noted_in c.resume_there-closed.new.kept (g.S.Store.untaken is))
-    e p runs c.resume_there-closed.ensures.ran.1 c.resume_there-closed.ensures.ran.4 c.leave_where.ensures f.1)
+    e p runs c.resume_there-closed.ensures.ran.1 c.resume_there-closed.ensures.ran.4 c.leave_where.ensures.left f.1)
 
 pub returns-clause-others : goal.returns-clause-others
 returns-clause-others g c = λ place ne. replaced-others c.args.connections.now.items c.resume_there-closed.new.connections.items (c.args.number - 1) c.resume_there-closed.ensures.ran.0 place ne

@@ -1,9 +1,16 @@
-use Rattle.std.proofs.Common.{◌∙◌, ◌+◌, ap, length, length-append}
+use Rattle.std.proofs.Common.{rules, ◌≡◌, ◌∙◌, ◌+◌, ap, length, length-append}
+use Rattle.std.specs.Prelude.{vec_len}
+use Rattle.std.specs.declared.alloc.Global.{Global}
+use Rattle.std.specs.declared.vec.Vec.{Vec}
 use Rattle.rand_core.specs.Stream.{fill_bytes}
 use Rattle.rand_xoshiro.specs.Xoshiro256.{of_seed}
 use Rattle.cache_spaces.specs.Served.{is_served}
+use Rattle.cache_spaces.specs.declared.space.Space.{Space}
 use Rattle.cache_spaces.proofs.Newly.{all-at, forked-more, new-more}
 use Rattle.cache_spaces.proofs.making.new_spaces.Goals as goal
+
+many : (v : Vec Space Global) → vec_len v ≡ length v.items
+many v = search rules
 
 pub loop-config-preserved : goal.loop-config-preserved
 loop-config-preserved c = record {
@@ -16,6 +23,8 @@ loop-config-preserved c = record {
         served = all-at is_served c.args.configs.now c.loop-config.config-index _ c.loop-config-test.true c.requires.configs;
         connections = c.in_ok-new.ensures.connections;
         notices = c.in_ok-new.ensures.notices;
+        placed = c.in_ok-new.ensures.place ∙ c.len-namespace.ensures ∙ many c.loop-config.spaces ∙ c.loop-config.invariant.number;
+        untaken = c.in_ok-new.ensures.untaken;
         forked = c.in_ok-new.ensures.generator ∙ c.fork.ensures.seeded ∙ ap (λ s. of_seed (fill_bytes 32 s).0) c.loop-config.invariant.forked;
       })
       c.in_ok-push.ensures.items;

@@ -1,5 +1,6 @@
 use Rattle.std.proofs.Common.{◌≡◌, map, drop}
-use Rattle.cache_loads.specs.Pending.{pending, load_with_key}
+use Rattle.cache_loads.specs.Keys.{pending}
+use Rattle.cache_loads.specs.Pending.{load_with_key}
 use Rattle.cache_loads.proofs.loads.Loads.find.Given as goal
 
 abbrev pub invariant-loop-load : goal.invariant-loop-load

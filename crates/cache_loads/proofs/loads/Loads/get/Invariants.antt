@@ -1,5 +1,6 @@
 use Rattle.std.proofs.Common.{◌≡◌, map, drop}
-use Rattle.cache_loads.specs.Pending.{pending, load_numbered}
+use Rattle.cache_loads.specs.Keys.{pending}
+use Rattle.cache_loads.specs.Pending.{load_numbered}
 use Rattle.cache_loads.proofs.loads.Loads.get.Given as goal
 
 abbrev pub invariant-loop-load : goal.invariant-loop-load

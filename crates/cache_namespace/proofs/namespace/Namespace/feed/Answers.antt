@@ -20,7 +20,7 @@ returns-in-Ok-feed_at-clause-ran g c = λ values m.
     let place = rw c.deref.ensures.value at c.in-Ok.ensures.place in
     taken-feed old.config (making_of (g.S.Store.frame old.store)) old.latest c.max-now.result c.args.number c.in-Ok.index (c.args.number - 1) c.args.moment (under_way old.loads) (under_way c.feed_at.new.loads) (under_way c.leave_closed.new.loads) old.connections.items c.feed_at.new.connections.items (g.S.Store.frame old.store).dropped (g.S.Store.frame c.feed_at.new.store).dropped values
     c.args.piece.now c.in-Ok-feed_at.is_held (g.S.Store.stands old.store) (g.S.Store.stands c.feed_at.new.store) (workings (g.S.Store.stream old.store) (g.S.Store.registered old.store) (g.S.Store.recency old.store)) (workings (g.S.Store.stream c.feed_at.new.store) (g.S.Store.registered c.feed_at.new.store) (g.S.Store.recency c.feed_at.new.store)) c.args.kept.now c.feed_at.new.kept (g.S.Store.untaken old.store) (g.S.Store.untaken c.feed_at.new.store)
-    (rw c.deref-in-Ok-feed_at.ensures.value at c.leave_closed.ensures) place.0 refl c.max-now.ensures place.1 (omega arith) (rw c.deref.ensures.value at c.in-Ok.ensures.open) ran.0 ran.1 m
+    (rw c.deref-in-Ok-feed_at.ensures.value at c.leave_closed.ensures.left) place.0 refl c.max-now.ensures place.1 (omega arith) (rw c.deref.ensures.value at c.in-Ok.ensures.open) ran.0 ran.1 m
 
 pub returns-in-Ok-feed_at-clause-others : goal.returns-in-Ok-feed_at-clause-others
 returns-in-Ok-feed_at-clause-others g c = λ place ne.

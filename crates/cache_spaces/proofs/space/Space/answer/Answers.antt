@@ -51,6 +51,7 @@ returns-in-Ok-clause-settled c =
       config = c.answer_in.ensures.config;
       made = ap (λ (f : Frame). f.made) c.in-Ok.ensures.made.rest;
       count = c.in-Ok.ensures.count;
+      goes = c.answer_in.ensures.goes;
     }
 
 pub returns-in-Err-clause-same : goal.returns-in-Err-clause-same
@@ -73,5 +74,6 @@ returns-in-Err-clause-same c =
       outputs = λ number. e.same.texts (number - 1);
       closings = λ number. e.same.closings (number - 1);
       notices = e.unchanged.untaken;
+      goes = c.answer_in.ensures.goes;
       count = ap (λ (s : Situation). s.opened) (e.same.situation 0 (under_way old.loads) false []);
     }

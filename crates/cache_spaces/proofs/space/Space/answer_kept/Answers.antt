@@ -75,5 +75,6 @@ returns-in-Err-clause-same c =
       outputs = λ number. ap (λ cs. text_at cs (number - 1)) same;
       closings = λ number. ap (λ cs. closing_at cs (number - 1)) same;
       notices = e.unchanged.untaken;
+      goes = c.answer_kept.ensures.goes;
       count = ap (λ cs. length cs) same;
     }

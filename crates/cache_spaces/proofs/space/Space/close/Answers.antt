@@ -30,6 +30,7 @@ returns-in-Ok-clause-takes c =
       others = c.in-Ok.ensures.others;
       config = rw c.in-Ok.ensures.rest refl;
       made = rw c.in-Ok.ensures.rest refl;
+      goes = c.close.ensures.goes;
       left = (c.in-Ok.ensures.open, c.in-Ok.ensures.closed);
       count = c.in-Ok.ensures.count;
     }

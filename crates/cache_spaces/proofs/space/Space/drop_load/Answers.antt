@@ -50,6 +50,7 @@ returns-clause-settled c =
       config = refl;
       made = refl;
       count = refl;
+      goes = c.settle.ensures.goes;
     }
 
 pub returns-clause-kept : goal.returns-clause-kept

@@ -54,4 +54,5 @@ returns-in-Ok-clause-settled c =
       config = c.give_up_in.ensures.config;
       made = ap (λ (f : Frame). f.made) c.in-Ok.ensures.made.rest;
       count = c.give_up_in.ensures.count;
+      goes = c.give_up_in.ensures.goes;
     }

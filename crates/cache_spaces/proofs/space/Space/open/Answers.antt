@@ -1,5 +1,6 @@
 use Rattle.std.proofs.Common.{false, subst, ◌≡◌, ◌-◌, refl, ap, sym, ◌∙◌, None, arith, length, length-append, [], ◌∷◌}
 use Rattle.std.specs.List.{slice_get}
+use Rattle.cache_loads.specs.Pending.{namespace_of, taken_of}
 use Rattle.cache_namespace.specs.Taken.{is_quit, text_at}
 use Rattle.cache_spaces.specs.Spaces.{gathered_in}
 use Rattle.cache_namespace.specs.Shown.{situation}
@@ -34,6 +35,7 @@ returns-in-Ok-clause-takes c =
       others = λ k ne. ap (λ cs. slice_get cs k) added.3 ∙ others-opened old.connections.items added.0 k (λ e. ne (e ∙ sym place));
       config = rw c.in-Ok.ensures.rest refl;
       made = rw c.in-Ok.ensures.rest refl;
+      goes = record { taken = ap (λ n. taken_of n.loads) c.in-Ok.ensures.rest; namespace = ap (λ n. namespace_of n.loads) c.in-Ok.ensures.rest };
       left = (
         opened-closing old.connections.items new.connections.items added.0 (c.in-Ok.number - 1) place added.3 ∙ added.2,
         opened-text old.connections.items new.connections.items added.0 (c.in-Ok.number - 1) place added.3 ∙ added.1,

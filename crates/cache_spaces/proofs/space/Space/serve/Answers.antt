@@ -9,4 +9,5 @@ returns-in-Ok-clause-takes c = record {
   made = c.in-Ok.ensures.made;
   left = c.in-Ok.ensures.closing;
   count = c.in-Ok.ensures.count;
+  goes = c.feed.ensures.goes;
 }

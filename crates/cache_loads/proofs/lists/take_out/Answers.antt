@@ -1,10 +1,11 @@
 use Rattle.std.proofs.Common.{rules, map, not, ◌==◌, sym, ap, ◌∙◌, subst, Some}
 use Rattle.std.proofs.lemmas.Fn.{filter_same}
 use Rattle.std.specs.List.{filter}
-use Rattle.cache_loads.specs.Pending.{pending, load_numbered, IsPlaceOf}
+use Rattle.cache_loads.specs.Keys.{pending}
+use Rattle.cache_loads.specs.Pending.{load_numbered, IsPlaceOf}
 use Rattle.cache_loads.proofs.Mapping.{none-out, read-at, within-at, numbered-at}
 use Rattle.cache_loads.specs.declared.load.Load.{Load}
-use Rattle.cache_loads.proofs.loads.take_out.Goals as goal
+use Rattle.cache_loads.proofs.lists.take_out.Goals as goal
 
 pub returns-in_err-index-clause-left : goal.returns-in_err-index-clause-left
 returns-in_err-index-clause-left c = sym (none-out c.args.number _ (ap (λ xs. load_numbered c.args.number (map pending xs)) (sym c.deref.ensures.value) ∙ c.in_err-index.ensures))

@@ -1,8 +1,9 @@
 use Rattle.std.proofs.Common.{◌≡◌, ℕ, ◌≤◌, ◌<◌, ◌++◌, map, take, drop, length, get_or}
 use Rattle.audit_model.specs.Situation.{with_waiting}
-use Rattle.cache_loads.specs.Pending.{pending, HasRoom}
+use Rattle.cache_loads.specs.Keys.{pending}
+use Rattle.cache_loads.specs.Pending.{HasRoom}
 use Rattle.cache_loads.specs.declared.load.Load.{Load}
-use Rattle.cache_loads.proofs.loads.add_to_all.Given as goal
+use Rattle.cache_loads.proofs.lists.add_to_all.Given as goal
 
 abbrev pub invariant-loop-load : goal.invariant-loop-load
 invariant-loop-load l = record {

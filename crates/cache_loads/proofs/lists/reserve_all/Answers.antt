@@ -1,8 +1,9 @@
 use Rattle.std.proofs.Common.{rules, sym, ap, ◌∙◌}
 use Rattle.std.proofs.lemmas.List.Elements.{AllWithin-more_set}
-use Rattle.cache_loads.specs.Pending.{pending, HasRoom}
+use Rattle.cache_loads.specs.Keys.{pending}
+use Rattle.cache_loads.specs.Pending.{HasRoom}
 use Rattle.cache_loads.proofs.Mapping.{mapped-same}
-use Rattle.cache_loads.proofs.loads.reserve_all.Goals as goal
+use Rattle.cache_loads.proofs.lists.reserve_all.Goals as goal
 
 pub returns-in_err-reserve_joining-clause-same : goal.returns-in_err-reserve_joining-clause-same
 returns-in_err-reserve_joining-clause-same c =
