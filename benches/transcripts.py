@@ -1,9 +1,11 @@
 #!/usr/bin/env python3
-"""transcripts.py [STEPS [KEYS [CAPACITY]]]: how long `transcript audit` takes to judge a transcript of so many steps over so many keys.
+"""transcripts.py [STEPS [KEYS [CAPACITY [mixed]]]]: how long `transcript audit` takes to judge a transcript of so many steps over so many keys.
 
 It makes the transcript itself, the same each time: one connection that is fed a line a record, which is a `SET` for each key first and then a
 `SET`, a `GET` or, one in a thousand, a `SYNC`, answered as by a service that holds each key's last value and tells each older one as it is
-replaced. A capacity has to be at least as large as the number of keys, so that nothing has to leave. The verdict has to be `yes`.
+replaced. A capacity has to be at least as large as the number of keys, so that nothing has to leave. With `mixed`, two in three of the
+`SYNC` are a `DROPIF` of a prefix drawn from a thousand, and a `KEYS`; what is covered is told once its key is written again. The
+verdict has to be `yes`.
 
 Build the program first: in crates/transcript, `rt run` leaves it at out/transcript.
 """
@@ -21,10 +23,22 @@ def hexed(text):
     return "x" + text.encode().hex()
 
 
-def lines_of(steps, keys, capacity):
+def rare_line(turn, draw, keys, held, covered):
+    """One of the lines that come once in a thousand, and its reply."""
+    if turn % 3 == 1:
+        prefix = f"key{draw.randrange(keys):05}"[: draw.randrange(5, 8)]
+        covered.update(key for key in held if key.startswith(prefix))
+        return f"DROPIF {prefix}", "OK\n"
+    if turn % 3 == 2:
+        live = sorted(key for key in held if key not in covered)
+        return "KEYS", "".join(f"{line}\n" for line in [f"KEYS {len(live)}"] + live)
+    return "SYNC", f"SYNC {len(held)} {len(held)}\n"
+
+
+def lines_of(steps, keys, capacity, mixed):
     """The lines of the transcript."""
     draw = random.Random(1)
-    held = {}
+    held, covered, turn = {}, set(), 0
     yield f"config capacity={capacity} policy=lru parts=1 weight=one live_ms=- idle_ms=- deadlines=0"
     yield "made 0"
     yield "open 1"
@@ -35,12 +49,15 @@ def lines_of(steps, keys, capacity):
         if kind < 500:
             line, reply, part = f"SET {key} - {number}", "OK\n", "0"
             if key in held:
-                note = f"note Replaced {hexed(key)} {hexed(held[key])}"
+                cause = "Explicit" if key in covered else "Replaced"
+                note = f"note {cause} {hexed(key)} {hexed(held[key])}"
             held[key] = str(number)
+            covered.discard(key)
         elif kind < 999:
-            line, reply = f"GET {key}", f"VAL {held[key]}\n"
+            line, reply = f"GET {key}", "NONE\n" if key in covered else f"VAL {held[key]}\n"
         else:
-            line, reply = "SYNC", f"SYNC {len(held)} {len(held)}\n"
+            line, reply = rare_line(turn if mixed else 0, draw, keys, held, covered)
+            turn += 1
         yield f"feed 1 {number} {hexed(line + chr(10))}"
         yield f"step 1 run {hexed(line)} {hexed(reply)} - {part}"
         if note:
@@ -50,14 +67,14 @@ def lines_of(steps, keys, capacity):
 
 def main():
     words = sys.argv[1:] + ["1000000", "10000", "-"][len(sys.argv) - 1 :]
-    steps, keys, capacity = int(words[0]), int(words[1]), words[2]
-    text = ("\n".join(lines_of(steps, keys, capacity)) + "\n").encode()
+    steps, keys, capacity, mixed = int(words[0]), int(words[1]), words[2], words[3:] == ["mixed"]
+    text = ("\n".join(lines_of(steps, keys, capacity, mixed)) + "\n").encode()
     run = subprocess.run([PROGRAM, "audit"], input=text, capture_output=True, timeout=LIMIT_SECONDS)
     if run.stdout != b"verdict yes\n" or run.returncode != 0:
         sys.exit(f"wrong verdict: {run.stdout[:100]} {run.stderr[:100]}")
     used = resource.getrusage(resource.RUSAGE_CHILDREN)
     print(
-        f"{steps} steps over {keys} keys, capacity {capacity}, {len(text) / 1e6:.1f} MB: "
+        f"{steps} steps over {keys} keys, capacity {capacity}{', mixed' if mixed else ''}, {len(text) / 1e6:.1f} MB: "
         f"processor {used.ru_utime + used.ru_stime:.2f} s, at most {used.ru_maxrss / 1024:.0f} MB"
     )
 
