@@ -116,20 +116,24 @@ module _ {D : Type 0} (loads : D → List ℕ → Option Outcome → D → Type 
 
   pub drops-one : (a b : Lists) (d e : D) (key : List ℕ) (answer : Option Outcome) → loads d key answer e → Settles n a b 0 (record { key = key; answer = answer })
       → (drops : List Settling) × Drops n a b loads d e drops
-  drops-one a b d e key answer h s =
-      (s.settling ∷ [], record {
-        asks = subst (Asks n a b) (sym (append-nil (settling_inputs n 0 s.settling))) s.asks;
-        loaded = (e, subst (λ (k : Asking). loads d k.key k.answer e) (sym s.of) h, refl);
-      })
+  drops-one a b d e key answer h s = (
+    s.settling ∷ [],
+    record {
+      asks = subst (Asks n a b) (sym (append-nil (settling_inputs n 0 s.settling))) s.asks;
+      loaded = (e, subst (λ (k : Asking). loads d k.key k.answer e) (sym s.of) h, refl);
+    },
+  )
 
   pub drops-more : (a b c : Lists) (d e f : D) → (drops : List Settling) × Drops n a b loads d e drops → (drops : List Settling) × Drops n b c loads e f drops → (drops : List Settling) × Drops n a c loads d f drops
   drops-more a b c d e f p q =
       let xs = p.0 in
-      let ys = q.0 in
-      (xs ++ ys, record {
-        asks = subst (Asks n a c) (sym (flat_map-append (settling_inputs n 0) xs ys)) (asks-more n a b c (flat_map (settling_inputs n 0) xs) (flat_map (settling_inputs n 0) ys) p.1.asks q.1.asks);
-        loaded = subst (λ ks. Askings loads d ks f) (sym (map-append asking_of xs ys)) (askings_more loads d (map asking_of xs) e (map asking_of ys) f p.1.loaded q.1.loaded);
-      })
+      let ys = q.0 in (
+        xs ++ ys,
+        record {
+          asks = subst (Asks n a c) (sym (flat_map-append (settling_inputs n 0) xs ys)) (asks-more n a b c (flat_map (settling_inputs n 0) xs) (flat_map (settling_inputs n 0) ys) p.1.asks q.1.asks);
+          loaded = subst (λ ks. Askings loads d ks f) (sym (map-append asking_of xs ys)) (askings_more loads d (map asking_of xs) e (map asking_of ys) f p.1.loaded q.1.loaded);
+        },
+      )
 
 -- ---- pieces and loads
 

@@ -215,12 +215,23 @@ pub fn take_turn<
     if count == 0 {
         return Ok(Progress::Over);
     }
-    match hand_in(rt, alloc, shared, seat, conn, &buffer[..count], clock, teller) {
+    match hand_in(
+        rt,
+        alloc,
+        shared,
+        seat,
+        conn,
+        &buffer[..count],
+        clock,
+        teller,
+    ) {
         Ok(Progress::More) => {}
         Ok(Progress::Over) => return Ok(Progress::Over),
         Err(error) => return Err(error),
     }
-    match settle_loads(rt, alloc, shared, seat, conn, taken, writer, clock, loader, teller) {
+    match settle_loads(
+        rt, alloc, shared, seat, conn, taken, writer, clock, loader, teller,
+    ) {
         Ok(Progress::More) => Ok(progress_of(rt, shared, conn)),
         Ok(Progress::Over) => Ok(Progress::Over),
         Err(error) => Err(error),
