@@ -105,6 +105,10 @@ pub settles-give-up : (n moment number : ℕ) (a b : Lists) (asking : Asking) �
 settles-give-up n moment number a b asking (inl none) = record { settling = Dropped asking; of = refl; asks = none }
 settles-give-up n moment number a b asking (inr asks) = record { settling = GivenUp number asking; of = refl; asks = asks }
 
+-- the loader said so
+pub settles-said : (n moment : ℕ) (a b : Lists) (key : List ℕ) (said answer : Option Outcome) → said ≡ answer → Settles n a b moment (record { key = key; answer = answer }) → Settles n a b moment (record { key = key; answer = said })
+settles-said n moment a b key said answer is s = record { settling = s.settling; of = s.of ∙ ap (λ (o : Option Outcome). record { key = key; answer = o }) (sym is); asks = s.asks }
+
 -- so it is behind what asked nothing
 pub behind-none : (n : ℕ) (a b c : Lists) (i : Input) → SameReceipts a b → AsksOrNot n b c i → AsksOrNot n a c i
 behind-none n a b c i same (inl none) = inl (asks-more n a b c [] [] (asks-none n a b same) none)
@@ -157,11 +161,11 @@ module _ {K D : Type 0} (reads : K → ℕ → K → Type 0) (loads : D → List
   }
 
   -- one load was settled
-  pub feeds-settled : (a b : Lists) (r : Option (List ℕ)) (k l : K) (d e : D) (moment : ℕ) (key : List ℕ) (answer : Option Outcome) → Settles conn.namespace a b moment (record { key = key; answer = answer }) → reads k moment l → loads d key answer e
+  pub feeds-settled : (n : ℕ) → conn.namespace ≡ n → (a b : Lists) (r : Option (List ℕ)) (k l : K) (d e : D) (moment : ℕ) (key : List ℕ) (answer : Option Outcome) → Settles n a b moment (record { key = key; answer = answer }) → reads k moment l → loads d key answer e
       → Feeds reads loads a b r r k l d e conn [] []
-  feeds-settled a b r k l d e moment key answer s told h = record {
+  feeds-settled n here a b r k l d e moment key answer s told h = record {
     deeds = Settled s.settling moment ∷ [];
-    asks = subst (Asks conn.namespace a b) (sym (append-nil (settling_inputs conn.namespace moment s.settling))) s.asks;
+    asks = subst (Asks conn.namespace a b) (sym (append-nil (settling_inputs conn.namespace moment s.settling))) (subst (λ m. Asks m a b (settling_inputs m moment s.settling)) (sym here) s.asks);
     read = same_consumes r;
     told = (l, told, refl);
     loaded = (e, subst (λ (x : Asking). loads d x.key x.answer e) (sym s.of) h, refl);

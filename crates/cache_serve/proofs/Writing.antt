@@ -83,6 +83,21 @@ pub writes-these : {X : Type 0} (Q : X → List ℕ → Type 0) (mine own : X) (
     → Writes (Q own) 1 a b rest
 writes-these Q mine own a b held text rest taken same is s = writes-one (Q own) a b held rest (subst (λ x. Q x held) same taken) (subst (λ t. SentBut rest t a b) is s)
 
+-- a text was written whole, and then one input at most was taken
+pub breaks-behind : (P : List ℕ → Type 0) (i j : ℕ) (a b : Option (List ℕ)) → j ≤ i + 2 → Writes P 1 a b [] → Breaks P i j a b
+breaks-behind P i j a b e w = record { count = 1; rest = []; counted = omega arith; writes = w }
+
+-- what comes behind an input
+pub answers-behind : (P : List ℕ → Type 0) (i j k : ℕ) (a b : Option (List ℕ)) → j ≤ i + 1 → Answers P j (k + 1) a b → Answers P i k a b
+answers-behind P i j k a b e x = record { count = x.count; counted = let p = x.counted in omega arith; writes = x.writes }
+
+pub breaks-later : (P : List ℕ → Type 0) (i j k : ℕ) (a b : Option (List ℕ)) → j ≤ i + 1 → Breaks P j (k + 1) a b → Breaks P i k a b
+breaks-later P i j k a b e x = record { count = x.count; rest = x.rest; counted = let p = x.counted in omega arith; writes = x.writes }
+
+-- one text more than inputs
+pub breaks-one-more : (P : List ℕ → Type 0) (i j : ℕ) (a b : Option (List ℕ)) → Answers P i j a b → Breaks P i (j + 1) a b
+breaks-one-more P i j a b x = record { count = x.count; rest = []; counted = let p = x.counted in omega arith; writes = x.writes }
+
 -- one input at most was taken, and then a text was sent but for its end
 pub breaks-one : (P : List ℕ → Type 0) (i j : ℕ) (a b : Option (List ℕ)) → j ≤ i + 1 → (count : ℕ) × (rest : List ℕ) × Writes P count a b rest → Breaks P i j a b
 breaks-one P i j a b e w = record { count = w.0; rest = w.1; counted = omega arith; writes = w.2 }

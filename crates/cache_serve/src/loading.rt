@@ -34,6 +34,8 @@ fn give_up<L: Seating, C: Takings>(
     ensures moment { IsErrOf result RunError.Moment → 2 ^ 63 ≤ moment }
     ensures causes { IfErr result (λ e. (e ≢ RunError.Read) × (e ≢ RunError.Write)) }
     ensures asked { C.KEEPS ≡ true → AsksOrNot load.namespace seat.old.receipts.items seat.new.receipts.items (give_up_of load.namespace moment load.number) }
+    ensures kept { OnErr result (seat.new.count ≡ seat.old.count) }
+    ensures same { C.KEEPS ≡ true → OnErr result (SameReceipts seat.old.receipts.items seat.new.receipts.items) }
 {
     for _try in 0..u64::MAX {
         match shared.step(
@@ -73,6 +75,8 @@ fn answer<L: Seating, C: Takings>(
     ensures causes { IfErr result (λ e. (e ≢ RunError.Read) × (e ≢ RunError.Write)) }
     ensures asked { C.KEEPS ≡ true → AsksOrNot load.namespace seat.old.receipts.items seat.new.receipts.items (answer_of load.namespace moment load.number outcome) }
     ensures refused { result ≡ Ok false → SameReceipts seat.old.receipts.items seat.new.receipts.items }
+    ensures kept { OnErr result (seat.new.count ≡ seat.old.count) }
+    ensures same { C.KEEPS ≡ true → OnErr result (SameReceipts seat.old.receipts.items seat.new.receipts.items) }
 {
     let error = match shared.step(
         rt,
@@ -111,6 +115,8 @@ fn settle<L: Seating, C: Takings>(
     ensures moment { IsErrOf result RunError.Moment → 2 ^ 63 ≤ moment }
     ensures causes { IfErr result (λ e. (e ≢ RunError.Read) × (e ≢ RunError.Write)) }
     ensures asked { C.KEEPS ≡ true → (key : List ℕ) → Settles load.namespace seat.old.receipts.items seat.new.receipts.items moment (record { key = key; answer = said }) }
+    ensures kept { OnErr result (seat.new.count ≡ seat.old.count) }
+    ensures same { C.KEEPS ≡ true → OnErr result (SameReceipts seat.old.receipts.items seat.new.receipts.items) }
 {
     match said {
         Some(outcome) => match answer(rt, shared, seat, load, outcome, moment) {
@@ -360,16 +366,12 @@ fn settle_after<L: Seating, C: Takings, D: Loader>(
     ensures loader { HasAskedMost D.loads loader.old loader.new seat.old.count seat.new.count }
     ensures asked { C.KEEPS ≡ true → (drops : List Settling) × Drops load.namespace seat.old.receipts.items seat.new.receipts.items D.loads loader.old loader.new drops }
 {
-    let Some(outcome) = loader.load(key) else {
-        let _ = give_up(rt, shared, seat, load, 0);
-        return;
-    };
-    match answer(rt, shared, seat, load, outcome, 0) {
-        Ok(true) => {}
-        _ => {
-            let _ = give_up(rt, shared, seat, load, 0);
-        }
+    let said = loader.load(key);
+    match settle(rt, shared, seat, load, said, 0) {
+        Ok(()) => return,
+        Err(_) => {}
     }
+    let _ = give_up(rt, shared, seat, load, 0);
 }
 
 /// Settles the loads of a namespace behind an error, when the connection has closed: those that were taken, and those that go out
