@@ -215,10 +215,8 @@ fn is_waiting<L: Seating, C: Takings>(
 /// What was done for the loads of a connection.
 #[derive(Clone, Copy, Debug, PartialEq, Eq, Drop)]
 enum Next {
-    /// A load was settled, or waited for: there may be more, and a command may be held back.
-    More,
-    /// What may have been held back has run.
-    Ran,
+    /// A load was settled, or waited for, or what may have been held back has run. Whether something may be held back now.
+    More(bool),
     /// The connection has closed.
     Over,
     /// Nothing, as nothing was left.
@@ -252,17 +250,17 @@ fn go_on<L: Seating, C: Takings, K: Clock, D: Loader, T: Teller, R: Wait>(
 {
     if !taken.is_empty() {
         return match settle_last(rt, shared, seat, conn, taken, clock, loader, teller) {
-            Ok(()) => Ok(Next::More),
+            Ok(()) => Ok(Next::More(true)),
             Err(error) => Err(error),
         };
     }
     if waits {
         shared.await_ready(rt, seat, conn);
-        return Ok(Next::More);
+        return Ok(Next::More(true));
     }
     if may_hold {
         return match hand_in(rt, alloc, shared, seat, conn, &[], clock, teller) {
-            Ok(Progress::More) => Ok(Next::Ran),
+            Ok(Progress::More) => Ok(Next::More(false)),
             Ok(Progress::Over) => Ok(Next::Over),
             Err(error) => Err(error),
         };
@@ -342,8 +340,7 @@ pub fn settle_loads<L: Seating, C: Takings, O: Write, K: Clock, D: Loader, T: Te
         match settle_next(
             rt, alloc, shared, seat, conn, taken, may_hold, writer, clock, loader, teller,
         ) {
-            Ok(Next::More) => may_hold = true,
-            Ok(Next::Ran) => may_hold = false,
+            Ok(Next::More(holds)) => may_hold = holds,
             Ok(Next::Over) => return Ok(Progress::Over),
             Ok(Next::Nothing) => return Ok(Progress::More),
             Err(error) => return Err(error),
