@@ -93,6 +93,14 @@ module _ {D : Type 0} (loads : D → List ℕ → Option Outcome → D → Type 
     few = let a = p.few in let b = q.few in let c = length-append p.asks q.asks in omega arith;
   }
 
+  -- what was asked before counts as well
+  pub most-asked-all : (d e f : D) (i j : ℕ) → HasAsked loads d e → HasAskedMost loads e f i j → HasAskedMost loads d f i j
+  most-asked-all d e f i j p q = record {
+    asks = p.0 ++ q.asks;
+    loaded = askings_more loads d p.0 e q.asks f p.1 q.loaded;
+    few = let b = q.few in let c = length-append p.0 q.asks in omega arith;
+  }
+
 -- ---- loads
 
 -- an answer was taken, or dropped
