@@ -10,6 +10,7 @@ use Rattle.audit_model.specs.Situation.{Situation, empty_situation}
 use Rattle.audit_model.specs.declared.config.Config.{Config}
 use Rattle.audit_model.specs.declared.event.Instant.{Instant}
 use Rattle.audit_model.specs.declared.input.Input.{Input}
+use Rattle.audit_model.specs.declared.input.LoadId.{LoadId}
 use Rattle.audit_model.specs.declared.input.ServiceError.{ServiceError}
 use Rattle.audit_model.specs.declared.transcript.Note.{Note}
 use Rattle.audit_model.specs.declared.transcript.Transcript.{Transcript}
@@ -24,7 +25,7 @@ use Rattle.cache_spaces.proofs.Journaling.{got}
 use Rattle.cache_spaces.proofs.Noting.{same-or-not}
 use Rattle.cache_spaces.specs.Moves.{At, part_in}
 use Rattle.cache_spaces.specs.Recorded.{namespace_of}
-use Rattle.cache_spaces.specs.Serves.{IsUnknown, SameSpace, TakesNotice, TakesOutput}
+use Rattle.cache_spaces.specs.Serves.{IsUnknown, SameSpace, TakesLoads, TakesNotice, TakesOutput}
 use Rattle.cache_spaces.specs.Services.{AreNew, Refuses}
 use Rattle.cache_spaces.specs.Spaces.{Stands, config_of}
 use Rattle.cache_spaces.specs.declared.space.Space.{Space}
@@ -153,6 +154,12 @@ pub lived-note : (k : ℕ) (old new : List Space) (n : ℕ) (r : Result (Option 
     → IfOk r (λ note. At old new k (λ was is. TakesNotice was is note)) → IfErr r (λ e. Refuses old new k e (λ was. ⊥)) → Lived old n → Lived new n
 lived-note k old new n (Ok note) taken refused w = lived-still (λ was is. TakesNotice was is note) old new k n (λ x y t. (t.stands, t.config)) taken w
 lived-note k old new n (Err e) taken refused w = lived-refused (λ was. ⊥) old new k n e refused w
+
+-- loads were taken, or refused
+pub lived-loads : (k : ℕ) (old new : List Space) (n : ℕ) (r : Result (Vec (LoadId × List ℕ) Global) ServiceError)
+    → IfOk r (λ loads. At old new k (λ was is. TakesLoads was is loads.items)) → IfErr r (λ e. Refuses old new k e (λ was. ⊥)) → Lived old n → Lived new n
+lived-loads k old new n (Ok loads) taken refused w = lived-still (λ was is. TakesLoads was is loads.items) old new k n (λ x y t. (t.stands, t.config)) taken w
+lived-loads k old new n (Err e) taken refused w = lived-refused (λ was. ⊥) old new k n e refused w
 
 -- ---- journals that obey
 

@@ -4,7 +4,7 @@ ghost use Rattle.cache_live.specs.Lived.{Lived};
 ghost use Rattle.cache_spaces.specs.Services.{are_taken, AreNew, Refuses, spaces_of};
 
 use crate::taking::take_input;
-use audit_model::{Closing, Config, Conn, Input, Instant, Note, ServiceError};
+use audit_model::{Bytes, Closing, Config, Conn, Input, Instant, LoadId, Note, ServiceError};
 use cache_spaces::{Output, Refusal, Service};
 use rand_xoshiro::Xoshiro256PlusPlus;
 use std::alloc::Global;
@@ -25,7 +25,7 @@ impl LiveService {
     ghost use Rattle.cache_shared.specs.Events.{RefusesEvent};
     ghost use Rattle.cache_spaces.specs.Moves.{At};
     ghost use Rattle.cache_spaces.specs.Recorded.{namespace_of};
-    ghost use Rattle.cache_spaces.specs.Serves.{IsUnknown, TakesNotice, TakesOutput};
+    ghost use Rattle.cache_spaces.specs.Serves.{IsUnknown, TakesLoads, TakesNotice, TakesOutput};
     ghost use Rattle.cache_spaces.specs.Services.{IsSpace};
     ghost use Rattle.cache_spaces.specs.Spaces.{closing_of};
     ghost use Rattle.cache_spaces.specs.declared.space.Space.{Space as Seen};
@@ -83,6 +83,19 @@ impl LiveService {
     {
         match self.service.take_output(conn) {
             Ok(text) => Ok(text),
+            Err(error) => Err(error),
+        }
+    }
+
+    /// The loads of a namespace that went out and were not taken, with their keys, in the order in which they were sent; moved out. It is
+    /// no event. Takes no memory. Refused with `NoNamespace`.
+    pub fn take_loads(&mut self, namespace: u64) -> Result<Vec<(LoadId, Bytes)>, ServiceError>
+        ensures taken { IfOk result (λ loads. At (spaces_of (service_of self.old)) (spaces_of (service_of self.new)) namespace (λ was is. TakesLoads was is loads.items)) }
+        ensures refused { IfErr result (λ e. Refuses (spaces_of (service_of self.old)) (spaces_of (service_of self.new)) namespace e (λ was. ⊥)) }
+        ensures events { events_of self.new ≡ events_of self.old }
+    {
+        match self.service.take_loads(namespace) {
+            Ok(loads) => Ok(loads),
             Err(error) => Err(error),
         }
     }

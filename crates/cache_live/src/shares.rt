@@ -1,6 +1,6 @@
 //! The core that keeps no journal.
 use crate::live::LiveService;
-use audit_model::{Closing, Conn, Input, Note, ServiceError, Transcript};
+use audit_model::{Bytes, Closing, Conn, Input, LoadId, Note, ServiceError, Transcript};
 use cache_shared::{Core, Takings};
 use cache_spaces::{Output, Refusal};
 
@@ -43,6 +43,10 @@ impl Takings for LiveService {
 
     fn take_output(&mut self, conn: Conn) -> Result<Vec<u8>, ServiceError> {
         LiveService::take_output(self, conn)
+    }
+
+    fn take_loads(&mut self, namespace: u64) -> Result<Vec<(LoadId, Bytes)>, ServiceError> {
+        LiveService::take_loads(self, namespace)
     }
 
     fn next_notice(&mut self, namespace: u64) -> Result<Option<Note>, ServiceError> {

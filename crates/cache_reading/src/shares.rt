@@ -1,6 +1,6 @@
 //! The core that keeps its journals, and whose replies are taken.
 use crate::reading::{ReadService, take_replies};
-use audit_model::{Closing, Conn, Input, Note, ServiceError, Transcript};
+use audit_model::{Bytes, Closing, Conn, Input, LoadId, Note, ServiceError, Transcript};
 use cache_shared::{Core, Takings};
 use cache_spaces::{Output, RecordedService, Refusal};
 
@@ -51,6 +51,11 @@ impl Takings for ReadService {
             ..
         } = self;
         take_replies(*alloc, recorded, read, conn)
+    }
+
+    fn take_loads(&mut self, namespace: u64) -> Result<Vec<(LoadId, Bytes)>, ServiceError> {
+        let ReadService { recorded, .. } = self;
+        recorded.take_loads(namespace)
     }
 
     fn next_notice(&mut self, namespace: u64) -> Result<Option<Note>, ServiceError> {

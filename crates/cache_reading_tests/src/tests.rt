@@ -1,6 +1,6 @@
 use crate::devices::PLAIN;
 use crate::runs::{make_empty, serve_both};
-use audit_model::{Bytes, Conn, Input, Instant, RemovalCause, Seq, ServiceError};
+use audit_model::{Bytes, Conn, Input, Instant, Outcome, RemovalCause, Seq, ServiceError};
 use cache_reading::ReadService;
 use cache_shared::{Core, Takings};
 use cache_spaces::Output;
@@ -115,5 +115,33 @@ fn two_connections_are_served(rt: HostRuntime) -> Result<(), Fail> {
     assert_eq!(rt; served.journals.len(), 1);
     assert_eq!(rt; served.journals[0].records.len(), 5);
     assert!(rt; audit(rt.alloc(), &PLAIN, &served.journals[0]) == Verdict::Yes);
+    Ok(())
+}
+
+#[test]
+fn loads_are_taken_once(rt: HostRuntime) -> Result<(), Fail> {
+    let alloc = rt.alloc();
+    let mut service = make_empty(alloc).ok_or("not made")?;
+    for _connection in 0..2u32 {
+        assert!(rt; service.step(Input::Open { namespace: 0 }).is_ok());
+    }
+    assert!(rt; feed(alloc, &mut service, 1, b"LOAD k\nGET k\n")?);
+    assert!(rt; feed(alloc, &mut service, 2, b"LOAD k\n")?);
+    let loads = service.take_loads(0).ok().ok_or("not taken")?;
+    assert_eq!(rt; loads.len(), 1);
+    let (load, key) = &loads[0];
+    assert!(rt; key.as_slice() == b"k".as_slice());
+    assert!(rt; service.take_loads(0).ok().ok_or("not taken")?.is_empty());
+    assert!(rt; service.take_loads(1).err() == Some(ServiceError::NoNamespace));
+    let input = Input::Answer {
+        load: *load,
+        outcome: Outcome::Value(Seq::from_vec(Vec::from_slice(alloc, b"v")?), None),
+        moment: Instant { nanos: 0 },
+    };
+    assert!(rt; service.step(input).is_ok());
+    let first = service.take_output(conn(1)).ok().ok_or("not taken")?;
+    assert_eq!(rt; first.as_slice(), b"VAL v\nVAL v\n".as_slice());
+    let second = service.take_output(conn(2)).ok().ok_or("not taken")?;
+    assert_eq!(rt; second.as_slice(), b"VAL v\n".as_slice());
     Ok(())
 }

@@ -1,19 +1,22 @@
 -- What is asked, one after another.
-use Rattle.std.proofs.Common.{◌≡◌, ◌≢◌, ◌⊎◌, ℕ, ◌+◌, ◌≤◌, Bool, true, false, List, [], ◌∷◌, ◌++◌, length, map, Option, Vec, Global, refl, sym, ap, subst, ◌∙◌, append_assoc, inl, inr, arith}
+use Rattle.std.proofs.Common.{◌≡◌, ◌≢◌, ◌⊎◌, ℕ, ◌+◌, ◌≤◌, Bool, true, false, List, [], ◌∷◌, ◌++◌, length, map, Option, Vec, Global, refl, sym, ap, subst, ◌∙◌, append_assoc, inl, inr, arith, Some, length-append}
 use Rattle.std.specs.Prelude.{Result, Ok, Err, IfOk, OnErr}
 use Rattle.std.specs.Io.KnownBytes.{Consumes, Keeps}
 use Rattle.std.specs.List.{flat_map}
 use Rattle.std.proofs.lemmas.List.{append-nil, map-append}
 use Rattle.std.proofs.lemmas.Grind.{flat_map-append}
+use Rattle.audit_model.specs.declared.event.Outcome.{Outcome}
 use Rattle.audit_model.specs.declared.input.Conn.{Conn}
 use Rattle.audit_model.specs.declared.input.Input.{Input}
 use Rattle.audit_model.specs.declared.input.Input.TheVariants as input
 use Rattle.audit_receipts.specs.declared.output.Output.{Output}
 use Rattle.audit_receipts.specs.declared.output.Output.TheVariants.{Opened}
 use Rattle.audit_receipts.specs.declared.receipt.Receipt.{Receipt}
-use Rattle.cache_run.proofs.Carrying.{consumes_more, consumes_none, readings_more, same_consumes}
-use Rattle.cache_run.specs.Carried.{Readings}
-use Rattle.cache_serve.specs.Asked.{Asks, AsksOrNot, Attends, AttendsOrNot, Feeds, FeedsMost, Grows, Idles, Opens, Piece, closing_inputs, feed_of}
+use Rattle.cache_run.proofs.Carrying.{askings_more, consumes_more, consumes_none, readings_more, same_consumes}
+use Rattle.cache_run.specs.Carried.{Askings, Readings}
+use Rattle.cache_run.specs.Happened.{Asking}
+use Rattle.cache_serve.specs.Asked.{Asks, AsksOrNot, Attends, AttendsOrNot, Deed, Drops, Feeds, FeedsMost, Grows, HasAsked, HasAskedMost, Idles, Opens, Piece, Settles, Settling, answer_of, asking_of, asks_of, bytes_of, closing_inputs, feed_of, give_up_of, inputs_of, moment_of, settling_inputs}
+use Rattle.cache_serve.specs.Asked.{Fed, Settled, Answered, Dropped, GivenUp}
 use Rattle.cache_shared.specs.Seats.{Gains, SameReceipts, receipt_for, receipts_at}
 use Rattle.cache_spaces.specs.Recorded.{namespace_of}
 
@@ -65,85 +68,183 @@ asks-after i a b d (Err e) same g none = inl (asks-none (namespace_of i) a d (λ
 pub opens-one : (n : ℕ) (output : Output) (conn : Conn) (a b : Lists) → output ≡ Opened conn → (number : ℕ) × Gains a b n (receipt_for (input.Open n) output number) → Opens n a b conn
 opens-one n output conn a b is g = record { first = receipt_for (input.Open n) output g.0; asked = refl; opened = is; grows = grows-one n a b (receipt_for (input.Open n) output g.0) g.1 }
 
-module _ {K : Type 0} (reads : K → ℕ → K → Type 0) (conn : Conn) where
-  -- nothing was fed
-  pub feeds-none : (a b : Lists) (r q : Option (List ℕ)) (k : K) → SameReceipts a b → Consumes r q [] → Feeds reads a b r q k k conn [] []
-  feeds-none a b r q k same read = record { pieces = []; asks = asks-none conn.namespace a b same; read = read; told = refl }
+-- ---- what a loader is asked
 
-  pub most-none : (a b : Lists) (r q : Option (List ℕ)) (k : K) → SameReceipts a b → Consumes r q [] → FeedsMost reads a b r q k k conn
-  most-none a b r q k same read = record { lost = []; late = []; feeds = feeds-none a b r q k same read; few = omega arith }
+module _ {D : Type 0} (loads : D → List ℕ → Option Outcome → D → Type 0) where
+  pub asked-none : (d : D) → HasAsked loads d d
+  asked-none d = ([], refl)
+
+  pub asked-one : (d e : D) (key : List ℕ) (answer : Option Outcome) → loads d key answer e → HasAsked loads d e
+  asked-one d e key answer h = (record { key = key; answer = answer } ∷ [], (e, h, refl))
+
+  pub asked-more : (d e f : D) → HasAsked loads d e → HasAsked loads e f → HasAsked loads d f
+  asked-more d e f p q = (p.0 ++ q.0, askings_more loads d p.0 e q.0 f p.1 q.1)
+
+  pub most-asked-none : (d : D) (i j : ℕ) → j ≡ i → HasAskedMost loads d d i j
+  most-asked-none d i j same = record { asks = []; loaded = refl; few = omega arith }
+
+  pub most-asked-one : (d e : D) (key : List ℕ) (answer : Option Outcome) (i j : ℕ) → loads d key answer e → j ≤ i + 1 → HasAskedMost loads d e i j
+  most-asked-one d e key answer i j h one = record { asks = record { key = key; answer = answer } ∷ []; loaded = (e, h, refl); few = one }
+
+  pub most-asked-more : (d e f : D) (i j k : ℕ) → HasAskedMost loads d e i j → HasAskedMost loads e f j k → HasAskedMost loads d f i k
+  most-asked-more d e f i j k p q = record {
+    asks = p.asks ++ q.asks;
+    loaded = askings_more loads d p.asks e q.asks f p.loaded q.loaded;
+    few = let a = p.few in let b = q.few in let c = length-append p.asks q.asks in omega arith;
+  }
+
+  -- what was asked before counts as well
+  pub most-asked-all : (d e f : D) (i j : ℕ) → HasAsked loads d e → HasAskedMost loads e f i j → HasAskedMost loads d f i j
+  most-asked-all d e f i j p q = record {
+    asks = p.0 ++ q.asks;
+    loaded = askings_more loads d p.0 e q.asks f p.1 q.loaded;
+    few = let b = q.few in let c = length-append p.0 q.asks in omega arith;
+  }
+
+-- ---- loads
+
+-- an answer was taken, or dropped
+pub settles-answer : (n moment number : ℕ) (a b : Lists) (key : List ℕ) (outcome : Outcome) → AsksOrNot n a b (answer_of n moment number outcome) → Settles n a b moment (record { key = key; answer = Some outcome })
+settles-answer n moment number a b key outcome (inl none) = record { settling = Dropped (record { key = key; answer = Some outcome }); of = refl; asks = none }
+settles-answer n moment number a b key outcome (inr asks) = record { settling = Answered number key outcome; of = refl; asks = asks }
+
+-- a give-up was taken, or dropped
+pub settles-give-up : (n moment number : ℕ) (a b : Lists) (asking : Asking) → AsksOrNot n a b (give_up_of n moment number) → Settles n a b moment asking
+settles-give-up n moment number a b asking (inl none) = record { settling = Dropped asking; of = refl; asks = none }
+settles-give-up n moment number a b asking (inr asks) = record { settling = GivenUp number asking; of = refl; asks = asks }
+
+-- the loader said so
+pub settles-said : (n moment : ℕ) (a b : Lists) (key : List ℕ) (said answer : Option Outcome) → said ≡ answer → Settles n a b moment (record { key = key; answer = answer }) → Settles n a b moment (record { key = key; answer = said })
+settles-said n moment a b key said answer is s = record { settling = s.settling; of = s.of ∙ ap (λ (o : Option Outcome). record { key = key; answer = o }) (sym is); asks = s.asks }
+
+-- so it is behind what asked nothing
+pub behind-none : (n : ℕ) (a b c : Lists) (i : Input) → SameReceipts a b → AsksOrNot n b c i → AsksOrNot n a c i
+behind-none n a b c i same (inl none) = inl (asks-more n a b c [] [] (asks-none n a b same) none)
+behind-none n a b c i same (inr asks) = inr (asks-more n a b c [] (i ∷ []) (asks-none n a b same) asks)
+
+module _ {D : Type 0} (loads : D → List ℕ → Option Outcome → D → Type 0) (n : ℕ) where
+  pub drops-none : (a b : Lists) (d : D) → SameReceipts a b → Drops n a b loads d d []
+  drops-none a b d same = record { asks = asks-none n a b same; loaded = refl }
+
+  pub drops-one : (a b : Lists) (d e : D) (key : List ℕ) (answer : Option Outcome) → loads d key answer e → Settles n a b 0 (record { key = key; answer = answer })
+      → (drops : List Settling) × Drops n a b loads d e drops
+  drops-one a b d e key answer h s = (
+    s.settling ∷ [],
+    record {
+      asks = subst (Asks n a b) (sym (append-nil (settling_inputs n 0 s.settling))) s.asks;
+      loaded = (e, subst (λ (k : Asking). loads d k.key k.answer e) (sym s.of) h, refl);
+    },
+  )
+
+  pub drops-more : (a b c : Lists) (d e f : D) → (drops : List Settling) × Drops n a b loads d e drops → (drops : List Settling) × Drops n b c loads e f drops → (drops : List Settling) × Drops n a c loads d f drops
+  drops-more a b c d e f p q =
+      let xs = p.0 in
+      let ys = q.0 in (
+        xs ++ ys,
+        record {
+          asks = subst (Asks n a c) (sym (flat_map-append (settling_inputs n 0) xs ys)) (asks-more n a b c (flat_map (settling_inputs n 0) xs) (flat_map (settling_inputs n 0) ys) p.1.asks q.1.asks);
+          loaded = subst (λ ks. Askings loads d ks f) (sym (map-append asking_of xs ys)) (askings_more loads d (map asking_of xs) e (map asking_of ys) f p.1.loaded q.1.loaded);
+        },
+      )
+
+-- ---- pieces and loads
+
+module _ {K D : Type 0} (reads : K → ℕ → K → Type 0) (loads : D → List ℕ → Option Outcome → D → Type 0) (conn : Conn) where
+  -- nothing was done
+  pub feeds-none : (a b : Lists) (r q : Option (List ℕ)) (k : K) (d : D) → SameReceipts a b → Consumes r q [] → Feeds reads loads a b r q k k d d conn [] []
+  feeds-none a b r q k d same read = record { deeds = []; asks = asks-none conn.namespace a b same; read = read; told = refl; loaded = refl }
+
+  pub most-none : (a b : Lists) (r q : Option (List ℕ)) (k : K) (d : D) → SameReceipts a b → Consumes r q [] → FeedsMost reads loads a b r q k k d d conn
+  most-none a b r q k d same read = record { lost = []; late = []; feeds = feeds-none a b r q k d same read; few = omega arith }
 
   -- one piece was fed
-  pub feeds-one : (a b : Lists) (r q : Option (List ℕ)) (k l : K) (bytes : List ℕ) (moment : ℕ) → Asks conn.namespace a b (feed_of conn (record { bytes = bytes; moment = moment }) ∷ []) → Consumes r q bytes → reads k moment l
-      → Feeds reads a b r q k l conn [] []
-  feeds-one a b r q k l bytes moment asks read told = record {
-    pieces = record { bytes = bytes; moment = moment } ∷ [];
+  pub feeds-one : (a b : Lists) (r q : Option (List ℕ)) (k l : K) (d : D) (bytes : List ℕ) (moment : ℕ) → Asks conn.namespace a b (feed_of conn (record { bytes = bytes; moment = moment }) ∷ []) → Consumes r q bytes → reads k moment l
+      → Feeds reads loads a b r q k l d d conn [] []
+  feeds-one a b r q k l d bytes moment asks read told = record {
+    deeds = Fed (record { bytes = bytes; moment = moment }) ∷ [];
     asks = asks;
     read = subst (Consumes r q) (sym (append-nil (bytes ++ []) ∙ append-nil bytes)) read;
     told = (l, told, refl);
+    loaded = refl;
   }
 
-  pub most-so : (a b : Lists) (r q : Option (List ℕ)) (k l : K) → Feeds reads a b r q k l conn [] [] → FeedsMost reads a b r q k l conn
-  most-so a b r q k l f = record { lost = []; late = []; feeds = f; few = omega arith }
+  -- one load was settled
+  pub feeds-settled : (n : ℕ) → conn.namespace ≡ n → (a b : Lists) (r : Option (List ℕ)) (k l : K) (d e : D) (moment : ℕ) (key : List ℕ) (answer : Option Outcome) → Settles n a b moment (record { key = key; answer = answer }) → reads k moment l → loads d key answer e
+      → Feeds reads loads a b r r k l d e conn [] []
+  feeds-settled n here a b r k l d e moment key answer s told h = record {
+    deeds = Settled s.settling moment ∷ [];
+    asks = subst (Asks conn.namespace a b) (sym (append-nil (settling_inputs conn.namespace moment s.settling))) (subst (λ m. Asks m a b (settling_inputs m moment s.settling)) (sym here) s.asks);
+    read = same_consumes r;
+    told = (l, told, refl);
+    loaded = (e, subst (λ (x : Asking). loads d x.key x.answer e) (sym s.of) h, refl);
+  }
+
+  pub most-so : (a b : Lists) (r q : Option (List ℕ)) (k l : K) (d e : D) → Feeds reads loads a b r q k l d e conn [] [] → FeedsMost reads loads a b r q k l d e conn
+  most-so a b r q k l d e f = record { lost = []; late = []; feeds = f; few = omega arith }
 
   -- one piece was fed, or refused
-  pub most-one : (a b : Lists) (r q : Option (List ℕ)) (k l : K) (bytes : List ℕ) (moment : ℕ) → AsksOrNot conn.namespace a b (feed_of conn (record { bytes = bytes; moment = moment })) → Consumes r q bytes → reads k moment l
-      → FeedsMost reads a b r q k l conn
-  most-one a b r q k l bytes moment (inl none) read told = record {
+  pub most-one : (a b : Lists) (r q : Option (List ℕ)) (k l : K) (d : D) (bytes : List ℕ) (moment : ℕ) → AsksOrNot conn.namespace a b (feed_of conn (record { bytes = bytes; moment = moment })) → Consumes r q bytes → reads k moment l
+      → FeedsMost reads loads a b r q k l d d conn
+  most-one a b r q k l d bytes moment (inl none) read told = record {
     lost = bytes;
     late = moment ∷ [];
-    feeds = record { pieces = []; asks = none; read = read; told = (l, told, refl) };
+    feeds = record { deeds = []; asks = none; read = read; told = (l, told, refl); loaded = refl };
     few = omega arith;
   }
-  most-one a b r q k l bytes moment (inr asks) read told = most-so a b r q k l (feeds-one a b r q k l bytes moment asks read told)
+  most-one a b r q k l d bytes moment (inr asks) read told = most-so a b r q k l d d (feeds-one a b r q k l d bytes moment asks read told)
 
   -- one after another
-  pub feeds-more : (a b c : Lists) (r q s : Option (List ℕ)) (k l m : K) (lost late : List ℕ) → Feeds reads a b r q k l conn [] [] → Feeds reads b c q s l m conn lost late → Feeds reads a c r s k m conn lost late
-  feeds-more a b c r q s k l m lost late x y =
-      let fs = x.pieces in
-      let gs = y.pieces in
-      let bytes : List Piece → List ℕ = λ ps. flat_map (λ (p : Piece). p.bytes) ps in
-      let moments : List Piece → List ℕ = λ ps. map (λ (p : Piece). p.moment) ps in
-      let read : (bytes fs ++ []) ++ (bytes gs ++ lost) ≡ bytes (fs ++ gs) ++ lost =
-      ap (λ z. z ++ (bytes gs ++ lost)) (append-nil (bytes fs)) ∙ sym (append_assoc (bytes fs) (bytes gs) lost) ∙ ap (λ z. z ++ lost) (sym (flat_map-append (λ (p : Piece). p.bytes) fs gs)) in
-      let times : (moments fs ++ []) ++ (moments gs ++ late) ≡ moments (fs ++ gs) ++ late =
-      ap (λ z. z ++ (moments gs ++ late)) (append-nil (moments fs)) ∙ sym (append_assoc (moments fs) (moments gs) late) ∙ ap (λ z. z ++ late) (sym (map-append (λ (p : Piece). p.moment) fs gs)) in
+  pub feeds-more : (a b c : Lists) (r q s : Option (List ℕ)) (k l m : K) (d e f : D) (lost late : List ℕ) → Feeds reads loads a b r q k l d e conn [] [] → Feeds reads loads b c q s l m e f conn lost late → Feeds reads loads a c r s k m d f conn lost late
+  feeds-more a b c r q s k l m d e f lost late x y =
+      let xs = x.deeds in
+      let ys = y.deeds in
+      let bytes : List Deed → List ℕ = λ ds. flat_map bytes_of ds in
+      let moments : List Deed → List ℕ = λ ds. map moment_of ds in
+      let read : (bytes xs ++ []) ++ (bytes ys ++ lost) ≡ bytes (xs ++ ys) ++ lost =
+      ap (λ z. z ++ (bytes ys ++ lost)) (append-nil (bytes xs)) ∙ sym (append_assoc (bytes xs) (bytes ys) lost) ∙ ap (λ z. z ++ lost) (sym (flat_map-append bytes_of xs ys)) in
+      let times : (moments xs ++ []) ++ (moments ys ++ late) ≡ moments (xs ++ ys) ++ late =
+      ap (λ z. z ++ (moments ys ++ late)) (append-nil (moments xs)) ∙ sym (append_assoc (moments xs) (moments ys) late) ∙ ap (λ z. z ++ late) (sym (map-append moment_of xs ys)) in
       record {
-        pieces = fs ++ gs;
-        asks = subst (Asks conn.namespace a c) (sym (map-append (feed_of conn) fs gs)) (asks-more conn.namespace a b c (map (feed_of conn) fs) (map (feed_of conn) gs) x.asks y.asks);
-        read = subst (Consumes r s) read (consumes_more r q s (bytes fs ++ []) (bytes gs ++ lost) x.read y.read);
-        told = subst (λ ts. Readings reads k ts m) times (readings_more reads k (moments fs ++ []) l (moments gs ++ late) m x.told y.told);
+        deeds = xs ++ ys;
+        asks = subst (Asks conn.namespace a c) (sym (flat_map-append (inputs_of conn) xs ys)) (asks-more conn.namespace a b c (flat_map (inputs_of conn) xs) (flat_map (inputs_of conn) ys) x.asks y.asks);
+        read = subst (Consumes r s) read (consumes_more r q s (bytes xs ++ []) (bytes ys ++ lost) x.read y.read);
+        told = subst (λ ts. Readings reads k ts m) times (readings_more reads k (moments xs ++ []) l (moments ys ++ late) m x.told y.told);
+        loaded = subst (λ ks. Askings loads d ks f) (sym (flat_map-append asks_of xs ys)) (askings_more loads d (flat_map asks_of xs) e (flat_map asks_of ys) f x.loaded y.loaded);
       }
 
-  pub most-more : (a b c : Lists) (r q s : Option (List ℕ)) (k l m : K) → Feeds reads a b r q k l conn [] [] → FeedsMost reads b c q s l m conn → FeedsMost reads a c r s k m conn
-  most-more a b c r q s k l m x y = record { lost = y.lost; late = y.late; feeds = feeds-more a b c r q s k l m y.lost y.late x y.feeds; few = y.few }
+  pub most-more : (a b c : Lists) (r q s : Option (List ℕ)) (k l m : K) (d e f : D) → Feeds reads loads a b r q k l d e conn [] [] → FeedsMost reads loads b c q s l m e f conn → FeedsMost reads loads a c r s k m d f conn
+  most-more a b c r q s k l m d e f x y = record { lost = y.lost; late = y.late; feeds = feeds-more a b c r q s k l m d e f y.lost y.late x y.feeds; few = y.few }
 
-  -- opened, fed, and closed or not
-  pub attends : (n : ℕ) (a b c d : Lists) (r q : Option (List ℕ)) (k l : K) → conn.namespace ≡ n → Opens n a b conn → FeedsMost reads b c r q k l conn → AsksOrNot conn.namespace c d (input.Close conn) → Attends reads a d r q k l n conn
-  attends n a b c d r q k l here o f z = go z
+  -- opened, fed, and closed or not, with loads behind it
+  pub attends : (n : ℕ) (a b c z o : Lists) (r q : Option (List ℕ)) (k l : K) (d e f : D) (drops : List Settling) → conn.namespace ≡ n → Opens n a b conn → FeedsMost reads loads b c r q k l d e conn → AsksOrNot conn.namespace c z (input.Close conn) → Drops n z o loads e f drops → Attends reads loads a o r q k l d f n conn drops
+  attends n a b c z o r q k l d e f drops here p x y w = go y
     where
-      whole : (closes : Bool) → Asks conn.namespace c d (closing_inputs conn closes) → Attends reads a d r q k l n conn
-      whole closes w =
-          let more = asks-more conn.namespace b c d (map (feed_of conn) f.feeds.pieces) (closing_inputs conn closes) f.feeds.asks w in
+      whole : (closes : Bool) → Asks conn.namespace c z (closing_inputs conn closes) → Attends reads loads a o r q k l d f n conn drops
+      whole closes v =
+          let done = flat_map (inputs_of conn) x.feeds.deeds in
+          let last = flat_map (settling_inputs n 0) drops in
+          let more = asks-more conn.namespace b c z done (closing_inputs conn closes) x.feeds.asks v in
+          let all = asks-more n b z o (done ++ closing_inputs conn closes) last (subst (λ m. Asks m b z (done ++ closing_inputs conn closes)) here more) w.asks in
           record {
-            first = o.first;
-            opening = o.asked;
-            opened = o.opened;
-            rest = more.added;
-            grows = grows-more n a b d (o.first ∷ []) more.added o.grows (subst (λ m. Grows m b d more.added) here more.grows);
-            pieces = f.feeds.pieces;
+            first = p.first;
+            opening = p.asked;
+            opened = p.opened;
+            rest = all.added;
+            grows = grows-more n a b o (p.first ∷ []) all.added p.grows all.grows;
+            deeds = x.feeds.deeds;
             closes = closes;
-            asked = more.asked;
-            lost = f.lost;
-            late = f.late;
-            read = f.feeds.read;
-            told = f.feeds.told;
-            few = f.few;
+            asked = all.asked;
+            lost = x.lost;
+            late = x.late;
+            read = x.feeds.read;
+            told = x.feeds.told;
+            few = x.few;
+            loaded = askings_more loads d (flat_map asks_of x.feeds.deeds) e (map asking_of drops) f x.feeds.loaded w.loaded;
           }
 
-      go : AsksOrNot conn.namespace c d (input.Close conn) → Attends reads a d r q k l n conn
+      go : AsksOrNot conn.namespace c z (input.Close conn) → Attends reads loads a o r q k l d f n conn drops
       go (inl none) = whole false none
       go (inr asks) = whole true asks
 
-pub idles : {K : Type 0} (reads : K → ℕ → K → Type 0) (a b : Lists) (r : Option (List ℕ)) (k : K) → SameReceipts a b → Idles reads a b r r k k
-idles reads a b r k same = record { same = same; unread = refl; untold = refl }
+pub idles : {K D : Type 0} (reads : K → ℕ → K → Type 0) (loads : D → List ℕ → Option Outcome → D → Type 0) (a b : Lists) (r : Option (List ℕ)) (k : K) (d : D) → SameReceipts a b → Idles reads loads a b r r k k d d
+idles reads loads a b r k d same = record { same = same; unread = refl; untold = refl; unasked = refl }

@@ -50,7 +50,7 @@ writes-more P m n a b c rest x y = record {
 pub answers-none : (P : List ℕ → Type 0) (i j : ℕ) (a : Option (List ℕ)) → j ≡ i → Answers P i j a a
 answers-none P i j a e = record { count = 0; counted = omega arith; writes = writes-none P a }
 
-pub answers-one : (P : List ℕ → Type 0) (i j : ℕ) (a b : Option (List ℕ)) → j ≡ i + 1 → Writes P 1 a b [] → Answers P i j a b
+pub answers-one : (P : List ℕ → Type 0) (i j : ℕ) (a b : Option (List ℕ)) → j ≤ i + 1 → Writes P 1 a b [] → Answers P i j a b
 answers-one P i j a b e w = record { count = 1; counted = e; writes = w }
 
 pub answers-more : (P : List ℕ → Type 0) (i j k : ℕ) (a b c : Option (List ℕ)) → Answers P i j a b → Answers P j k b c → Answers P i k a c
@@ -83,20 +83,37 @@ pub writes-these : {X : Type 0} (Q : X → List ℕ → Type 0) (mine own : X) (
     → Writes (Q own) 1 a b rest
 writes-these Q mine own a b held text rest taken same is s = writes-one (Q own) a b held rest (subst (λ x. Q x held) same taken) (subst (λ t. SentBut rest t a b) is s)
 
+-- a text was written whole, and then one input at most was taken
+pub breaks-behind : (P : List ℕ → Type 0) (i j : ℕ) (a b : Option (List ℕ)) → j ≤ i + 2 → Writes P 1 a b [] → Breaks P i j a b
+breaks-behind P i j a b e w = record { count = 1; rest = []; counted = omega arith; writes = w }
+
+-- what comes behind an input
+pub answers-behind : (P : List ℕ → Type 0) (i j k : ℕ) (a b : Option (List ℕ)) → j ≤ i + 1 → Answers P j (k + 1) a b → Answers P i k a b
+answers-behind P i j k a b e x = record { count = x.count; counted = let p = x.counted in omega arith; writes = x.writes }
+
+pub breaks-later : (P : List ℕ → Type 0) (i j k : ℕ) (a b : Option (List ℕ)) → j ≤ i + 1 → Breaks P j (k + 1) a b → Breaks P i k a b
+breaks-later P i j k a b e x = record { count = x.count; rest = x.rest; counted = let p = x.counted in omega arith; writes = x.writes }
+
+-- one text more than inputs
+pub breaks-one-more : (P : List ℕ → Type 0) (i j : ℕ) (a b : Option (List ℕ)) → Answers P i j a b → Breaks P i (j + 1) a b
+breaks-one-more P i j a b x = record { count = x.count; rest = []; counted = let p = x.counted in omega arith; writes = x.writes }
+
+-- one input at most was taken, and then a text was sent but for its end
+pub breaks-one : (P : List ℕ → Type 0) (i j : ℕ) (a b : Option (List ℕ)) → j ≤ i + 1 → (count : ℕ) × (rest : List ℕ) × Writes P count a b rest → Breaks P i j a b
+breaks-one P i j a b e w = record { count = w.0; rest = w.1; counted = omega arith; writes = w.2 }
+
 module _ {C : Type 0} (service : C → Service) (events : C → ℕ) (untaken : C → Conn → List ℕ) (namespace : ℕ) (Asked : Conn → Type 0) where
   -- nothing was written
-  pub serves-none : (i j : ℕ) (a : Option (List ℕ)) → j ≤ i + 1 → Asked (record { namespace = namespace; number = 0 }) → (rest : List ℕ) × Serves service events untaken namespace Asked i j a a rest
-  serves-none i j a few asked = ([], record { conn = record { namespace = namespace; number = 0 }; here = refl; asked = asked; count = 0; counted = omega arith; writes = writes-none _ a })
+  pub serves-none : (i j : ℕ) (a : Option (List ℕ)) (spared : ℕ) → j ≤ i + 1 → Asked (record { namespace = namespace; number = 0 }) → Serves service events untaken namespace Asked i j (spared + 3) a a []
+  serves-none i j a spared few asked = record { conn = record { namespace = namespace; number = 0 }; here = refl; asked = asked; count = 0; counted = omega arith; writes = writes-none _ a }
 
   -- a connection that was opened, served and closed
-  pub serves-so : (i j k l : ℕ) (conn : Conn) (a b : Option (List ℕ)) {T E : Type 0} (r : Result T E) → conn.namespace ≡ namespace → Asked conn → j ≡ i + 1 → l ≤ k + 1
-      → OnOk r (Answers (λ text. ∥ WereUntaken service events untaken conn text ∥₁) j k a b) → OnOk r (Serves service events untaken namespace Asked i l a b [])
-  serves-so i j k l conn a b (Ok u) here asked opened closed x = record { conn = conn; here = here; asked = asked; count = x.count; counted = let p = x.counted in omega arith; writes = x.writes }
-  serves-so i j k l conn a b (Err e) here asked opened closed x = x
+  pub serves-so : (i j k l : ℕ) (conn : Conn) (a b : Option (List ℕ)) → conn.namespace ≡ namespace → Asked conn → j ≡ i + 1 → l ≤ k + 1
+      → Answers (λ text. ∥ WereUntaken service events untaken conn text ∥₁) j k a b → Serves service events untaken namespace Asked i l 3 a b []
+  serves-so i j k l conn a b here asked opened closed x = record { conn = conn; here = here; asked = asked; count = x.count; counted = let p = x.counted in omega arith; writes = x.writes }
 
-  -- one that was cut
-  pub serves-cut : (i j k l : ℕ) (conn : Conn) (a b : Option (List ℕ)) {T E : Type 0} (r : Result T E) → conn.namespace ≡ namespace → Asked conn → j ≡ i + 1 → l ≤ k + 1
-      → OnErr r (Breaks (λ text. ∥ WereUntaken service events untaken conn text ∥₁) j k a b) → OnErr r ((rest : List ℕ) × Serves service events untaken namespace Asked i l a b rest)
-  serves-cut i j k l conn a b (Ok u) here asked opened closed x = x
-  serves-cut i j k l conn a b (Err e) here asked opened closed x =
-      (x.rest, record { conn = conn; here = here; asked = asked; count = x.count; counted = let p = x.counted in omega arith; writes = x.writes })
+  -- one that was cut, and loads settled behind it
+  pub serves-cut : (i j k l m n : ℕ) (conn : Conn) (a b : Option (List ℕ)) → conn.namespace ≡ namespace → Asked conn → j ≡ i + 1 → l ≤ k + 1 → m ≤ l + n
+      → (x : Breaks (λ text. ∥ WereUntaken service events untaken conn text ∥₁) j k a b) → Serves service events untaken namespace Asked i m (n + 3) a b x.rest
+  serves-cut i j k l m n conn a b here asked opened closed settled x =
+      record { conn = conn; here = here; asked = asked; count = x.count; counted = let p = x.counted in omega arith; writes = x.writes }

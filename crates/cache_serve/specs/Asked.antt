@@ -1,14 +1,17 @@
--- What a seat asks of a shared service for one connection.
-use Rattle.std.specs.Prelude.{◌≡◌, ◌≢◌, ℕ, ◌≤◌, Bool, List, [], ◌∷◌, ◌++◌, length, map, Option, Vec, ◌⊎◌, if◌then◌else◌}
+-- What a seat asks of a shared service for one connection, and what its loader is asked.
+use Rattle.std.specs.Prelude.{◌≡◌, ◌≢◌, ℕ, ◌+◌, ◌≤◌, Bool, List, [], ◌∷◌, ◌++◌, length, map, Option, Some, Vec, ◌⊎◌, if◌then◌else◌}
 use Rattle.std.specs.Io.KnownBytes.{Consumes}
 use Rattle.std.specs.List.{flat_map}
 use Rattle.std.specs.declared.alloc.Global.{Global}
+use Rattle.audit_model.specs.declared.event.Outcome.{Outcome}
 use Rattle.audit_model.specs.declared.input.Conn.{Conn}
 use Rattle.audit_model.specs.declared.input.Input.{Input}
 use Rattle.audit_model.specs.declared.input.Input.TheVariants as input
+use Rattle.audit_model.specs.declared.input.LoadId.{LoadId}
 use Rattle.audit_receipts.specs.declared.output.Output.TheVariants.{Opened}
 use Rattle.audit_receipts.specs.declared.receipt.Receipt.{Receipt}
-use Rattle.cache_run.specs.Carried.{Readings}
+use Rattle.cache_run.specs.Carried.{Askings, Readings}
+use Rattle.cache_run.specs.Happened.{Asking}
 use Rattle.cache_shared.specs.Seats.{SameReceipts, receipts_at}
 
 -- a piece of a connection's bytes, and the moment at which it was read
@@ -16,12 +19,76 @@ pub record Piece : Type 0 where
   pub bytes : List ℕ
   pub moment : ℕ
 
+-- A loader was asked for a load. The load was answered with what the loader said, or given up; or nothing was asked of the service, or it
+-- refused.
+pub data Settling : Type 0 where
+  Answered : (number : ℕ) → (key : List ℕ) → (outcome : Outcome) → Settling
+  GivenUp : (number : ℕ) → (asking : Asking) → Settling
+  Dropped : (asking : Asking) → Settling
+
+-- a piece was fed, or a load was settled when the clock told that moment
+pub data Deed : Type 0 where
+  Fed : (piece : Piece) → Deed
+  Settled : (settling : Settling) → (moment : ℕ) → Deed
+
 abbrev pub feed_of : Conn → Piece → Input
 feed_of conn piece = input.Feed conn piece.bytes (record { nanos = piece.moment })
+
+-- a load of a namespace
+abbrev pub load_in : ℕ → ℕ → LoadId
+load_in namespace number = record { namespace = namespace; number = number }
+
+abbrev pub answer_of : ℕ → ℕ → ℕ → Outcome → Input
+answer_of namespace moment number outcome = input.Answer (load_in namespace number) outcome (record { nanos = moment })
+
+abbrev pub give_up_of : ℕ → ℕ → ℕ → Input
+give_up_of namespace moment number = input.GiveUp (load_in namespace number) (record { nanos = moment })
+
+-- what the loader was asked, and what it said
+abbrev pub asking_of : Settling → Asking
+asking_of (Answered number key outcome) = record { key = key; answer = Some outcome }
+asking_of (GivenUp number asking) = asking
+asking_of (Dropped asking) = asking
+
+-- what is asked of the service at a moment for a load of a namespace
+abbrev pub settling_inputs : ℕ → ℕ → Settling → List Input
+settling_inputs namespace moment (Answered number key outcome) = answer_of namespace moment number outcome ∷ []
+settling_inputs namespace moment (GivenUp number asking) = give_up_of namespace moment number ∷ []
+settling_inputs namespace moment (Dropped asking) = []
+
+-- the bytes that were read for it
+abbrev pub bytes_of : Deed → List ℕ
+bytes_of (Fed piece) = piece.bytes
+bytes_of (Settled settling moment) = []
+
+-- the clock's reading
+abbrev pub moment_of : Deed → ℕ
+moment_of (Fed piece) = piece.moment
+moment_of (Settled settling moment) = moment
+
+-- what the loader was asked
+abbrev pub asks_of : Deed → List Asking
+asks_of (Fed piece) = []
+asks_of (Settled settling moment) = asking_of settling ∷ []
+
+-- what was asked of the service
+abbrev pub inputs_of : Conn → Deed → List Input
+inputs_of conn (Fed piece) = feed_of conn piece ∷ []
+inputs_of conn (Settled settling moment) = settling_inputs conn.namespace moment settling
 
 -- a closing, or none
 abbrev pub closing_inputs : Conn → Bool → List Input
 closing_inputs conn closes = if closes then input.Close conn ∷ [] else []
+
+-- a loader was asked for some keys, and its answers may come of them
+abbrev pub HasAsked : {D : Type 0} → (D → List ℕ → Option Outcome → D → Type 0) → D → D → Type 0
+HasAsked loads d e = (asks : List Asking) × Askings loads d asks e
+
+-- no more inputs were counted than it was asked for keys
+pub record HasAskedMost {D : Type 0} (loads : D → List ℕ → Option Outcome → D → Type 0) (d e : D) (inputs later : ℕ) : Type 0 where
+  pub asks : List Asking
+  pub loaded : Askings loads d asks e
+  pub few : later ≤ inputs + length asks
 
 module _ (namespace : ℕ) (before after : List (Vec Receipt Global)) where
   -- the receipts of a namespace grew by these, and those of the others stayed
@@ -46,13 +113,26 @@ module _ (namespace : ℕ) (before after : List (Vec Receipt Global)) where
     pub opened : first.output ≡ Opened conn
     pub grows : Grows (first ∷ [])
 
-module _ {K : Type 0} (reads : K → ℕ → K → Type 0) (before after : List (Vec Receipt Global)) (remaining later : Option (List ℕ)) (k l : K) where
-  -- A connection was fed. These pieces, and then lost, were read, and the clock told their moments, and then late.
+  -- by what is asked at that moment for a load for which the loader was asked so
+  pub record Settles (moment : ℕ) (asking : Asking) : Type 0 where
+    pub settling : Settling
+    pub of : asking_of settling ≡ asking
+    pub asks : Asks (settling_inputs namespace moment settling)
+
+  -- A loader was asked for loads, one after another; they were settled at moment 0, which counts as the latest.
+  pub record Drops {D : Type 0} (loads : D → List ℕ → Option Outcome → D → Type 0) (d e : D) (drops : List Settling) : Type 0 where
+    pub asks : Asks (flat_map (settling_inputs namespace 0) drops)
+    pub loaded : Askings loads d (map asking_of drops) e
+
+module _ {K D : Type 0} (reads : K → ℕ → K → Type 0) (loads : D → List ℕ → Option Outcome → D → Type 0) (before after : List (Vec Receipt Global)) (remaining later : Option (List ℕ)) (k l : K) (d e : D) where
+  -- A connection was fed, and loads of its namespace were settled. The pieces, and then lost, were read, the clock told the moments, and then
+  -- late, and the loader was asked for the keys.
   pub record Feeds (conn : Conn) (lost late : List ℕ) : Type 0 where
-    pub pieces : List Piece
-    pub asks : Asks conn.namespace before after (map (feed_of conn) pieces)
-    pub read : Consumes remaining later (flat_map (λ piece. piece.bytes) pieces ++ lost)
-    pub told : Readings reads k (map (λ piece. piece.moment) pieces ++ late) l
+    pub deeds : List Deed
+    pub asks : Asks conn.namespace before after (flat_map (inputs_of conn) deeds)
+    pub read : Consumes remaining later (flat_map bytes_of deeds ++ lost)
+    pub told : Readings reads k (map moment_of deeds ++ late) l
+    pub loaded : Askings loads d (flat_map asks_of deeds) e
 
   -- so it was, but perhaps for a last piece, which was refused
   pub record FeedsMost (conn : Conn) : Type 0 where
@@ -61,28 +141,31 @@ module _ {K : Type 0} (reads : K → ℕ → K → Type 0) (before after : List 
     pub feeds : Feeds conn lost late
     pub few : length late ≤ 1
 
-  -- A connection of that namespace was opened, fed with what was read but perhaps for a last piece, and closed or not; nothing else was asked.
-  pub record Attends (namespace : ℕ) (conn : Conn) : Type 0 where
+  -- A connection of that namespace was opened, fed with what was read but perhaps for a last piece, and closed or not. Between its pieces
+  -- loads of the namespace were settled, and those of drops behind the closing. Nothing else was asked.
+  pub record Attends (namespace : ℕ) (conn : Conn) (drops : List Settling) : Type 0 where
     pub first : Receipt
     pub opening : first.input ≡ input.Open namespace
     pub opened : first.output ≡ Opened conn
     pub rest : List Receipt
     pub grows : Grows namespace before after (first ∷ rest)
-    pub pieces : List Piece
+    pub deeds : List Deed
     pub closes : Bool
-    pub asked : map (λ receipt. receipt.input) rest ≡ map (feed_of conn) pieces ++ closing_inputs conn closes
+    pub asked : map (λ receipt. receipt.input) rest ≡ (flat_map (inputs_of conn) deeds ++ closing_inputs conn closes) ++ flat_map (settling_inputs namespace 0) drops
     pub lost : List ℕ
     pub late : List ℕ
-    pub read : Consumes remaining later (flat_map (λ piece. piece.bytes) pieces ++ lost)
-    pub told : Readings reads k (map (λ piece. piece.moment) pieces ++ late) l
+    pub read : Consumes remaining later (flat_map bytes_of deeds ++ lost)
+    pub told : Readings reads k (map moment_of deeds ++ late) l
     pub few : length late ≤ 1
+    pub loaded : Askings loads d (flat_map asks_of deeds ++ map asking_of drops) e
 
   -- nothing was asked, read or told
   pub record Idles : Type 0 where
     pub same : SameReceipts before after
     pub unread : later ≡ remaining
     pub untold : l ≡ k
+    pub unasked : e ≡ d
 
   -- it was attended, or nothing was done
   abbrev pub AttendsOrNot : ℕ → Conn → Type 0
-  AttendsOrNot namespace conn = Attends namespace conn ⊎ Idles
+  AttendsOrNot namespace conn = ((drops : List Settling) × Attends namespace conn drops) ⊎ Idles

@@ -21,7 +21,7 @@ pub record Writes (IsTaken : List ℕ → Type 0) (count : ℕ) (before after : 
 -- for each input that was taken a text was written whole
 pub record Answers (IsTaken : List ℕ → Type 0) (inputs later : ℕ) (before after : Option (List ℕ)) : Type 0 where
   pub count : ℕ
-  pub counted : later ≡ inputs + count
+  pub counted : later ≤ inputs + count
   pub writes : Writes IsTaken count before after []
 
 -- so it was for all inputs but the last one; the last text may be cut
@@ -32,13 +32,12 @@ pub record Breaks (IsTaken : List ℕ → Type 0) (inputs later : ℕ) (before a
   pub writes : Writes IsTaken count before after rest
 
 module _ {C : Type 0} (service : C → Service) (events : C → ℕ) (untaken : C → Conn → List ℕ) where
-  -- The texts are the replies of one connection of that namespace, each taken from a service to which some journals that obey lead. They
-  -- are as many as the inputs that the seat counts, but for those that open and close the connection, and one that was not answered. That
-  -- was asked for the connection.
-  pub record Serves (namespace : ℕ) (Asked : Conn → Type 0) (inputs later : ℕ) (before after : Option (List ℕ)) (rest : List ℕ) : Type 0 where
+  -- The texts are the replies of one connection of that namespace, each taken from a service to which some journals that obey lead. There is
+  -- one at least for each input that the seat counts, but for those that are spared. That was asked for the connection.
+  pub record Serves (namespace : ℕ) (Asked : Conn → Type 0) (inputs later spared : ℕ) (before after : Option (List ℕ)) (rest : List ℕ) : Type 0 where
     pub conn : Conn
     pub here : conn.namespace ≡ namespace
     pub asked : Asked conn
     pub count : ℕ
-    pub counted : later ≤ inputs + count + 3
+    pub counted : later ≤ inputs + count + spared
     pub writes : Writes (λ text. ∥ WereUntaken service events untaken conn text ∥₁) count before after rest

@@ -4,6 +4,7 @@
 mod devices;
 mod errors;
 mod hosting;
+mod loading;
 mod serving;
 mod turns;
 

@@ -1,18 +1,20 @@
 //! One connection of a shared service, from its opening to its closing.
-ghost use Rattle.std.specs.Prelude.{◌≡◌, ◌≢◌, ◌≤◌, ◌+◌, List, ℕ, [], true, IfOk, IfErr, OnOk, OnErr, IsErrOf};
+ghost use Rattle.std.specs.Prelude.{◌≡◌, ◌≢◌, ◌≤◌, ◌+◌, List, ℕ, [], true, length, IfOk, IfErr, OnOk, OnErr, IsErrOf};
 ghost use Rattle.audit_model.specs.declared.input.Input.TheVariants as asked;
 ghost use Rattle.cache_devices.specs.Failures.{HasFailed};
 ghost use Rattle.cache_devices.specs.Watched.{device, failures};
+ghost use Rattle.cache_run.specs.Carried.{Askings};
+ghost use Rattle.cache_run.specs.Happened.{Asking};
 ghost use Rattle.cache_run.specs.Turns.{HasToldLate};
-ghost use Rattle.cache_serve.specs.Asked.{AsksOrNot, Attends, AttendsOrNot, FeedsMost, Opens};
+ghost use Rattle.cache_serve.specs.Asked.{AsksOrNot, Attends, AttendsOrNot, FeedsMost, HasAsked, Opens};
 ghost use Rattle.cache_serve.specs.Written.{Answers, Breaks, Serves};
 ghost use Rattle.cache_shared.specs.Seats.{SameReceipts};
 ghost use Rattle.cache_shared.specs.Untaken.{WereUntaken};
 
 use crate::devices::{Teller, Untold};
-use crate::errors::error_of_refusal;
+use crate::loading::settle_rest;
 use crate::turns::{Progress, take_turn};
-use audit_model::{Conn, Input, ServiceError};
+use audit_model::{Bytes, Conn, Input, LoadId, ServiceError};
 use cache_devices::{Clock, Loader, Watched};
 use cache_run::RunError;
 use cache_shared::{Seat, Seating, SharedService, Takings};
@@ -76,17 +78,19 @@ fn close_if_open<L: Seating, C: Takings>(
     }
 }
 
-/// Answers the pieces that are read, to the end of the input or until the connection has closed.
-fn converse<L: Seating, C: Takings, I: Read, O: Write, K: Clock, T: Teller, R: Wait>(
+/// Answers the pieces that are read, and settles the loads that go out, to the end of the input or until the connection has closed.
+fn converse<L: Seating, C: Takings, I: Read, O: Write, K: Clock, D: Loader, T: Teller, R: Wait>(
     rt: &R,
     alloc: Global,
     shared: &SharedService<L, C>,
     seat: &mut Seat<L>,
     conn: Conn,
     buffer: &mut [u8],
+    taken: &mut Vec<(LoadId, Bytes)>,
     reader: &mut Watched<I>,
     writer: &mut Watched<O>,
     clock: &mut K,
+    loader: &mut D,
     teller: &mut T,
 ) -> Result<(), RunError>
     ensures ok { OnOk result (Answers (λ text. ∥ WereUntaken C.service C.events C.untaken conn text ∥₁) seat.old.count seat.new.count (O.contents (device writer.old)) (O.contents (device writer.new))) }
@@ -95,11 +99,12 @@ fn converse<L: Seating, C: Takings, I: Read, O: Write, K: Clock, T: Teller, R: W
     ensures read { IsErrOf result RunError.Read → HasFailed (failures reader.old) (failures reader.new) }
     ensures write { IsErrOf result RunError.Write → HasFailed (failures writer.old) (failures writer.new) }
     ensures moment { IsErrOf result RunError.Moment → HasToldLate K.reads clock.new }
-    ensures asked { C.KEEPS ≡ true → FeedsMost K.reads seat.old.receipts.items seat.new.receipts.items (I.remaining (device reader.old)) (I.remaining (device reader.new)) clock.old clock.new conn }
+    ensures loader { HasAsked D.loads loader.old loader.new }
+    ensures asked { C.KEEPS ≡ true → FeedsMost K.reads D.loads seat.old.receipts.items seat.new.receipts.items (I.remaining (device reader.old)) (I.remaining (device reader.new)) clock.old clock.new loader.old loader.new conn }
 {
     for _turn in 0..u64::MAX {
         match take_turn(
-            rt, alloc, shared, seat, conn, buffer, reader, writer, clock, teller,
+            rt, alloc, shared, seat, conn, buffer, taken, reader, writer, clock, loader, teller,
         ) {
             Ok(Progress::More) => {}
             Ok(Progress::Over) => return Ok(()),
@@ -110,12 +115,19 @@ fn converse<L: Seating, C: Takings, I: Read, O: Write, K: Clock, T: Teller, R: W
 }
 
 /// Serves one connection of a namespace that there is, from its opening to the end of its input, where it is closed, or until it has
-/// closed. Each of its events is one hold of the lock, and counted by the seat. While replies wait to be written, nothing is read.
+/// closed. Each of its events is one hold of the lock, and counted by the seat. While replies wait to be written, or a `LOAD` of the
+/// connection waits, nothing is read.
+///
+/// After each of its events it takes the loads of the namespace that have gone out, its own or other connections', and asks the loader for
+/// each by its key, without the lock. A load is answered with what the loader says, and given up where the loader asks it or where the
+/// outcome is refused for its bytes or its time; one that is not under way any more is left. It ends only when all that it took are
+/// settled. After an error the connection is closed first; then what is left is brought to the loader and settled at moment 0, which counts
+/// as the latest, and an answer that is refused for another cause is followed by a give-up. A closing or a give-up that is refused for
+/// memory is tried again.
 ///
 /// Where the service keeps journals, so that the seat has a receipt of each event, these are an opening, the pieces read with the clock's
-/// readings, and a closing, in this order. A last piece that was refused has none, and neither has a closing that was.
-///
-/// In this stage no load goes out, and the loader is not asked. The notes stay to be taken.
+/// readings, between them answers and give-ups of loads with the clock's readings, a closing, and after an error further answers and
+/// give-ups, in this order. A last piece that was refused has none, and neither has a closing that was. The notes stay to be taken.
 pub fn serve<L: Seating, C: Takings, I: Read, O: Write, K: Clock, D: Loader, R: Wait>(
     rt: &R,
     alloc: Global,
@@ -127,13 +139,13 @@ pub fn serve<L: Seating, C: Takings, I: Read, O: Write, K: Clock, D: Loader, R: 
     clock: &mut K,
     loader: &mut D,
 ) -> Result<(), RunError>
-    ensures wrote { OnOk result (Serves C.service C.events C.untaken namespace (λ conn. C.KEEPS ≡ true → Attends K.reads seat.old.receipts.items seat.new.receipts.items (I.remaining (device reader.old)) (I.remaining (device reader.new)) clock.old clock.new namespace conn) seat.old.count seat.new.count (O.contents (device writer.old)) (O.contents (device writer.new)) []) }
-    ensures broke { OnErr result ((rest : List ℕ) × Serves C.service C.events C.untaken namespace (λ conn. C.KEEPS ≡ true → AttendsOrNot K.reads seat.old.receipts.items seat.new.receipts.items (I.remaining (device reader.old)) (I.remaining (device reader.new)) clock.old clock.new namespace conn) seat.old.count seat.new.count (O.contents (device writer.old)) (O.contents (device writer.new)) rest) }
+    ensures wrote { OnOk result (Serves C.service C.events C.untaken namespace (λ conn. C.KEEPS ≡ true → Attends K.reads D.loads seat.old.receipts.items seat.new.receipts.items (I.remaining (device reader.old)) (I.remaining (device reader.new)) clock.old clock.new loader.old loader.new namespace conn []) seat.old.count seat.new.count 3 (O.contents (device writer.old)) (O.contents (device writer.new)) []) }
+    ensures broke { OnErr result ((rest : List ℕ) × (asks : List Asking) × Askings D.loads loader.old asks loader.new × Serves C.service C.events C.untaken namespace (λ conn. C.KEEPS ≡ true → AttendsOrNot K.reads D.loads seat.old.receipts.items seat.new.receipts.items (I.remaining (device reader.old)) (I.remaining (device reader.new)) clock.old clock.new loader.old loader.new namespace conn) seat.old.count seat.new.count (length asks + 3) (O.contents (device writer.old)) (O.contents (device writer.new)) rest) }
     ensures count { seat.old.count ≤ seat.new.count }
     ensures read { IsErrOf result RunError.Read → HasFailed (failures reader.old) (failures reader.new) }
     ensures write { IsErrOf result RunError.Write → HasFailed (failures writer.old) (failures writer.new) }
     ensures moment { IsErrOf result RunError.Moment → HasToldLate K.reads clock.new }
-    ensures loader { loader.new ≡ loader.old }
+    ensures loader { HasAsked D.loads loader.old loader.new }
 {
     match serve_and_tell(
         rt,
@@ -174,15 +186,14 @@ pub fn serve_and_tell<
     loader: &mut D,
     teller: &mut T,
 ) -> Result<(), RunError>
-    ensures wrote { OnOk result (Serves C.service C.events C.untaken namespace (λ conn. C.KEEPS ≡ true → Attends K.reads seat.old.receipts.items seat.new.receipts.items (I.remaining (device reader.old)) (I.remaining (device reader.new)) clock.old clock.new namespace conn) seat.old.count seat.new.count (O.contents (device writer.old)) (O.contents (device writer.new)) []) }
-    ensures broke { OnErr result ((rest : List ℕ) × Serves C.service C.events C.untaken namespace (λ conn. C.KEEPS ≡ true → AttendsOrNot K.reads seat.old.receipts.items seat.new.receipts.items (I.remaining (device reader.old)) (I.remaining (device reader.new)) clock.old clock.new namespace conn) seat.old.count seat.new.count (O.contents (device writer.old)) (O.contents (device writer.new)) rest) }
+    ensures wrote { OnOk result (Serves C.service C.events C.untaken namespace (λ conn. C.KEEPS ≡ true → Attends K.reads D.loads seat.old.receipts.items seat.new.receipts.items (I.remaining (device reader.old)) (I.remaining (device reader.new)) clock.old clock.new loader.old loader.new namespace conn []) seat.old.count seat.new.count 3 (O.contents (device writer.old)) (O.contents (device writer.new)) []) }
+    ensures broke { OnErr result ((rest : List ℕ) × (asks : List Asking) × Askings D.loads loader.old asks loader.new × Serves C.service C.events C.untaken namespace (λ conn. C.KEEPS ≡ true → AttendsOrNot K.reads D.loads seat.old.receipts.items seat.new.receipts.items (I.remaining (device reader.old)) (I.remaining (device reader.new)) clock.old clock.new loader.old loader.new namespace conn) seat.old.count seat.new.count (length asks + 3) (O.contents (device writer.old)) (O.contents (device writer.new)) rest) }
     ensures count { seat.old.count ≤ seat.new.count }
     ensures read { IsErrOf result RunError.Read → HasFailed (failures reader.old) (failures reader.new) }
     ensures write { IsErrOf result RunError.Write → HasFailed (failures writer.old) (failures writer.new) }
     ensures moment { IsErrOf result RunError.Moment → HasToldLate K.reads clock.new }
-    ensures loader { loader.new ≡ loader.old }
+    ensures loader { HasAsked D.loads loader.old loader.new }
 {
-    let _loader = loader;
     let mut buffer = match vec![in alloc; 0u8; PIECE_BYTES] {
         Ok(buffer) => buffer,
         Err(_) => return Err(RunError::OutOfMemory),
@@ -191,6 +202,7 @@ pub fn serve_and_tell<
         Ok(conn) => conn,
         Err(error) => return Err(error),
     };
+    let mut taken = Vec::new(alloc);
     let outcome = converse(
         rt,
         alloc,
@@ -198,11 +210,19 @@ pub fn serve_and_tell<
         seat,
         conn,
         &mut buffer,
+        &mut taken,
         reader,
         writer,
         clock,
+        loader,
         teller,
     );
     close_if_open(rt, shared, seat, conn);
-    outcome
+    match outcome {
+        Ok(()) => Ok(()),
+        Err(error) => {
+            settle_rest(rt, shared, seat, namespace, &mut taken, loader, teller);
+            Err(error)
+        }
+    }
 }

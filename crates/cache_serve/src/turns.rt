@@ -4,14 +4,15 @@ ghost use Rattle.cache_devices.specs.Failures.{HasFailed};
 ghost use Rattle.cache_devices.specs.Sent.{SentBut};
 ghost use Rattle.cache_devices.specs.Watched.{device, failures};
 ghost use Rattle.cache_run.specs.Turns.{HasToldLate};
-ghost use Rattle.cache_serve.specs.Asked.{Asks, AsksOrNot, Feeds, FeedsMost, feed_of};
+ghost use Rattle.cache_serve.specs.Asked.{Asks, AsksOrNot, Feeds, FeedsMost, HasAsked, feed_of};
 ghost use Rattle.cache_serve.specs.Written.{Answers, Breaks, Writes};
 ghost use Rattle.cache_shared.specs.Untaken.{WereUntaken};
 
 use crate::devices::Teller;
 use crate::errors::{error_of_refusal, error_of_send};
-use audit_model::{Conn, Input, Instant, Seq, ServiceError};
-use cache_devices::{Clock, Watched, send};
+use crate::loading::settle_loads;
+use audit_model::{Bytes, Conn, Input, Instant, LoadId, Seq, ServiceError};
+use cache_devices::{Clock, Loader, Watched, send};
 use cache_run::RunError;
 use cache_shared::{Seat, Seating, SharedService, Takings};
 use cache_spaces::{Output, Refusal};
@@ -69,7 +70,7 @@ fn feed_piece<L: Seating, C: Takings>(
 }
 
 /// Takes the replies that wait, and sends them.
-fn deliver<L: Seating, C: Takings, W: Write>(
+pub fn deliver<L: Seating, C: Takings, W: Write>(
     rt: &impl Wait,
     shared: &SharedService<L, C>,
     conn: Conn,
@@ -113,7 +114,7 @@ fn send_whole<W: Write>(text: &[u8], writer: &mut Watched<W>) -> Result<(), RunE
 }
 
 /// Tells the notes that wait.
-fn tell_notes<L: Seating, C: Takings, T: Teller, R: Wait>(
+pub fn tell_notes<L: Seating, C: Takings, T: Teller, R: Wait>(
     rt: &R,
     shared: &SharedService<L, C>,
     namespace: u64,
@@ -142,17 +143,52 @@ fn progress_of<L: Seating, C: Takings>(
     }
 }
 
-/// Reads a piece, hands it in, and sends its replies. Nothing more is read before they are sent.
-pub fn take_turn<L: Seating, C: Takings, I: Read, O: Write, K: Clock, T: Teller, R: Wait>(
+/// Hands a piece in with the clock's reading. It is over where the connection was closed before.
+pub fn hand_in<L: Seating, C: Takings, K: Clock, T: Teller, R: Wait>(
+    rt: &R,
+    alloc: Global,
+    shared: &SharedService<L, C>,
+    seat: &mut Seat<L>,
+    conn: Conn,
+    piece: &[u8],
+    clock: &mut K,
+    teller: &mut T,
+) -> Result<Progress, RunError>
+    ensures one { seat.new.count ≤ seat.old.count + 1 }
+    ensures count { seat.old.count ≤ seat.new.count }
+    ensures over { result ≡ Ok Progress.Over → seat.new.count ≡ seat.old.count }
+    ensures moment { IsErrOf result RunError.Moment → HasToldLate K.reads clock.new }
+    ensures causes { IfErr result (λ e. (e ≢ RunError.Read) × (e ≢ RunError.Write)) }
+    ensures told { (moment : ℕ) × K.reads clock.old moment clock.new × (C.KEEPS ≡ true → AsksOrNot conn.namespace seat.old.receipts.items seat.new.receipts.items (feed_of conn (record { bytes = piece.now; moment = moment }))) × (C.KEEPS ≡ true → result ≡ Ok Progress.More → Asks conn.namespace seat.old.receipts.items seat.new.receipts.items (feed_of conn (record { bytes = piece.now; moment = moment }) ∷ [])) }
+{
+    let moment = clock.now();
+    let outcome = feed_piece(rt, alloc, shared, seat, conn, piece, moment);
+    tell_notes(rt, shared, conn.namespace, teller);
+    outcome
+}
+
+/// Reads a piece, hands it in, sends its replies, and settles the loads that have gone out. Nothing more is read before that is done.
+pub fn take_turn<
+    L: Seating,
+    C: Takings,
+    I: Read,
+    O: Write,
+    K: Clock,
+    D: Loader,
+    T: Teller,
+    R: Wait,
+>(
     rt: &R,
     alloc: Global,
     shared: &SharedService<L, C>,
     seat: &mut Seat<L>,
     conn: Conn,
     buffer: &mut [u8],
+    taken: &mut Vec<(LoadId, Bytes)>,
     reader: &mut Watched<I>,
     writer: &mut Watched<O>,
     clock: &mut K,
+    loader: &mut D,
     teller: &mut T,
 ) -> Result<Progress, RunError>
     ensures ok { OnOk result (Answers (λ text. ∥ WereUntaken C.service C.events C.untaken conn text ∥₁) seat.old.count seat.new.count (O.contents (device writer.old)) (O.contents (device writer.new))) }
@@ -163,8 +199,9 @@ pub fn take_turn<L: Seating, C: Takings, I: Read, O: Write, K: Clock, T: Teller,
     ensures moment { IsErrOf result RunError.Moment → HasToldLate K.reads clock.new }
     ensures reads { failures reader.old ≤ failures reader.new }
     ensures writes { failures writer.old ≤ failures writer.new }
-    ensures asked { C.KEEPS ≡ true → result ≡ Ok Progress.More → Feeds K.reads seat.old.receipts.items seat.new.receipts.items (I.remaining (device reader.old)) (I.remaining (device reader.new)) clock.old clock.new conn [] [] }
-    ensures left { C.KEEPS ≡ true → FeedsMost K.reads seat.old.receipts.items seat.new.receipts.items (I.remaining (device reader.old)) (I.remaining (device reader.new)) clock.old clock.new conn }
+    ensures loader { HasAsked D.loads loader.old loader.new }
+    ensures asked { C.KEEPS ≡ true → result ≡ Ok Progress.More → Feeds K.reads D.loads seat.old.receipts.items seat.new.receipts.items (I.remaining (device reader.old)) (I.remaining (device reader.new)) clock.old clock.new loader.old loader.new conn [] [] }
+    ensures left { C.KEEPS ≡ true → FeedsMost K.reads D.loads seat.old.receipts.items seat.new.receipts.items (I.remaining (device reader.old)) (I.remaining (device reader.new)) clock.old clock.new loader.old loader.new conn }
 {
     let count = match reader.read(buffer) {
         Ok(count) => count,
@@ -178,18 +215,25 @@ pub fn take_turn<L: Seating, C: Takings, I: Read, O: Write, K: Clock, T: Teller,
     if count == 0 {
         return Ok(Progress::Over);
     }
-    let moment = clock.now();
-    match feed_piece(rt, alloc, shared, seat, conn, &buffer[..count], moment) {
+    match hand_in(
+        rt,
+        alloc,
+        shared,
+        seat,
+        conn,
+        &buffer[..count],
+        clock,
+        teller,
+    ) {
         Ok(Progress::More) => {}
         Ok(Progress::Over) => return Ok(Progress::Over),
-        Err(error) => {
-            tell_notes(rt, shared, conn.namespace, teller);
-            return Err(error);
-        }
+        Err(error) => return Err(error),
     }
-    tell_notes(rt, shared, conn.namespace, teller);
-    match deliver(rt, shared, conn, writer) {
-        Ok(()) => Ok(progress_of(rt, shared, conn)),
+    match settle_loads(
+        rt, alloc, shared, seat, conn, taken, writer, clock, loader, teller,
+    ) {
+        Ok(Progress::More) => Ok(progress_of(rt, shared, conn)),
+        Ok(Progress::Over) => Ok(Progress::Over),
         Err(error) => Err(error),
     }
 }

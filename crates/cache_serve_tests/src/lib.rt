@@ -2,6 +2,8 @@
 #![tactic(auto)]
 
 mod devices;
+mod loaders;
+mod loading;
 mod sockets;
 #[cfg(test)]
 mod tests;

@@ -8,6 +8,7 @@ ghost use Rattle.cache_spaces.specs.Recorded.{namespace_of};
 ghost use Rattle.cache_spaces.specs.Services.{spaces_of};
 
 use crate::judging::agree;
+use crate::loads::{Loads, take_loads};
 use crate::replies::{Replies, take_replies};
 use crate::seat::{Seat, Seating, make_lists, namespace_of};
 use crate::under::{Core, Takings};
@@ -341,6 +342,15 @@ impl<L: Seating, C: Takings> Desk<L, C> {
     {
         let Desk { core, .. } = self;
         take_replies(core, conn)
+    }
+
+    /// The loads of a namespace that went out and were not taken, moved out.
+    pub fn take_loads(&mut self, namespace: u64) -> Result<Loads<C>, ServiceError>
+        ensures namespace { IfOk result (λ loads. loads.namespace ≡ namespace) }
+        ensures events { C.events self.new.core ≡ C.events self.old.core }
+    {
+        let Desk { core, .. } = self;
+        take_loads(core, namespace)
     }
 
     /// The oldest note of a namespace that was told and not taken.

@@ -3,6 +3,7 @@
 
 mod desk;
 mod judging;
+mod loads;
 mod recorded;
 mod replies;
 mod seat;
@@ -10,6 +11,7 @@ mod shared;
 mod under;
 
 pub use desk::{Desk, Finished};
+pub use loads::Loads;
 pub use replies::Replies;
 pub use seat::{Seat, Seating};
 pub use shared::SharedService;

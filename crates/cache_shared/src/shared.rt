@@ -7,6 +7,7 @@ ghost use Rattle.cache_spaces.specs.Recorded.{namespace_of};
 ghost use Rattle.cache_spaces.specs.Services.{spaces_of};
 
 use crate::desk::{Desk, Finished};
+use crate::loads::Loads;
 use crate::replies::Replies;
 use crate::seat::{Seat, Seating};
 use crate::under::{Core, Takings};
@@ -155,6 +156,16 @@ impl<L: Seating, C: Takings> SharedService<L, C> {
         desk.take_output(conn)
     }
 
+    /// The loads of a namespace that went out and were not taken, moved out, in one hold of the lock. It is no event, and leaves no
+    /// receipt.
+    pub fn take_loads(&self, rt: &impl Wait, namespace: u64) -> Result<Loads<C>, ServiceError>
+        ensures namespace { IfOk result (λ loads. loads.namespace ≡ namespace) }
+    {
+        let mut guard = self.inner().desk.lock(rt);
+        let desk = &mut *guard;
+        desk.take_loads(namespace)
+    }
+
     /// The oldest note of a namespace that was told and not taken, in one hold of the lock. It is no event, and leaves no receipt.
     pub fn next_notice(
         &self,
@@ -170,6 +181,12 @@ impl<L: Seating, C: Takings> SharedService<L, C> {
     pub fn closed(&self, rt: &impl Wait, conn: Conn) -> Result<Option<Closing>, ServiceError> {
         let guard = self.inner().desk.lock(rt);
         guard.closed(conn)
+    }
+
+    /// Whether a `LOAD` of a connection waits for its load, in one hold of the lock.
+    pub fn waiting(&self, rt: &impl Wait, conn: Conn) -> Result<bool, ServiceError> {
+        let guard = self.inner().desk.lock(rt);
+        guard.waiting(conn)
     }
 
     /// Waits until no `LOAD` of a connection waits for its load. Each step of a seat lets those that wait look again. Nothing is promised

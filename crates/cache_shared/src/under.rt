@@ -8,10 +8,12 @@ ghost use Rattle.audit_model.specs.declared.transcript.Note.{Note as Told};
 ghost use Rattle.audit_model.specs.declared.transcript.Transcript.{Transcript};
 ghost use Rattle.audit_receipts.specs.declared.output.Output.{Output};
 ghost use Rattle.cache_shared.specs.Events.{Performs, Reached, RefusesEvent};
-ghost use Rattle.cache_spaces.specs.Services.{spaces_of};
+ghost use Rattle.cache_spaces.specs.Moves.{At};
+ghost use Rattle.cache_spaces.specs.Serves.{TakesLoads};
+ghost use Rattle.cache_spaces.specs.Services.{Refuses, spaces_of};
 ghost use Rattle.cache_spaces.specs.declared.service.Service.{Service};
 
-use audit_model::{Closing, Conn, Input, Note, ServiceError, Transcript};
+use audit_model::{Bytes, Closing, Conn, Input, LoadId, Note, ServiceError, Transcript};
 use cache_spaces::{Output, Refusal};
 
 /// A service that takes inputs one by one.
@@ -57,7 +59,7 @@ pub trait Core: Drop {
         ensures none { IfErr result (λ e. length (journals self.now) ≤ namespace) };
 }
 
-/// A core whose replies and notes are taken. A taking is no event.
+/// A core whose replies, loads and notes are taken. A taking is no event.
 pub trait Takings: Core {
     /// The reply bytes of a connection that were not taken.
     ghost untaken: { Self → Conn → List ℕ };
@@ -76,6 +78,12 @@ pub trait Takings: Core {
         ensures note { IfOk result (λ note. untold self.old namespace ≡ option_to_list note ++ untold self.new namespace) }
         ensures none { IfOk result (λ note. IsNone note → untold self.old namespace ≡ []) }
         ensures kept { OnErr result (untold self.new namespace ≡ untold self.old namespace) }
+        ensures events { Self.events self.new ≡ Self.events self.old };
+
+    /// The loads of a namespace that went out and were not taken, with their keys, in the order in which they were sent; moved out.
+    fn take_loads(&mut self, namespace: u64) -> Result<Vec<(LoadId, Bytes)>, ServiceError>
+        ensures loads { IfOk result (λ loads. At (spaces_of (Self.service self.old)) (spaces_of (Self.service self.new)) namespace (λ was is. TakesLoads was is loads.items)) }
+        ensures refused { IfErr result (λ e. Refuses (spaces_of (Self.service self.old)) (spaces_of (Self.service self.new)) namespace e (λ was. ⊥)) }
         ensures events { Self.events self.new ≡ Self.events self.old };
 
     /// Why a connection is closed, if it is.

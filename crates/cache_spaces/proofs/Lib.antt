@@ -8,3 +8,4 @@ pub mod Newly
 pub mod Lasts
 pub mod Knowing
 pub mod Outcomes
+pub mod Taking

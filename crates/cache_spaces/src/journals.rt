@@ -8,7 +8,7 @@ ghost use Rattle.cache_spaces.specs.Services.{are_taken, AreNew, Refuses, spaces
 use crate::outputs::last_output;
 use crate::playing::{empty_transcripts, namespace_of, step_in};
 use crate::service::Service;
-use audit_model::{Config, Input, Instant, ServiceError, Transcript};
+use audit_model::{Bytes, Config, Input, Instant, LoadId, ServiceError, Transcript};
 use audit_receipts::Output;
 use rand_xoshiro::Xoshiro256PlusPlus;
 use std::alloc::Global;
@@ -36,7 +36,9 @@ impl RecordedService {
     ghost use Rattle.cache_store.specs.Recency.{IsPlainLru};
     ghost use Rattle.cache_spaces.specs.Journals.{IsSoOfEach, LeadsSo, journals_of, service_of};
     ghost use Rattle.cache_spaces.specs.Outputs.{output_after};
+    ghost use Rattle.cache_spaces.specs.Moves.{At};
     ghost use Rattle.cache_spaces.specs.Recent.{KeepsList};
+    ghost use Rattle.cache_spaces.specs.Serves.{TakesLoads};
     ghost use Rattle.cache_spaces.specs.Services.{IsSpace};
     ghost use Rattle.cache_spaces.specs.Spaces.{config_of};
     ghost use Rattle.cache_spaces.specs.Throughout.{HasExactKeys, is_bounded_throughout, is_timely_throughout};
@@ -143,6 +145,19 @@ impl RecordedService {
         ensures { result.now ≡ service_of self.now }
     {
         &self.service
+    }
+
+    /// The loads of a namespace that went out and were not taken, with their keys, in the order in which they were sent; moved out. It is
+    /// no event, and adds no record. Takes no memory. Refused with `NoNamespace`.
+    pub fn take_loads(&mut self, namespace: u64) -> Result<Vec<(LoadId, Bytes)>, ServiceError>
+        ensures taken { IfOk result (λ loads. At (spaces_of (service_of self.old)) (spaces_of (service_of self.new)) namespace (λ was is. TakesLoads was is loads.items)) }
+        ensures refused { IfErr result (λ e. Refuses (spaces_of (service_of self.old)) (spaces_of (service_of self.new)) namespace e (λ was. ⊥)) }
+        ensures journals { journals_of self.new ≡ journals_of self.old }
+    {
+        match self.service.take_loads(namespace) {
+            Ok(loads) => Ok(loads),
+            Err(error) => Err(error),
+        }
     }
 
     /// The journals, in the order of the namespaces.

@@ -38,6 +38,32 @@ fn a_file_of_one_namespace(rt: HostRuntime) -> Result<(), Fail> {
 }
 
 #[test]
+fn loads_of_a_file(rt: HostRuntime) -> Result<(), Fail> {
+    let alloc = rt.alloc();
+    let ports = free_ports(&rt)?;
+    let port = ports.0;
+    let config = format!(in alloc;
+        "[[namespace]]\nname = \"main\"\nport = {port}\ncapacity = 1000\n[namespace.loads]\nk = \"v\"\n"
+    )?;
+    let text = b"SET a - 1\nGET a\nLOAD k\nLOAD z\nQUIT\n".as_slice();
+    let served = stage(
+        rt,
+        alloc,
+        config.as_str(),
+        Cast::One,
+        ports,
+        (text, b""),
+        AMPLE,
+    )?;
+    assert!(rt; served.ended == Ok(()));
+    assert_eq!(rt;
+        served.replies.0.as_slice(),
+        b"OK\nVAL 1\nVAL v\nNONE\nOK\n".as_slice()
+    );
+    Ok(())
+}
+
+#[test]
 fn two_namespaces(rt: HostRuntime) -> Result<(), Fail> {
     let alloc = rt.alloc();
     let ports = free_ports(&rt)?;

@@ -1,11 +1,18 @@
 use Rattle.std.proofs.Common.{refl, ap, ◌∙◌, Ok, arith}
 use Rattle.cache_run.proofs.Carrying.{same_consumes}
-use Rattle.cache_serve.proofs.Asking.{feeds-more, feeds-none, most-more, most-so}
-use Rattle.cache_serve.proofs.Writing.{answers-more, answers-none, breaks-more}
+use Rattle.cache_serve.proofs.Asking.{asked-more, asked-none, feeds-more, feeds-none, most-more, most-so}
+use Rattle.cache_serve.proofs.Writing.{answers-more, answers-none, breaks-more, breaks-so}
 use Rattle.cache_serve.proofs.serving.converse.Goals as goal
 
 pub loop-turn-init : goal.loop-turn-init
-loop-turn-init g c = record { count = omega arith; reads = omega arith; writes = omega arith; wrote = answers-none _ _ _ _ refl; asked = λ keeps. feeds-none g.K.Clock.reads _ _ _ _ _ _ (λ n. refl) (same_consumes _) }
+loop-turn-init g c = record {
+  count = omega arith;
+  reads = omega arith;
+  writes = omega arith;
+  wrote = answers-none _ _ _ _ refl;
+  loader = asked-none g.D.Loader.loads _;
+  asked = λ keeps. feeds-none g.K.Clock.reads g.D.Loader.loads c.args.conn _ _ _ _ _ _ (λ n. refl) (same_consumes _);
+}
 
 pub loop-turn-preserved : goal.loop-turn-preserved
 loop-turn-preserved g c = record {
@@ -13,7 +20,8 @@ loop-turn-preserved g c = record {
   reads = let before = c.loop-turn.invariant.reads in let after = c.take_turn.ensures.reads in omega arith;
   writes = let before = c.loop-turn.invariant.writes in let after = c.take_turn.ensures.writes in omega arith;
   wrote = answers-more _ _ _ _ _ _ _ c.loop-turn.invariant.wrote c.in-Ok-More.ensures.ok;
-  asked = λ keeps. feeds-more g.K.Clock.reads _ _ _ _ _ _ _ _ _ _ _ _ (c.loop-turn.invariant.asked keeps) (c.take_turn.ensures.asked keeps (c.in-Ok-More.is ∙ ap Ok c.in-Ok-More.field-0-is));
+  loader = asked-more g.D.Loader.loads _ _ _ c.loop-turn.invariant.loader c.take_turn.ensures.loader;
+  asked = λ keeps. feeds-more g.K.Clock.reads g.D.Loader.loads c.args.conn _ _ _ _ _ _ _ _ _ _ _ _ _ _ (c.loop-turn.invariant.asked keeps) (c.take_turn.ensures.asked keeps (c.in-Ok-More.is ∙ ap Ok c.in-Ok-More.field-0-is));
 }
 
 pub returns-in-Ok-Over-clause-ok : goal.returns-in-Ok-Over-clause-ok
@@ -22,11 +30,20 @@ returns-in-Ok-Over-clause-ok g c = answers-more _ _ _ _ _ _ _ c.loop-turn.invari
 pub returns-in-Err-clause-err : goal.returns-in-Err-clause-err
 returns-in-Err-clause-err g c = breaks-more _ _ _ _ _ _ _ c.loop-turn.invariant.wrote c.in-Err.ensures.err
 
+pub returns-in-Ok-Over-clause-loader : goal.returns-in-Ok-Over-clause-loader
+returns-in-Ok-Over-clause-loader g c = asked-more g.D.Loader.loads _ _ _ c.loop-turn.invariant.loader c.take_turn.ensures.loader
+
+pub returns-in-Err-clause-loader : goal.returns-in-Err-clause-loader
+returns-in-Err-clause-loader g c = asked-more g.D.Loader.loads _ _ _ c.loop-turn.invariant.loader c.take_turn.ensures.loader
+
 pub returns-in-Ok-Over-clause-asked : goal.returns-in-Ok-Over-clause-asked
-returns-in-Ok-Over-clause-asked g c = λ keeps. most-more g.K.Clock.reads _ _ _ _ _ _ _ _ _ _ (c.loop-turn.invariant.asked keeps) (c.take_turn.ensures.left keeps)
+returns-in-Ok-Over-clause-asked g c = λ keeps. most-more g.K.Clock.reads g.D.Loader.loads c.args.conn _ _ _ _ _ _ _ _ _ _ _ _ (c.loop-turn.invariant.asked keeps) (c.take_turn.ensures.left keeps)
 
 pub returns-in-Err-clause-asked : goal.returns-in-Err-clause-asked
-returns-in-Err-clause-asked g c = λ keeps. most-more g.K.Clock.reads _ _ _ _ _ _ _ _ _ _ (c.loop-turn.invariant.asked keeps) (c.take_turn.ensures.left keeps)
+returns-in-Err-clause-asked g c = λ keeps. most-more g.K.Clock.reads g.D.Loader.loads c.args.conn _ _ _ _ _ _ _ _ _ _ _ _ (c.loop-turn.invariant.asked keeps) (c.take_turn.ensures.left keeps)
 
 pub returns-clause-asked : goal.returns-clause-asked
-returns-clause-asked g c = λ keeps. most-so g.K.Clock.reads _ _ _ _ _ _ _ (c.loop-turn.invariant.asked keeps)
+returns-clause-asked g c = λ keeps. most-so g.K.Clock.reads g.D.Loader.loads c.args.conn _ _ _ _ _ _ _ _ (c.loop-turn.invariant.asked keeps)
+
+pub returns-clause-err : goal.returns-clause-err
+returns-clause-err g c = breaks-so _ _ _ _ _ c.loop-turn.invariant.wrote

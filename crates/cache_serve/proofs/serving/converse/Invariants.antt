@@ -1,6 +1,6 @@
 use Rattle.std.proofs.Common.{◌≡◌, ◌≤◌, true, []}
 use Rattle.cache_devices.specs.Watched.{device, failures}
-use Rattle.cache_serve.specs.Asked.{Feeds}
+use Rattle.cache_serve.specs.Asked.{Feeds, HasAsked}
 use Rattle.cache_serve.specs.Written.{Answers}
 use Rattle.cache_shared.specs.Untaken.{WereUntaken}
 use Rattle.cache_serve.proofs.serving.converse.Given as goal
@@ -11,5 +11,6 @@ invariant-loop-turn g l = record {
   reads : failures l.fn.reader ≤ failures l.reader;
   writes : failures l.fn.writer ≤ failures l.writer;
   wrote : Answers (λ text. ∥ WereUntaken g.C.Core.service g.C.Core.events g.C.Takings.untaken l.conn text ∥₁) l.fn.seat.count l.seat.count (g.O.Write.contents (device l.fn.writer)) (g.O.Write.contents (device l.writer));
-  asked : g.C.Core.KEEPS ≡ true → Feeds g.K.Clock.reads l.fn.seat.receipts.items l.seat.receipts.items (g.I.Read.remaining (device l.fn.reader)) (g.I.Read.remaining (device l.reader)) l.fn.clock l.clock l.conn [] [];
+  loader : HasAsked g.D.Loader.loads l.fn.loader l.loader;
+  asked : g.C.Core.KEEPS ≡ true → Feeds g.K.Clock.reads g.D.Loader.loads l.fn.seat.receipts.items l.seat.receipts.items (g.I.Read.remaining (device l.fn.reader)) (g.I.Read.remaining (device l.reader)) l.fn.clock l.clock l.fn.loader l.loader l.conn [] [];
 }

@@ -1,0 +1,137 @@
+//! Loaders that are held, and writers that fail.
+use audit_model::{Bytes, Conn, Outcome, Seq};
+use cache_devices::Loader;
+use cache_live::LiveService;
+use cache_shared::{Seating, SharedService};
+use std::alloc::Global;
+use std::io::{ErrorKind, Write};
+use std::sync::atomic::{AtomicU64, Ordering};
+use std::sync::{Arc, Wait};
+use std::time::{Clock, Duration};
+use std::{io, thread};
+
+/// How often a loader looks whether it is held, a millisecond apart.
+const TURNS: u32 = 10_000;
+
+/// What came about meanwhile.
+#[derive(Drop)]
+pub struct News {
+    /// How often a loader was asked.
+    pub asked: AtomicU64,
+    /// How often a writer was sent a text that ends in a value.
+    pub answered: AtomicU64,
+}
+
+/// Until when a loader is held.
+#[derive(Clone, Copy, Drop)]
+pub enum Hold {
+    /// It is not.
+    Not,
+    /// Until a value was written.
+    UntilAnswered,
+    /// Until the first two connections wait.
+    UntilBothWait,
+}
+
+/// A loader that is held, up to a limit of turns. It finds nothing for `n`, fails for `f`, asks for a give-up for `g`, finds a value with a
+/// line end for `b` when it is asked first of all, and else the value `v`; where it was held too long it fails.
+#[derive(Drop)]
+pub struct Held<L: Seating, R: Wait + Clock + Copy> {
+    pub rt: R,
+    pub alloc: Global,
+    pub shared: SharedService<L, LiveService>,
+    pub news: Arc<News>,
+    pub hold: Hold,
+}
+
+impl<L: Seating, R: Wait + Clock + Copy> Held<L, R> {
+    /// Whether a connection waits for a load.
+    fn waits(&self, number: u64) -> bool {
+        let conn = Conn {
+            namespace: 0,
+            number,
+        };
+        match self.shared.waiting(&self.rt, conn) {
+            Ok(waits) => waits,
+            Err(_) => false,
+        }
+    }
+
+    /// Whether it is held no more.
+    fn is_free(&self) -> bool {
+        match self.hold {
+            Hold::Not => true,
+            Hold::UntilAnswered => self.news.answered.load(Ordering::SeqCst) > 0,
+            Hold::UntilBothWait => self.waits(1) && self.waits(2),
+        }
+    }
+
+    /// Waits until it is held no more. Answers whether that came in time.
+    fn is_in_time(&self) -> bool {
+        for _turn in 0..TURNS {
+            if self.is_free() {
+                return true;
+            }
+            thread::sleep(&self.rt, Duration::from_millis(1));
+        }
+        false
+    }
+}
+
+/// A text, where there is memory for it.
+fn text_of(alloc: Global, bytes: &[u8]) -> Option<Bytes> {
+    Some(Seq::from_vec(Vec::from_slice(alloc, bytes).ok()?))
+}
+
+impl<L: Seating, R: Wait + Clock + Copy> Loader for Held<L, R> {
+    ghost loads = { λ c key answer d. Unit {0} };
+
+    fn load(&mut self, key: &[u8]) -> Option<Outcome> {
+        let asked = self.news.asked.fetch_add(1, Ordering::SeqCst);
+        if !self.is_in_time() {
+            return Some(Outcome::Fault(text_of(self.alloc, b"late")?));
+        }
+        if key == b"n".as_slice() {
+            return Some(Outcome::None);
+        }
+        if key == b"f".as_slice() {
+            return Some(Outcome::Fault(text_of(self.alloc, b"down")?));
+        }
+        if key == b"g".as_slice() {
+            return None;
+        }
+        if key == b"b".as_slice() && asked == 0 {
+            return Some(Outcome::Value(text_of(self.alloc, b"x\ny")?, None));
+        }
+        Some(Outcome::Value(text_of(self.alloc, b"v")?, None))
+    }
+}
+
+/// A writer that takes so many bytes and then fails, and says when a text was written that ends in a value.
+#[derive(Drop)]
+pub struct Page {
+    pub text: Vec<u8>,
+    pub room: usize,
+    pub news: Arc<News>,
+}
+
+impl Write for Page {
+    fn write(&mut self, buf: &[u8]) -> io::Result<usize> {
+        let count = buf.len().min(self.room);
+        if count == 0 && !buf.is_empty() {
+            return Err(io::Error::from(ErrorKind::BrokenPipe));
+        }
+        self.room -= count;
+        if self.text.extend_from_slice(&buf[..count]).is_err() {
+            return Err(io::Error::from(ErrorKind::OutOfMemory));
+        }
+        if self.text.ends_with(b"VAL 1\n") {
+            self.news.answered.fetch_add(1, Ordering::SeqCst);
+        }
+        Ok(count)
+    }
+
+    fn flush(&mut self) -> io::Result<()> {
+        Ok(())
+    }
+}

@@ -1,0 +1,43 @@
+//! Loads that were taken.
+ghost use Rattle.std.specs.Prelude.{◌≡◌, IfOk};
+ghost use Rattle.cache_shared.specs.Untaken.{WereOut};
+
+use crate::under::Takings;
+use audit_model::{Bytes, LoadId, ServiceError};
+use std::marker::PhantomData;
+
+/// The loads of a namespace that had gone out and were not taken, with their keys, at the moment when they were: in a service to which some
+/// journals that obey lead.
+#[derive(Drop)]
+pub struct Loads<C: Takings> {
+    namespace: u64,
+    loads: Vec<(LoadId, Bytes)>,
+    core: PhantomData<C>,
+    ghost taken: { ∥ WereOut C.service C.events namespace loads.items ∥₁ },
+}
+
+impl<C: Takings> Loads<C> {
+    /// The loads with their keys, in the order in which they were sent, moved out.
+    pub fn into_loads(self) -> Vec<(LoadId, Bytes)>
+        ensures { result ≡ self.loads }
+    {
+        let Loads { loads, .. } = self;
+        loads
+    }
+}
+
+/// Takes the loads of a namespace.
+pub fn take_loads<C: Takings>(core: &mut C, namespace: u64) -> Result<Loads<C>, ServiceError>
+    ensures namespace { IfOk result (λ loads. loads.namespace ≡ namespace) }
+    ensures events { C.events core.new ≡ C.events core.old }
+{
+    core.stands();
+    match core.take_loads(namespace) {
+        Ok(loads) => Ok(Loads {
+            namespace,
+            loads,
+            core: PhantomData,
+        }),
+        Err(error) => Err(error),
+    }
+}
