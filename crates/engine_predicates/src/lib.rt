@@ -26,6 +26,7 @@ pub fn prepare<K: Eq, V, S, R: Rules<K, V>, G: Rng>(
     ensures in_use { IsErrOf result Refusal.IdsInUse → AreInUse (G.stream generator.old) (G.stream generator.new) (is_registered lists.old.predicates) }
     ensures used_up { IsErrOf result Refusal.UsedUp → 2 ^ 64 ≤ lists.old.next_ticket + lists.old.reserved + 1 }
     ensures only { OnErr result ((IsErrOf result Refusal.IdsInUse) ⊎ (G.stream generator.new ≡ G.stream generator.old)) }
+    ensures kinds { OnErr result ((IsErrOf result Refusal.OutOfMemory) ⊎ ((IsErrOf result Refusal.InvalidationClosuresDisabled) ⊎ ((IsErrOf result Refusal.IdsInUse) ⊎ (IsErrOf result Refusal.UsedUp)))) }
 {
     if !lists.settings().takes_predicates {
         return Err(Refusal::InvalidationClosuresDisabled);
@@ -72,6 +73,7 @@ pub fn invalidate<K: Eq, V, S, R: Rules<K, V>, G: Rng>(
     ensures in_use { IsErrOf result Refusal.IdsInUse → AreInUse (G.stream generator.old) (G.stream generator.new) (is_registered lists.old.predicates) }
     ensures used_up { IsErrOf result Refusal.UsedUp → 2 ^ 64 ≤ lists.old.next_ticket + lists.old.reserved + 1 }
     ensures only { OnErr result ((IsErrOf result Refusal.IdsInUse) ⊎ (G.stream generator.new ≡ G.stream generator.old)) }
+    ensures kinds { OnErr result ((IsErrOf result Refusal.OutOfMemory) ⊎ ((IsErrOf result Refusal.InvalidationClosuresDisabled) ⊎ ((IsErrOf result Refusal.IdsInUse) ⊎ (IsErrOf result Refusal.UsedUp)))) }
 {
     let id = prepare(lists, generator)?;
     commit(lists, id, predicate, step);

@@ -27,6 +27,7 @@ impl<K: Eq, V, S, R: Rules<K, V>> BaseCache<K, V, S, R> {
         ensures in_use { IsErrOf result Refusal.IdsInUse → AreInUse (G.stream generator.old) (G.stream generator.new) (is_registered self.old.predicates) }
         ensures used_up { IsErrOf result Refusal.UsedUp → 2 ^ 64 ≤ self.old.next_ticket + self.old.reserved + 1 }
         ensures only { OnErr result ((IsErrOf result Refusal.IdsInUse) ⊎ (G.stream generator.new ≡ G.stream generator.old)) }
+        ensures kinds { OnErr result ((IsErrOf result Refusal.OutOfMemory) ⊎ ((IsErrOf result Refusal.InvalidationClosuresDisabled) ⊎ ((IsErrOf result Refusal.IdsInUse) ⊎ (IsErrOf result Refusal.UsedUp)))) }
     {
         invalidate(&mut self.lists, predicate, step, generator)
     }
@@ -41,6 +42,7 @@ impl<K: Eq, V, S, R: Rules<K, V>> BaseCache<K, V, S, R> {
         ensures in_use { IsErrOf result Refusal.IdsInUse → AreInUse (G.stream generator.old) (G.stream generator.new) (is_registered self.old.predicates) }
         ensures used_up { IsErrOf result Refusal.UsedUp → 2 ^ 64 ≤ self.old.next_ticket + self.old.reserved + 1 }
         ensures only { OnErr result ((IsErrOf result Refusal.IdsInUse) ⊎ (G.stream generator.new ≡ G.stream generator.old)) }
+        ensures kinds { OnErr result ((IsErrOf result Refusal.OutOfMemory) ⊎ ((IsErrOf result Refusal.InvalidationClosuresDisabled) ⊎ ((IsErrOf result Refusal.IdsInUse) ⊎ (IsErrOf result Refusal.UsedUp)))) }
     {
         prepare(&mut self.lists, generator)
     }
