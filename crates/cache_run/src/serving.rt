@@ -92,7 +92,7 @@ fn converse<R: Read, W: Write, C: Clock, L: Loader>(
 ///
 /// Each load that goes out is asked of the loader by its key, and answered with what the loader says; given up where the loader gives no
 /// answer or one that is refused for its bytes or its time. After an error the connection is closed, and then loads that are left are
-/// given up at moment 0, which counts as the latest. Behind it no load is under way.
+/// given up at moment 0, which counts as the latest. No load is under way behind it, where none was before.
 pub fn run<R: Read, W: Write, C: Clock, L: Loader>(
     service: &mut Service,
     alloc: Global,
