@@ -28,7 +28,7 @@ use Rattle.cache_spaces.specs.Played.{ArePlayed, HasPlayed, HavePlayed, Plays, W
 use Rattle.cache_spaces.specs.Recorded.{AreQuiet, AreEmpty, RecordsInput, RecordsAt, RefusedInput, namespace_of}
 use Rattle.cache_spaces.specs.Serves.{SameSpace}
 use Rattle.cache_spaces.specs.Services.{AreNew, Refuses}
-use Rattle.cache_spaces.specs.Spaces.{config_of, recency_of}
+use Rattle.cache_spaces.specs.Spaces.{Stands, config_of, made_of, notices_of, output_of, recency_of}
 use Rattle.cache_spaces.specs.Throughout.{HasExactKeys, HaveKeysFrom, are_bounded_from, are_timely_from, is_bounded_throughout, is_timely_throughout, order_at_end}
 use Rattle.cache_spaces.specs.declared.space.Space.{Space}
 use Rattle.cache_spaces.proofs.Noting.{same-or-not}
@@ -38,7 +38,7 @@ use Rattle.cache_spaces.proofs.Chaining.{keys-one-more, order-at-end-more, so-of
 use Rattle.cache_namespace.specs.Ordered.{OrdersSteps}
 use Rattle.cache_steps.specs.Order.{AgreesWith, Settled}
 use Rattle.cache_steps.proofs.Ordering.{agrees-kept}
-use Rattle.cache_store.specs.Recency.{IsPlainLru}
+use Rattle.cache_store.specs.Recency.{IsPlainLru, KeepsRecency}
 use Rattle.cache_store.specs.Running.{is_bounded}
 
 absent : {X A : Type 0} {x : X} → None ≡ Some x → A
@@ -137,8 +137,20 @@ left-alone config k moment inputs i transcript space h = record {
   quiet = h.quiet;
 }
 
+-- the namespace stands for the same, and the same replies and notes wait to be taken
+pub record Alike (was is : Space) : Type 0 where
+  pub stands : (s : Situation) → Stands was s → Stands is s
+  pub recency : KeepsRecency (recency_of was) (recency_of is)
+  pub config : config_of is ≡ config_of was
+  pub made : made_of is ≡ made_of was
+  pub outputs : (number : ℕ) → output_of is number ≡ output_of was number
+  pub notices : notices_of is ≡ notices_of was
+
+same-alike : (was is : Space) → SameSpace was is → Alike was is
+same-alike was is same = record { stands = same.stands; recency = same.recency; config = same.config; made = same.made; outputs = same.outputs; notices = same.notices }
+
 same-kept : (config : Config) (k : ℕ) (moment : Instant) (inputs : List Input) (transcript : Transcript) (was is : Space)
-    → SameSpace was is → HasPlayed config k moment inputs transcript was → HasPlayed config k moment inputs transcript is
+    → Alike was is → HasPlayed config k moment inputs transcript was → HasPlayed config k moment inputs transcript is
 same-kept config k moment inputs transcript was is same h = record {
   made = h.made;
   configured = same.config ∙ h.configured;
@@ -214,9 +226,10 @@ played-on configs moment inputs i ts us old new played r = record {
         left-alone config k moment inputs i u is
         (played.each k config u is c (sym (at-others ts us (namespace_of i) k r.fact ne) ∙ at_u) (sym (at-others old new (namespace_of i) k r ne) ∙ at_is))
 
-same-played : (configs : List Config) (moment : Instant) (inputs : List Input) (ts : List Transcript) (old new : List Space) (namespace : ℕ) (Cause : Space → Type 0)
-    → HavePlayed configs moment inputs ts old → At old new namespace (λ was is. SameSpace was is × Cause was) → HavePlayed configs moment inputs ts new
-same-played configs moment inputs ts old new namespace Cause played a = record {
+-- journals stay what was played where a namespace is alike
+pub same-played : (configs : List Config) (moment : Instant) (inputs : List Input) (ts : List Transcript) (old new : List Space) (namespace : ℕ) (Fact : Space → Space → Type 0)
+    → ((was is : Space) → Fact was is → Alike was is) → HavePlayed configs moment inputs ts old → At old new namespace Fact → HavePlayed configs moment inputs ts new
+same-played configs moment inputs ts old new namespace Fact alike played a = record {
   count = played.count;
   spaces_count = at-length old new namespace a ∙ played.spaces_count;
   each = λ k config t is c at_t at_is. go k config t is c at_t at_is (same-or-not k namespace);
@@ -226,7 +239,7 @@ same-played configs moment inputs ts old new namespace Cause played a = record {
         → (k ≡ namespace) ⊎ (k ≢ namespace) → HasPlayed config k moment inputs t is
     go k config t is c at_t at_is (inl here) =
         subst (λ x. HasPlayed config k moment inputs t x) (at-it old new namespace a is (ap (slice_get new) (sym here) ∙ at_is))
-        (same-kept config k moment inputs t a.was a.is a.fact.0 (played.each k config t a.was c at_t (ap (slice_get old) here ∙ a.at)))
+        (same-kept config k moment inputs t a.was a.is (alike a.was a.is a.fact) (played.each k config t a.was c at_t (ap (slice_get old) here ∙ a.at)))
     go k config t is c at_t at_is (inr ne) = played.each k config t is c at_t (sym (at-others old new namespace k a ne) ∙ at_is)
 
 pub played-left : (configs : List Config) (moment : Instant) (inputs : List Input) (i : Input) (ts us : List Transcript) (old new : List Space) (e : ServiceError) (Cause : Space → Type 0)
@@ -236,7 +249,7 @@ played-left configs moment inputs i ts us old new e Cause played same refused =
   where
     still : Refuses old new (namespace_of i) e Cause → HavePlayed configs moment inputs ts new
     still (inl none) = subst (λ xs. HavePlayed configs moment inputs ts xs) (sym none.2) played
-    still (inr a) = same-played configs moment inputs ts old new (namespace_of i) Cause played a
+    still (inr a) = same-played configs moment inputs ts old new (namespace_of i) (λ was is. SameSpace was is × Cause was) (λ was is f. same-alike was is f.0) played a
 
     more : HavePlayed configs moment inputs ts new → HavePlayed configs moment (inputs ++ i ∷ []) ts new
     more h = record {
