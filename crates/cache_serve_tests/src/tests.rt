@@ -40,8 +40,9 @@ fn each_outcome_is_told(rt: HostRuntime) -> Result<(), Fail> {
 
 #[test]
 fn a_value_with_a_line_end_is_given_up(rt: HostRuntime) -> Result<(), Fail> {
-    let loaded =
-        load_two(rt, rt.alloc(), (b"LOAD b\n", b""), Hold::Not, AMPLE).ok_or("not loaded")?;
+    let loaded = load_two(rt, rt.alloc(), (b"LOAD b\n", b""), Hold::Not, AMPLE).ok_or(
+        "not loaded",
+    )?;
     assert!(rt; loaded.texts.0.as_slice() == b"VAL v\n".as_slice());
     assert_eq!(rt; loaded.asked, 2);
     assert_eq!(rt; loaded.open, 0);
@@ -50,8 +51,9 @@ fn a_value_with_a_line_end_is_given_up(rt: HostRuntime) -> Result<(), Fail> {
 
 #[test]
 fn a_loader_that_always_asks_for_a_give_up(rt: HostRuntime) -> Result<(), Fail> {
-    let loaded =
-        load_two(rt, rt.alloc(), (b"LOAD g\n", b""), Hold::Not, AMPLE).ok_or("not loaded")?;
+    let loaded = load_two(rt, rt.alloc(), (b"LOAD g\n", b""), Hold::Not, AMPLE).ok_or(
+        "not loaded",
+    )?;
     assert!(rt; loaded.texts.0.as_slice() == b"ERR abandoned\n".as_slice());
     assert_eq!(rt; loaded.asked, 200);
     assert_eq!(rt; loaded.open, 0);
