@@ -3,5 +3,3 @@
 
 #[cfg(test)]
 mod hashes;
-#[cfg(test)]
-mod refusals;

@@ -2,6 +2,7 @@
 
 use crate::generators::Repeating;
 use crate::rules::{Lives, RowRules, ValueIs, Weighs};
+use crate::values::Brittle;
 use engine_plain::{BaseCache, Refusal};
 use engine_reference::{Notice, Settings};
 use engine_rules::{Bundle, Policy};
@@ -9,7 +10,7 @@ use policy_base::Instant;
 use std::alloc::{AllocError, Global};
 use std::time::Duration;
 
-/// The calls of a cache of one part with keys and values of numbers, so that one row runs on each engine. A key is its hash.
+/// The calls of a cache of one part with keys and values of numbers, so that one row runs on each engine. A key is its hash. The cache holds each value as a `Brittle`, so it has no clone of one of them.
 pub trait Engine: Drop {
     /// An empty cache; `time` is how long a value lives from its creation on.
     fn make(
@@ -92,8 +93,16 @@ pub trait Engine: Drop {
     fn name(&self) -> Option<&str>;
 }
 
+// The number of a value that was found.
+fn number_of(found: Option<Brittle>) -> Option<u32> {
+    match found {
+        Some(value) => Some(value.number),
+        None => None,
+    }
+}
+
 /// The plain engine.
-pub type Plain = BaseCache<u32, u32, u8, RowRules>;
+pub type Plain = BaseCache<u32, Brittle, u8, RowRules>;
 
 impl Engine for Plain {
     fn make(
@@ -107,6 +116,7 @@ impl Engine for Plain {
 
     fn put(&mut self, key: u32, value: u32, now: Instant, step: u64) -> Result<u64, Refusal> {
         self.reserve_write()?;
+        let value = Brittle { number: value };
         Ok(self.do_insert_with_hash(key, u64::from(key), value, now, step))
     }
 
@@ -117,7 +127,7 @@ impl Engine for Plain {
     fn remove(&mut self, key: u32, now: Instant) -> Result<Option<(u32, u64)>, Refusal> {
         match self.remove_entry(&key, u64::from(key))? {
             Some((entry, ticket)) => {
-                let value = entry.value;
+                let value = entry.value.number;
                 self.notify_invalidate(entry, now);
                 Ok(Some((value, ticket)))
             }
@@ -126,19 +136,20 @@ impl Engine for Plain {
     }
 
     fn get(&mut self, key: u32, now: Instant) -> Result<Option<u32>, AllocError> {
-        self.get_with_hash(&key, u64::from(key), now)
+        Ok(number_of(self.get_with_hash(&key, u64::from(key), now)?))
     }
 
     fn get_past(&mut self, key: u32, now: Instant, past: u32) -> Result<Option<u32>, AllocError> {
-        self.get_with_hash_and_ignore_if(&key, u64::from(key), now, |value: &u32| *value == past)
+        let is_past = |value: &Brittle| value.number == past;
+        Ok(number_of(self.get_with_hash_and_ignore_if(&key, u64::from(key), now, is_past)?))
     }
 
     fn peek(&self, key: u32, now: Instant) -> Result<Option<u32>, AllocError> {
-        self.get_with_hash_without_recording(&key, u64::from(key), now)
+        Ok(number_of(self.get_with_hash_without_recording(&key, u64::from(key), now)?))
     }
 
     fn scanning_get(&self, key: u32, now: Instant) -> Result<Option<u32>, AllocError> {
-        self.scanning_get(&key, now)
+        Ok(number_of(self.scanning_get(&key, now)?))
     }
 
     fn contains_key(&self, key: u32, now: Instant) -> bool {
@@ -208,7 +219,14 @@ impl Engine for Plain {
     }
 
     fn next_notice(&mut self) -> Option<Notice<u32, u32>> {
-        self.next_notice()
+        match self.next_notice() {
+            Some(notice) => Some(Notice {
+                cause: notice.cause,
+                key: notice.key,
+                value: notice.value.number,
+            }),
+            None => None,
+        }
     }
 
     fn is_removal_notifier_enabled(&self) -> bool {

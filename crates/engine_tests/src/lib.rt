@@ -12,8 +12,12 @@ mod looks;
 #[cfg(test)]
 mod predicates;
 #[cfg(test)]
+mod refusals;
+#[cfg(test)]
 mod rows;
 #[cfg(test)]
 mod rules;
+#[cfg(test)]
+mod values;
 #[cfg(test)]
 mod writes;

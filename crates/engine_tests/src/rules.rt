@@ -2,6 +2,7 @@
 ghost use Rattle.std.specs.Prelude.{ℕ, ◌==◌, Option, option_map, if◌then◌else◌};
 ghost use Rattle.std.specs.Duration.{as_nanos};
 
+use crate::values::Brittle;
 use engine_rules::{Bundle, Expiry, Predicate, Weigher};
 use policy_base::Instant;
 use std::time::Duration;
@@ -12,7 +13,7 @@ pub struct Lives {
     pub time: Option<Duration>,
 }
 
-impl Expiry<u32, u32> for Lives {
+impl Expiry<u32, Brittle> for Lives {
     ghost created = { λ s _ _ _. option_map as_nanos s.time };
 
     ghost read = { λ _ _ _ _ left _. left };
@@ -22,7 +23,7 @@ impl Expiry<u32, u32> for Lives {
     fn expire_after_create(
         &self,
         _key: &u32,
-        _value: &u32,
+        _value: &Brittle,
         _created_at: Instant,
     ) -> Option<Duration> {
         self.time
@@ -31,7 +32,7 @@ impl Expiry<u32, u32> for Lives {
     fn expire_after_read(
         &self,
         _key: &u32,
-        _value: &u32,
+        _value: &Brittle,
         _read_at: Instant,
         remaining: Option<Duration>,
         _last_modified_at: Instant,
@@ -42,7 +43,7 @@ impl Expiry<u32, u32> for Lives {
     fn expire_after_update(
         &self,
         _key: &u32,
-        _value: &u32,
+        _value: &Brittle,
         _updated_at: Instant,
         remaining: Option<Duration>,
     ) -> Option<Duration> {
@@ -62,11 +63,11 @@ pub const ONE: Weighs = Weighs { by_value: false };
 /// Each value weighs what it is.
 pub const ITSELF: Weighs = Weighs { by_value: true };
 
-impl Weigher<u32, u32> for Weighs {
-    ghost weight_of = { λ w _ value. if w.by_value then value else 1 };
+impl Weigher<u32, Brittle> for Weighs {
+    ghost weight_of = { λ w _ value. if w.by_value then value.number else 1 };
 
-    fn weigh(&self, _key: &u32, value: &u32) -> u32 {
-        if self.by_value { *value } else { 1 }
+    fn weigh(&self, _key: &u32, value: &Brittle) -> u32 {
+        if self.by_value { value.number } else { 1 }
     }
 }
 
@@ -74,11 +75,11 @@ impl Weigher<u32, u32> for Weighs {
 #[derive(Drop)]
 pub struct ValueIs(pub u32);
 
-impl Predicate<u32, u32> for ValueIs {
-    ghost covers = { λ p _ value. value == p.0 };
+impl Predicate<u32, Brittle> for ValueIs {
+    ghost covers = { λ p _ value. value.number == p.0 };
 
-    fn is_match(&self, _key: &u32, value: &u32) -> bool {
-        *value == self.0
+    fn is_match(&self, _key: &u32, value: &Brittle) -> bool {
+        value.number == self.0
     }
 }
 
