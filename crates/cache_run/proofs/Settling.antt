@@ -32,7 +32,8 @@ use Rattle.cache_run.specs.Delivered.{Answered}
 use Rattle.cache_run.specs.Goes.{Goes}
 use Rattle.cache_run.specs.Happened.{Asking, Dropped, asking_of, IsGivenUpFor, IsSettledBy, Settled, notes_of, replies_of}
 use Rattle.cache_run.proofs.Carrying.{record-one}
-use Rattle.cache_run.proofs.Going.{goes-more, goes-same, seen-alike}
+use Rattle.cache_run.proofs.Going.{at-but-loads, but-loads, goes-more, goes-same, seen-alike}
+use Rattle.cache_run.specs.Loading.{SameButLoads}
 use Rattle.cache_run.proofs.Placing.{at-is, at-map, at-more, at-same, at-was, at-with}
 
 -- ---- steps of one connection
@@ -160,7 +161,7 @@ settled-goes number was is happened asking moment positive none said settled = r
 pub dropped-goes : (number : ℕ) (was is : Space) (asking : Asking) (moment : ℕ) → output_of was number ≡ [] → SameSpace was is
     → Goes number was is (λ s t. Answered (config_of was) number [] moment (asking ∷ []) s t (notices_of was) (notices_of is) (output_of is number))
 dropped-goes number was is asking moment none same =
-    goes-same number was is (λ s t. Answered (config_of was) number [] moment (asking ∷ []) s t (notices_of was) (notices_of is) (output_of is number)) same
+    goes-same number was is (λ s t. Answered (config_of was) number [] moment (asking ∷ []) s t (notices_of was) (notices_of is) (output_of is number)) (but-loads was is same)
     (λ s. record {
       turn = Dropped asking moment;
       piece_is = refl;
@@ -188,19 +189,22 @@ module _ (old new : List Space) (n number : ℕ) (c : Connected old n number IsT
         left = settled-left number a.was a.is happened c.positive a.fact (subst (λ x. IsOpenOrEnded (closing_of x number)) (sym same) c.left.0);
       }
 
-  pub connected-kept : At old new n SameSpace → Connected new n number IsTaken
-  connected-kept a =
-      let was = at-was SameSpace old new n a c.space c.at in
+  pub connected-but-loads : At old new n SameButLoads → Connected new n number IsTaken
+  connected-but-loads a =
+      let was = at-was SameButLoads old new n a c.space c.at in
       let count = a.fact.count in
       let same = ap (λ x. length (connections_of x)) was in
       let bound = c.known in
       record {
         space = a.is;
-        at = at-is SameSpace old new n a;
+        at = at-is SameButLoads old new n a;
         positive = c.positive;
         known = omega arith;
         left = (subst IsOpenOrEnded (sym (a.fact.closings number ∙ ap (λ x. closing_of x number) was)) c.left.0, a.fact.outputs number ∙ ap (λ x. output_of x number) was ∙ c.left.1);
       }
+
+  pub connected-kept : At old new n SameSpace → Connected new n number IsTaken
+  connected-kept a = connected-but-loads (at-but-loads old new n a)
 
 module _ (old new : List Space) (n number : ℕ) (moment : ℕ) (c : Connected old n number IsTaken) where
   -- a give-up
@@ -231,7 +235,7 @@ after-same : (number : ℕ) (x y z : Space) (moment : ℕ) (asks : List Asking) 
     → Goes number x z (λ s t. Answered (config_of x) number [] moment asks s t (notices_of x) (notices_of z) (output_of z number))
 after-same number x y z moment asks same g =
     goes-more number x y z (λ s t. t ≡ s) (λ s t. Answered (config_of y) number [] moment asks s t (notices_of y) (notices_of z) (output_of z number)) (λ s t. Answered (config_of x) number [] moment asks s t (notices_of x) (notices_of z) (output_of z number))
-    (goes-same number x y (λ s t. t ≡ s) same (λ s. refl)) g
+    (goes-same number x y (λ s t. t ≡ s) (but-loads x y same) (λ s. refl)) g
     (λ s t u e f.
     subst (λ v. Answered (config_of x) number [] moment asks v u (notices_of x) (notices_of z) (output_of z number)) e
     (subst (λ k. Answered k number [] moment asks t u (notices_of x) (notices_of z) (output_of z number)) same.config
@@ -283,6 +287,7 @@ same-more x y z a b = record {
   closings = λ number. b.closings number ∙ a.closings number;
   notices = b.notices ∙ a.notices;
   count = b.count ∙ a.count;
+  goes = record { taken = b.goes.taken ∙ a.goes.taken; namespace = b.goes.namespace ∙ a.goes.namespace };
 }
 
 -- nothing was called
