@@ -18,7 +18,7 @@ use Rattle.cache_spaces.specs.Serves.{SameSpace, TakesLoads}
 use Rattle.cache_spaces.specs.Spaces.{config_of, notices_of}
 use Rattle.cache_spaces.specs.declared.space.Space.{Space}
 use Rattle.cache_run.specs.Happened.{AreDrops, notes_of}
-use Rattle.cache_run.specs.Loading.{GivesUp, GivesUpLoads}
+use Rattle.cache_run.specs.Loading.{GivesUp, GivesUpLoads, SameButLoads}
 use Rattle.cache_run.proofs.Carrying.{record-one, records-more}
 use Rattle.cache_run.proofs.Connecting.{found-at}
 use Rattle.cache_run.proofs.Going.{goes-more, goes-same}
@@ -30,12 +30,10 @@ drops-more [] ys a b = b
 drops-more (x ∷ xs) ys a b = (a.0, drops-more xs ys a.1 b)
 
 -- loads that were taken leave the namespace the same
-pub taken-same : (was is : Space) (loads : List (LoadId × List ℕ)) → TakesLoads was is loads → SameSpace was is
+pub taken-same : (was is : Space) (loads : List (LoadId × List ℕ)) → TakesLoads was is loads → SameButLoads was is
 taken-same was is loads t = record {
   stands = t.stands;
-  recency = t.recency;
   config = t.config;
-  made = t.made;
   outputs = λ number. ap (λ cs. text_at cs (number - 1)) t.connections;
   closings = λ number. ap (λ cs. closing_at cs (number - 1)) t.connections;
   notices = t.notices;
@@ -54,7 +52,7 @@ given-more config s t u a b c x y = record {
 }
 
 -- nothing was given up
-pub drops-none : (number : ℕ) (was is : Space) → SameSpace was is → GivesUpLoads number was is
+pub drops-none : (number : ℕ) (was is : Space) → SameButLoads was is → GivesUpLoads number was is
 drops-none number was is same = (
   goes-same number was is (λ s t. GivesUp (config_of was) s t (notices_of was) (notices_of is)) same (λ s. given-none (config_of was) s s (notices_of was) (notices_of is) refl same.notices),
   λ closed is_open. closed (sym (same.closings number) ∙ is_open),
@@ -102,15 +100,15 @@ pub same-at : (spaces : List Space) (n : ℕ) → n < length spaces → At space
 same-at spaces n known = let found = found-at spaces n known in at-same SameSpace spaces n found.0 found.1 (same-space found.0 found.0 refl)
 
 -- loads were taken
-pub at-taken : (old new : List Space) (n : ℕ) (loads : List (LoadId × List ℕ)) → At old new n (λ was is. TakesLoads was is loads) → At old new n SameSpace
-at-taken old new n loads a = at-map (λ was is. TakesLoads was is loads) SameSpace old new n a (λ x y t. taken-same x y loads t)
+pub at-taken : (old new : List Space) (n : ℕ) (loads : List (LoadId × List ℕ)) → At old new n (λ was is. TakesLoads was is loads) → At old new n SameButLoads
+at-taken old new n loads a = at-map (λ was is. TakesLoads was is loads) SameButLoads old new n a (λ x y t. taken-same x y loads t)
 
 module _ (number n : ℕ) where
   pub at-drop : (old new : List Space) (load : ℕ) → At old new n (λ was is. served.Settled was is (giving_up load 0)) → At old new n (GivesUpLoads number)
   at-drop old new load a = at-map (λ was is. served.Settled was is (giving_up load 0)) (GivesUpLoads number) old new n a (λ x y settled. drops-one number x y load settled)
 
-  pub at-undropped : (old new : List Space) → At old new n SameSpace → At old new n (GivesUpLoads number)
-  at-undropped old new a = at-map SameSpace (GivesUpLoads number) old new n a (λ x y same. drops-none number x y same)
+  pub at-undropped : (old new : List Space) → At old new n SameButLoads → At old new n (GivesUpLoads number)
+  at-undropped old new a = at-map SameButLoads (GivesUpLoads number) old new n a (λ x y same. drops-none number x y same)
 
   pub at-drops-more : (first second third : List Space) → At first second n (GivesUpLoads number) → At second third n (GivesUpLoads number) → At first third n (GivesUpLoads number)
   at-drops-more first second third a b = at-more (GivesUpLoads number) (GivesUpLoads number) (GivesUpLoads number) first second third n a b (λ x y z p q. drops-again number x y z p q)

@@ -33,7 +33,7 @@ use Rattle.cache_run.specs.Worlds.{Outside, world}
 use Rattle.cache_run.specs.declared.errors.RunError.{RunError}
 use Rattle.cache_run.proofs.Carrying.{broken-more, carried-close, carried-drops, carried-more, carried-opened, carried-still}
 use Rattle.cache_run.proofs.Connecting.{close-refused, connected-map, ended-none}
-use Rattle.cache_run.proofs.Going.{goes-more, goes-same, seen-alike}
+use Rattle.cache_run.proofs.Going.{but-loads, goes-more, goes-same, seen-alike}
 use Rattle.cache_run.proofs.Placing.{at-is, at-map, at-more, at-with}
 
 -- why a connection that is not open has closed
@@ -136,7 +136,7 @@ at-closed-before old new n number e c a =
     at-with (λ was is. SameSpace was is × (refusal_of (config_of was) (known (connections_of was)) (event.Close number) ≡ Some e)) (Closes number) old new n c.space c.at a
     (λ y p.
     let ended = ended-where-refused c.space number e c.positive c.known c.left p.1 in
-    inr (ended, p.0.closings number, goes-same number c.space y (λ s t. Unfed s t (notices_of c.space) (notices_of y)) p.0 (λ s. record { same = refl; notices = p.0.notices })))
+    inr (ended, p.0.closings number, goes-same number c.space y (λ s t. Unfed s t (notices_of c.space) (notices_of y)) (but-loads c.space y p.0) (λ s. record { same = refl; notices = p.0.notices })))
 
 -- ---- the whole
 

@@ -15,6 +15,7 @@ use Rattle.cache_run.proofs.Carrying.{record-one}
 use Rattle.cache_namespace.specs.declared.connection.Connection.{Connection}
 use Rattle.cache_spaces.specs.Moves.{At}
 use Rattle.cache_spaces.specs.Serves.{SameSpace, Takes, TakesOutput}
+use Rattle.cache_run.specs.Loading.{SameButLoads}
 use Rattle.cache_spaces.specs.Spaces.{closing_of, config_of, connections_of, notices_of, output_of}
 use Rattle.cache_spaces.specs.declared.space.Space.{Space}
 use Rattle.cache_run.specs.Connected.{Connected, IsReady}
@@ -52,8 +53,15 @@ goes-map number x y F G a h = record {
   config = a.config;
 }
 
+-- a namespace that is the same is so but for the loads that went out
+pub but-loads : (was is : Space) → SameSpace was is → SameButLoads was is
+but-loads was is same = record { stands = same.stands; config = same.config; outputs = same.outputs; closings = same.closings; notices = same.notices; count = same.count }
+
+pub at-but-loads : (old new : List Space) (n : ℕ) → At old new n SameSpace → At old new n SameButLoads
+at-but-loads old new n a = at-map SameSpace SameButLoads old new n a but-loads
+
 -- a namespace that is the same
-pub goes-same : (number : ℕ) (was is : Space) (F : Situation → Situation → Type 0) → SameSpace was is → ((s : Situation) → F s s) → Goes number was is F
+pub goes-same : (number : ℕ) (was is : Space) (F : Situation → Situation → Type 0) → SameButLoads was is → ((s : Situation) → F s s) → Goes number was is F
 goes-same number was is F same h = record {
   each = λ s stands alone. record { next = s; stands = same.stands s stands; alone = alone; fact = h s; others = λ other ne. (same.outputs other, same.closings other) };
   config = same.config;
@@ -85,6 +93,7 @@ fed-turn config number piece moment steps s t before after text follows notices 
   moment_is = refl;
   asks_are = refl;
   right = tt;
+  placed = tt;
   follows = record-one config s (record_of (fed number piece moment) steps) t follows;
   notices = notices ∙ ap (λ z. before ++ z) (sym (append-nil (flat_map (λ step. step.notices) steps)));
   replies = replies ∙ sym (append-nil (flat_map reply_in steps));
@@ -138,4 +147,4 @@ pub at-refused : (old new : List Space) (n number : ℕ) (piece : List ℕ) (mom
     → At old new n (λ was is. Goes number was is (λ s t. Unanswered (config_of was) number piece moment asks s t (notices_of was) (notices_of is) e))
 at-refused old new n number piece moment asks e a cause =
     at-map SameSpace (λ x y. Goes number x y (λ s t. Unanswered (config_of x) number piece moment asks s t (notices_of x) (notices_of y) e)) old new n a
-    (λ x y same. goes-same number x y (λ s t. Unanswered (config_of x) number piece moment asks s t (notices_of x) (notices_of y) e) same (λ s. inl (record { same = refl; notices = same.notices }, cause)))
+    (λ x y same. goes-same number x y (λ s t. Unanswered (config_of x) number piece moment asks s t (notices_of x) (notices_of y) e) (but-loads x y same) (λ s. inl (record { same = refl; notices = same.notices }, cause)))

@@ -7,7 +7,7 @@ use Rattle.std.proofs.Props.{props}
 use Rattle.std.proofs.lemmas.Bool.{eq-eqb, ne_eqb}
 use Rattle.std.proofs.lemmas.List.{append-nil}
 use Rattle.audit_model.specs.Belongs.{refusal_of_outcome}
-use Rattle.audit_model.specs.Situation.{Situation}
+use Rattle.audit_model.specs.Situation.{Situation, key_in}
 use Rattle.audit_model.specs.declared.command.Closing.{Closing}
 use Rattle.audit_model.specs.declared.command.Closing.TheVariants as by
 use Rattle.audit_model.specs.declared.config.Config.{Config}
@@ -22,7 +22,7 @@ use Rattle.cache_settling.specs.Told.{own_steps, replies_to}
 use Rattle.cache_spaces.proofs.Putting.{same-space}
 use Rattle.cache_spaces.specs.Moves.{At}
 use Rattle.cache_spaces.specs.Serves as served
-use Rattle.cache_spaces.specs.Serves.{SameSpace, Settles, TakesLoads, TakesOutput}
+use Rattle.cache_spaces.specs.Serves.{SameSpace, Settles, TakesLoads, TakesOutput, known_of}
 use Rattle.cache_spaces.specs.Spaces.{Stands, closing_of, config_of, connections_of, loads_of, notices_of, output_of}
 use Rattle.cache_spaces.specs.declared.space.Space.{Space}
 use Rattle.run_laws.specs.Alone.{IsTurnOf, StepsOf, WaitsAlone}
@@ -32,7 +32,8 @@ use Rattle.cache_run.specs.Delivered.{Answered}
 use Rattle.cache_run.specs.Goes.{Goes}
 use Rattle.cache_run.specs.Happened.{Asking, Dropped, asking_of, IsGivenUpFor, IsSettledBy, Settled, notes_of, replies_of}
 use Rattle.cache_run.proofs.Carrying.{record-one}
-use Rattle.cache_run.proofs.Going.{goes-more, goes-same, seen-alike}
+use Rattle.cache_run.proofs.Going.{at-but-loads, but-loads, goes-more, goes-same, seen-alike}
+use Rattle.cache_run.specs.Loading.{SameButLoads}
 use Rattle.cache_run.proofs.Placing.{at-is, at-map, at-more, at-same, at-was, at-with}
 
 -- ---- steps of one connection
@@ -146,6 +147,7 @@ settled-goes number was is happened asking moment positive none said settled = r
           piece_is = refl;
           moment_is = refl;
           asks_are = refl;
+          placed = tt;
           right = subst (IsSettledBy (config_of was) asking.answer moment) (sym r.event) said;
           follows = record-one (config_of was) s r.entry r.next r.follows;
           notices = r.notices ∙ ap (λ l. notices_of was ++ l) (sym (append-nil (notes_of r.entry)));
@@ -156,21 +158,37 @@ settled-goes number was is happened asking moment positive none said settled = r
   config = settled.config;
 }
 
+some-none : {A : Type 0} (o : Option A) → is_some o ≡ false → o ≡ None
+some-none None e = refl
+some-none (Some x) e = cc
+
+-- no load of that number is under way in any situation that the namespace stands for
+unknown-there : (was : Space) (s : Situation) (load : ℕ) → Stands was s → (known_of was).is_under_way load ≡ false → key_in load s ≡ None
+unknown-there was s load stands unknown = ap (λ (t : Situation). key_in load t) stands.same ∙ some-none (key_in load (situation 0 (loads_of was) (connections_of was) false [])) unknown
+
 -- a load was not under way, and what the loader said was dropped
-pub dropped-goes : (number : ℕ) (was is : Space) (asking : Asking) (moment : ℕ) → output_of was number ≡ [] → SameSpace was is
+pub dropped-goes : (number : ℕ) (was is : Space) (asking : Asking) (moment load : ℕ) → output_of was number ≡ [] → SameSpace was is → (known_of was).is_under_way load ≡ false
     → Goes number was is (λ s t. Answered (config_of was) number [] moment (asking ∷ []) s t (notices_of was) (notices_of is) (output_of is number))
-dropped-goes number was is asking moment none same =
-    goes-same number was is (λ s t. Answered (config_of was) number [] moment (asking ∷ []) s t (notices_of was) (notices_of is) (output_of is number)) same
-    (λ s. record {
-      turn = Dropped asking moment;
+dropped-goes number was is asking moment load none same unknown = record {
+  each = λ s stands alone. record {
+    next = s;
+    stands = same.stands s stands;
+    alone = alone;
+    fact = record {
+      turn = Dropped asking moment load;
       piece_is = refl;
       moment_is = refl;
       asks_are = refl;
       right = tt;
+      placed = unknown-there was s load stands unknown;
       follows = refl;
       notices = same.notices ∙ sym (append-nil (notices_of was));
       replies = same.outputs number ∙ none;
-    })
+    };
+    others = λ other ne. (same.outputs other, same.closings other);
+  };
+  config = same.config;
+}
 
 module _ (old new : List Space) (n number : ℕ) (c : Connected old n number IsTaken) where
   -- how the connection is left
@@ -188,19 +206,22 @@ module _ (old new : List Space) (n number : ℕ) (c : Connected old n number IsT
         left = settled-left number a.was a.is happened c.positive a.fact (subst (λ x. IsOpenOrEnded (closing_of x number)) (sym same) c.left.0);
       }
 
-  pub connected-kept : At old new n SameSpace → Connected new n number IsTaken
-  connected-kept a =
-      let was = at-was SameSpace old new n a c.space c.at in
+  pub connected-but-loads : At old new n SameButLoads → Connected new n number IsTaken
+  connected-but-loads a =
+      let was = at-was SameButLoads old new n a c.space c.at in
       let count = a.fact.count in
       let same = ap (λ x. length (connections_of x)) was in
       let bound = c.known in
       record {
         space = a.is;
-        at = at-is SameSpace old new n a;
+        at = at-is SameButLoads old new n a;
         positive = c.positive;
         known = omega arith;
         left = (subst IsOpenOrEnded (sym (a.fact.closings number ∙ ap (λ x. closing_of x number) was)) c.left.0, a.fact.outputs number ∙ ap (λ x. output_of x number) was ∙ c.left.1);
       }
+
+  pub connected-kept : At old new n SameSpace → Connected new n number IsTaken
+  connected-kept a = connected-but-loads (at-but-loads old new n a)
 
 module _ (old new : List Space) (n number : ℕ) (moment : ℕ) (c : Connected old n number IsTaken) where
   -- a give-up
@@ -212,11 +233,11 @@ module _ (old new : List Space) (n number : ℕ) (moment : ℕ) (c : Connected o
       (λ y settled asking refused. settled-goes number c.space y (giving_up load moment) asking moment c.positive c.left.1 (inr (load, refl, refused)) settled)
 
   -- what was said of a load that is not under way
-  pub at-dropped : At old new n SameSpace
+  pub at-dropped : (load : ℕ) → At old new n (λ was is. SameSpace was is × ((known_of was).is_under_way load ≡ false))
       → At old new n (λ was is. (asking : Asking) → Goes number was is (λ s t. Answered (config_of was) number [] moment (asking ∷ []) s t (notices_of was) (notices_of is) (output_of is number)))
-  at-dropped a =
-      at-with SameSpace (λ was is. (asking : Asking) → Goes number was is (λ s t. Answered (config_of was) number [] moment (asking ∷ []) s t (notices_of was) (notices_of is) (output_of is number))) old new n c.space c.at a
-      (λ y same asking. dropped-goes number c.space y asking moment c.left.1 same)
+  at-dropped load a =
+      at-with (λ was is. SameSpace was is × ((known_of was).is_under_way load ≡ false)) (λ was is. (asking : Asking) → Goes number was is (λ s t. Answered (config_of was) number [] moment (asking ∷ []) s t (notices_of was) (notices_of is) (output_of is number))) old new n c.space c.at a
+      (λ y same asking. dropped-goes number c.space y asking moment load c.left.1 same.0 same.1)
 
   -- an answer
   pub at-answer : (load : ℕ) (outcome : Outcome) → At old new n (λ was is. served.Settled was is (answering load outcome moment))
@@ -231,7 +252,7 @@ after-same : (number : ℕ) (x y z : Space) (moment : ℕ) (asks : List Asking) 
     → Goes number x z (λ s t. Answered (config_of x) number [] moment asks s t (notices_of x) (notices_of z) (output_of z number))
 after-same number x y z moment asks same g =
     goes-more number x y z (λ s t. t ≡ s) (λ s t. Answered (config_of y) number [] moment asks s t (notices_of y) (notices_of z) (output_of z number)) (λ s t. Answered (config_of x) number [] moment asks s t (notices_of x) (notices_of z) (output_of z number))
-    (goes-same number x y (λ s t. t ≡ s) same (λ s. refl)) g
+    (goes-same number x y (λ s t. t ≡ s) (but-loads x y same) (λ s. refl)) g
     (λ s t u e f.
     subst (λ v. Answered (config_of x) number [] moment asks v u (notices_of x) (notices_of z) (output_of z number)) e
     (subst (λ k. Answered k number [] moment asks t u (notices_of x) (notices_of z) (output_of z number)) same.config
@@ -283,6 +304,7 @@ same-more x y z a b = record {
   closings = λ number. b.closings number ∙ a.closings number;
   notices = b.notices ∙ a.notices;
   count = b.count ∙ a.count;
+  goes = record { taken = b.goes.taken ∙ a.goes.taken; namespace = b.goes.namespace ∙ a.goes.namespace };
 }
 
 -- nothing was called

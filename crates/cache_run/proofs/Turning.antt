@@ -8,7 +8,7 @@ use Rattle.cache_devices.proofs.Sending.{failed_after, failed_before, same_appen
 use Rattle.cache_devices.specs.Failures.{HasFailed}
 use Rattle.cache_run.specs.Turns.{HasAsked, HasRead}
 use Rattle.cache_spaces.specs.Moves.{At}
-use Rattle.cache_spaces.specs.Serves.{SameSpace}
+use Rattle.cache_run.specs.Loading.{SameButLoads}
 use Rattle.cache_spaces.specs.Spaces.{config_of, notices_of}
 use Rattle.cache_spaces.specs.declared.space.Space.{Space}
 use Rattle.audit_model.specs.declared.event.Outcome.{Outcome}
@@ -120,10 +120,10 @@ asked-fewer loads a b m n fewer x = let most = x.2 in (x.0, x.1, omega arith)
 
 -- ---- where the namespace is left the same
 
-pub at-carried-same : {C L : Type 0} (reads : C → ℕ → C → Type 0) (loads : L → List ℕ → Option Outcome → L → Type 0) (old new : List Space) (n number : ℕ) (a : Outside C L) → At old new n SameSpace
+pub at-carried-same : {C L : Type 0} (reads : C → ℕ → C → Type 0) (loads : L → List ℕ → Option Outcome → L → Type 0) (old new : List Space) (n number : ℕ) (a : Outside C L) → At old new n SameButLoads
     → At old new n (λ was is. Goes number was is (λ s t. Carried (config_of was) number reads loads (world was s a) (world is t a) false false [] nothing_left))
 at-carried-same reads loads old new n number a same =
-    at-map SameSpace (λ was is. Goes number was is (λ s t. Carried (config_of was) number reads loads (world was s a) (world is t a) false false [] nothing_left)) old new n same
+    at-map SameButLoads (λ was is. Goes number was is (λ s t. Carried (config_of was) number reads loads (world was s a) (world is t a) false false [] nothing_left)) old new n same
     (λ x y p. goes-same number x y (λ s t. Carried (config_of x) number reads loads (world x s a) (world y t a) false false [] nothing_left) p (λ s. carried-same (config_of x) number reads loads x y s s a refl p.notices))
 
 -- the same error of another result

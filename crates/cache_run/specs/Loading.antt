@@ -1,5 +1,5 @@
 -- What settling a connection's loads carries, and what giving them up does.
-use Rattle.std.specs.Prelude.{◌≡◌, ◌≢◌, ℕ, List, [], ◌++◌, false, Option, Some, None}
+use Rattle.std.specs.Prelude.{◌≡◌, ◌≢◌, ℕ, List, [], ◌++◌, length, false, Option, Some, None}
 use Rattle.std.specs.List.{flat_map}
 use Rattle.audit_model.specs.Follows.{after_records}
 use Rattle.audit_model.specs.Situation.{Situation}
@@ -8,13 +8,22 @@ use Rattle.audit_model.specs.declared.event.Outcome.{Outcome}
 use Rattle.audit_model.specs.declared.transcript.Note.{Note}
 use Rattle.audit_model.specs.declared.transcript.Record.{Record}
 use Rattle.cache_spaces.specs.Moves.{At}
-use Rattle.cache_spaces.specs.Spaces.{closing_of, config_of, notices_of}
+use Rattle.cache_spaces.specs.Spaces.{Stands, closing_of, config_of, connections_of, notices_of, output_of}
 use Rattle.cache_spaces.specs.declared.space.Space.{Space}
 use Rattle.cache_run.specs.Carried.{Broken, Carried, nothing_left}
 use Rattle.cache_run.specs.Goes.{Goes}
 use Rattle.cache_run.specs.Happened.{AreDrops, notes_of}
 use Rattle.cache_run.specs.Worlds.{Outside, world}
 use Rattle.cache_run.specs.declared.errors.RunError.{RunError}
+
+-- the namespace is the same, but that loads may have been taken
+pub record SameButLoads (was is : Space) : Type 0 where
+  pub stands : (s : Situation) → Stands was s → Stands is s
+  pub config : config_of is ≡ config_of was
+  pub outputs : (number : ℕ) → output_of is number ≡ output_of was number
+  pub closings : (number : ℕ) → closing_of is number ≡ closing_of was number
+  pub notices : notices_of is ≡ notices_of was
+  pub count : length (connections_of is) ≡ length (connections_of was)
 
 -- turns came, and nothing was left
 abbrev pub Carries : {C L : Type 0} → (C → ℕ → C → Type 0) → (L → List ℕ → Option Outcome → L → Type 0) → List Space → List Space → ℕ → ℕ → Outside C L → Outside C L → Type 0

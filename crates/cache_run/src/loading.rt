@@ -11,7 +11,7 @@ ghost use Rattle.cache_run.specs.Connected.{Connected, IsFed, IsTaken};
 ghost use Rattle.cache_run.specs.Delivered.{Answered, IsCause};
 ghost use Rattle.cache_run.specs.Goes.{Goes};
 ghost use Rattle.cache_run.specs.Happened.{Asking, IsGivenUpFor, asking_of};
-ghost use Rattle.cache_run.specs.Loading.{Breaks, Carries, GivesUpLoads};
+ghost use Rattle.cache_run.specs.Loading.{Breaks, Carries, GivesUpLoads, SameButLoads};
 ghost use Rattle.cache_run.specs.Turns.{HasAsked, HasToldLate};
 ghost use Rattle.cache_run.specs.Worlds.{outside};
 
@@ -34,11 +34,14 @@ fn give_up(service: &mut Service, conn: Conn, load: u64, moment: u64) -> Result<
         namespace: conn.namespace,
         number: load,
     };
-    match service.give_up(id, Instant { nanos: moment }) {
-        Ok(()) => Ok(()),
-        Err(ServiceError::Moment) => Err(RunError::Moment),
+    let error = match service.give_up(id, Instant { nanos: moment }) {
+        Ok(()) => return Ok(()),
+        Err(error) => error,
+    };
+    match error {
+        ServiceError::Moment => Err(RunError::Moment),
         // It is not under way.
-        Err(_) => Ok(()),
+        _ => Ok(()),
     }
 }
 
@@ -162,7 +165,7 @@ fn settle_last<W: Write, C: Clock, L: Loader>(
 /// Takes the loads of a namespace that have gone out, where none that was taken is left.
 fn take_more(service: &mut Service, conn: Conn, taken: &mut Vec<(LoadId, Bytes)>)
     requires taken { Connected (spaces_of service.old) conn.namespace conn.number IsTaken }
-    ensures same { At (spaces_of service.old) (spaces_of service.new) conn.namespace SameSpace }
+    ensures same { At (spaces_of service.old) (spaces_of service.new) conn.namespace SameButLoads }
     ensures taken { Connected (spaces_of service.new) conn.namespace conn.number IsTaken }
 {
     if !taken.is_empty() {

@@ -1,4 +1,5 @@
-use Rattle.cache_spaces.specs.Serves.{SameSpace}
+use Rattle.cache_run.specs.Loading.{SameButLoads}
+use Rattle.cache_run.proofs.Going.{but-loads}
 use Rattle.cache_spaces.specs.Services.{spaces_of}
 use Rattle.cache_run.proofs.Connecting.{found-at, refused-here}
 use Rattle.cache_run.proofs.Dropping.{at-drop, at-undropped}
@@ -11,4 +12,4 @@ returns-in-Ok-clause-dropped c = at-drop c.args.conn.number _ _ _ c.args.load c.
 pub returns-in-Err-clause-dropped : goal.returns-in-Err-clause-dropped
 returns-in-Err-clause-dropped c =
     let found = found-at (spaces_of c.args.service.now) c.args.conn.namespace c.requires.known in
-    at-undropped c.args.conn.number _ _ _ (at-map _ SameSpace _ _ _ (refused-here _ _ _ _ _ found.0 found.1 c.in-Err.ensures.refused) (λ x y p. p.0))
+    at-undropped c.args.conn.number _ _ _ (at-map _ SameButLoads _ _ _ (refused-here _ _ _ _ _ found.0 found.1 c.in-Err.ensures.refused) (λ x y p. but-loads x y p.0))

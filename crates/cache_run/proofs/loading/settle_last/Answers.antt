@@ -5,13 +5,13 @@ use Rattle.cache_run.specs.declared.errors.RunError.TheVariants.{Moment, UsedUp,
 use Rattle.cache_run.proofs.Carrying.{same_consumes}
 use Rattle.cache_run.proofs.Connecting.{connected-map}
 use Rattle.cache_run.proofs.Delivering.{at-unanswered, at-unsent, at-written}
-use Rattle.cache_run.proofs.Going.{at-refused}
+use Rattle.cache_run.proofs.Going.{at-but-loads, at-refused}
 use Rattle.cache_run.proofs.Settling.{connected-kept, same-here}
 use Rattle.cache_run.proofs.Turning.{asked-fewer, asked-one, at-carried-same, turn-broken, turn-one}
 use Rattle.cache_run.proofs.loading.settle_last.Goals as goal
 
 pub returns-in-None-clause-ok : goal.returns-in-None-clause-ok
-returns-in-None-clause-ok g c = λ remaining. at-carried-same g.C.Clock.reads g.L.Loader.loads _ _ _ _ _ (same-here _ _ _ c.requires.taken)
+returns-in-None-clause-ok g c = λ remaining. at-carried-same g.C.Clock.reads g.L.Loader.loads _ _ _ _ _ (at-but-loads _ _ _ (same-here _ _ _ c.requires.taken))
 
 pub returns-in-Err-clause-err : goal.returns-in-Err-clause-err
 returns-in-Err-clause-err g c = λ remaining.

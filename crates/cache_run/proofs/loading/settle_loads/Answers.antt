@@ -2,11 +2,12 @@ use Rattle.std.proofs.Common.{◌≡◌, arith}
 use Rattle.cache_run.specs.declared.errors.RunError.TheVariants.{Moment, UsedUp}
 use Rattle.cache_run.proofs.Settling.{same-here}
 use Rattle.cache_run.proofs.Turning.{asked-fewer, asked-more, asked-none, at-broken, at-broken-more, at-carried-more, at-carried-same}
+use Rattle.cache_run.proofs.Going.{at-but-loads}
 use Rattle.cache_run.proofs.loading.settle_loads.Goals as goal
 
 pub loop-turn-init : goal.loop-turn-init
 loop-turn-init g c = record {
-  carried = λ remaining. at-carried-same g.C.Clock.reads g.L.Loader.loads _ _ _ _ _ (same-here _ _ _ c.requires.taken);
+  carried = λ remaining. at-carried-same g.C.Clock.reads g.L.Loader.loads _ _ _ _ _ (at-but-loads _ _ _ (same-here _ _ _ c.requires.taken));
   taken = c.requires.taken;
   writes = omega arith;
   asked = asked-none g.L.Loader.loads _;
