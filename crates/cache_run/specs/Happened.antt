@@ -7,6 +7,7 @@ use Rattle.audit_model.specs.Places.{steps_of}
 use Rattle.audit_model.specs.Situation.{Situation, key_in}
 use Rattle.audit_model.specs.declared.config.Config.{Config}
 use Rattle.audit_model.specs.declared.event.Event.{Event}
+use Rattle.audit_model.specs.declared.event.Event.TheVariants as event
 use Rattle.audit_model.specs.declared.event.Outcome.{Outcome}
 use Rattle.audit_model.specs.declared.transcript.Note.{Note}
 use Rattle.audit_model.specs.declared.transcript.Record.{Record}
@@ -88,10 +89,17 @@ abbrev pub AreRight : Config → List Turn → Type 0
 AreRight config [] = Unit {0}
 AreRight config (turn ∷ turns) = IsRight config turn × AreRight config turns
 
--- what the loader said is dropped only of a load that is not under way in the situation before it
+-- that is the key of the load under way that is answered or given up
+abbrev pub IsKeyOf : Situation → Event → List ℕ → Type 0
+IsKeyOf s (event.Answer load outcome moment) key = key_in load s ≡ Some key
+IsKeyOf s (event.GiveUp load moment) key = key_in load s ≡ Some key
+IsKeyOf s happened key = Unit {0}
+
+-- in the situation before it, the key of which the loader is asked is that of the load that is settled, and what it said is dropped only of
+-- a load that is not under way
 abbrev pub IsInPlace : Situation → Turn → Type 0
 IsInPlace s (Fed piece moment steps) = Unit {0}
-IsInPlace s (Settled asking moment entry) = Unit {0}
+IsInPlace s (Settled asking moment entry) = IsKeyOf s entry.event asking.key
 IsInPlace s (Dropped asking moment load) = key_in load s ≡ None
 
 -- each turn is so in the situation that the turns before it lead to
