@@ -126,8 +126,12 @@ pub same-at : (spaces : List Space) (n : ℕ) → n < length spaces → At space
 same-at spaces n known = let found = found-at spaces n known in at-same SameSpace spaces n found.0 found.1 (same-space found.0 found.0 refl)
 
 -- loads were taken
-pub at-taken : (old new : List Space) (n : ℕ) (before loads : List (LoadId × List ℕ)) → At old new n (λ was is. TakesLoads was is loads) → At old new n (λ was is. TakesMore was is before loads)
-at-taken old new n before loads a =
+pub at-taken : (old new : List Space) (n : ℕ) (loads : List (LoadId × List ℕ)) → At old new n (λ was is. TakesLoads was is loads) → At old new n SameButLoads
+at-taken old new n loads a = at-map (λ was is. TakesLoads was is loads) SameButLoads old new n a (λ x y t. taken-same x y loads t)
+
+-- and are known
+pub at-more-taken : (old new : List Space) (n : ℕ) (before loads : List (LoadId × List ℕ)) → At old new n (λ was is. TakesLoads was is loads) → At old new n (λ was is. TakesMore was is before loads)
+at-more-taken old new n before loads a =
     at-map (λ was is. TakesLoads was is loads) (λ was is. TakesMore was is before loads) old new n a
     (λ x y t. record { same = taken-same x y loads t; known = λ s stands known. known-taken (place_of x) (taken_of x) loads s t.in_turn (let count = t.count s stands in omega arith) (t.keys s stands) })
 

@@ -1,5 +1,5 @@
 -- One turn of a run.
-use Rattle.std.proofs.Common.{◌≡◌, ◌≢◌, ℕ, ◌+◌, ◌≤◌, ◌⊎◌, ◌++◌, false, List, [], ◌∷◌, Option, refl, ap, ◌∙◌, subst, inl, inr, arith, length-append}
+use Rattle.std.proofs.Common.{◌≡◌, ◌≢◌, ℕ, ◌+◌, ◌≤◌, ◌⊎◌, ◌++◌, false, List, [], ◌∷◌, Option, refl, sym, ap, ◌∙◌, subst, inl, inr, arith, length-append}
 use Rattle.std.specs.Prelude.{Err, IsErrOf}
 use Rattle.std.proofs.lemmas.List.{append-nil}
 use Rattle.std.specs.Io.KnownBytes.{Appends, Consumes}
@@ -27,7 +27,7 @@ use Rattle.cache_run.specs.Worlds.{Outside, outside, world}
 use Rattle.cache_run.specs.declared.errors.RunError.{RunError}
 use Rattle.cache_run.specs.declared.errors.RunError.TheVariants.{Moment}
 use Rattle.cache_run.proofs.Carrying.{askings_more, consumes_more, same_consumes, broken-more, broken-one, carried-more, carried-none, carried-one, carried-same}
-use Rattle.cache_run.proofs.Going.{at-goes-map, at-goes-more, goes-same}
+use Rattle.cache_run.proofs.Going.{at-goes-map, at-goes-more}
 use Rattle.cache_run.proofs.Placing.{at-map, at-same}
 
 module _ {C L : Type 0} (reads : C → ℕ → C → Type 0) (loads : L → List ℕ → Option Outcome → L → Type 0) (old : List Space) (n number : ℕ) where
@@ -133,14 +133,15 @@ module _ {C L : Type 0} (reads : C → ℕ → C → Type 0) (loads : L → List
       let k = f known in broken-more (config_of x) number reads loads (world x s a) (world y t b) (world z u d) false false [] e k.0 (subst (λ c. Broken c number reads loads (world y t b) (world z u d) false false [] e) same (g k.1)))
 
 -- nothing has come yet
-pub at-carried-start : {C L : Type 0} (reads : C → ℕ → C → Type 0) (loads : L → List ℕ → Option Outcome → L → Type 0) (old : List Space) (n number : ℕ) (a : Outside C L) (outs : List (LoadId × List ℕ)) → Connected old n number IsReady → Carries reads loads old old n number a a outs outs
-at-carried-start reads loads old n number a outs c =
-    at-known reads loads old n number old a a outs
+pub at-carried-start : {C L : Type 0} (reads : C → ℕ → C → Type 0) (loads : L → List ℕ → Option Outcome → L → Type 0) (old : List Space) (n number : ℕ) (a : Outside C L) (outs : List (LoadId × List ℕ)) → outs ≡ [] → Connected old n number IsReady → Carries reads loads old old n number a a [] outs
+at-carried-start reads loads old n number a outs fresh c =
+    subst (λ taken. Carries reads loads old old n number a a [] taken) (sym fresh)
+    (at-known reads loads old n number old a a []
     (at-same (λ was is. Goes number was is (λ s t. Carried (config_of was) number reads loads (world was s a) (world is t a) false false [] nothing_left)) old n c.space c.at
     (record {
       each = λ s stands alone. record { next = s; stands = stands; alone = alone; fact = carried-same (config_of c.space) number reads loads c.space c.space s s a refl refl; others = λ other ne. (refl, refl) };
       config = refl;
-    }))
+    })))
 
 -- the bytes of several turns, unless the reader failed
 pub turns-more : (f g h : ℕ) (a b c : Option (List ℕ)) (count : ℕ) → f ≤ g → g ≤ h → HasFailed f g ⊎ HasRead a b count → HasFailed g h ⊎ HasRead b c 1 → HasFailed f h ⊎ HasRead a c (count + 1)

@@ -1,9 +1,6 @@
-use Rattle.std.proofs.Common.{[]}
-use Rattle.cache_run.specs.Loading.{SameButLoads}
-use Rattle.cache_run.proofs.Placing.{at-map}
 use Rattle.cache_run.proofs.Turning.{at-none-taken}
 use Rattle.cache_run.proofs.Connecting.{refused-here}
-use Rattle.cache_run.proofs.Dropping.{at-taken}
+use Rattle.cache_run.proofs.Dropping.{at-more-taken, at-taken}
 use Rattle.cache_run.proofs.Going.{at-but-loads}
 use Rattle.cache_run.proofs.Settling.{connected-but-loads, same-here}
 use Rattle.cache_run.proofs.loading.take_more.Goals as goal
@@ -17,7 +14,7 @@ unreachable-requires c =
     let a = refused-here _ _ _ _ _ r.space r.at c.in-Err.ensures.refused in a.fact.1
 
 pub returns-clause-same : goal.returns-clause-same
-returns-clause-same c = at-taken _ _ _ _ _ c.in-Ok.ensures.taken
+returns-clause-same c = at-more-taken _ _ _ _ _ c.in-Ok.ensures.taken
 
 pub returns-clause-taken : goal.returns-clause-taken
-returns-clause-taken c = connected-but-loads _ _ _ _ c.requires.taken (at-map _ SameButLoads _ _ _ (at-taken _ _ _ [] _ c.in-Ok.ensures.taken) (λ x y more. more.same))
+returns-clause-taken c = connected-but-loads _ _ _ _ c.requires.taken (at-taken _ _ _ _ c.in-Ok.ensures.taken)

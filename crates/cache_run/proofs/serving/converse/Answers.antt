@@ -1,5 +1,4 @@
-use Rattle.cache_run.specs.Loading.{Carries}
-use Rattle.std.proofs.Common.{◌≡◌, subst, ◌^◌, ◌-◌, ⊎_elim, arith, inl, inr}
+use Rattle.std.proofs.Common.{◌≡◌, ◌^◌, ◌-◌, [], ⊎_elim, arith, inl, inr}
 use Rattle.cache_devices.proofs.Sending.{failed_after}
 use Rattle.cache_run.specs.Connected.{IsFed, IsReady}
 use Rattle.cache_run.specs.declared.errors.RunError.TheVariants.{Moment, UsedUp}
@@ -9,7 +8,7 @@ use Rattle.cache_run.proofs.serving.converse.Goals as goal
 
 pub loop-turn-init : goal.loop-turn-init
 loop-turn-init g c = record {
-  carried = subst (λ outs. Carries g.C.Clock.reads g.L.Loader.loads _ _ _ _ _ _ outs c.args.taken.now.items) c.requires.fresh (at-carried-start g.C.Clock.reads g.L.Loader.loads _ _ _ _ _ c.requires.ready);
+  carried = at-carried-start g.C.Clock.reads g.L.Loader.loads _ _ _ _ _ c.requires.fresh c.requires.ready;
   ready = c.requires.ready;
   reads = omega arith;
   writes = omega arith;
@@ -20,7 +19,7 @@ loop-turn-init g c = record {
 
 pub loop-turn-preserved : goal.loop-turn-preserved
 loop-turn-preserved g c = record {
-  carried = at-carried-more g.C.Clock.reads g.L.Loader.loads _ _ _ _ _ _ _ _ _ _ _ c.loop-turn.invariant.carried c.in-Ok-More.ensures.ok;
+  carried = at-carried-more g.C.Clock.reads g.L.Loader.loads _ _ _ _ _ _ _ _ [] _ _ c.loop-turn.invariant.carried c.in-Ok-More.ensures.ok;
   ready = rw c.in-Ok-More.field-0-is at c.in-Ok-More.ensures.goes;
   reads = omega (arith, c.loop-turn.invariant.reads, c.in-Ok-More.ensures.reads);
   writes = omega (arith, c.loop-turn.invariant.writes, c.in-Ok-More.ensures.writes);
@@ -31,14 +30,14 @@ loop-turn-preserved g c = record {
 
 pub returns-in-Ok-Over-clause-ok : goal.returns-in-Ok-Over-clause-ok
 returns-in-Ok-Over-clause-ok g c =
-    at-fresh g.C.Clock.reads g.L.Loader.loads _ _ _ _ _ _ _ (at-carried-more g.C.Clock.reads g.L.Loader.loads _ _ _ _ _ _ _ _ _ _ _ c.loop-turn.invariant.carried c.in-Ok-Over.ensures.ok)
+    at-fresh g.C.Clock.reads g.L.Loader.loads _ _ _ _ _ _ _ (at-carried-more g.C.Clock.reads g.L.Loader.loads _ _ _ _ _ _ _ _ [] _ _ c.loop-turn.invariant.carried c.in-Ok-Over.ensures.ok)
 
 pub returns-in-Ok-Over-clause-over : goal.returns-in-Ok-Over-clause-over
 returns-in-Ok-Over-clause-over g c = rw c.in-Ok-Over.field-0-is at c.in-Ok-Over.ensures.goes
 
 pub returns-in-Err-clause-err : goal.returns-in-Err-clause-err
 returns-in-Err-clause-err g c =
-    at-fresh-broken g.C.Clock.reads g.L.Loader.loads _ _ _ _ _ _ _ (at-broken-more g.C.Clock.reads g.L.Loader.loads _ _ _ _ _ _ _ _ _ _ _ c.loop-turn.invariant.carried c.in-Err.ensures.err)
+    at-fresh-broken g.C.Clock.reads g.L.Loader.loads _ _ _ _ _ _ _ (at-broken-more g.C.Clock.reads g.L.Loader.loads _ _ _ _ _ _ _ _ [] _ _ c.loop-turn.invariant.carried c.in-Err.ensures.err)
 
 pub returns-in-Err-clause-used_up : goal.returns-in-Err-clause-used_up
 returns-in-Err-clause-used_up g c = λ is.
@@ -47,7 +46,7 @@ returns-in-Err-clause-used_up g c = λ is.
 
 pub returns-clause-err : goal.returns-clause-err
 returns-clause-err g c =
-    at-fresh-broken g.C.Clock.reads g.L.Loader.loads _ _ _ _ _ _ _ (at-broken g.C.Clock.reads g.L.Loader.loads _ _ _ _ _ _ _ _ UsedUp (λ is. let h : UsedUp ≡ Moment = is in cc) c.loop-turn.invariant.carried)
+    at-fresh-broken g.C.Clock.reads g.L.Loader.loads _ _ _ _ _ _ _ (at-broken g.C.Clock.reads g.L.Loader.loads _ _ _ _ _ _ [] _ UsedUp (λ is. let h : UsedUp ≡ Moment = is in cc) c.loop-turn.invariant.carried)
 
 pub returns-clause-left : goal.returns-clause-left
 returns-clause-left g c = connected-map IsReady IsFed _ _ _ c.loop-turn.invariant.ready (λ x left. inl left.0)
