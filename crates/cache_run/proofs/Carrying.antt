@@ -18,7 +18,7 @@ use Rattle.cache_namespace.specs.Taken.{record_of}
 use Rattle.cache_spaces.specs.Spaces.{notices_of}
 use Rattle.cache_spaces.specs.declared.space.Space.{Space}
 use Rattle.cache_run.specs.Carried.{Askings, Broken, Carried, Left, Readings, close_records, nothing_left, open_records, records_of}
-use Rattle.cache_run.specs.Happened.{Asking, Turn, AreRight, asked_in, moment_in, notes_in, notes_of, piece_in, records_in, replies_in}
+use Rattle.cache_run.specs.Happened.{Asking, Turn, AreInPlace, AreRight, IsInPlace, asked_in, moment_in, notes_in, notes_of, piece_in, records_in, replies_in}
 use Rattle.cache_run.specs.Delivered.{Delivered, Undelivered}
 use Rattle.cache_run.specs.Worlds.{Outside, World, outside, world}
 use Rattle.cache_run.specs.declared.errors.RunError.{RunError}
@@ -33,6 +33,16 @@ pub records-more : (config : Config) (s : Situation) (xs : List Record) (t : Sit
 records-more config s [] t ys u e f = subst (λ m. after_records config m ys ≡ Some u) (sym (same_Some s t e)) f
 records-more config s (x ∷ xs) t ys u e f =
     through (λ m. after_records config m xs) (λ m. after_records config m (xs ++ ys)) (after_record config s x) t u (λ m h. records-more config m xs t ys u h f) e
+
+split-through : (f g : Situation → Option Situation) (o : Option Situation) (t : Situation) (rest : Option Situation) → ((m : Situation) → f m ≡ Some t → g m ≡ rest) → option_and_then f o ≡ Some t → option_and_then g o ≡ rest
+split-through f g None t rest h e = absurd (none-some t e)
+split-through f g (Some m) t rest h e = h m e
+
+-- records behind those that lead to a situation lead on from it
+pub records-split : (config : Config) (s : Situation) (xs : List Record) (t : Situation) (ys : List Record) → after_records config s xs ≡ Some t → after_records config s (xs ++ ys) ≡ after_records config t ys
+records-split config s [] t ys e = ap (λ m. after_records config m ys) (same_Some s t e)
+records-split config s (x ∷ xs) t ys e =
+    split-through (λ m. after_records config m xs) (λ m. after_records config m (xs ++ ys)) (after_record config s x) t (after_records config t ys) (λ m h. records-split config m xs t ys h) e
 
 -- one record
 pub record-one : (config : Config) (s : Situation) (x : Record) (t : Situation) → Follows config s x t → after_records config s (x ∷ []) ≡ Some t
@@ -65,6 +75,12 @@ askings_more loads l (x ∷ xs) m ys n p q = (p.0, p.1, askings_more loads p.0 x
 right-more : (config : Config) (xs ys : List Turn) → AreRight config xs → AreRight config ys → AreRight config (xs ++ ys)
 right-more config [] ys p q = q
 right-more config (x ∷ xs) ys p q = (p.0, right-more config xs ys p.1 q)
+
+placed-more : (config : Config) (number : ℕ) (s : Situation) (xs : List Turn) (t : Situation) (ys : List Turn)
+    → AreInPlace config number s xs → after_records config s (flat_map (records_in number) xs) ≡ Some t → AreInPlace config number t ys → AreInPlace config number s (xs ++ ys)
+placed-more config number s [] t ys p e q = subst (λ m. AreInPlace config number m ys) (sym (same_Some s t e)) q
+placed-more config number s (x ∷ xs) t ys p e q =
+    (p.0, λ m f. placed-more config number m xs t ys (p.1 m f) (sym (records-split config s (records_in number x) m (flat_map (records_in number) xs) f) ∙ e) q)
 
 abbrev moments : List Turn → List ℕ
 moments turns = map moment_in turns
@@ -99,6 +115,10 @@ module _ {C L : Type 0} (config : Config) (number : ℕ) (reads : C → ℕ → 
       record {
         turns = xs ++ ys;
         right = right-more config xs ys x.right y.right;
+        placed = λ s e.
+            placed-more config number s xs b.situation ys (x.placed s e)
+            (sym (records-split config a.situation (open_records number opens) s (flat_map (records_in number) xs) e)
+            ∙ ap (after_records config a.situation) (sym (append-nil (open_records number opens ++ flat_map (records_in number) xs))) ∙ x.follows) (y.placed b.situation refl);
         follows = subst (λ rs. after_records config a.situation rs ≡ Some c.situation) (records-join number opens closes xs ys drops) (records-more config a.situation (records_of number opens xs false []) b.situation (records_of number false ys closes drops) c.situation x.follows y.follows);
         notices = y.notices ∙ ap (λ z. (z ++ told ys) ++ last) (x.notices ∙ append-nil (a.notices ++ told xs))
             ∙ ap (λ z. z ++ last) (append_assoc a.notices (told xs) (told ys) ∙ ap (λ z. a.notices ++ z) (sym (flat_map-append (notes_in number) xs ys)));
@@ -124,6 +144,7 @@ module _ {C L : Type 0} (config : Config) (number : ℕ) (reads : C → ℕ → 
   carried-none a b late lost asks same notices read wrote clock loader = record {
     turns = [];
     right = tt;
+    placed = λ s e. tt;
     follows = ap (λ s. Some s) (sym same);
     notices = notices ∙ sym (append-nil a.notices) ∙ sym (append-nil (a.notices ++ []));
     read = read;
@@ -144,6 +165,7 @@ module _ {C L : Type 0} (config : Config) (number : ℕ) (reads : C → ℕ → 
       record {
         turns = f ∷ [];
         right = (d.answered.right, tt);
+        placed = λ u e. (subst (λ m. IsInPlace m f) (same_Some s u e) d.answered.placed, λ m g. tt);
         follows = ap (λ rs. after_records config s rs) (append-nil (records_in number f ++ []) ∙ append-nil (records_in number f)) ∙ d.answered.follows;
         notices = d.answered.notices ∙ sym (append-nil (notices_of x ++ own)) ∙ ap (λ z. (notices_of x ++ z) ++ []) (sym (append-nil own));
         read = subst (Consumes r q) (sym d.answered.piece_is ∙ sym (append-nil (piece_in f)) ∙ sym (append-nil (piece_in f ++ []))) read;
@@ -177,6 +199,7 @@ module _ {C L : Type 0} (config : Config) (number : ℕ) (reads : C → ℕ → 
   still x y s t around opens closes follows notices = record {
     turns = [];
     right = tt;
+    placed = λ s e. tt;
     follows = follows;
     notices = notices ∙ sym (append-nil (notices_of x)) ∙ sym (append-nil (notices_of x ++ []));
     read = same_consumes around.remaining;
@@ -202,6 +225,7 @@ module _ {C L : Type 0} (config : Config) (number : ℕ) (reads : C → ℕ → 
   carried-close a b y u opens left c follows notices = record {
     turns = c.turns;
     right = c.right;
+    placed = c.placed;
     follows = subst (λ rs. after_records config a.situation rs ≡ Some u) (ap (λ l. l ++ close_records number true) (append-nil (open_records number opens ++ flat_map (records_in number) c.turns)))
         (records-more config a.situation (records_of number opens c.turns false []) b.situation (close_records number true) u c.follows (record-one config b.situation (record_of (event.Close number) []) u follows));
     notices = notices ∙ c.notices;
@@ -220,6 +244,7 @@ module _ {C L : Type 0} (config : Config) (number : ℕ) (reads : C → ℕ → 
   carried-still a b y u opens closes drops left c same notices = record {
     turns = c.turns;
     right = c.right;
+    placed = c.placed;
     follows = c.follows ∙ ap (λ s. Some s) (sym same);
     notices = notices ∙ c.notices;
     read = c.read;
@@ -241,6 +266,7 @@ module _ {C L : Type 0} (config : Config) (number : ℕ) (reads : C → ℕ → 
       record {
         turns = c.turns;
         right = c.right;
+        placed = c.placed;
         follows = subst (λ rs. after_records config a.situation rs ≡ Some u) (append_assoc o (z ++ drops) more ∙ ap (λ l. o ++ l) (append_assoc z drops more))
             (records-more config a.situation (records_of number opens c.turns closes drops) b.situation more u c.follows follows);
         notices = notices ∙ ap (λ l. l ++ flat_map notes_of more) c.notices ∙ append_assoc before (flat_map notes_of drops) (flat_map notes_of more) ∙ ap (λ l. before ++ l) (sym (flat_map-append notes_of drops more));

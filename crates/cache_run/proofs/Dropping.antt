@@ -1,24 +1,29 @@
 -- Loads that are given up behind a closing.
-use Rattle.std.proofs.Common.{◌≡◌, ℕ, ◌<◌, ◌-◌, List, [], ◌∷◌, ◌++◌, length, Some, refl, sym, ap, ◌∙◌, subst, append_assoc}
-use Rattle.std.specs.List.{flat_map}
+use Rattle.std.proofs.Common.{◌≡◌, ℕ, suc, ◌<◌, ◌≤◌, ◌+◌, ◌-◌, Bool, true, false, not, ◌&&◌, ◌||◌, ◌==◌, List, [], ◌∷◌, ◌++◌, length, Some, refl, sym, ap, ◌∙◌, subst, arith, append_assoc}
+use Rattle.std.specs.List.{flat_map, list_all}
+use Rattle.std.proofs.lemmas.Bool.{and_parts, eq-eqb, eqb-true}
 use Rattle.std.proofs.lemmas.List.{append-nil}
 use Rattle.std.proofs.lemmas.Option.{slice_get_within}
 use Rattle.std.proofs.lemmas.Grind.{flat_map-append}
-use Rattle.audit_model.specs.Situation.{Situation}
+use Rattle.audit_laws.proofs.Views.{same-true}
+use Rattle.audit_model.specs.Bytewise.{same}
+use Rattle.audit_model.specs.Situation.{Situation, PendingLoad}
 use Rattle.audit_model.specs.declared.config.Config.{Config}
 use Rattle.audit_model.specs.declared.transcript.Note.{Note}
 use Rattle.audit_model.specs.declared.transcript.Record.{Record}
 use Rattle.audit_model.specs.declared.input.LoadId.{LoadId}
+use Rattle.cache_loads.specs.Keys.{agrees_on, are_in_turn, has_its_key, have_their_keys}
+use Rattle.run_laws.specs.Keys.{HasKey}
 use Rattle.cache_namespace.specs.Taken.{closing_at, text_at}
 use Rattle.cache_settling.specs.Answered.{giving_up}
 use Rattle.cache_spaces.proofs.Putting.{same-space}
 use Rattle.cache_spaces.specs.Moves.{At}
 use Rattle.cache_spaces.specs.Serves as served
 use Rattle.cache_spaces.specs.Serves.{SameSpace, TakesLoads}
-use Rattle.cache_spaces.specs.Spaces.{config_of, notices_of}
+use Rattle.cache_spaces.specs.Spaces.{config_of, notices_of, place_of, taken_of}
 use Rattle.cache_spaces.specs.declared.space.Space.{Space}
 use Rattle.cache_run.specs.Happened.{AreDrops, notes_of}
-use Rattle.cache_run.specs.Loading.{GivesUp, GivesUpLoads, SameButLoads}
+use Rattle.cache_run.specs.Loading.{AreKnown, GivesUp, GivesUpLoads, SameButLoads, TakesMore}
 use Rattle.cache_run.proofs.Carrying.{record-one, records-more}
 use Rattle.cache_run.proofs.Connecting.{found-at}
 use Rattle.cache_run.proofs.Going.{goes-more, goes-same}
@@ -50,6 +55,27 @@ given-more config s t u a b c x y = record {
   follows = records-more config s x.drops t y.drops u x.follows y.follows;
   notices = y.notices ∙ ap (λ l. l ++ flat_map notes_of y.drops) x.notices ∙ append_assoc a (flat_map notes_of x.drops) (flat_map notes_of y.drops) ∙ ap (λ l. a ++ l) (sym (flat_map-append notes_of x.drops y.drops));
 }
+
+-- ---- the keys of loads that were taken
+
+key-out : (out : LoadId × List ℕ) (loads : List PendingLoad) → list_all (agrees_on out) loads ≡ true → HasKey out.0.number out.1 loads
+key-out out [] e = tt
+key-out out (load ∷ loads) e =
+    let parts = and_parts (agrees_on out load) (list_all (agrees_on out) loads) e in
+    (λ is. go (load.number == out.0.number) (eq-eqb load.number out.0.number is) parts.0, key-out out loads parts.1)
+  where
+    go : (b : Bool) → b ≡ true → (not b || same load.key out.1) ≡ true → load.key ≡ out.1
+    go true is h = same-true load.key out.1 h
+    go false is h = let no : false ≡ true = is in cc
+
+known-taken : (place before : ℕ) (outs : List (LoadId × List ℕ)) (s : Situation) → are_in_turn place before outs ≡ true → before + length outs ≤ s.sent → have_their_keys s.pending outs ≡ true → AreKnown outs s
+known-taken place before [] s turn few have = tt
+known-taken place before (out ∷ outs) s turn few have =
+    let parts = and_parts (out.0.namespace == place) (out.0.number == suc before && are_in_turn place (suc before) outs) turn in
+    let ours = and_parts (out.0.number == suc before) (are_in_turn place (suc before) outs) parts.1 in
+    let is = eqb-true out.0.number (suc before) ours.0 in
+    let keys = and_parts (has_its_key s.pending out) (have_their_keys s.pending outs) have in
+    ((omega (arith, few, is), key-out out s.pending keys.0), known-taken place (suc before) outs s ours.1 (omega (arith, few)) keys.1)
 
 -- nothing was given up
 pub drops-none : (number : ℕ) (was is : Space) → SameButLoads was is → GivesUpLoads number was is
@@ -102,6 +128,12 @@ same-at spaces n known = let found = found-at spaces n known in at-same SameSpac
 -- loads were taken
 pub at-taken : (old new : List Space) (n : ℕ) (loads : List (LoadId × List ℕ)) → At old new n (λ was is. TakesLoads was is loads) → At old new n SameButLoads
 at-taken old new n loads a = at-map (λ was is. TakesLoads was is loads) SameButLoads old new n a (λ x y t. taken-same x y loads t)
+
+-- and are known
+pub at-more-taken : (old new : List Space) (n : ℕ) (before loads : List (LoadId × List ℕ)) → At old new n (λ was is. TakesLoads was is loads) → At old new n (λ was is. TakesMore was is before loads)
+at-more-taken old new n before loads a =
+    at-map (λ was is. TakesLoads was is loads) (λ was is. TakesMore was is before loads) old new n a
+    (λ x y t. record { same = taken-same x y loads t; known = λ s stands known. known-taken (place_of x) (taken_of x) loads s t.in_turn (let count = t.count s stands in omega arith) (t.keys s stands) })
 
 module _ (number n : ℕ) where
   pub at-drop : (old new : List Space) (load : ℕ) → At old new n (λ was is. served.Settled was is (giving_up load 0)) → At old new n (GivesUpLoads number)

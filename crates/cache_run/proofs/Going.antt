@@ -93,6 +93,7 @@ fed-turn config number piece moment steps s t before after text follows notices 
   moment_is = refl;
   asks_are = refl;
   right = tt;
+  placed = tt;
   follows = record-one config s (record_of (fed number piece moment) steps) t follows;
   notices = notices ∙ ap (λ z. before ++ z) (sym (append-nil (flat_map (λ step. step.notices) steps)));
   replies = replies ∙ sym (append-nil (flat_map reply_in steps));

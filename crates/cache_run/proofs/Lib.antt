@@ -3,6 +3,7 @@ pub mod Connecting
 pub mod Going
 pub mod Delivering
 pub mod Carrying
+pub mod Knowing
 pub mod Turning
 pub mod Settling
 pub mod Refusing

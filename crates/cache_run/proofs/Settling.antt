@@ -7,12 +7,14 @@ use Rattle.std.proofs.Props.{props}
 use Rattle.std.proofs.lemmas.Bool.{eq-eqb, ne_eqb}
 use Rattle.std.proofs.lemmas.List.{append-nil}
 use Rattle.audit_model.specs.Belongs.{refusal_of_outcome}
-use Rattle.audit_model.specs.Situation.{Situation}
+use Rattle.audit_model.specs.Follows.{Follows}
+use Rattle.audit_model.specs.Situation.{Situation, key_in}
 use Rattle.audit_model.specs.declared.command.Closing.{Closing}
 use Rattle.audit_model.specs.declared.command.Closing.TheVariants as by
 use Rattle.audit_model.specs.declared.config.Config.{Config}
 use Rattle.audit_model.specs.declared.event.Event.{Event}
 use Rattle.audit_model.specs.declared.event.Outcome.{Outcome}
+use Rattle.audit_model.specs.declared.transcript.Record.{Record}
 use Rattle.audit_model.specs.declared.transcript.Step.{Step}
 use Rattle.cache_namespace.specs.Gathered.{reply_in}
 use Rattle.cache_namespace.specs.Shown.{situation}
@@ -22,15 +24,17 @@ use Rattle.cache_settling.specs.Told.{own_steps, replies_to}
 use Rattle.cache_spaces.proofs.Putting.{same-space}
 use Rattle.cache_spaces.specs.Moves.{At}
 use Rattle.cache_spaces.specs.Serves as served
-use Rattle.cache_spaces.specs.Serves.{SameSpace, Settles, TakesLoads, TakesOutput}
+use Rattle.cache_spaces.specs.Serves.{SameSpace, Settles, TakesLoads, TakesOutput, known_of}
 use Rattle.cache_spaces.specs.Spaces.{Stands, closing_of, config_of, connections_of, loads_of, notices_of, output_of}
 use Rattle.cache_spaces.specs.declared.space.Space.{Space}
 use Rattle.run_laws.specs.Alone.{IsTurnOf, StepsOf, WaitsAlone}
 use Rattle.run_laws.proofs.Events.{records}
+use Rattle.run_laws.proofs.Keys.{answered-key, given-up-key}
+use Rattle.run_laws.specs.Keys.{IsKnown}
 use Rattle.cache_run.specs.Connected.{Connected, IsEnded, IsFed, IsTaken}
-use Rattle.cache_run.specs.Delivered.{Answered}
+use Rattle.cache_run.specs.Delivered.{AnsweredLoad}
 use Rattle.cache_run.specs.Goes.{Goes}
-use Rattle.cache_run.specs.Happened.{Asking, Dropped, asking_of, IsGivenUpFor, IsSettledBy, Settled, notes_of, replies_of}
+use Rattle.cache_run.specs.Happened.{Asking, Dropped, asking_of, IsGivenUpFor, IsKeyOf, IsSettledBy, Settled, notes_of, replies_of}
 use Rattle.cache_run.proofs.Carrying.{record-one}
 use Rattle.cache_run.proofs.Going.{at-but-loads, but-loads, goes-more, goes-same, seen-alike}
 use Rattle.cache_run.specs.Loading.{SameButLoads}
@@ -132,9 +136,10 @@ pub settled-alone : (number : ℕ) (was is : Space) (s : Situation) (happened : 
 settled-alone number was is s happened r turns alone = records (config_of was) s r.next r.entry number r.follows (subst (IsTurnOf number) (sym r.event) (turns number)) alone
 
 -- a load was settled by what the loader said
-pub settled-goes : (number : ℕ) (was is : Space) (happened : Event) (asking : Asking) (moment : ℕ) → 0 < number → output_of was number ≡ [] → IsSettledBy (config_of was) asking.answer moment happened → served.Settled was is happened
-    → Goes number was is (λ s t. Answered (config_of was) number [] moment (asking ∷ []) s t (notices_of was) (notices_of is) (output_of is number))
-settled-goes number was is happened asking moment positive none said settled = record {
+pub settled-goes : (number : ℕ) (was is : Space) (happened : Event) (asking : Asking) (load moment : ℕ) → 0 < number → output_of was number ≡ [] → IsSettledBy (config_of was) asking.answer moment happened
+    → ((s t : Situation) (entry : Record) → Follows (config_of was) s entry t → entry.event ≡ happened → IsKnown load asking.key s → IsKeyOf s entry.event asking.key) → served.Settled was is happened
+    → Goes number was is (λ s t. AnsweredLoad (config_of was) number load moment asking s t (notices_of was) (notices_of is) (output_of is number))
+settled-goes number was is happened asking load moment positive none said keyed settled = record {
   each = λ s stands alone.
       let r = settled.settles s stands in
       let law = settled-alone number was is s happened r (settling (config_of was) asking moment happened said) alone in
@@ -142,11 +147,12 @@ settled-goes number was is happened asking moment positive none said settled = r
         next = r.next;
         stands = r.stands;
         alone = law.1;
-        fact = record {
+        fact = λ known. record {
           turn = Settled asking moment r.entry;
           piece_is = refl;
           moment_is = refl;
           asks_are = refl;
+          placed = keyed s r.next r.entry r.follows r.event known;
           right = subst (IsSettledBy (config_of was) asking.answer moment) (sym r.event) said;
           follows = record-one (config_of was) s r.entry r.next r.follows;
           notices = r.notices ∙ ap (λ l. notices_of was ++ l) (sym (append-nil (notes_of r.entry)));
@@ -157,21 +163,37 @@ settled-goes number was is happened asking moment positive none said settled = r
   config = settled.config;
 }
 
+some-none : {A : Type 0} (o : Option A) → is_some o ≡ false → o ≡ None
+some-none None e = refl
+some-none (Some x) e = cc
+
+-- no load of that number is under way in any situation that the namespace stands for
+unknown-there : (was : Space) (s : Situation) (load : ℕ) → Stands was s → (known_of was).is_under_way load ≡ false → key_in load s ≡ None
+unknown-there was s load stands unknown = ap (λ (t : Situation). key_in load t) stands.same ∙ some-none (key_in load (situation 0 (loads_of was) (connections_of was) false [])) unknown
+
 -- a load was not under way, and what the loader said was dropped
-pub dropped-goes : (number : ℕ) (was is : Space) (asking : Asking) (moment : ℕ) → output_of was number ≡ [] → SameSpace was is
-    → Goes number was is (λ s t. Answered (config_of was) number [] moment (asking ∷ []) s t (notices_of was) (notices_of is) (output_of is number))
-dropped-goes number was is asking moment none same =
-    goes-same number was is (λ s t. Answered (config_of was) number [] moment (asking ∷ []) s t (notices_of was) (notices_of is) (output_of is number)) (but-loads was is same)
-    (λ s. record {
-      turn = Dropped asking moment;
+pub dropped-goes : (number : ℕ) (was is : Space) (asking : Asking) (moment load : ℕ) → output_of was number ≡ [] → SameSpace was is → (known_of was).is_under_way load ≡ false
+    → Goes number was is (λ s t. AnsweredLoad (config_of was) number load moment asking s t (notices_of was) (notices_of is) (output_of is number))
+dropped-goes number was is asking moment load none same unknown = record {
+  each = λ s stands alone. record {
+    next = s;
+    stands = same.stands s stands;
+    alone = alone;
+    fact = λ known. record {
+      turn = Dropped asking moment load;
       piece_is = refl;
       moment_is = refl;
       asks_are = refl;
       right = tt;
+      placed = unknown-there was s load stands unknown;
       follows = refl;
       notices = same.notices ∙ sym (append-nil (notices_of was));
       replies = same.outputs number ∙ none;
-    })
+    };
+    others = λ other ne. (same.outputs other, same.closings other);
+  };
+  config = same.config;
+}
 
 module _ (old new : List Space) (n number : ℕ) (c : Connected old n number IsTaken) where
   -- how the connection is left
@@ -209,64 +231,66 @@ module _ (old new : List Space) (n number : ℕ) (c : Connected old n number IsT
 module _ (old new : List Space) (n number : ℕ) (moment : ℕ) (c : Connected old n number IsTaken) where
   -- a give-up
   pub at-given-up : (load : ℕ) → At old new n (λ was is. served.Settled was is (giving_up load moment))
-      → At old new n (λ was is. (asking : Asking) → IsGivenUpFor (config_of was) asking.answer → Goes number was is (λ s t. Answered (config_of was) number [] moment (asking ∷ []) s t (notices_of was) (notices_of is) (output_of is number)))
+      → At old new n (λ was is. (asking : Asking) → IsGivenUpFor (config_of was) asking.answer → Goes number was is (λ s t. AnsweredLoad (config_of was) number load moment asking s t (notices_of was) (notices_of is) (output_of is number)))
   at-given-up load a =
       at-with (λ was is. served.Settled was is (giving_up load moment))
-      (λ was is. (asking : Asking) → IsGivenUpFor (config_of was) asking.answer → Goes number was is (λ s t. Answered (config_of was) number [] moment (asking ∷ []) s t (notices_of was) (notices_of is) (output_of is number))) old new n c.space c.at a
-      (λ y settled asking refused. settled-goes number c.space y (giving_up load moment) asking moment c.positive c.left.1 (inr (load, refl, refused)) settled)
+      (λ was is. (asking : Asking) → IsGivenUpFor (config_of was) asking.answer → Goes number was is (λ s t. AnsweredLoad (config_of was) number load moment asking s t (notices_of was) (notices_of is) (output_of is number))) old new n c.space c.at a
+      (λ y settled asking refused. settled-goes number c.space y (giving_up load moment) asking load moment c.positive c.left.1 (inr (load, refl, refused))
+      (λ s t entry follows is known. subst (λ h. IsKeyOf s h asking.key) (sym is) (given-up-key (config_of c.space) s t entry load _ asking.key follows is known.1)) settled)
 
   -- what was said of a load that is not under way
-  pub at-dropped : At old new n SameSpace
-      → At old new n (λ was is. (asking : Asking) → Goes number was is (λ s t. Answered (config_of was) number [] moment (asking ∷ []) s t (notices_of was) (notices_of is) (output_of is number)))
-  at-dropped a =
-      at-with SameSpace (λ was is. (asking : Asking) → Goes number was is (λ s t. Answered (config_of was) number [] moment (asking ∷ []) s t (notices_of was) (notices_of is) (output_of is number))) old new n c.space c.at a
-      (λ y same asking. dropped-goes number c.space y asking moment c.left.1 same)
+  pub at-dropped : (load : ℕ) → At old new n (λ was is. SameSpace was is × ((known_of was).is_under_way load ≡ false))
+      → At old new n (λ was is. (asking : Asking) → Goes number was is (λ s t. AnsweredLoad (config_of was) number load moment asking s t (notices_of was) (notices_of is) (output_of is number)))
+  at-dropped load a =
+      at-with (λ was is. SameSpace was is × ((known_of was).is_under_way load ≡ false)) (λ was is. (asking : Asking) → Goes number was is (λ s t. AnsweredLoad (config_of was) number load moment asking s t (notices_of was) (notices_of is) (output_of is number))) old new n c.space c.at a
+      (λ y same asking. dropped-goes number c.space y asking moment load c.left.1 same.0 same.1)
 
   -- an answer
   pub at-answer : (load : ℕ) (outcome : Outcome) → At old new n (λ was is. served.Settled was is (answering load outcome moment))
-      → At old new n (λ was is. (key : List ℕ) → Goes number was is (λ s t. Answered (config_of was) number [] moment (asking_of key (Some outcome) ∷ []) s t (notices_of was) (notices_of is) (output_of is number)))
+      → At old new n (λ was is. (key : List ℕ) → Goes number was is (λ s t. AnsweredLoad (config_of was) number load moment (asking_of key (Some outcome)) s t (notices_of was) (notices_of is) (output_of is number)))
   at-answer load outcome a =
       at-with (λ was is. served.Settled was is (answering load outcome moment))
-      (λ was is. (key : List ℕ) → Goes number was is (λ s t. Answered (config_of was) number [] moment (asking_of key (Some outcome) ∷ []) s t (notices_of was) (notices_of is) (output_of is number))) old new n c.space c.at a
-      (λ y settled key. settled-goes number c.space y (answering load outcome moment) (asking_of key (Some outcome)) moment c.positive c.left.1 (inl (load, outcome, refl, refl)) settled)
+      (λ was is. (key : List ℕ) → Goes number was is (λ s t. AnsweredLoad (config_of was) number load moment (asking_of key (Some outcome)) s t (notices_of was) (notices_of is) (output_of is number))) old new n c.space c.at a
+      (λ y settled key. settled-goes number c.space y (answering load outcome moment) (asking_of key (Some outcome)) load moment c.positive c.left.1 (inl (load, outcome, refl, refl))
+      (λ s t entry follows is known. subst (λ h. IsKeyOf s h key) (sym is) (answered-key (config_of c.space) s t entry load outcome _ key follows is known.1)) settled)
 
 -- what comes behind calls that left the namespace the same
-after-same : (number : ℕ) (x y z : Space) (moment : ℕ) (asks : List Asking) → SameSpace x y → Goes number y z (λ s t. Answered (config_of y) number [] moment asks s t (notices_of y) (notices_of z) (output_of z number))
-    → Goes number x z (λ s t. Answered (config_of x) number [] moment asks s t (notices_of x) (notices_of z) (output_of z number))
-after-same number x y z moment asks same g =
-    goes-more number x y z (λ s t. t ≡ s) (λ s t. Answered (config_of y) number [] moment asks s t (notices_of y) (notices_of z) (output_of z number)) (λ s t. Answered (config_of x) number [] moment asks s t (notices_of x) (notices_of z) (output_of z number))
+after-same : (number : ℕ) (x y z : Space) (load moment : ℕ) (asking : Asking) → SameSpace x y → Goes number y z (λ s t. AnsweredLoad (config_of y) number load moment asking s t (notices_of y) (notices_of z) (output_of z number))
+    → Goes number x z (λ s t. AnsweredLoad (config_of x) number load moment asking s t (notices_of x) (notices_of z) (output_of z number))
+after-same number x y z load moment asking same g =
+    goes-more number x y z (λ s t. t ≡ s) (λ s t. AnsweredLoad (config_of y) number load moment asking s t (notices_of y) (notices_of z) (output_of z number)) (λ s t. AnsweredLoad (config_of x) number load moment asking s t (notices_of x) (notices_of z) (output_of z number))
     (goes-same number x y (λ s t. t ≡ s) (but-loads x y same) (λ s. refl)) g
     (λ s t u e f.
-    subst (λ v. Answered (config_of x) number [] moment asks v u (notices_of x) (notices_of z) (output_of z number)) e
-    (subst (λ k. Answered k number [] moment asks t u (notices_of x) (notices_of z) (output_of z number)) same.config
-    (subst (λ l. Answered (config_of y) number [] moment asks t u l (notices_of z) (output_of z number)) same.notices f)))
+    subst (λ v. AnsweredLoad (config_of x) number load moment asking v u (notices_of x) (notices_of z) (output_of z number)) e
+    (subst (λ k. AnsweredLoad k number load moment asking t u (notices_of x) (notices_of z) (output_of z number)) same.config
+    (subst (λ l. AnsweredLoad (config_of y) number load moment asking t u l (notices_of z) (output_of z number)) same.notices f)))
 
 -- an outcome was refused, and then its load was given up
-pub at-refused-outcome : (old mid new : List Space) (n number : ℕ) (moment : ℕ) (outcome : Outcome) → At old mid n (λ was is. SameSpace was is × (is_some (refusal_of_outcome (config_of was) outcome) ≡ true))
-    → At mid new n (λ was is. (asking : Asking) → IsGivenUpFor (config_of was) asking.answer → Goes number was is (λ s t. Answered (config_of was) number [] moment (asking ∷ []) s t (notices_of was) (notices_of is) (output_of is number)))
-    → At old new n (λ was is. (key : List ℕ) → Goes number was is (λ s t. Answered (config_of was) number [] moment (asking_of key (Some outcome) ∷ []) s t (notices_of was) (notices_of is) (output_of is number)))
-at-refused-outcome old mid new n number moment outcome a b =
+pub at-refused-outcome : (old mid new : List Space) (n number : ℕ) (load moment : ℕ) (outcome : Outcome) → At old mid n (λ was is. SameSpace was is × (is_some (refusal_of_outcome (config_of was) outcome) ≡ true))
+    → At mid new n (λ was is. (asking : Asking) → IsGivenUpFor (config_of was) asking.answer → Goes number was is (λ s t. AnsweredLoad (config_of was) number load moment asking s t (notices_of was) (notices_of is) (output_of is number)))
+    → At old new n (λ was is. (key : List ℕ) → Goes number was is (λ s t. AnsweredLoad (config_of was) number load moment (asking_of key (Some outcome)) s t (notices_of was) (notices_of is) (output_of is number)))
+at-refused-outcome old mid new n number load moment outcome a b =
     at-more (λ was is. SameSpace was is × (is_some (refusal_of_outcome (config_of was) outcome) ≡ true))
-    (λ was is. (asking : Asking) → IsGivenUpFor (config_of was) asking.answer → Goes number was is (λ s t. Answered (config_of was) number [] moment (asking ∷ []) s t (notices_of was) (notices_of is) (output_of is number)))
-    (λ was is. (key : List ℕ) → Goes number was is (λ s t. Answered (config_of was) number [] moment (asking_of key (Some outcome) ∷ []) s t (notices_of was) (notices_of is) (output_of is number))) old mid new n a b
+    (λ was is. (asking : Asking) → IsGivenUpFor (config_of was) asking.answer → Goes number was is (λ s t. AnsweredLoad (config_of was) number load moment asking s t (notices_of was) (notices_of is) (output_of is number)))
+    (λ was is. (key : List ℕ) → Goes number was is (λ s t. AnsweredLoad (config_of was) number load moment (asking_of key (Some outcome)) s t (notices_of was) (notices_of is) (output_of is number))) old mid new n a b
     (λ x y z p given key.
-    after-same number x y z moment (asking_of key (Some outcome) ∷ []) p.0 (given (asking_of key (Some outcome)) (subst (λ k. is_some (refusal_of_outcome k outcome) ≡ true) (sym p.0.config) p.1)))
+    after-same number x y z load moment (asking_of key (Some outcome)) p.0 (given (asking_of key (Some outcome)) (subst (λ k. is_some (refusal_of_outcome k outcome) ≡ true) (sym p.0.config) p.1)))
 
 -- a give-up without an outcome
-pub at-unsaid : (old new : List Space) (n number : ℕ) (moment : ℕ) (said : Option Outcome) → said ≡ None
-    → At old new n (λ was is. (asking : Asking) → IsGivenUpFor (config_of was) asking.answer → Goes number was is (λ s t. Answered (config_of was) number [] moment (asking ∷ []) s t (notices_of was) (notices_of is) (output_of is number)))
-    → At old new n (λ was is. (key : List ℕ) → Goes number was is (λ s t. Answered (config_of was) number [] moment (asking_of key said ∷ []) s t (notices_of was) (notices_of is) (output_of is number)))
-at-unsaid old new n number moment said none a =
-    at-map (λ was is. (asking : Asking) → IsGivenUpFor (config_of was) asking.answer → Goes number was is (λ s t. Answered (config_of was) number [] moment (asking ∷ []) s t (notices_of was) (notices_of is) (output_of is number)))
-    (λ was is. (key : List ℕ) → Goes number was is (λ s t. Answered (config_of was) number [] moment (asking_of key said ∷ []) s t (notices_of was) (notices_of is) (output_of is number))) old new n a
+pub at-unsaid : (old new : List Space) (n number : ℕ) (load moment : ℕ) (said : Option Outcome) → said ≡ None
+    → At old new n (λ was is. (asking : Asking) → IsGivenUpFor (config_of was) asking.answer → Goes number was is (λ s t. AnsweredLoad (config_of was) number load moment asking s t (notices_of was) (notices_of is) (output_of is number)))
+    → At old new n (λ was is. (key : List ℕ) → Goes number was is (λ s t. AnsweredLoad (config_of was) number load moment (asking_of key said) s t (notices_of was) (notices_of is) (output_of is number)))
+at-unsaid old new n number load moment said none a =
+    at-map (λ was is. (asking : Asking) → IsGivenUpFor (config_of was) asking.answer → Goes number was is (λ s t. AnsweredLoad (config_of was) number load moment asking s t (notices_of was) (notices_of is) (output_of is number)))
+    (λ was is. (key : List ℕ) → Goes number was is (λ s t. AnsweredLoad (config_of was) number load moment (asking_of key said) s t (notices_of was) (notices_of is) (output_of is number))) old new n a
     (λ x y given key. given (asking_of key said) (subst (IsGivenUpFor (config_of x)) (sym none) tt))
 
 -- with the outcome that was said
-pub at-said : (old new : List Space) (n number : ℕ) (moment : ℕ) (said : Option Outcome) (outcome : Outcome) → said ≡ Some outcome
-    → At old new n (λ was is. (key : List ℕ) → Goes number was is (λ s t. Answered (config_of was) number [] moment (asking_of key (Some outcome) ∷ []) s t (notices_of was) (notices_of is) (output_of is number)))
-    → At old new n (λ was is. (key : List ℕ) → Goes number was is (λ s t. Answered (config_of was) number [] moment (asking_of key said ∷ []) s t (notices_of was) (notices_of is) (output_of is number)))
-at-said old new n number moment said outcome is a =
-    subst (λ o. At old new n (λ was is. (key : List ℕ) → Goes number was is (λ s t. Answered (config_of was) number [] moment (asking_of key o ∷ []) s t (notices_of was) (notices_of is) (output_of is number)))) (sym is) a
+pub at-said : (old new : List Space) (n number : ℕ) (load moment : ℕ) (said : Option Outcome) (outcome : Outcome) → said ≡ Some outcome
+    → At old new n (λ was is. (key : List ℕ) → Goes number was is (λ s t. AnsweredLoad (config_of was) number load moment (asking_of key (Some outcome)) s t (notices_of was) (notices_of is) (output_of is number)))
+    → At old new n (λ was is. (key : List ℕ) → Goes number was is (λ s t. AnsweredLoad (config_of was) number load moment (asking_of key said) s t (notices_of was) (notices_of is) (output_of is number)))
+at-said old new n number load moment said outcome is a =
+    subst (λ o. At old new n (λ was is. (key : List ℕ) → Goes number was is (λ s t. AnsweredLoad (config_of was) number load moment (asking_of key o) s t (notices_of was) (notices_of is) (output_of is number)))) (sym is) a
 
 pub on-ok : {X E : Type 0} (A B : Type 0) (r : Result X E) → OnOk r A → (A → B) → OnOk r B
 on-ok A B (Ok x) a h = h a
@@ -295,14 +319,14 @@ pub same-here : (spaces : List Space) (n number : ℕ) → Connected spaces n nu
 same-here spaces n number c = at-same SameSpace spaces n c.space c.at (same-space c.space c.space refl)
 
 -- the replies that came of it were taken
-pub at-replied : (old mid new : List Space) (n number : ℕ) (moment : ℕ) (said : Option Outcome) (key text : List ℕ)
-    → At old mid n (λ was is. (key : List ℕ) → Goes number was is (λ s t. Answered (config_of was) number [] moment (asking_of key said ∷ []) s t (notices_of was) (notices_of is) (output_of is number)))
+pub at-replied : (old mid new : List Space) (n number : ℕ) (load moment : ℕ) (said : Option Outcome) (key text : List ℕ)
+    → At old mid n (λ was is. (key : List ℕ) → Goes number was is (λ s t. AnsweredLoad (config_of was) number load moment (asking_of key said) s t (notices_of was) (notices_of is) (output_of is number)))
     → At mid new n (λ was is. TakesOutput was is number text)
-    → At old new n (λ was is. Goes number was is (λ s t. Answered (config_of was) number [] moment (asking_of key said ∷ []) s t (notices_of was) (notices_of is) text))
-at-replied old mid new n number moment said key text a b =
-    at-more (λ was is. (key : List ℕ) → Goes number was is (λ s t. Answered (config_of was) number [] moment (asking_of key said ∷ []) s t (notices_of was) (notices_of is) (output_of is number)))
+    → At old new n (λ was is. Goes number was is (λ s t. AnsweredLoad (config_of was) number load moment (asking_of key said) s t (notices_of was) (notices_of is) text))
+at-replied old mid new n number load moment said key text a b =
+    at-more (λ was is. (key : List ℕ) → Goes number was is (λ s t. AnsweredLoad (config_of was) number load moment (asking_of key said) s t (notices_of was) (notices_of is) (output_of is number)))
     (λ was is. TakesOutput was is number text)
-    (λ was is. Goes number was is (λ s t. Answered (config_of was) number [] moment (asking_of key said ∷ []) s t (notices_of was) (notices_of is) text)) old mid new n a b
+    (λ was is. Goes number was is (λ s t. AnsweredLoad (config_of was) number load moment (asking_of key said) s t (notices_of was) (notices_of is) text)) old mid new n a b
     (λ x y z goes taken. record {
       each = λ s stands alone.
           let first = (goes key).each s stands alone in
@@ -310,8 +334,8 @@ at-replied old mid new n number moment said key text a b =
             next = first.next;
             stands = taken.stands first.next first.stands;
             alone = first.alone;
-            fact = subst (λ l. Answered (config_of x) number [] moment (asking_of key said ∷ []) s first.next (notices_of x) l text) (sym taken.notices)
-                (subst (λ l. Answered (config_of x) number [] moment (asking_of key said ∷ []) s first.next (notices_of x) (notices_of y) l) (sym taken.taken) first.fact);
+            fact = subst (λ l. AnsweredLoad (config_of x) number load moment (asking_of key said) s first.next (notices_of x) l text) (sym taken.notices)
+                (subst (λ l. AnsweredLoad (config_of x) number load moment (asking_of key said) s first.next (notices_of x) (notices_of y) l) (sym taken.taken) first.fact);
             others = λ other ne.
                 let p = first.others other ne in
                 let q = seen-alike y z other (taken.others (other - 1) ne) in (q.0 ∙ p.0, q.1 ∙ p.1);

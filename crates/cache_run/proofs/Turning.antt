@@ -1,90 +1,147 @@
 -- One turn of a run.
-use Rattle.std.proofs.Common.{◌≡◌, ◌≢◌, ℕ, ◌+◌, ◌≤◌, ◌⊎◌, ◌++◌, false, List, [], ◌∷◌, Option, refl, ap, subst, inl, inr, arith, length-append}
+use Rattle.std.proofs.Common.{◌≡◌, ◌≢◌, ℕ, ◌+◌, ◌≤◌, ◌⊎◌, ◌++◌, false, List, [], ◌∷◌, Option, refl, sym, ap, ◌∙◌, subst, inl, inr, arith, length-append}
 use Rattle.std.specs.Prelude.{Err, IsErrOf}
-use Rattle.std.specs.Io.KnownBytes.{Consumes}
+use Rattle.std.proofs.lemmas.List.{append-nil}
+use Rattle.std.specs.Io.KnownBytes.{Appends, Consumes}
+use Rattle.audit_model.specs.Situation.{Situation}
+use Rattle.audit_model.specs.declared.input.LoadId.{LoadId}
+use Rattle.cache_devices.specs.Sent.{SentBut}
+use Rattle.cache_run.proofs.Knowing.{carried-known}
 use Rattle.std.specs.Result.{result_err}
 use Rattle.std.proofs.lemmas.Option.{same_Some}
 use Rattle.cache_devices.proofs.Sending.{failed_after, failed_before, same_appends}
 use Rattle.cache_devices.specs.Failures.{HasFailed}
 use Rattle.cache_run.specs.Turns.{HasAsked, HasRead}
 use Rattle.cache_spaces.specs.Moves.{At}
-use Rattle.cache_run.specs.Loading.{SameButLoads}
+use Rattle.cache_run.specs.Loading.{AreKnown, Breaks, Carries, SameButLoads, TakesMore}
+use Rattle.run_laws.specs.Keys.{IsKnown}
 use Rattle.cache_spaces.specs.Spaces.{config_of, notices_of}
 use Rattle.cache_spaces.specs.declared.space.Space.{Space}
 use Rattle.audit_model.specs.declared.event.Outcome.{Outcome}
 use Rattle.cache_run.specs.Carried.{Askings, Broken, Carried, nothing_left}
 use Rattle.cache_run.specs.Happened.{Asking, asking_of}
 use Rattle.cache_run.specs.Connected.{Connected, IsReady}
-use Rattle.cache_run.specs.Delivered.{Delivered, Undelivered}
+use Rattle.cache_run.specs.Delivered.{AnsweredLoad, Delivered, Undelivered}
 use Rattle.cache_run.specs.Goes.{Goes}
 use Rattle.cache_run.specs.Worlds.{Outside, outside, world}
 use Rattle.cache_run.specs.declared.errors.RunError.{RunError}
 use Rattle.cache_run.specs.declared.errors.RunError.TheVariants.{Moment}
 use Rattle.cache_run.proofs.Carrying.{askings_more, consumes_more, same_consumes, broken-more, broken-one, carried-more, carried-none, carried-one, carried-same}
-use Rattle.cache_run.proofs.Going.{at-goes-map, at-goes-more, goes-same}
+use Rattle.cache_run.proofs.Going.{at-goes-map, at-goes-more}
 use Rattle.cache_run.proofs.Placing.{at-map, at-same}
 
 module _ {C L : Type 0} (reads : C → ℕ → C → Type 0) (loads : L → List ℕ → Option Outcome → L → Type 0) (old : List Space) (n number : ℕ) where
+  -- the loads that were taken are known behind the turns
+  pub at-known : (new : List Space) (a b : Outside C L) (outs : List (LoadId × List ℕ))
+      → At old new n (λ was is. Goes number was is (λ s t. Carried (config_of was) number reads loads (world was s a) (world is t b) false false [] nothing_left)) → Carries reads loads old new n number a b outs outs
+  at-known new a b outs h =
+      at-goes-map number n old new (λ x y s t. Carried (config_of x) number reads loads (world x s a) (world y t b) false false [] nothing_left)
+      (λ x y s t. AreKnown outs s → Carried (config_of x) number reads loads (world x s a) (world y t b) false false [] nothing_left × AreKnown outs t) h
+      (λ x y s t c known. (c, carried-known (config_of x) number reads loads (world x s a) (world y t b) false false [] nothing_left outs c known))
+
   -- where only the reader was called
-  pub turn-none : (v r q : Option (List ℕ)) (k : C) (m : L) → Connected old n number IsReady → Consumes r q []
-      → At old old n (λ was is. Goes number was is (λ s t. Carried (config_of was) number reads loads (world was s (outside r v k m)) (world is t (outside q v k m)) false false [] nothing_left))
-  turn-none v r q k m c read =
-      at-same (λ was is. Goes number was is (λ s t. Carried (config_of was) number reads loads (world was s (outside r v k m)) (world is t (outside q v k m)) false false [] nothing_left)) old n c.space c.at
+  pub turn-none : (outs : List (LoadId × List ℕ)) (v r q : Option (List ℕ)) (k : C) (m : L) → Connected old n number IsReady → Consumes r q [] → Carries reads loads old old n number (outside r v k m) (outside q v k m) outs outs
+  turn-none outs v r q k m c read =
+      at-known old (outside r v k m) (outside q v k m) outs
+      (at-same (λ was is. Goes number was is (λ s t. Carried (config_of was) number reads loads (world was s (outside r v k m)) (world is t (outside q v k m)) false false [] nothing_left)) old n c.space c.at
       (record {
         each = λ s stands alone. record { next = s; stands = stands; alone = alone; fact = carried-none (config_of c.space) number reads loads (world c.space s (outside r v k m)) (world c.space s (outside q v k m)) [] [] [] refl refl read (same_appends v) refl refl; others = λ other ne. (refl, refl) };
         config = refl;
-      })
+      }))
 
-  pub turn-one : (new : List Space) (piece : List ℕ) (moment : ℕ) (asks : List Asking) (r q v w : Option (List ℕ)) (k l : C) (m o : L)
+  pub turn-one : (new : List Space) (outs : List (LoadId × List ℕ)) (piece : List ℕ) (moment : ℕ) (asks : List Asking) (r q v w : Option (List ℕ)) (k l : C) (m o : L)
       → At old new n (λ was is. Goes number was is (λ s t. Delivered (config_of was) number piece moment asks s t (notices_of was) (notices_of is) v w [])) → Consumes r q piece → reads k moment l → Askings loads m asks o
-      → At old new n (λ was is. Goes number was is (λ s t. Carried (config_of was) number reads loads (world was s (outside r v k m)) (world is t (outside q w l o)) false false [] nothing_left))
-  turn-one new piece moment asks r q v w k l m o a read clock loader =
-      at-goes-map number n old new (λ x y s t. Delivered (config_of x) number piece moment asks s t (notices_of x) (notices_of y) v w []) (λ x y s t. Carried (config_of x) number reads loads (world x s (outside r v k m)) (world y t (outside q w l o)) false false [] nothing_left) a
-      (λ x y s t d. carried-one (config_of x) number reads loads x y s t r q v w k l m o piece moment asks [] d read clock loader)
+      → Carries reads loads old new n number (outside r v k m) (outside q w l o) outs outs
+  turn-one new outs piece moment asks r q v w k l m o a read clock loader =
+      at-known new (outside r v k m) (outside q w l o) outs
+      (at-goes-map number n old new (λ x y s t. Delivered (config_of x) number piece moment asks s t (notices_of x) (notices_of y) v w []) (λ x y s t. Carried (config_of x) number reads loads (world x s (outside r v k m)) (world y t (outside q w l o)) false false [] nothing_left) a
+      (λ x y s t d. carried-one (config_of x) number reads loads x y s t r q v w k l m o piece moment asks [] d read clock loader))
 
-  pub turn-broken : (new : List Space) (piece : List ℕ) (moment : ℕ) (asks : List Asking) (r q v w : Option (List ℕ)) (k l : C) (m o : L) (e : RunError)
+  pub turn-broken : (new : List Space) (outs : List (LoadId × List ℕ)) (piece : List ℕ) (moment : ℕ) (asks : List Asking) (r q v w : Option (List ℕ)) (k l : C) (m o : L) (e : RunError)
       → At old new n (λ was is. Goes number was is (λ s t. Undelivered (config_of was) number piece moment asks s t (notices_of was) (notices_of is) v w e)) → Consumes r q piece → reads k moment l → Askings loads m asks o
-      → At old new n (λ was is. Goes number was is (λ s t. Broken (config_of was) number reads loads (world was s (outside r v k m)) (world is t (outside q w l o)) false false [] e))
-  turn-broken new piece moment asks r q v w k l m o e a read clock loader =
-      at-goes-map number n old new (λ x y s t. Undelivered (config_of x) number piece moment asks s t (notices_of x) (notices_of y) v w e) (λ x y s t. Broken (config_of x) number reads loads (world x s (outside r v k m)) (world y t (outside q w l o)) false false [] e) a
-      (λ x y s t d. broken-one (config_of x) number reads loads x y s t r q v w k l m o piece moment asks e d read clock loader)
+      → Breaks reads loads old new n number (outside r v k m) (outside q w l o) outs e
+  turn-broken new outs piece moment asks r q v w k l m o e a read clock loader =
+      at-goes-map number n old new (λ x y s t. Undelivered (config_of x) number piece moment asks s t (notices_of x) (notices_of y) v w e)
+      (λ x y s t. AreKnown outs s → Broken (config_of x) number reads loads (world x s (outside r v k m)) (world y t (outside q w l o)) false false [] e) a
+      (λ x y s t d known. broken-one (config_of x) number reads loads x y s t r q v w k l m o piece moment asks e d read clock loader)
+
+  -- a load that was taken is settled, and its replies are written
+  pub settled-one : (new : List Space) (before after : List (LoadId × List ℕ)) (load moment : ℕ) (asking : Asking) (text output : List ℕ) (r v w : Option (List ℕ)) (k l : C) (m o : L)
+      → ((s : Situation) → AreKnown before s → IsKnown load asking.key s × AreKnown after s) → output ≡ text → Appends v w output
+      → At old new n (λ was is. Goes number was is (λ s t. AnsweredLoad (config_of was) number load moment asking s t (notices_of was) (notices_of is) text)) → reads k moment l → Askings loads m (asking ∷ []) o
+      → Carries reads loads old new n number (outside r v k m) (outside r w l o) before after
+  settled-one new before after load moment asking text output r v w k l m o pick is wrote a clock loader =
+      at-goes-map number n old new (λ x y s t. AnsweredLoad (config_of x) number load moment asking s t (notices_of x) (notices_of y) text)
+      (λ x y s t. AreKnown before s → Carried (config_of x) number reads loads (world x s (outside r v k m)) (world y t (outside r w l o)) false false [] nothing_left × AreKnown after t) a
+      (λ x y s t answered known.
+      let p = pick s known in
+      let d : Delivered (config_of x) number [] moment (asking ∷ []) s t (notices_of x) (notices_of y) v w [] = record { text = text; answered = answered p.0; sent = output; wrote = wrote; whole = append-nil output ∙ is } in
+      let c = carried-one (config_of x) number reads loads x y s t r r v w k l m o [] moment (asking ∷ []) [] d (same_consumes r) clock loader in
+      (c, carried-known (config_of x) number reads loads (world x s (outside r v k m)) (world y t (outside r w l o)) false false [] nothing_left after c p.1))
+
+  -- a load that was taken is settled, and a beginning of its replies is written
+  pub settled-broken : (new : List Space) (before : List (LoadId × List ℕ)) (load moment : ℕ) (asking : Asking) (text output rest : List ℕ) (r v w : Option (List ℕ)) (k l : C) (m o : L) (e : RunError)
+      → ((s : Situation) → AreKnown before s → IsKnown load asking.key s) → output ≡ text → SentBut rest output v w → e ≢ Moment
+      → At old new n (λ was is. Goes number was is (λ s t. AnsweredLoad (config_of was) number load moment asking s t (notices_of was) (notices_of is) text)) → reads k moment l → Askings loads m (asking ∷ []) o
+      → Breaks reads loads old new n number (outside r v k m) (outside r w l o) before e
+  settled-broken new before load moment asking text output rest r v w k l m o e pick is sent ne a clock loader =
+      at-goes-map number n old new (λ x y s t. AnsweredLoad (config_of x) number load moment asking s t (notices_of x) (notices_of y) text)
+      (λ x y s t. AreKnown before s → Broken (config_of x) number reads loads (world x s (outside r v k m)) (world y t (outside r w l o)) false false [] e) a
+      (λ x y s t answered known.
+      broken-one (config_of x) number reads loads x y s t r r v w k l m o [] moment (asking ∷ []) e
+      (inr (rest, record { text = text; answered = answered (pick s known); sent = sent.sent; wrote = sent.wrote; whole = sent.whole ∙ is }, ne)) (same_consumes r) clock loader)
 
   -- an error without a loss
-  pub at-broken : (new : List Space) (r q v w : Option (List ℕ)) (k l : C) (m o : L) (e : RunError) → e ≢ Moment
-      → At old new n (λ was is. Goes number was is (λ s t. Carried (config_of was) number reads loads (world was s (outside r v k m)) (world is t (outside q w l o)) false false [] nothing_left))
-      → At old new n (λ was is. Goes number was is (λ s t. Broken (config_of was) number reads loads (world was s (outside r v k m)) (world is t (outside q w l o)) false false [] e))
-  at-broken new r q v w k l m o e ne a =
-      at-goes-map number n old new (λ x y s t. Carried (config_of x) number reads loads (world x s (outside r v k m)) (world y t (outside q w l o)) false false [] nothing_left) (λ x y s t. Broken (config_of x) number reads loads (world x s (outside r v k m)) (world y t (outside q w l o)) false false [] e) a
-      (λ x y s t d. record { left = nothing_left; carried = d; dropped = tt; moment = λ is. absurd (ne is) })
+  pub at-broken : (new : List Space) (a b : Outside C L) (before after : List (LoadId × List ℕ)) (e : RunError) → e ≢ Moment → Carries reads loads old new n number a b before after → Breaks reads loads old new n number a b before e
+  at-broken new a b before after e ne h =
+      at-goes-map number n old new (λ x y s t. AreKnown before s → Carried (config_of x) number reads loads (world x s a) (world y t b) false false [] nothing_left × AreKnown after t)
+      (λ x y s t. AreKnown before s → Broken (config_of x) number reads loads (world x s a) (world y t b) false false [] e) h
+      (λ x y s t d known. record { left = nothing_left; carried = (d known).0; dropped = tt; moment = λ is. absurd (ne is) })
+
+  -- where no load was taken before
+  pub at-fresh : (new : List Space) (a b : Outside C L) (after : List (LoadId × List ℕ)) → Carries reads loads old new n number a b [] after
+      → At old new n (λ was is. Goes number was is (λ s t. Carried (config_of was) number reads loads (world was s a) (world is t b) false false [] nothing_left))
+  at-fresh new a b after h =
+      at-goes-map number n old new (λ x y s t. Unit {0} → Carried (config_of x) number reads loads (world x s a) (world y t b) false false [] nothing_left × AreKnown after t)
+      (λ x y s t. Carried (config_of x) number reads loads (world x s a) (world y t b) false false [] nothing_left) h (λ x y s t d. (d tt).0)
+
+  pub at-fresh-broken : (new : List Space) (a b : Outside C L) (e : RunError) → Breaks reads loads old new n number a b [] e
+      → At old new n (λ was is. Goes number was is (λ s t. Broken (config_of was) number reads loads (world was s a) (world is t b) false false [] e))
+  at-fresh-broken new a b e h =
+      at-goes-map number n old new (λ x y s t. Unit {0} → Broken (config_of x) number reads loads (world x s a) (world y t b) false false [] e)
+      (λ x y s t. Broken (config_of x) number reads loads (world x s a) (world y t b) false false [] e) h (λ x y s t d. d tt)
 
 -- ---- turns one after another
 
-module _ {C L : Type 0} (reads : C → ℕ → C → Type 0) (loads : L → List ℕ → Option Outcome → L → Type 0) (n number : ℕ) (first second third : List Space) (a b d : Outside C L) where
-  pub at-carried-more : At first second n (λ was is. Goes number was is (λ s t. Carried (config_of was) number reads loads (world was s a) (world is t b) false false [] nothing_left))
-      → At second third n (λ was is. Goes number was is (λ s t. Carried (config_of was) number reads loads (world was s b) (world is t d) false false [] nothing_left))
-      → At first third n (λ was is. Goes number was is (λ s t. Carried (config_of was) number reads loads (world was s a) (world is t d) false false [] nothing_left))
-  at-carried-more p q =
-      at-goes-more number n first second third (λ x y s t. Carried (config_of x) number reads loads (world x s a) (world y t b) false false [] nothing_left) (λ x y s t. Carried (config_of x) number reads loads (world x s b) (world y t d) false false [] nothing_left)
-      (λ x y s t. Carried (config_of x) number reads loads (world x s a) (world y t d) false false [] nothing_left) p q
-      (λ x y z same s t u f g. carried-more (config_of x) number reads loads (world x s a) (world y t b) (world z u d) false false [] nothing_left f (subst (λ k. Carried k number reads loads (world y t b) (world z u d) false false [] nothing_left) same g))
+module _ {C L : Type 0} (reads : C → ℕ → C → Type 0) (loads : L → List ℕ → Option Outcome → L → Type 0) (n number : ℕ) (first second third : List Space) (a b d : Outside C L) (before between : List (LoadId × List ℕ)) where
+  pub at-carried-more : (after : List (LoadId × List ℕ)) → Carries reads loads first second n number a b before between → Carries reads loads second third n number b d between after → Carries reads loads first third n number a d before after
+  at-carried-more after p q =
+      at-goes-more number n first second third (λ x y s t. AreKnown before s → Carried (config_of x) number reads loads (world x s a) (world y t b) false false [] nothing_left × AreKnown between t)
+      (λ x y s t. AreKnown between s → Carried (config_of x) number reads loads (world x s b) (world y t d) false false [] nothing_left × AreKnown after t)
+      (λ x y s t. AreKnown before s → Carried (config_of x) number reads loads (world x s a) (world y t d) false false [] nothing_left × AreKnown after t) p q
+      (λ x y z same s t u f g known.
+      let k = f known in
+      let m = g k.1 in
+      (carried-more (config_of x) number reads loads (world x s a) (world y t b) (world z u d) false false [] nothing_left k.0 (subst (λ c. Carried c number reads loads (world y t b) (world z u d) false false [] nothing_left) same m.0), m.1))
 
-  pub at-broken-more : (e : RunError) → At first second n (λ was is. Goes number was is (λ s t. Carried (config_of was) number reads loads (world was s a) (world is t b) false false [] nothing_left))
-      → At second third n (λ was is. Goes number was is (λ s t. Broken (config_of was) number reads loads (world was s b) (world is t d) false false [] e))
-      → At first third n (λ was is. Goes number was is (λ s t. Broken (config_of was) number reads loads (world was s a) (world is t d) false false [] e))
+  pub at-broken-more : (e : RunError) → Carries reads loads first second n number a b before between → Breaks reads loads second third n number b d between e → Breaks reads loads first third n number a d before e
   at-broken-more e p q =
-      at-goes-more number n first second third (λ x y s t. Carried (config_of x) number reads loads (world x s a) (world y t b) false false [] nothing_left) (λ x y s t. Broken (config_of x) number reads loads (world x s b) (world y t d) false false [] e)
-      (λ x y s t. Broken (config_of x) number reads loads (world x s a) (world y t d) false false [] e) p q
-      (λ x y z same s t u f g. broken-more (config_of x) number reads loads (world x s a) (world y t b) (world z u d) false false [] e f (subst (λ k. Broken k number reads loads (world y t b) (world z u d) false false [] e) same g))
+      at-goes-more number n first second third (λ x y s t. AreKnown before s → Carried (config_of x) number reads loads (world x s a) (world y t b) false false [] nothing_left × AreKnown between t)
+      (λ x y s t. AreKnown between s → Broken (config_of x) number reads loads (world x s b) (world y t d) false false [] e)
+      (λ x y s t. AreKnown before s → Broken (config_of x) number reads loads (world x s a) (world y t d) false false [] e) p q
+      (λ x y z same s t u f g known.
+      let k = f known in broken-more (config_of x) number reads loads (world x s a) (world y t b) (world z u d) false false [] e k.0 (subst (λ c. Broken c number reads loads (world y t b) (world z u d) false false [] e) same (g k.1)))
 
 -- nothing has come yet
-pub at-carried-start : {C L : Type 0} (reads : C → ℕ → C → Type 0) (loads : L → List ℕ → Option Outcome → L → Type 0) (old : List Space) (n number : ℕ) (a : Outside C L) → Connected old n number IsReady
-    → At old old n (λ was is. Goes number was is (λ s t. Carried (config_of was) number reads loads (world was s a) (world is t a) false false [] nothing_left))
-at-carried-start reads loads old n number a c =
-    at-same (λ was is. Goes number was is (λ s t. Carried (config_of was) number reads loads (world was s a) (world is t a) false false [] nothing_left)) old n c.space c.at
+pub at-carried-start : {C L : Type 0} (reads : C → ℕ → C → Type 0) (loads : L → List ℕ → Option Outcome → L → Type 0) (old : List Space) (n number : ℕ) (a : Outside C L) (outs : List (LoadId × List ℕ)) → outs ≡ [] → Connected old n number IsReady → Carries reads loads old old n number a a [] outs
+at-carried-start reads loads old n number a outs fresh c =
+    subst (λ taken. Carries reads loads old old n number a a [] taken) (sym fresh)
+    (at-known reads loads old n number old a a []
+    (at-same (λ was is. Goes number was is (λ s t. Carried (config_of was) number reads loads (world was s a) (world is t a) false false [] nothing_left)) old n c.space c.at
     (record {
       each = λ s stands alone. record { next = s; stands = stands; alone = alone; fact = carried-same (config_of c.space) number reads loads c.space c.space s s a refl refl; others = λ other ne. (refl, refl) };
       config = refl;
-    })
+    })))
 
 -- the bytes of several turns, unless the reader failed
 pub turns-more : (f g h : ℕ) (a b c : Option (List ℕ)) (count : ℕ) → f ≤ g → g ≤ h → HasFailed f g ⊎ HasRead a b count → HasFailed g h ⊎ HasRead b c 1 → HasFailed f h ⊎ HasRead a c (count + 1)
@@ -120,11 +177,24 @@ asked-fewer loads a b m n fewer x = let most = x.2 in (x.0, x.1, omega arith)
 
 -- ---- where the namespace is left the same
 
-pub at-carried-same : {C L : Type 0} (reads : C → ℕ → C → Type 0) (loads : L → List ℕ → Option Outcome → L → Type 0) (old new : List Space) (n number : ℕ) (a : Outside C L) → At old new n SameButLoads
-    → At old new n (λ was is. Goes number was is (λ s t. Carried (config_of was) number reads loads (world was s a) (world is t a) false false [] nothing_left))
-at-carried-same reads loads old new n number a same =
-    at-map SameButLoads (λ was is. Goes number was is (λ s t. Carried (config_of was) number reads loads (world was s a) (world is t a) false false [] nothing_left)) old new n same
-    (λ x y p. goes-same number x y (λ s t. Carried (config_of x) number reads loads (world x s a) (world y t a) false false [] nothing_left) p (λ s. carried-same (config_of x) number reads loads x y s s a refl p.notices))
+pub at-carried-same : {C L : Type 0} (reads : C → ℕ → C → Type 0) (loads : L → List ℕ → Option Outcome → L → Type 0) (old new : List Space) (n number : ℕ) (a : Outside C L) (before after : List (LoadId × List ℕ))
+    → At old new n (λ was is. TakesMore was is before after) → Carries reads loads old new n number a a before after
+at-carried-same reads loads old new n number a before after more =
+    at-map (λ was is. TakesMore was is before after) (λ was is. Goes number was is (λ s t. AreKnown before s → Carried (config_of was) number reads loads (world was s a) (world is t a) false false [] nothing_left × AreKnown after t)) old new n more
+    (λ x y p. record {
+      each = λ s stands alone. record {
+        next = s;
+        stands = p.same.stands s stands;
+        alone = alone;
+        fact = λ known. (carried-same (config_of x) number reads loads x y s s a refl p.same.notices, p.known s stands known);
+        others = λ other ne. (p.same.outputs other, p.same.closings other);
+      };
+      config = p.same.config;
+    })
+
+-- nothing was taken
+pub at-none-taken : (old new : List Space) (n : ℕ) (outs : List (LoadId × List ℕ)) → At old new n SameButLoads → At old new n (λ was is. TakesMore was is outs outs)
+at-none-taken old new n outs a = at-map SameButLoads (λ was is. TakesMore was is outs outs) old new n a (λ x y p. record { same = p; known = λ s stands known. known })
 
 -- the same error of another result
 pub still-err : {T U E : Type 0} (e v : E) → IsErrOf {T = T} (Err e) v → IsErrOf {T = U} (Err e) v

@@ -3,12 +3,13 @@ use Rattle.std.specs.Prelude.{◌≡◌, ℕ, ◌≤◌, ◌^◌, Bool, List, []
 use Rattle.std.specs.Io.KnownBytes.{Consumes, Appends}
 use Rattle.std.specs.List.{flat_map}
 use Rattle.audit_model.specs.Follows.{after_records}
+use Rattle.audit_model.specs.Situation.{Situation}
 use Rattle.audit_model.specs.declared.config.Config.{Config}
 use Rattle.audit_model.specs.declared.event.Event.TheVariants as event
 use Rattle.audit_model.specs.declared.event.Outcome.{Outcome}
 use Rattle.audit_model.specs.declared.transcript.Record.{Record}
 use Rattle.cache_namespace.specs.Taken.{record_of}
-use Rattle.cache_run.specs.Happened.{Asking, Turn, AreDrops, AreRight, asked_in, moment_in, notes_in, notes_of, piece_in, records_in, replies_in}
+use Rattle.cache_run.specs.Happened.{Asking, Turn, AreDrops, AreInPlace, AreRight, asked_in, moment_in, notes_in, notes_of, piece_in, records_in, replies_in}
 use Rattle.cache_run.specs.Worlds.{World}
 use Rattle.cache_run.specs.declared.errors.RunError.{RunError}
 use Rattle.cache_run.specs.declared.errors.RunError.TheVariants.{Moment}
@@ -48,6 +49,7 @@ nothing_left = record { late = []; lost = []; asked = []; unsent = [] }
 pub record Carried {C L : Type 0} (config : Config) (number : ℕ) (reads : C → ℕ → C → Type 0) (loads : L → List ℕ → Option Outcome → L → Type 0) (a b : World C L) (opens closes : Bool) (drops : List Record) (left : Left) : Type 0 where
   pub turns : List Turn
   pub right : AreRight config turns
+  pub placed : (s : Situation) → after_records config a.situation (open_records number opens) ≡ Some s → AreInPlace config number s turns
   pub follows : after_records config a.situation (records_of number opens turns closes drops) ≡ Some b.situation
   pub notices : b.notices ≡ (a.notices ++ flat_map (notes_in number) turns) ++ flat_map notes_of drops
   pub read : Consumes a.outside.remaining b.outside.remaining (flat_map piece_in turns ++ left.lost)

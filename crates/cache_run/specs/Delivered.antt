@@ -1,11 +1,12 @@
 -- What one turn does, from its bytes to those that are written.
-use Rattle.std.specs.Prelude.{◌≡◌, ◌≢◌, ℕ, ◌≤◌, ◌^◌, List, [], ◌++◌, Option, Some, ◌⊎◌}
+use Rattle.std.specs.Prelude.{◌≡◌, ◌≢◌, ℕ, ◌≤◌, ◌^◌, List, [], ◌∷◌, ◌++◌, Option, Some, ◌⊎◌}
 use Rattle.std.specs.Io.KnownBytes.{Appends}
 use Rattle.audit_model.specs.Follows.{after_records}
 use Rattle.audit_model.specs.Situation.{Situation}
 use Rattle.audit_model.specs.declared.config.Config.{Config}
 use Rattle.audit_model.specs.declared.transcript.Note.{Note}
-use Rattle.cache_run.specs.Happened.{Asking, Turn, IsRight, asked_in, moment_in, notes_in, piece_in, records_in, replies_in}
+use Rattle.run_laws.specs.Keys.{IsKnown}
+use Rattle.cache_run.specs.Happened.{Asking, Turn, IsInPlace, IsRight, asked_in, moment_in, notes_in, piece_in, records_in, replies_in}
 use Rattle.cache_run.specs.declared.errors.RunError.{RunError}
 use Rattle.cache_run.specs.declared.errors.RunError.TheVariants.{OutOfMemory, Moment}
 
@@ -16,9 +17,14 @@ pub record Answered (config : Config) (number : ℕ) (piece : List ℕ) (moment 
   pub moment_is : moment_in turn ≡ moment
   pub asks_are : asked_in turn ≡ asks
   pub right : IsRight config turn
+  pub placed : IsInPlace s turn
   pub follows : after_records config s (records_in number turn) ≡ Some t
   pub notices : after ≡ before ++ notes_in number turn
   pub replies : text ≡ replies_in number turn
+
+-- where that is the key of the load, if it is under way, the loader was asked by it
+abbrev pub AnsweredLoad : Config → ℕ → ℕ → ℕ → Asking → Situation → Situation → List Note → List Note → List ℕ → Type 0
+AnsweredLoad config number load moment asking s t before after text = IsKnown load asking.key s → Answered config number [] moment (asking ∷ []) s t before after text
 
 -- nothing was fed, and no load was settled
 pub record Unfed (s t : Situation) (before after : List Note) : Type 0 where

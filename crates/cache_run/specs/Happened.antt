@@ -1,10 +1,13 @@
 -- What happens in a run: pieces are fed, and loads are settled by what the loader says of their keys.
-use Rattle.std.specs.Prelude.{◌≡◌, ℕ, true, List, [], ◌∷◌, Option, Some, IfSome, is_some, ◌⊎◌}
+use Rattle.std.specs.Prelude.{◌≡◌, ℕ, true, List, [], ◌∷◌, Option, None, Some, IfSome, is_some, ◌⊎◌}
 use Rattle.std.specs.List.{flat_map}
 use Rattle.audit_model.specs.Belongs.{refusal_of_outcome}
+use Rattle.audit_model.specs.Follows.{after_records}
 use Rattle.audit_model.specs.Places.{steps_of}
+use Rattle.audit_model.specs.Situation.{Situation, key_in}
 use Rattle.audit_model.specs.declared.config.Config.{Config}
 use Rattle.audit_model.specs.declared.event.Event.{Event}
+use Rattle.audit_model.specs.declared.event.Event.TheVariants as event
 use Rattle.audit_model.specs.declared.event.Outcome.{Outcome}
 use Rattle.audit_model.specs.declared.transcript.Note.{Note}
 use Rattle.audit_model.specs.declared.transcript.Record.{Record}
@@ -19,35 +22,35 @@ pub record Asking : Type 0 where
   pub answer : Option Outcome
 
 -- a piece was fed at a moment, and these steps ran; or the loader was asked, and at that moment the load was settled by that record; or the
--- load was not under way any more, and what the loader said was dropped
+-- load of that number was not under way any more, and what the loader said was dropped
 pub data Turn : Type 0 where
   Fed : (piece : List ℕ) → (moment : ℕ) → (steps : List Step) → Turn
   Settled : (asking : Asking) → (moment : ℕ) → (entry : Record) → Turn
-  Dropped : (asking : Asking) → (moment : ℕ) → Turn
+  Dropped : (asking : Asking) → (moment : ℕ) → (load : ℕ) → Turn
 
 -- the bytes that were read for it
 abbrev pub piece_in : Turn → List ℕ
 piece_in (Fed piece moment steps) = piece
 piece_in (Settled asking moment entry) = []
-piece_in (Dropped asking moment) = []
+piece_in (Dropped asking moment load) = []
 
 -- the clock's reading
 abbrev pub moment_in : Turn → ℕ
 moment_in (Fed piece moment steps) = moment
 moment_in (Settled asking moment entry) = moment
-moment_in (Dropped asking moment) = moment
+moment_in (Dropped asking moment load) = moment
 
 -- what the loader was asked
 abbrev pub asked_in : Turn → List Asking
 asked_in (Fed piece moment steps) = []
 asked_in (Settled asking moment entry) = asking ∷ []
-asked_in (Dropped asking moment) = asking ∷ []
+asked_in (Dropped asking moment load) = asking ∷ []
 
 -- its record, if there is one
 abbrev pub records_in : ℕ → Turn → List Record
 records_in number (Fed piece moment steps) = record_of (fed number piece moment) steps ∷ []
 records_in number (Settled asking moment entry) = entry ∷ []
-records_in number (Dropped asking moment) = []
+records_in number (Dropped asking moment load) = []
 
 -- the replies of a record's connections
 abbrev pub replies_of : Record → List ℕ
@@ -80,11 +83,29 @@ IsSettledBy config answer moment happened =
 abbrev pub IsRight : Config → Turn → Type 0
 IsRight config (Fed piece moment steps) = Unit {0}
 IsRight config (Settled asking moment entry) = IsSettledBy config asking.answer moment entry.event
-IsRight config (Dropped asking moment) = Unit {0}
+IsRight config (Dropped asking moment load) = Unit {0}
 
 abbrev pub AreRight : Config → List Turn → Type 0
 AreRight config [] = Unit {0}
 AreRight config (turn ∷ turns) = IsRight config turn × AreRight config turns
+
+-- that is the key of the load under way that is answered or given up
+abbrev pub IsKeyOf : Situation → Event → List ℕ → Type 0
+IsKeyOf s (event.Answer load outcome moment) key = key_in load s ≡ Some key
+IsKeyOf s (event.GiveUp load moment) key = key_in load s ≡ Some key
+IsKeyOf s happened key = Unit {0}
+
+-- in the situation before it, the key of which the loader is asked is that of the load that is settled, and what it said is dropped only of
+-- a load that is not under way
+abbrev pub IsInPlace : Situation → Turn → Type 0
+IsInPlace s (Fed piece moment steps) = Unit {0}
+IsInPlace s (Settled asking moment entry) = IsKeyOf s entry.event asking.key
+IsInPlace s (Dropped asking moment load) = key_in load s ≡ None
+
+-- each turn is so in the situation that the turns before it lead to
+abbrev pub AreInPlace : Config → ℕ → Situation → List Turn → Type 0
+AreInPlace config number s [] = Unit {0}
+AreInPlace config number s (turn ∷ turns) = IsInPlace s turn × ((t : Situation) → after_records config s (records_in number turn) ≡ Some t → AreInPlace config number t turns)
 
 -- loads given up at moment 0, which counts as the latest
 abbrev pub AreDrops : List Record → Type 0

@@ -1,5 +1,5 @@
 -- What settling a connection's loads carries, and what giving them up does.
-use Rattle.std.specs.Prelude.{◌≡◌, ◌≢◌, ℕ, List, [], ◌++◌, length, false, Option, Some, None}
+use Rattle.std.specs.Prelude.{◌≡◌, ◌≢◌, ℕ, List, [], ◌∷◌, ◌++◌, length, false, Option, Some, None}
 use Rattle.std.specs.List.{flat_map}
 use Rattle.audit_model.specs.Follows.{after_records}
 use Rattle.audit_model.specs.Situation.{Situation}
@@ -7,9 +7,11 @@ use Rattle.audit_model.specs.declared.config.Config.{Config}
 use Rattle.audit_model.specs.declared.event.Outcome.{Outcome}
 use Rattle.audit_model.specs.declared.transcript.Note.{Note}
 use Rattle.audit_model.specs.declared.transcript.Record.{Record}
+use Rattle.audit_model.specs.declared.input.LoadId.{LoadId}
 use Rattle.cache_spaces.specs.Moves.{At}
 use Rattle.cache_spaces.specs.Spaces.{Stands, closing_of, config_of, connections_of, notices_of, output_of}
 use Rattle.cache_spaces.specs.declared.space.Space.{Space}
+use Rattle.run_laws.specs.Keys.{IsKnown}
 use Rattle.cache_run.specs.Carried.{Broken, Carried, nothing_left}
 use Rattle.cache_run.specs.Goes.{Goes}
 use Rattle.cache_run.specs.Happened.{AreDrops, notes_of}
@@ -25,15 +27,25 @@ pub record SameButLoads (was is : Space) : Type 0 where
   pub notices : notices_of is ≡ notices_of was
   pub count : length (connections_of is) ≡ length (connections_of was)
 
--- turns came, and nothing was left
-abbrev pub Carries : {C L : Type 0} → (C → ℕ → C → Type 0) → (L → List ℕ → Option Outcome → L → Type 0) → List Space → List Space → ℕ → ℕ → Outside C L → Outside C L → Type 0
-Carries reads loads old new namespace number a b =
-    At old new namespace (λ was is. Goes number was is (λ s t. Carried (config_of was) number reads loads (world was s a) (world is t b) false false [] nothing_left))
+-- each of the loads that were taken was sent, and where it is under way it has the key that it was taken with
+abbrev pub AreKnown : List (LoadId × List ℕ) → Situation → Type 0
+AreKnown [] s = Unit {0}
+AreKnown (out ∷ outs) s = IsKnown out.0.number out.1 s × AreKnown outs s
 
--- turns came, and then an error
-abbrev pub Breaks : {C L : Type 0} → (C → ℕ → C → Type 0) → (L → List ℕ → Option Outcome → L → Type 0) → List Space → List Space → ℕ → ℕ → Outside C L → Outside C L → RunError → Type 0
-Breaks reads loads old new namespace number a b e =
-    At old new namespace (λ was is. Goes number was is (λ s t. Broken (config_of was) number reads loads (world was s a) (world is t b) false false [] e))
+-- loads may have been taken, and nothing else changed
+pub record TakesMore (was is : Space) (before after : List (LoadId × List ℕ)) : Type 0 where
+  pub same : SameButLoads was is
+  pub known : (s : Situation) → Stands was s → AreKnown before s → AreKnown after s
+
+-- where the keys of the loads that were taken before were right, turns came, nothing was left, and the keys of those taken behind are right
+abbrev pub Carries : {C L : Type 0} → (C → ℕ → C → Type 0) → (L → List ℕ → Option Outcome → L → Type 0) → List Space → List Space → ℕ → ℕ → Outside C L → Outside C L → List (LoadId × List ℕ) → List (LoadId × List ℕ) → Type 0
+Carries reads loads old new namespace number a b before after =
+    At old new namespace (λ was is. Goes number was is (λ s t. AreKnown before s → Carried (config_of was) number reads loads (world was s a) (world is t b) false false [] nothing_left × AreKnown after t))
+
+-- where the keys of the loads that were taken before were right, turns came, and then an error
+abbrev pub Breaks : {C L : Type 0} → (C → ℕ → C → Type 0) → (L → List ℕ → Option Outcome → L → Type 0) → List Space → List Space → ℕ → ℕ → Outside C L → Outside C L → List (LoadId × List ℕ) → RunError → Type 0
+Breaks reads loads old new namespace number a b before e =
+    At old new namespace (λ was is. Goes number was is (λ s t. AreKnown before s → Broken (config_of was) number reads loads (world was s a) (world is t b) false false [] e))
 
 -- loads were given up at moment 0, and nothing else came
 pub record GivesUp (config : Config) (s t : Situation) (before after : List Note) : Type 0 where

@@ -8,10 +8,10 @@ ghost use Rattle.cache_spaces.specs.Serves.{SameSpace};
 ghost use Rattle.cache_spaces.specs.Services.{spaces_of};
 ghost use Rattle.cache_spaces.specs.Spaces.{config_of, notices_of, output_of};
 ghost use Rattle.cache_run.specs.Connected.{Connected, IsFed, IsTaken};
-ghost use Rattle.cache_run.specs.Delivered.{Answered, IsCause};
+ghost use Rattle.cache_run.specs.Delivered.{AnsweredLoad, IsCause};
 ghost use Rattle.cache_run.specs.Goes.{Goes};
 ghost use Rattle.cache_run.specs.Happened.{Asking, IsGivenUpFor, asking_of};
-ghost use Rattle.cache_run.specs.Loading.{Breaks, Carries, GivesUpLoads, SameButLoads};
+ghost use Rattle.cache_run.specs.Loading.{Breaks, Carries, GivesUpLoads, TakesMore};
 ghost use Rattle.cache_run.specs.Turns.{HasAsked, HasToldLate};
 ghost use Rattle.cache_run.specs.Worlds.{outside};
 
@@ -26,7 +26,7 @@ use std::io::Write;
 /// Gives a load up. One that is not under way stays settled.
 fn give_up(service: &mut Service, conn: Conn, load: u64, moment: u64) -> Result<(), RunError>
     requires taken { Connected (spaces_of service.old) conn.namespace conn.number IsTaken }
-    ensures ok { OnOk result (At (spaces_of service.old) (spaces_of service.new) conn.namespace (λ was is. (asking : Asking) → IsGivenUpFor (config_of was) asking.answer → Goes conn.number was is (λ s t. Answered (config_of was) conn.number [] moment (asking ∷ []) s t (notices_of was) (notices_of is) (output_of is conn.number)))) }
+    ensures ok { OnOk result (At (spaces_of service.old) (spaces_of service.new) conn.namespace (λ was is. (asking : Asking) → IsGivenUpFor (config_of was) asking.answer → Goes conn.number was is (λ s t. AnsweredLoad (config_of was) conn.number load moment asking s t (notices_of was) (notices_of is) (output_of is conn.number)))) }
     ensures left { OnOk result (Connected (spaces_of service.new) conn.namespace conn.number IsFed) }
     ensures err { IfErr result (λ e. At (spaces_of service.old) (spaces_of service.new) conn.namespace SameSpace × IsCause moment e) }
 {
@@ -34,11 +34,14 @@ fn give_up(service: &mut Service, conn: Conn, load: u64, moment: u64) -> Result<
         namespace: conn.namespace,
         number: load,
     };
-    match service.give_up(id, Instant { nanos: moment }) {
-        Ok(()) => Ok(()),
-        Err(ServiceError::Moment) => Err(RunError::Moment),
+    let error = match service.give_up(id, Instant { nanos: moment }) {
+        Ok(()) => return Ok(()),
+        Err(error) => error,
+    };
+    match error {
+        ServiceError::Moment => Err(RunError::Moment),
         // It is not under way.
-        Err(_) => Ok(()),
+        _ => Ok(()),
     }
 }
 
@@ -52,7 +55,7 @@ fn answer(
     moment: u64,
 ) -> Result<bool, RunError>
     requires taken { Connected (spaces_of service.old) conn.namespace conn.number IsTaken }
-    ensures settled { IfOk result (λ settled. settled ≡ true → At (spaces_of service.old) (spaces_of service.new) conn.namespace (λ was is. (key : List ℕ) → Goes conn.number was is (λ s t. Answered (config_of was) conn.number [] moment (asking_of key (Some outcome) ∷ []) s t (notices_of was) (notices_of is) (output_of is conn.number)))) }
+    ensures settled { IfOk result (λ settled. settled ≡ true → At (spaces_of service.old) (spaces_of service.new) conn.namespace (λ was is. (key : List ℕ) → Goes conn.number was is (λ s t. AnsweredLoad (config_of was) conn.number load moment (asking_of key (Some outcome)) s t (notices_of was) (notices_of is) (output_of is conn.number)))) }
     ensures refused { IfOk result (λ settled. settled ≡ false → At (spaces_of service.old) (spaces_of service.new) conn.namespace (λ was is. SameSpace was is × (is_some (refusal_of_outcome (config_of was) outcome) ≡ true))) }
     ensures left { IfOk result (λ settled. settled ≡ true → Connected (spaces_of service.new) conn.namespace conn.number IsFed) }
     ensures err { IfErr result (λ e. At (spaces_of service.old) (spaces_of service.new) conn.namespace SameSpace × IsCause moment e) }
@@ -84,7 +87,7 @@ fn settle(
     moment: u64,
 ) -> Result<(), RunError>
     requires taken { Connected (spaces_of service.old) conn.namespace conn.number IsTaken }
-    ensures ok { OnOk result (At (spaces_of service.old) (spaces_of service.new) conn.namespace (λ was is. (key : List ℕ) → Goes conn.number was is (λ s t. Answered (config_of was) conn.number [] moment (asking_of key said ∷ []) s t (notices_of was) (notices_of is) (output_of is conn.number)))) }
+    ensures ok { OnOk result (At (spaces_of service.old) (spaces_of service.new) conn.namespace (λ was is. (key : List ℕ) → Goes conn.number was is (λ s t. AnsweredLoad (config_of was) conn.number load moment (asking_of key said) s t (notices_of was) (notices_of is) (output_of is conn.number)))) }
     ensures left { OnOk result (Connected (spaces_of service.new) conn.namespace conn.number IsFed) }
     ensures err { IfErr result (λ e. At (spaces_of service.old) (spaces_of service.new) conn.namespace SameSpace × IsCause moment e) }
 {
@@ -108,7 +111,7 @@ fn settle_load(
     moment: u64,
 ) -> Result<Vec<u8>, RunError>
     requires taken { Connected (spaces_of service.old) conn.namespace conn.number IsTaken }
-    ensures ok { IfOk result (λ text. (key : List ℕ) → At (spaces_of service.old) (spaces_of service.new) conn.namespace (λ was is. Goes conn.number was is (λ s t. Answered (config_of was) conn.number [] moment (asking_of key said ∷ []) s t (notices_of was) (notices_of is) text.items))) }
+    ensures ok { IfOk result (λ text. (key : List ℕ) → At (spaces_of service.old) (spaces_of service.new) conn.namespace (λ was is. Goes conn.number was is (λ s t. AnsweredLoad (config_of was) conn.number load moment (asking_of key said) s t (notices_of was) (notices_of is) text.items))) }
     ensures taken { OnOk result (Connected (spaces_of service.new) conn.namespace conn.number IsTaken) }
     ensures err { IfErr result (λ e. At (spaces_of service.old) (spaces_of service.new) conn.namespace SameSpace × IsCause moment e) }
     ensures causes { IfErr result (λ e. (e ≢ RunError.Read) × (e ≢ RunError.Write) × (e ≢ RunError.UsedUp)) }
@@ -131,9 +134,9 @@ fn settle_last<W: Write, C: Clock, L: Loader>(
     loader: &mut L,
 ) -> Result<bool, RunError>
     requires taken { Connected (spaces_of service.old) conn.namespace conn.number IsTaken }
-    ensures ok { OnOk result ((remaining : Option (List ℕ)) → Carries C.reads L.loads (spaces_of service.old) (spaces_of service.new) conn.namespace conn.number (outside remaining (W.contents (device writer.old)) clock.old loader.old) (outside remaining (W.contents (device writer.new)) clock.new loader.new)) }
+    ensures ok { OnOk result ((remaining : Option (List ℕ)) → Carries C.reads L.loads (spaces_of service.old) (spaces_of service.new) conn.namespace conn.number (outside remaining (W.contents (device writer.old)) clock.old loader.old) (outside remaining (W.contents (device writer.new)) clock.new loader.new) taken.old.items taken.new.items) }
     ensures taken { OnOk result (Connected (spaces_of service.new) conn.namespace conn.number IsTaken) }
-    ensures err { IfErr result (λ e. (remaining : Option (List ℕ)) → Breaks C.reads L.loads (spaces_of service.old) (spaces_of service.new) conn.namespace conn.number (outside remaining (W.contents (device writer.old)) clock.old loader.old) (outside remaining (W.contents (device writer.new)) clock.new loader.new) e) }
+    ensures err { IfErr result (λ e. (remaining : Option (List ℕ)) → Breaks C.reads L.loads (spaces_of service.old) (spaces_of service.new) conn.namespace conn.number (outside remaining (W.contents (device writer.old)) clock.old loader.old) (outside remaining (W.contents (device writer.new)) clock.new loader.new) taken.old.items e) }
     ensures left { OnErr result (Connected (spaces_of service.new) conn.namespace conn.number IsFed) }
     ensures asks { HasAsked L.loads loader.old 0 loader.new }
     ensures asked { IfOk result (λ asked. asked ≡ true → HasAsked L.loads loader.old 1 loader.new) }
@@ -162,7 +165,7 @@ fn settle_last<W: Write, C: Clock, L: Loader>(
 /// Takes the loads of a namespace that have gone out, where none that was taken is left.
 fn take_more(service: &mut Service, conn: Conn, taken: &mut Vec<(LoadId, Bytes)>)
     requires taken { Connected (spaces_of service.old) conn.namespace conn.number IsTaken }
-    ensures same { At (spaces_of service.old) (spaces_of service.new) conn.namespace SameButLoads }
+    ensures same { At (spaces_of service.old) (spaces_of service.new) conn.namespace (λ was is. TakesMore was is taken.old.items taken.new.items) }
     ensures taken { Connected (spaces_of service.new) conn.namespace conn.number IsTaken }
 {
     if !taken.is_empty() {
@@ -185,9 +188,9 @@ fn settle_next<W: Write, C: Clock, L: Loader>(
     loader: &mut L,
 ) -> Result<bool, RunError>
     requires taken { Connected (spaces_of service.old) conn.namespace conn.number IsTaken }
-    ensures ok { OnOk result ((remaining : Option (List ℕ)) → Carries C.reads L.loads (spaces_of service.old) (spaces_of service.new) conn.namespace conn.number (outside remaining (W.contents (device writer.old)) clock.old loader.old) (outside remaining (W.contents (device writer.new)) clock.new loader.new)) }
+    ensures ok { OnOk result ((remaining : Option (List ℕ)) → Carries C.reads L.loads (spaces_of service.old) (spaces_of service.new) conn.namespace conn.number (outside remaining (W.contents (device writer.old)) clock.old loader.old) (outside remaining (W.contents (device writer.new)) clock.new loader.new) taken.old.items taken.new.items) }
     ensures taken { OnOk result (Connected (spaces_of service.new) conn.namespace conn.number IsTaken) }
-    ensures err { IfErr result (λ e. (remaining : Option (List ℕ)) → Breaks C.reads L.loads (spaces_of service.old) (spaces_of service.new) conn.namespace conn.number (outside remaining (W.contents (device writer.old)) clock.old loader.old) (outside remaining (W.contents (device writer.new)) clock.new loader.new) e) }
+    ensures err { IfErr result (λ e. (remaining : Option (List ℕ)) → Breaks C.reads L.loads (spaces_of service.old) (spaces_of service.new) conn.namespace conn.number (outside remaining (W.contents (device writer.old)) clock.old loader.old) (outside remaining (W.contents (device writer.new)) clock.new loader.new) taken.old.items e) }
     ensures left { OnErr result (Connected (spaces_of service.new) conn.namespace conn.number IsFed) }
     ensures asks { HasAsked L.loads loader.old 0 loader.new }
     ensures asked { IfOk result (λ asked. asked ≡ true → HasAsked L.loads loader.old 1 loader.new) }
@@ -224,9 +227,9 @@ pub fn settle_loads<W: Write, C: Clock, L: Loader>(
     loader: &mut L,
 ) -> Result<(), RunError>
     requires taken { Connected (spaces_of service.old) conn.namespace conn.number IsTaken }
-    ensures ok { OnOk result ((remaining : Option (List ℕ)) → Carries C.reads L.loads (spaces_of service.old) (spaces_of service.new) conn.namespace conn.number (outside remaining (W.contents (device writer.old)) clock.old loader.old) (outside remaining (W.contents (device writer.new)) clock.new loader.new)) }
+    ensures ok { OnOk result ((remaining : Option (List ℕ)) → Carries C.reads L.loads (spaces_of service.old) (spaces_of service.new) conn.namespace conn.number (outside remaining (W.contents (device writer.old)) clock.old loader.old) (outside remaining (W.contents (device writer.new)) clock.new loader.new) taken.old.items taken.new.items) }
     ensures taken { OnOk result (Connected (spaces_of service.new) conn.namespace conn.number IsTaken) }
-    ensures err { IfErr result (λ e. (remaining : Option (List ℕ)) → Breaks C.reads L.loads (spaces_of service.old) (spaces_of service.new) conn.namespace conn.number (outside remaining (W.contents (device writer.old)) clock.old loader.old) (outside remaining (W.contents (device writer.new)) clock.new loader.new) e) }
+    ensures err { IfErr result (λ e. (remaining : Option (List ℕ)) → Breaks C.reads L.loads (spaces_of service.old) (spaces_of service.new) conn.namespace conn.number (outside remaining (W.contents (device writer.old)) clock.old loader.old) (outside remaining (W.contents (device writer.new)) clock.new loader.new) taken.old.items e) }
     ensures left { OnErr result (Connected (spaces_of service.new) conn.namespace conn.number IsFed) }
     ensures asks { HasAsked L.loads loader.old 0 loader.new }
     ensures cause { IsErrOf result RunError.Write → HasFailed (failures writer.old) (failures writer.new) }

@@ -65,6 +65,7 @@ fn converse<R: Read, W: Write, C: Clock, L: Loader>(
 ) -> Result<(), RunError>
     requires room { 0 < length buffer.old }
     requires ready { Connected (spaces_of service.old) conn.namespace conn.number IsReady }
+    requires fresh { taken.old.items ≡ [] }
     ensures ok { OnOk result (At (spaces_of service.old) (spaces_of service.new) conn.namespace (λ was is. Goes conn.number was is (λ s t. Carried (config_of was) conn.number C.reads L.loads
         (world was s (outside (R.remaining (device reader.old)) (W.contents (device writer.old)) clock.old loader.old))
         (world is t (outside (R.remaining (device reader.new)) (W.contents (device writer.new)) clock.new loader.new)) false false [] nothing_left))) }

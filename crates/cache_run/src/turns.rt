@@ -1,15 +1,12 @@
 //! One turn of a run.
-ghost use Rattle.std.specs.Prelude.{◌≡◌, ◌≤◌, ◌<◌, ◌⊎◌, ◌^◌, ◌-◌, ℕ, [], List, Option, false, length, IfOk, IfErr, OnOk, OnErr, IsErrOf};
+ghost use Rattle.std.specs.Prelude.{◌≡◌, ◌≤◌, ◌<◌, ◌⊎◌, ◌^◌, ◌-◌, ℕ, List, Option, length, IfOk, IfErr, OnOk, OnErr, IsErrOf};
 ghost use Rattle.cache_devices.specs.Failures.{HasFailed};
 ghost use Rattle.cache_devices.specs.Watched.{device, failures};
-ghost use Rattle.cache_spaces.specs.Moves.{At};
 ghost use Rattle.cache_spaces.specs.Services.{spaces_of};
-ghost use Rattle.cache_spaces.specs.Spaces.{config_of};
-ghost use Rattle.cache_run.specs.Carried.{Broken, Carried, nothing_left};
 ghost use Rattle.cache_run.specs.Connected.{Connected, IsFed, IsReady, IsTaken};
-ghost use Rattle.cache_run.specs.Goes.{Goes};
+ghost use Rattle.cache_run.specs.Loading.{Breaks, Carries};
 ghost use Rattle.cache_run.specs.Turns.{HasAsked, HasRead, HasToldLate, LeavesSo};
-ghost use Rattle.cache_run.specs.Worlds.{outside, world};
+ghost use Rattle.cache_run.specs.Worlds.{outside};
 
 use crate::errors::RunError;
 use crate::feeding::deliver;
@@ -53,13 +50,13 @@ pub fn take_turn<R: Read, W: Write, C: Clock, L: Loader>(
 ) -> Result<Progress, RunError>
     requires room { 0 < length buffer.old }
     requires ready { Connected (spaces_of service.old) conn.namespace conn.number IsReady }
-    ensures ok { OnOk result (At (spaces_of service.old) (spaces_of service.new) conn.namespace (λ was is. Goes conn.number was is (λ s t. Carried (config_of was) conn.number C.reads L.loads
-        (world was s (outside (R.remaining (device reader.old)) (W.contents (device writer.old)) clock.old loader.old))
-        (world is t (outside (R.remaining (device reader.new)) (W.contents (device writer.new)) clock.new loader.new)) false false [] nothing_left))) }
+    ensures ok { OnOk result (Carries C.reads L.loads (spaces_of service.old) (spaces_of service.new) conn.namespace conn.number
+        (outside (R.remaining (device reader.old)) (W.contents (device writer.old)) clock.old loader.old)
+        (outside (R.remaining (device reader.new)) (W.contents (device writer.new)) clock.new loader.new) taken.old.items taken.new.items) }
     ensures goes { IfOk result (λ progress. Connected (spaces_of service.new) conn.namespace conn.number (LeavesSo progress (R.remaining (device reader.new)))) }
-    ensures err { IfErr result (λ e. At (spaces_of service.old) (spaces_of service.new) conn.namespace (λ was is. Goes conn.number was is (λ s t. Broken (config_of was) conn.number C.reads L.loads
-        (world was s (outside (R.remaining (device reader.old)) (W.contents (device writer.old)) clock.old loader.old))
-        (world is t (outside (R.remaining (device reader.new)) (W.contents (device writer.new)) clock.new loader.new)) false false [] e))) }
+    ensures err { IfErr result (λ e. Breaks C.reads L.loads (spaces_of service.old) (spaces_of service.new) conn.namespace conn.number
+        (outside (R.remaining (device reader.old)) (W.contents (device writer.old)) clock.old loader.old)
+        (outside (R.remaining (device reader.new)) (W.contents (device writer.new)) clock.new loader.new) taken.old.items e) }
     ensures left { OnErr result (Connected (spaces_of service.new) conn.namespace conn.number IsFed) }
     ensures read { IsErrOf result RunError.Read → HasFailed (failures reader.old) (failures reader.new) }
     ensures write { IsErrOf result RunError.Write → HasFailed (failures writer.old) (failures writer.new) }

@@ -2,3 +2,4 @@ pub mod Steps
 pub mod Events
 pub mod Apart
 pub mod Closed
+pub mod Keys

@@ -4,6 +4,7 @@
 ghost use Rattle.run_laws.specs.Alone.{RecordsAlone};
 ghost use Rattle.run_laws.specs.Apart.{RecordsApart};
 ghost use Rattle.run_laws.specs.Closed.{ClosedUnwaited, GivesUpUnwaited};
+ghost use Rattle.run_laws.specs.Keys.{RecordsKeepKeys};
 
 /// A record that follows where no other connection waits for a load has steps of that connection alone, and leaves it so.
 pub fn records_alone()
@@ -23,4 +24,9 @@ pub fn closed_unwaited()
 /// A give-up where nobody waits has no steps, and takes its load away alone.
 pub fn gives_up_unwaited()
     ensures { GivesUpUnwaited }
+{}
+
+/// A record that follows leaves each load that was sent its key: a new load has another number.
+pub fn records_keep_keys()
+    ensures { RecordsKeepKeys }
 {}

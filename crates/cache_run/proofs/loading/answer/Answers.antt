@@ -5,7 +5,7 @@ use Rattle.cache_run.specs.Connected.{IsFed, IsTaken}
 use Rattle.cache_run.specs.Happened.{asking_of}
 use Rattle.cache_run.proofs.Connecting.{connected-map, refused-here}
 use Rattle.cache_run.proofs.Placing.{at-map}
-use Rattle.cache_run.proofs.Refusing.{answer-late, answer-refused}
+use Rattle.cache_run.proofs.Refusing.{answer-late, answer-refused, answer-unknown}
 use Rattle.cache_run.proofs.Settling.{at-answer, at-dropped, connected-kept, connected-settled}
 use Rattle.cache_run.proofs.loading.answer.Goals as goal
 
@@ -30,8 +30,8 @@ returns-in-OutOfMemory-clause-err c =
 pub returns-in-NoLoad-clause-settled : goal.returns-in-NoLoad-clause-settled
 returns-in-NoLoad-clause-settled c = λ yes.
     let r = c.requires.taken in
-    let a = at-map _ SameSpace _ _ _ (refused-here _ _ _ _ _ r.space r.at c.in-Err.ensures.refused) (λ x y p. p.0) in
-    at-map _ _ _ _ _ (at-dropped _ _ _ _ c.args.moment r a) (λ x y goes key. goes (asking_of key (Some c.args.outcome)))
+    let a = at-map _ _ _ _ _ (refused-here _ _ _ error.NoLoad _ r.space r.at (rw c.in-NoLoad.is at c.in-Err.ensures.refused)) (λ x y p. (p.0, answer-unknown x c.args.load c.args.outcome c.args.moment p.1)) in
+    at-map _ _ _ _ _ (at-dropped _ _ _ _ c.args.moment r c.args.load a) (λ x y goes key. goes (asking_of key (Some c.args.outcome)))
 
 pub returns-in-NoLoad-clause-left : goal.returns-in-NoLoad-clause-left
 returns-in-NoLoad-clause-left c = λ yes.

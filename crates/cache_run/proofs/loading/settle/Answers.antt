@@ -4,13 +4,13 @@ use Rattle.cache_run.proofs.Settling.{at-refused-outcome, at-said, at-unsaid, co
 use Rattle.cache_run.proofs.loading.settle.Goals as goal
 
 pub returns-in-None-clause-ok : goal.returns-in-None-clause-ok
-returns-in-None-clause-ok c = on-ok _ _ c.give_up.result c.give_up.ensures.ok (λ a. at-unsaid _ _ _ _ c.args.moment c.args.said c.in-None.is a)
+returns-in-None-clause-ok c = on-ok _ _ c.give_up.result c.give_up.ensures.ok (λ a. at-unsaid _ _ _ _ c.args.load c.args.moment c.args.said c.in-None.is a)
 
 pub give_up-requires-in-Ok-false : goal.give_up-requires-in-Ok-false
 give_up-requires-in-Ok-false c = record { taken = connected-kept _ _ _ _ c.requires.taken (at-map _ SameSpace _ _ _ (c.in-Ok-false.ensures.refused c.in-Ok-false.field-0-test) (λ x y p. p.0)) }
 
 pub returns-in-Ok-true-clause-ok : goal.returns-in-Ok-true-clause-ok
-returns-in-Ok-true-clause-ok c = at-said _ _ _ _ c.args.moment c.args.said _ c.in-Some.is (c.in-Ok-true.ensures.settled c.in-Ok-true.field-0-test)
+returns-in-Ok-true-clause-ok c = at-said _ _ _ _ c.args.load c.args.moment c.args.said _ c.in-Some.is (c.in-Ok-true.ensures.settled c.in-Ok-true.field-0-test)
 
 pub returns-in-Ok-true-clause-left : goal.returns-in-Ok-true-clause-left
 returns-in-Ok-true-clause-left c = c.in-Ok-true.ensures.left c.in-Ok-true.field-0-test
@@ -18,7 +18,7 @@ returns-in-Ok-true-clause-left c = c.in-Ok-true.ensures.left c.in-Ok-true.field-
 pub returns-in-Ok-false-clause-ok : goal.returns-in-Ok-false-clause-ok
 returns-in-Ok-false-clause-ok c =
     on-ok _ _ c.give_up-in-Ok-false.result c.give_up-in-Ok-false.ensures.ok (λ a.
-    at-said _ _ _ _ c.args.moment c.args.said _ c.in-Some.is (at-refused-outcome _ _ _ _ _ c.args.moment c.in-Some.outcome (c.in-Ok-false.ensures.refused c.in-Ok-false.field-0-test) a))
+    at-said _ _ _ _ c.args.load c.args.moment c.args.said _ c.in-Some.is (at-refused-outcome _ _ _ _ _ c.args.load c.args.moment c.in-Some.outcome (c.in-Ok-false.ensures.refused c.in-Ok-false.field-0-test) a))
 
 pub returns-in-Ok-false-clause-err : goal.returns-in-Ok-false-clause-err
 returns-in-Ok-false-clause-err c =

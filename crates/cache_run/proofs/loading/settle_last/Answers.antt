@@ -1,24 +1,26 @@
-use Rattle.std.proofs.Common.{◌≡◌, [], ◌∷◌, ⊎_elim, refl, sym, ◌∙◌, arith}
+use Rattle.std.proofs.Common.{◌≡◌, [], ◌∷◌, ap, ⊎_elim, refl, sym, ◌∙◌, arith}
+use Rattle.std.specs.Option.{option_copied}
 use Rattle.cache_run.specs.Connected.{IsFed, IsTaken}
 use Rattle.cache_run.specs.Happened.{asking_of}
 use Rattle.cache_run.specs.declared.errors.RunError.TheVariants.{Moment, UsedUp, Write}
+use Rattle.cache_run.proofs.Knowing.{known-parts}
 use Rattle.cache_run.proofs.Carrying.{same_consumes}
 use Rattle.cache_run.proofs.Connecting.{connected-map}
-use Rattle.cache_run.proofs.Delivering.{at-unanswered, at-unsent, at-written}
+use Rattle.cache_run.proofs.Delivering.{at-unanswered}
 use Rattle.cache_run.proofs.Going.{at-but-loads, at-refused}
 use Rattle.cache_run.proofs.Settling.{connected-kept, same-here}
-use Rattle.cache_run.proofs.Turning.{asked-fewer, asked-one, at-carried-same, turn-broken, turn-one}
+use Rattle.cache_run.proofs.Turning.{asked-fewer, asked-one, at-carried-same, at-none-taken, settled-broken, settled-one, turn-broken}
 use Rattle.cache_run.proofs.loading.settle_last.Goals as goal
 
 pub returns-in-None-clause-ok : goal.returns-in-None-clause-ok
-returns-in-None-clause-ok g c = λ remaining. at-carried-same g.C.Clock.reads g.L.Loader.loads _ _ _ _ _ (at-but-loads _ _ _ (same-here _ _ _ c.requires.taken))
+returns-in-None-clause-ok g c = λ remaining. at-carried-same g.C.Clock.reads g.L.Loader.loads _ _ _ _ _ _ _ (at-none-taken _ _ _ _ (at-but-loads _ _ _ (same-here _ _ _ c.requires.taken)))
 
 pub returns-in-Err-clause-err : goal.returns-in-Err-clause-err
 returns-in-Err-clause-err g c = λ remaining.
     let moment = c.now-moment.result in
     let asks = asking_of c.as_slice.result.now c.load.result ∷ [] in
     let refused = c.in-Err.ensures.err in
-    turn-broken g.C.Clock.reads g.L.Loader.loads _ _ _ _ [] moment asks _ _ _ _ _ _ _ _ _ (at-unanswered _ _ _ _ [] moment asks _ _ (at-refused _ _ _ _ [] moment asks _ refused.0 refused.1))
+    turn-broken g.C.Clock.reads g.L.Loader.loads _ _ _ _ _ [] moment asks _ _ _ _ _ _ _ _ _ (at-unanswered _ _ _ _ [] moment asks _ _ (at-refused _ _ _ _ [] moment asks _ refused.0 refused.1))
     (same_consumes remaining) c.now-moment.ensures (c.load.new.self, c.load.ensures, refl)
 
 pub returns-in-Err-clause-left : goal.returns-in-Err-clause-left
@@ -31,9 +33,7 @@ pub returns-in-Ok-write_replies-clause-ok : goal.returns-in-Ok-write_replies-cla
 returns-in-Ok-write_replies-clause-ok g c = λ remaining.
     let moment = c.now-moment.result in
     let key = c.as_slice.result.now in
-    let asks = asking_of key c.load.result ∷ [] in
-    turn-one g.C.Clock.reads g.L.Loader.loads _ _ _ _ [] moment asks _ _ _ _ _ _ _ _ (at-written _ _ _ _ [] moment asks _ _ _ _ c.deref-2.ensures.value c.in-Ok-write_replies.ensures.ok (c.in-Ok.ensures.ok key))
-    (same_consumes remaining) c.now-moment.ensures (c.load.new.self, c.load.ensures, refl)
+    settled-one g.C.Clock.reads g.L.Loader.loads _ _ _ _ _ _ _ moment (asking_of key c.load.result) _ _ _ _ _ _ _ _ _ (λ s known. known-parts c.args.taken.now.items _ _ _ c.in-Some.field-0.now _ key _ s c.deref.ensures.value c.last.ensures.value (ap option_copied c.in-Some.is) c.as_slice.ensures c.pop.ensures.rest known) c.deref-2.ensures.value c.in-Ok-write_replies.ensures.ok (c.in-Ok.ensures.ok key) c.now-moment.ensures (c.load.new.self, c.load.ensures, refl)
 
 pub returns-in-Ok-write_replies-clause-asks : goal.returns-in-Ok-write_replies-clause-asks
 returns-in-Ok-write_replies-clause-asks g c = asked-fewer g.L.Loader.loads _ _ 1 0 (omega arith) (asked-one g.L.Loader.loads _ _ _ _ c.load.ensures)
@@ -45,12 +45,9 @@ pub returns-clause-err : goal.returns-clause-err
 returns-clause-err g c = λ remaining.
     let moment = c.now-moment.result in
     let key = c.as_slice.result.now in
-    let asks = asking_of key c.load.result ∷ [] in
     let sent = c.in-Err-write_replies.ensures.err in
-    turn-broken g.C.Clock.reads g.L.Loader.loads _ _ _ _ [] moment asks _ _ _ _ _ _ _ _ _
-    (at-unsent _ _ _ _ [] moment asks _ _ sent.0 _ _ _ c.deref-2.ensures.value sent.1
-    (λ is. ⊎_elim (λ e. let h : Write ≡ Moment = sym e ∙ is in cc) (λ e. let h : UsedUp ≡ Moment = sym e ∙ is in cc) c.in-Err-write_replies.ensures.causes) (c.in-Ok.ensures.ok key))
-    (same_consumes remaining) c.now-moment.ensures (c.load.new.self, c.load.ensures, refl)
+    settled-broken g.C.Clock.reads g.L.Loader.loads _ _ _ _ _ _ moment (asking_of key c.load.result) _ _ sent.0 _ _ _ _ _ _ _ _ (λ s known. (known-parts c.args.taken.now.items _ _ _ c.in-Some.field-0.now _ key _ s c.deref.ensures.value c.last.ensures.value (ap option_copied c.in-Some.is) c.as_slice.ensures c.pop.ensures.rest known).0) c.deref-2.ensures.value sent.1
+    (λ is. ⊎_elim (λ e. let h : Write ≡ Moment = sym e ∙ is in cc) (λ e. let h : UsedUp ≡ Moment = sym e ∙ is in cc) c.in-Err-write_replies.ensures.causes) (c.in-Ok.ensures.ok key) c.now-moment.ensures (c.load.new.self, c.load.ensures, refl)
 
 pub returns-clause-asks : goal.returns-clause-asks
 returns-clause-asks g c = asked-fewer g.L.Loader.loads _ _ 1 0 (omega arith) (asked-one g.L.Loader.loads _ _ _ _ c.load.ensures)

@@ -10,7 +10,7 @@ use Rattle.cache_run.proofs.loading.settle_loads.Given as goal
 abbrev pub invariant-loop-turn : goal.invariant-loop-turn
 invariant-loop-turn g l = record {
   carried : (remaining : Option (List ℕ)) → Carries g.C.Clock.reads g.L.Loader.loads (spaces_of l.fn.service) (spaces_of l.service) l.fn.conn.namespace l.fn.conn.number
-      (outside remaining (g.W.Write.contents (device l.fn.writer)) l.fn.clock l.fn.loader) (outside remaining (g.W.Write.contents (device l.writer)) l.clock l.loader);
+      (outside remaining (g.W.Write.contents (device l.fn.writer)) l.fn.clock l.fn.loader) (outside remaining (g.W.Write.contents (device l.writer)) l.clock l.loader) l.fn.taken.items l.taken.items;
   taken : Connected (spaces_of l.service) l.fn.conn.namespace l.fn.conn.number IsTaken;
   writes : failures l.fn.writer ≤ failures l.writer;
   asked : HasAsked g.L.Loader.loads l.fn.loader l._turn l.loader;

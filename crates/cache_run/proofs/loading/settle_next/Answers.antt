@@ -4,23 +4,23 @@ use Rattle.cache_run.proofs.Turning.{at-broken-more, at-carried-more, at-carried
 use Rattle.cache_run.proofs.loading.settle_next.Goals as goal
 
 pub returns-in-Ok-false-clause-ok : goal.returns-in-Ok-false-clause-ok
-returns-in-Ok-false-clause-ok g c = λ remaining. at-carried-more g.C.Clock.reads g.L.Loader.loads _ _ _ _ _ _ _ _ (at-carried-same g.C.Clock.reads g.L.Loader.loads _ _ _ _ _ c.take_more.ensures.same) (c.in-Ok-false.ensures.ok remaining)
+returns-in-Ok-false-clause-ok g c = λ remaining. at-carried-more g.C.Clock.reads g.L.Loader.loads _ _ _ _ _ _ _ _ _ _ _ (at-carried-same g.C.Clock.reads g.L.Loader.loads _ _ _ _ _ _ _ c.take_more.ensures.same) (c.in-Ok-false.ensures.ok remaining)
 
 pub returns-in-Err-clause-err : goal.returns-in-Err-clause-err
-returns-in-Err-clause-err g c = λ remaining. at-broken-more g.C.Clock.reads g.L.Loader.loads _ _ _ _ _ _ _ _ _ (at-carried-same g.C.Clock.reads g.L.Loader.loads _ _ _ _ _ c.take_more.ensures.same) (c.in-Err.ensures.err remaining)
+returns-in-Err-clause-err g c = λ remaining. at-broken-more g.C.Clock.reads g.L.Loader.loads _ _ _ _ _ _ _ _ _ _ _ (at-carried-same g.C.Clock.reads g.L.Loader.loads _ _ _ _ _ _ _ c.take_more.ensures.same) (c.in-Err.ensures.err remaining)
 
 pub returns-in-Over-clause-ok : goal.returns-in-Over-clause-ok
-returns-in-Over-clause-ok g c = λ remaining. at-carried-more g.C.Clock.reads g.L.Loader.loads _ _ _ _ _ _ _ _ (at-carried-same g.C.Clock.reads g.L.Loader.loads _ _ _ _ _ c.take_more.ensures.same) (c.in-Ok-true.ensures.ok remaining)
+returns-in-Over-clause-ok g c = λ remaining. at-carried-more g.C.Clock.reads g.L.Loader.loads _ _ _ _ _ _ _ _ _ _ _ (at-carried-same g.C.Clock.reads g.L.Loader.loads _ _ _ _ _ _ _ c.take_more.ensures.same) (c.in-Ok-true.ensures.ok remaining)
 
 pub deliver-requires : goal.deliver-requires
 deliver-requires g c = record { ready = c.in-More.ensures None }
 
 pub returns-in-Ok-clause-ok : goal.returns-in-Ok-clause-ok
 returns-in-Ok-clause-ok g c = λ remaining.
-    at-carried-more g.C.Clock.reads g.L.Loader.loads _ _ _ _ _ _ _ _ (at-carried-more g.C.Clock.reads g.L.Loader.loads _ _ _ _ _ _ _ _ (at-carried-same g.C.Clock.reads g.L.Loader.loads _ _ _ _ _ c.take_more.ensures.same) (c.in-Ok-true.ensures.ok remaining))
-    (turn-one g.C.Clock.reads g.L.Loader.loads _ _ _ _ _ _ [] _ _ _ _ _ _ _ _ c.in-Ok.ensures.ok (same_consumes remaining) c.now-moment.ensures refl)
+    at-carried-more g.C.Clock.reads g.L.Loader.loads _ _ _ _ _ _ _ _ _ _ _ (at-carried-more g.C.Clock.reads g.L.Loader.loads _ _ _ _ _ _ _ _ _ _ _ (at-carried-same g.C.Clock.reads g.L.Loader.loads _ _ _ _ _ _ _ c.take_more.ensures.same) (c.in-Ok-true.ensures.ok remaining))
+    (turn-one g.C.Clock.reads g.L.Loader.loads _ _ _ _ _ _ _ [] _ _ _ _ _ _ _ _ c.in-Ok.ensures.ok (same_consumes remaining) c.now-moment.ensures refl)
 
 pub returns-in-Err-deliver-clause-err : goal.returns-in-Err-deliver-clause-err
 returns-in-Err-deliver-clause-err g c = λ remaining.
-    at-broken-more g.C.Clock.reads g.L.Loader.loads _ _ _ _ _ _ _ _ _ (at-carried-more g.C.Clock.reads g.L.Loader.loads _ _ _ _ _ _ _ _ (at-carried-same g.C.Clock.reads g.L.Loader.loads _ _ _ _ _ c.take_more.ensures.same) (c.in-Ok-true.ensures.ok remaining))
-    (turn-broken g.C.Clock.reads g.L.Loader.loads _ _ _ _ _ _ [] _ _ _ _ _ _ _ _ _ c.in-Err-deliver.ensures.err (same_consumes remaining) c.now-moment.ensures refl)
+    at-broken-more g.C.Clock.reads g.L.Loader.loads _ _ _ _ _ _ _ _ _ _ _ (at-carried-more g.C.Clock.reads g.L.Loader.loads _ _ _ _ _ _ _ _ _ _ _ (at-carried-same g.C.Clock.reads g.L.Loader.loads _ _ _ _ _ _ _ c.take_more.ensures.same) (c.in-Ok-true.ensures.ok remaining))
+    (turn-broken g.C.Clock.reads g.L.Loader.loads _ _ _ _ _ _ _ [] _ _ _ _ _ _ _ _ _ c.in-Err-deliver.ensures.err (same_consumes remaining) c.now-moment.ensures refl)

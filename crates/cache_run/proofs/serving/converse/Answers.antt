@@ -1,14 +1,14 @@
-use Rattle.std.proofs.Common.{◌≡◌, ◌^◌, ◌-◌, ⊎_elim, arith, inl, inr}
+use Rattle.std.proofs.Common.{◌≡◌, ◌^◌, ◌-◌, [], ⊎_elim, arith, inl, inr}
 use Rattle.cache_devices.proofs.Sending.{failed_after}
 use Rattle.cache_run.specs.Connected.{IsFed, IsReady}
 use Rattle.cache_run.specs.declared.errors.RunError.TheVariants.{Moment, UsedUp}
 use Rattle.cache_run.proofs.Connecting.{connected-map}
-use Rattle.cache_run.proofs.Turning.{asked-fewer, asked-more, asked-none, at-broken, at-broken-more, at-carried-more, at-carried-start, still-err, turns-more, turns-none}
+use Rattle.cache_run.proofs.Turning.{asked-fewer, asked-more, asked-none, at-broken, at-fresh, at-fresh-broken, at-broken-more, at-carried-more, at-carried-start, still-err, turns-more, turns-none}
 use Rattle.cache_run.proofs.serving.converse.Goals as goal
 
 pub loop-turn-init : goal.loop-turn-init
 loop-turn-init g c = record {
-  carried = at-carried-start g.C.Clock.reads g.L.Loader.loads _ _ _ _ c.requires.ready;
+  carried = at-carried-start g.C.Clock.reads g.L.Loader.loads _ _ _ _ _ c.requires.fresh c.requires.ready;
   ready = c.requires.ready;
   reads = omega arith;
   writes = omega arith;
@@ -19,7 +19,7 @@ loop-turn-init g c = record {
 
 pub loop-turn-preserved : goal.loop-turn-preserved
 loop-turn-preserved g c = record {
-  carried = at-carried-more g.C.Clock.reads g.L.Loader.loads _ _ _ _ _ _ _ _ c.loop-turn.invariant.carried c.in-Ok-More.ensures.ok;
+  carried = at-carried-more g.C.Clock.reads g.L.Loader.loads _ _ _ _ _ _ _ _ [] _ _ c.loop-turn.invariant.carried c.in-Ok-More.ensures.ok;
   ready = rw c.in-Ok-More.field-0-is at c.in-Ok-More.ensures.goes;
   reads = omega (arith, c.loop-turn.invariant.reads, c.in-Ok-More.ensures.reads);
   writes = omega (arith, c.loop-turn.invariant.writes, c.in-Ok-More.ensures.writes);
@@ -29,13 +29,15 @@ loop-turn-preserved g c = record {
 }
 
 pub returns-in-Ok-Over-clause-ok : goal.returns-in-Ok-Over-clause-ok
-returns-in-Ok-Over-clause-ok g c = at-carried-more g.C.Clock.reads g.L.Loader.loads _ _ _ _ _ _ _ _ c.loop-turn.invariant.carried c.in-Ok-Over.ensures.ok
+returns-in-Ok-Over-clause-ok g c =
+    at-fresh g.C.Clock.reads g.L.Loader.loads _ _ _ _ _ _ _ (at-carried-more g.C.Clock.reads g.L.Loader.loads _ _ _ _ _ _ _ _ [] _ _ c.loop-turn.invariant.carried c.in-Ok-Over.ensures.ok)
 
 pub returns-in-Ok-Over-clause-over : goal.returns-in-Ok-Over-clause-over
 returns-in-Ok-Over-clause-over g c = rw c.in-Ok-Over.field-0-is at c.in-Ok-Over.ensures.goes
 
 pub returns-in-Err-clause-err : goal.returns-in-Err-clause-err
-returns-in-Err-clause-err g c = at-broken-more g.C.Clock.reads g.L.Loader.loads _ _ _ _ _ _ _ _ _ c.loop-turn.invariant.carried c.in-Err.ensures.err
+returns-in-Err-clause-err g c =
+    at-fresh-broken g.C.Clock.reads g.L.Loader.loads _ _ _ _ _ _ _ (at-broken-more g.C.Clock.reads g.L.Loader.loads _ _ _ _ _ _ _ _ [] _ _ c.loop-turn.invariant.carried c.in-Err.ensures.err)
 
 pub returns-in-Err-clause-used_up : goal.returns-in-Err-clause-used_up
 returns-in-Err-clause-used_up g c = λ is.
@@ -43,7 +45,8 @@ returns-in-Err-clause-used_up g c = λ is.
     (λ asked. inr (inr (inr (asked-fewer g.L.Loader.loads _ _ _ (2 ^ 64 - 1) (omega arith) (asked-more g.L.Loader.loads _ _ _ 0 (2 ^ 64 - 1) c.loop-turn.invariant.asked asked))))) (c.in-Err.ensures.used_up (still-err c.in-Err.error UsedUp is))
 
 pub returns-clause-err : goal.returns-clause-err
-returns-clause-err g c = at-broken g.C.Clock.reads g.L.Loader.loads _ _ _ _ _ _ _ _ _ _ _ _ UsedUp (λ is. let h : UsedUp ≡ Moment = is in cc) c.loop-turn.invariant.carried
+returns-clause-err g c =
+    at-fresh-broken g.C.Clock.reads g.L.Loader.loads _ _ _ _ _ _ _ (at-broken g.C.Clock.reads g.L.Loader.loads _ _ _ _ _ _ [] _ UsedUp (λ is. let h : UsedUp ≡ Moment = is in cc) c.loop-turn.invariant.carried)
 
 pub returns-clause-left : goal.returns-clause-left
 returns-clause-left g c = connected-map IsReady IsFed _ _ _ c.loop-turn.invariant.ready (λ x left. inl left.0)

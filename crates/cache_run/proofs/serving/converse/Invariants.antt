@@ -1,22 +1,18 @@
-use Rattle.std.proofs.Common.{◌⊎◌, ◌≤◌, ◌<◌, [], false, length}
+use Rattle.std.proofs.Common.{◌⊎◌, ◌≤◌, ◌<◌, [], length}
 use Rattle.cache_devices.specs.Watched.{device, failures}
-use Rattle.cache_spaces.specs.Moves.{At}
 use Rattle.cache_spaces.specs.Services.{spaces_of}
-use Rattle.cache_spaces.specs.Spaces.{config_of}
-use Rattle.cache_run.specs.Carried.{Carried, nothing_left}
+use Rattle.cache_run.specs.Loading.{Carries}
 use Rattle.cache_run.specs.Connected.{Connected, IsReady}
-use Rattle.cache_run.specs.Goes.{Goes}
 use Rattle.cache_run.specs.Turns.{HasAsked, HasRead}
 use Rattle.cache_devices.specs.Failures.{HasFailed}
-use Rattle.cache_run.specs.Worlds.{outside, world}
+use Rattle.cache_run.specs.Worlds.{outside}
 use Rattle.cache_run.proofs.serving.converse.Given as goal
 
 abbrev pub invariant-loop-turn : goal.invariant-loop-turn
 invariant-loop-turn g l = record {
-  carried : At (spaces_of l.fn.service) (spaces_of l.service) l.fn.conn.namespace
-      (λ was is. Goes l.fn.conn.number was is (λ s t. Carried (config_of was) l.fn.conn.number g.C.Clock.reads g.L.Loader.loads
-      (world was s (outside (g.R.Read.remaining (device l.fn.reader)) (g.W.Write.contents (device l.fn.writer)) l.fn.clock l.fn.loader))
-      (world is t (outside (g.R.Read.remaining (device l.reader)) (g.W.Write.contents (device l.writer)) l.clock l.loader)) false false [] nothing_left));
+  carried : Carries g.C.Clock.reads g.L.Loader.loads (spaces_of l.fn.service) (spaces_of l.service) l.fn.conn.namespace l.fn.conn.number
+      (outside (g.R.Read.remaining (device l.fn.reader)) (g.W.Write.contents (device l.fn.writer)) l.fn.clock l.fn.loader)
+      (outside (g.R.Read.remaining (device l.reader)) (g.W.Write.contents (device l.writer)) l.clock l.loader) [] l.taken.items;
   ready : Connected (spaces_of l.service) l.fn.conn.namespace l.fn.conn.number IsReady;
   reads : failures l.fn.reader ≤ failures l.reader;
   writes : failures l.fn.writer ≤ failures l.writer;

@@ -9,27 +9,27 @@ use Rattle.cache_run.proofs.Turning.{at-broken, at-broken-more, at-carried-more,
 use Rattle.cache_run.proofs.turns.take_turn.Goals as goal
 
 pub returns-then-eq-clause-ok : goal.returns-then-eq-clause-ok
-returns-then-eq-clause-ok g c = turn-none g.C.Clock.reads g.L.Loader.loads _ _ _ _ _ _ _ _ c.requires.ready (consumes_none _ _ c.in-Err.ensures.bytes)
+returns-then-eq-clause-ok g c = turn-none g.C.Clock.reads g.L.Loader.loads _ _ _ _ _ _ _ _ _ c.requires.ready (consumes_none _ _ c.in-Err.ensures.bytes)
 
 pub returns-in-Err-clause-err : goal.returns-in-Err-clause-err
 returns-in-Err-clause-err g c =
-    at-broken g.C.Clock.reads g.L.Loader.loads _ _ _ _ _ _ _ _ _ _ _ _ Read (λ is. let h : Read ≡ Moment = is in cc)
-    (turn-none g.C.Clock.reads g.L.Loader.loads _ _ _ _ _ _ _ _ c.requires.ready (consumes_none _ _ c.in-Err.ensures.bytes))
+    at-broken g.C.Clock.reads g.L.Loader.loads _ _ _ _ _ _ _ _ Read (λ is. let h : Read ≡ Moment = is in cc)
+    (turn-none g.C.Clock.reads g.L.Loader.loads _ _ _ _ _ _ _ _ _ c.requires.ready (consumes_none _ _ c.in-Err.ensures.bytes))
 
 pub returns-then-count-eq0-clause-ok : goal.returns-then-count-eq0-clause-ok
-returns-then-count-eq0-clause-ok g c = turn-none g.C.Clock.reads g.L.Loader.loads _ _ _ _ _ _ _ _ c.requires.ready (rw c.if-count-eq0.true at c.in-Ok.ensures.bytes.0)
+returns-then-count-eq0-clause-ok g c = turn-none g.C.Clock.reads g.L.Loader.loads _ _ _ _ _ _ _ _ _ c.requires.ready (rw c.if-count-eq0.true at c.in-Ok.ensures.bytes.0)
 
 pub returns-in-Err-deliver-clause-err : goal.returns-in-Err-deliver-clause-err
-returns-in-Err-deliver-clause-err g c = turn-broken g.C.Clock.reads g.L.Loader.loads _ _ _ _ _ _ [] _ _ _ _ _ _ _ _ _ c.in-Err-deliver.ensures.err c.in-Ok.ensures.bytes.0 c.now-moment.ensures refl
+returns-in-Err-deliver-clause-err g c = turn-broken g.C.Clock.reads g.L.Loader.loads _ _ _ _ _ _ _ [] _ _ _ _ _ _ _ _ _ c.in-Err-deliver.ensures.err c.in-Ok.ensures.bytes.0 c.now-moment.ensures refl
 
 pub returns-in-Ok-settle_loads-clause-ok : goal.returns-in-Ok-settle_loads-clause-ok
 returns-in-Ok-settle_loads-clause-ok g c =
-    at-carried-more g.C.Clock.reads g.L.Loader.loads _ _ _ _ _ _ _ _ (turn-one g.C.Clock.reads g.L.Loader.loads _ _ _ _ _ _ [] _ _ _ _ _ _ _ _ c.in-Ok-deliver.ensures.ok c.in-Ok.ensures.bytes.0 c.now-moment.ensures refl)
+    at-carried-more g.C.Clock.reads g.L.Loader.loads _ _ _ _ _ _ _ _ _ _ _ (turn-one g.C.Clock.reads g.L.Loader.loads _ _ _ _ _ _ _ [] _ _ _ _ _ _ _ _ c.in-Ok-deliver.ensures.ok c.in-Ok.ensures.bytes.0 c.now-moment.ensures refl)
     (c.in-Ok-settle_loads.ensures.ok (g.R.Read.remaining (device c.read.new.self)))
 
 pub returns-in-Err-settle_loads-clause-err : goal.returns-in-Err-settle_loads-clause-err
 returns-in-Err-settle_loads-clause-err g c =
-    at-broken-more g.C.Clock.reads g.L.Loader.loads _ _ _ _ _ _ _ _ _ (turn-one g.C.Clock.reads g.L.Loader.loads _ _ _ _ _ _ [] _ _ _ _ _ _ _ _ c.in-Ok-deliver.ensures.ok c.in-Ok.ensures.bytes.0 c.now-moment.ensures refl)
+    at-broken-more g.C.Clock.reads g.L.Loader.loads _ _ _ _ _ _ _ _ _ _ _ (turn-one g.C.Clock.reads g.L.Loader.loads _ _ _ _ _ _ _ [] _ _ _ _ _ _ _ _ c.in-Ok-deliver.ensures.ok c.in-Ok.ensures.bytes.0 c.now-moment.ensures refl)
     (c.in-Err-settle_loads.ensures.err (g.R.Read.remaining (device c.read.new.self)))
 
 pub returns-in-Err-settle_loads-clause-used_up : goal.returns-in-Err-settle_loads-clause-used_up
