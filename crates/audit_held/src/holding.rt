@@ -22,7 +22,7 @@ use std::marker::Model;
 pub struct Holding {
     alloc: Global,
     table: Table,
-    open: BTreeSet<Vec<u8>>,
+    open_keys: BTreeSet<Vec<u8>>,
     marks: Vec<u64>,
     weights: Vec<u128>,
     total: u128,
@@ -37,12 +37,12 @@ impl Model for Holding {
 
     ghost Value = { List HeldValue };
 
-    ghost view = { λ h. map (held_by h.open h.marks.items) h.table };
+    ghost view = { λ h. map (held_by h.open_keys h.marks.items) h.table };
 }
 
 /// A value as it is lent.
-fn lend<'a>(open: &BTreeSet<Vec<u8>>, marks: &[u64], key: &'a [u8], kept: &'a Kept) -> Seen<'a>
-    ensures { held_of result ≡ held_by open.now marks.now (slot_of key.now kept.now) }
+fn lend<'a>(keys: &BTreeSet<Vec<u8>>, marks: &[u64], key: &'a [u8], kept: &'a Kept) -> Seen<'a>
+    ensures { held_of result ≡ held_by keys.now marks.now (slot_of key.now kept.now) }
 {
     Seen {
         key,
@@ -52,7 +52,7 @@ fn lend<'a>(open: &BTreeSet<Vec<u8>>, marks: &[u64], key: &'a [u8], kept: &'a Ke
         accepted_at: kept.accepted_at,
         own_deadline: kept.own_deadline,
         last_use: kept.last_use,
-        covered: !is_open(open, key),
+        covered: !is_open(keys, key),
         evictable: kept.stamp < mark_at(marks, kept.part as usize),
     }
 }
@@ -61,26 +61,26 @@ fn lend<'a>(open: &BTreeSet<Vec<u8>>, marks: &[u64], key: &'a [u8], kept: &'a Ke
 fn lend_all<'a>(
     alloc: Global,
     table: &'a Table,
-    open: &BTreeSet<Vec<u8>>,
+    keys: &BTreeSet<Vec<u8>>,
     marks: &[u64],
 ) -> Result<Vec<Seen<'a>>, AllocError>
-    ensures { IfOk result (λ all. reverse (map held_of all.items) ≡ map (held_by open.now marks.now) table.now) }
+    ensures { IfOk result (λ all. reverse (map held_of all.items) ≡ map (held_by keys.now marks.now) table.now) }
 {
     let mut all = Vec::with_capacity(alloc, table.len())?;
     for (key, kept) in table.iter() {
-        all.push(lend(open, marks, key.as_slice(), kept))?;
+        all.push(lend(keys, marks, key.as_slice(), kept))?;
     }
     Ok(all)
 }
 
 /// A value as it is handed out; its key is closed.
-fn hand_out(open: &mut BTreeSet<Vec<u8>>, marks: &[u64], key: Vec<u8>, kept: Kept) -> Held
-    ensures value { result ≡ held_by open.old marks.now (slot_of key.items kept) }
-    ensures closed { (q : List ℕ) → is_open q open.new ≡ cond (same key.items q) false (is_open q open.old) }
+fn hand_out(keys: &mut BTreeSet<Vec<u8>>, marks: &[u64], key: Vec<u8>, kept: Kept) -> Held
+    ensures value { result ≡ held_by keys.old marks.now (slot_of key.items kept) }
+    ensures closed { (q : List ℕ) → is_open q keys.new ≡ cond (same key.items q) false (is_open q keys.old) }
 {
-    let covered = !is_open(open, key.as_slice());
+    let covered = !is_open(keys, key.as_slice());
     let evictable = kept.stamp < mark_at(marks, kept.part as usize);
-    close_key(open, &key);
+    close_key(keys, &key);
     Held::from_kept(key, kept, covered, evictable)
 }
 
@@ -92,7 +92,7 @@ impl Holding {
         Ok(Holding {
             alloc,
             table: Table::new(alloc)?,
-            open: BTreeSet::new(alloc),
+            open_keys: BTreeSet::new(alloc),
             marks: vec![in alloc; 0; 256]?,
             weights: vec![in alloc; 0; 256]?,
             total: 0,
@@ -128,7 +128,7 @@ impl Holding {
         ensures { option_map held_of result ≡ find (λ h. same key.now h.value.key) self.now }
     {
         match self.table.get(key) {
-            Some(kept) => Some(lend(&self.open, &self.marks, key, kept)),
+            Some(kept) => Some(lend(&self.open_keys, &self.marks, key, kept)),
             None => None,
         }
     }
@@ -146,7 +146,7 @@ impl Holding {
                 let weight = weight_at(&self.weights, part) - u128::from(kept.weight);
                 put_weight(&mut self.weights, part, weight);
                 self.total -= u128::from(kept.weight);
-                Some(hand_out(&mut self.open, &self.marks, key, kept))
+                Some(hand_out(&mut self.open_keys, &self.marks, key, kept))
             }
             None => None,
         }
@@ -165,7 +165,7 @@ impl Holding {
         let part = held.part() as usize;
         let weight = sum_with(weight_at(&self.weights, part), held.weight())?;
         let (key, kept) = held.into_kept(self.next);
-        open_key(self.alloc, &mut self.open, key.as_slice())?;
+        open_key(self.alloc, &mut self.open_keys, key.as_slice())?;
         self.table.add(key, kept)?;
         put_weight(&mut self.weights, part, weight);
         self.total = total;
@@ -184,7 +184,7 @@ impl Holding {
     pub fn cover(&mut self, prefix: &[u8]) -> Result<(), AllocError>
         ensures { OnOk result (self.new ≡ map (covered_by prefix.now) self.old) }
     {
-        close_all(self.alloc, &mut self.open, prefix)
+        close_all(self.alloc, &mut self.open_keys, prefix)
     }
 
     /// Marks the values of a part where its weight is a point, and unmarks them where it is none and earlier ones count no more.
@@ -200,6 +200,6 @@ impl Holding {
     pub fn lent(&self) -> Result<Vec<Seen<'_>>, AllocError>
         ensures { IfOk result (λ all. reverse (map held_of all.items) ≡ self.now) }
     {
-        lend_all(self.alloc, &self.table, &self.open, &self.marks)
+        lend_all(self.alloc, &self.table, &self.open_keys, &self.marks)
     }
 }

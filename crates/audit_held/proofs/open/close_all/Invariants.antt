@@ -5,7 +5,7 @@ use Rattle.audit_held.specs.Holds.{is_open}
 use Rattle.audit_held.proofs.open.close_all.Given as goal
 
 abbrev pub invariant-loop-more : goal.invariant-loop-more
-invariant-loop-more l = ((q : List ℕ) → starts_with nat_eq q l.start.items ≡ false → is_open q l.open ≡ is_open q l.initial.open) × (l.more ≡ false → (q : List ℕ) → starts_with nat_eq q l.start.items ≡ true → is_open q l.open ≡ false)
+invariant-loop-more l = ((q : List ℕ) → starts_with nat_eq q l.start.items ≡ false → is_open q l.keys ≡ is_open q l.initial.keys) × (l.more ≡ false → (q : List ℕ) → starts_with nat_eq q l.start.items ≡ true → is_open q l.keys ≡ false)
 
 abbrev pub decreases-loop-more : goal.decreases-loop-more
-decreases-loop-more l = btree_set_len l.open + cond l.more 1 0
+decreases-loop-more l = cond l.more (btree_set_len l.keys + 1) 0
