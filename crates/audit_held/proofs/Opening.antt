@@ -4,7 +4,7 @@ use Rattle.std.specs.List.{starts_with, list_any}
 use Rattle.std.specs.BTreeSet.{insert_key, IsKeyRangeOf, IsKeyInRange}
 use Rattle.std.specs.BTreeMap.Range.{IsLeBy}
 use Rattle.std.specs.Set.{remove_key}
-use Rattle.std.specs.declared.ops.bounds.Bound.TheVariants.{Included, Unbounded}
+use Rattle.std.specs.declared.ops.Bound.TheVariants.{Included, Unbounded}
 use Rattle.std.specs.declared.vec.Vec.{Vec}
 use Rattle.std.specs.declared.alloc.Global.{Global}
 use Rattle.std.specs.Cmp.Lexicographic.{slice_cmp}
@@ -33,7 +33,7 @@ of-equal : (a b : ℕ) → a ≡ b → nat_eq a b ≡ true
 of-equal a b h = grind (arith, nat_tests)
 
 cmp-same : (a : ℕ) → nat_cmp a a ≡ Equal
-cmp-same a = ap (λ b. cond b Less (cond (a == a) Equal Greater)) (not-lt a a (omega arith)) ∙ ap (λ b. cond b Equal Greater) (sym (eq-eqb a a refl))
+cmp-same a = ap (λ b. cond b Less (cond (a == a) Equal Greater)) (not-lt a a (omega arith)) ∙ ap (λ b. cond b Equal Greater) (eq-eqb a a refl)
 
 -- a text that is not above another has no greater first byte
 first-le : (a b : ℕ) (o : Ordering) → is_gt (ordering_then (nat_cmp a b) o) ≡ false → a ≤ b
@@ -134,23 +134,23 @@ opened key q before after e has = go (same key.items q) refl
 
 witness : {X : Type 0} (p : X → Bool) (xs : List X) → list_any p xs ≡ true → (x : X) × (p x ≡ true)
 witness p [] h = let no : false ≡ true = h in cc
-witness p (x ∷ xs) h = go (p x) refl h
+witness {X} p (x ∷ xs) h = go (p x) refl h (λ m. witness p xs m)
   where
-    go : (b : Bool) → p x ≡ b → (b || list_any p xs) ≡ true → (y : _) × (p y ≡ true)
-    go true e h = (x, e)
-    go false e h = witness p xs h
+    go : (b : Bool) → p x ≡ b → (b || list_any p xs) ≡ true → (list_any p xs ≡ true → (y : X) × (p y ≡ true)) → (y : X) × (p y ≡ true)
+    go true e m later = (x, e)
+    go false e m later = later m
 
 -- where no key that is open begins so, none that begins so is open
 none-open : (prefix : List ℕ) (before : Open) → ((k : Word) → is_open k.items before ≡ true → starts_with nat_eq k.items prefix ≡ true → ⊥) → (q : List ℕ) → starts_with nat_eq q prefix ≡ true
     → is_open q before ≡ false
-none-open prefix before no q s = go (is_open q before) refl
+none-open prefix before never q s = go (is_open q before) refl
   where
     go : (b : Bool) → is_open q before ≡ b → b ≡ false
     go false e = refl
     go true e =
         let found = witness (at q) before.keys e in
         let is = at-same q found.0 found.1 in
-        absurd (no found.0 (ap (λ t. is_open t before) (sym is) ∙ e) (ap (λ t. starts_with nat_eq t prefix) (sym is) ∙ s))
+        absurd (never found.0 (ap (λ t. is_open t before) (sym is) ∙ e) (ap (λ t. starts_with nat_eq t prefix) (sym is) ∙ s))
 
 module _ (prefix : Word) (before : Open) (r : List Word) (range : IsKeyRangeOf (λ (x y : Word). slice_cmp nat_cmp x.items y.items) (Included prefix) Unbounded before r) where
   pub none-there : r ≡ [] → (q : List ℕ) → starts_with nat_eq q prefix.items ≡ true → is_open q before ≡ false
