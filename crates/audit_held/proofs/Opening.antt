@@ -1,5 +1,5 @@
 -- Which keys are open, and what closing those that begin so does.
-use Rattle.std.proofs.Common.{◌≡◌, refl, ap, ◌∙◌, sym, subst, ℕ, ◌<◌, ◌≤◌, ◌==◌, Bool, true, false, cond, not, ◌&&◌, ◌||◌, nat_lt, nat_eq, List, [], ◌∷◌, ◌+◌, if◌then◌else◌, slice_get, IfSome, arith}
+use Rattle.std.proofs.Common.{◌≡◌, refl, ap, ◌∙◌, sym, subst, ℕ, ◌<◌, ◌≤◌, ◌==◌, Bool, true, false, cond, ◌||◌, nat_lt, nat_eq, List, [], ◌∷◌, ◌+◌, if◌then◌else◌, slice_get, IfSome, arith}
 use Rattle.std.specs.List.{starts_with, list_any}
 use Rattle.std.specs.BTreeSet.{insert_key, IsKeyRangeOf, IsKeyInRange}
 use Rattle.std.specs.BTreeMap.Range.{IsLeBy}

@@ -16,11 +16,7 @@ pub fn is_open(keys: &BTreeSet<Vec<u8>>, key: &[u8]) -> bool
 }
 
 /// Opens a key.
-pub fn open_key(
-    alloc: Global,
-    keys: &mut BTreeSet<Vec<u8>>,
-    key: &[u8],
-) -> Result<(), AllocError>
+pub fn open_key(alloc: Global, keys: &mut BTreeSet<Vec<u8>>, key: &[u8]) -> Result<(), AllocError>
     ensures { OnOk result ((q : List ℕ) → is_open q keys.new ≡ cond (same key.now q) true (is_open q keys.old)) }
 {
     let owned = Vec::from_slice(alloc, key)?;

@@ -1,4 +1,4 @@
-use Rattle.std.proofs.Common.{sym, ap, ◌∙◌, false, cond}
+use Rattle.std.proofs.Common.{ap, ◌∙◌, false, cond}
 use Rattle.audit_model.specs.Bytewise.{same}
 use Rattle.audit_held.specs.Holds.{is_open}
 use Rattle.audit_held.proofs.Opening.{closed, one-fewer}

@@ -1,4 +1,4 @@
-use Rattle.std.proofs.Common.{sym, ap, ◌∙◌, true, cond}
+use Rattle.std.proofs.Common.{ap, ◌∙◌, true, cond}
 use Rattle.audit_model.specs.Bytewise.{same}
 use Rattle.audit_held.specs.Holds.{is_open}
 use Rattle.audit_held.proofs.Opening.{opened}

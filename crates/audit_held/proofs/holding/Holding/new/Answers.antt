@@ -1,4 +1,4 @@
-use Rattle.std.proofs.Common.{sym, subst, []}
+use Rattle.std.proofs.Common.{sym, subst}
 use Rattle.audit_held.specs.Holds.{Keeps}
 use Rattle.audit_held.proofs.Keeping.{keeps-none}
 use Rattle.audit_held.proofs.holding.Holding.new.Goals as goal
