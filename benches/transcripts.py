@@ -1,11 +1,11 @@
 #!/usr/bin/env python3
-"""transcripts.py [STEPS [KEYS [CAPACITY [mixed]]]]: how long `transcript audit` takes to judge a transcript of so many steps over so many keys.
+"""transcripts.py [STEPS [KEYS [CAPACITY [mixed | dropping]]]]: how long `transcript audit` takes to judge a transcript of so many steps over so many keys.
 
 It makes the transcript itself, the same each time: one connection that is fed a line a record, which is a `SET` for each key first and then a
 `SET`, a `GET` or, one in a thousand, a `SYNC`, answered as by a service that holds each key's last value and tells each older one as it is
 replaced. A capacity has to be at least as large as the number of keys, so that nothing has to leave. With `mixed`, two in three of the
-`SYNC` are a `DROPIF` of a prefix drawn from a thousand, and a `KEYS`; what is covered is told once its key is written again. The
-verdict has to be `yes`.
+`SYNC` are a `DROPIF` of a prefix drawn from a thousand, and a `KEYS`; what is covered is told once its key is written again. With
+`dropping`, one in ten lines is a `DROPIF` of one key's whole name. The verdict has to be `yes`.
 
 Build the program first: in crates/transcript, `rt run` leaves it at out/transcript.
 """
@@ -35,7 +35,7 @@ def rare_line(turn, draw, keys, held, covered):
     return "SYNC", f"SYNC {len(held)} {len(held)}\n"
 
 
-def lines_of(steps, keys, capacity, mixed):
+def lines_of(steps, keys, capacity, kinds):
     """The lines of the transcript."""
     draw = random.Random(1)
     held, covered, turn = {}, set(), 0
@@ -53,10 +53,13 @@ def lines_of(steps, keys, capacity, mixed):
                 note = f"note {cause} {hexed(key)} {hexed(held[key])}"
             held[key] = str(number)
             covered.discard(key)
+        elif kinds == "dropping" and kind >= 900:
+            covered.update({key} & held.keys())
+            line, reply = f"DROPIF {key}", "OK\n"
         elif kind < 999:
             line, reply = f"GET {key}", "NONE\n" if key in covered else f"VAL {held[key]}\n"
         else:
-            line, reply = rare_line(turn if mixed else 0, draw, keys, held, covered)
+            line, reply = rare_line(turn if kinds == "mixed" else 0, draw, keys, held, covered)
             turn += 1
         yield f"feed 1 {number} {hexed(line + chr(10))}"
         yield f"step 1 run {hexed(line)} {hexed(reply)} - {part}"
@@ -67,14 +70,14 @@ def lines_of(steps, keys, capacity, mixed):
 
 def main():
     words = sys.argv[1:] + ["1000000", "10000", "-"][len(sys.argv) - 1 :]
-    steps, keys, capacity, mixed = int(words[0]), int(words[1]), words[2], words[3:] == ["mixed"]
-    text = ("\n".join(lines_of(steps, keys, capacity, mixed)) + "\n").encode()
+    steps, keys, capacity, kinds = int(words[0]), int(words[1]), words[2], " ".join(words[3:])
+    text = ("\n".join(lines_of(steps, keys, capacity, kinds)) + "\n").encode()
     run = subprocess.run([PROGRAM, "audit"], input=text, capture_output=True, timeout=LIMIT_SECONDS)
     if run.stdout != b"verdict yes\n" or run.returncode != 0:
         sys.exit(f"wrong verdict: {run.stdout[:100]} {run.stderr[:100]}")
     used = resource.getrusage(resource.RUSAGE_CHILDREN)
     print(
-        f"{steps} steps over {keys} keys, capacity {capacity}{', mixed' if mixed else ''}, {len(text) / 1e6:.1f} MB: "
+        f"{steps} steps over {keys} keys, capacity {capacity}{', ' + kinds if kinds else ''}, {len(text) / 1e6:.1f} MB: "
         f"processor {used.ru_utime + used.ru_stime:.2f} s, at most {used.ru_maxrss / 1024:.0f} MB"
     )
 

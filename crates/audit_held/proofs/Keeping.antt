@@ -4,18 +4,18 @@ use Rattle.std.specs.List.{find, list_all, starts_with, sum_by}
 use Rattle.std.proofs.lemmas.Bool.{and_parts, and_from, eqb-true, eq-eqb}
 use Rattle.std.proofs.lemmas.Bool.Decides.{nat_tests}
 use Rattle.std.proofs.lemmas.List.{map-append, length-set, get_or-set_same, get_or-set_other}
-use Rattle.std.proofs.lemmas.List.Folds.{list_all-append, list_any-append}
+use Rattle.std.proofs.lemmas.List.Folds.{list_all-append}
 use Rattle.std.proofs.lemmas.List.Sums.{sum_by_push}
 use Rattle.std.proofs.lemmas.Option.{none-some}
+use Rattle.std.proofs.lemmas.Slice.Eq.{bytes_eq-Decides}
 use Rattle.audit_model.specs.Bytewise.{same}
 use Rattle.audit_model.specs.History.{Value}
 use Rattle.audit_model.specs.Situation.{HeldValue}
 use Rattle.audit_model.specs.Values.{without_key}
 use Rattle.audit_table.specs.Slots.{Slot, slot_at, without}
 use Rattle.audit_table.specs.Slots.{used_at as used_slot}
-use Rattle.audit_held.specs.declared.covers.Cover.{Cover}
 use Rattle.audit_held.specs.Weights.{weight_of_part, values_of}
-use Rattle.audit_held.specs.Holds.{held_by, is_covered_by, are_sound, are_past, are_past_marks, values_in, left_beside, used_at, covered_by, marked_in, Keeps}
+use Rattle.audit_held.specs.Holds.{Open, is_open, held_by, are_sound, are_past_marks, values_in, used_at, covered_by, marked_in, Keeps}
 use Rattle.audit_held.proofs.Weighing.{weight-push, weight-without, sum-without}
 
 -- ---- lists
@@ -89,58 +89,10 @@ lt-suc n a h = grind (arith, nat_tests)
 le-suc : (n a : ℕ) → nat_le a n ≡ true → nat_le a (n + 1) ≡ true
 le-suc n a h = grind (arith, nat_tests)
 
--- ---- prefixes
-
-eq-through : (a b c : ℕ) → nat_eq a b ≡ true → nat_eq b c ≡ true → nat_eq a c ≡ true
-eq-through a b c h k = grind (arith, nat_tests)
-
--- what begins with a text begins with the beginnings of that text
-begins-through : (key text short : List ℕ) → starts_with nat_eq key text ≡ true → starts_with nat_eq text short ≡ true → starts_with nat_eq key short ≡ true
-begins-through key text [] h k = refl
-begins-through key [] (s ∷ short) h k = let no : false ≡ true = k in cc
-begins-through [] (t ∷ text) (s ∷ short) h k = let no : false ≡ true = h in cc
-begins-through (x ∷ key) (t ∷ text) (s ∷ short) h k =
-    let whole = and_parts (nat_eq t x) (starts_with nat_eq key text) h in
-    let part = and_parts (nat_eq s t) (starts_with nat_eq text short) k in
-    and_from _ _ (eq-through s t x part.0 whole.0) (begins-through key text short whole.1 part.1)
-
-or-last : (a b : Bool) → b ≡ true → (a || b) ≡ true
-or-last true b e = refl
-or-last false b e = e
-
-one-out : (inner own begins f g : Bool) → (inner ≡ true → own ≡ true → begins ≡ true) → (f || begins) ≡ (g || begins) → (cond (not inner) (own || f) f || begins) ≡ ((own || g) || begins)
-one-out true true begins f g k e = or-last f begins (k refl refl)
-one-out true false begins f g k e = e
-one-out false true begins f g k e = refl
-one-out false false begins f g k e = e
-
--- beside a prefix the covers are as good as those that are left beside it
-covered-beside : (prefix : List ℕ) (cs : List Cover) (s : Slot)
-    → (is_covered_by (left_beside prefix cs) s || starts_with nat_eq s.value.key prefix) ≡ (is_covered_by cs s || starts_with nat_eq s.value.key prefix)
-covered-beside prefix [] s = refl
-covered-beside prefix (c ∷ cs) s =
-    ap (λ b. b || starts_with nat_eq s.value.key prefix) (pull (not (starts_with nat_eq c.prefix prefix)))
-    ∙ one-out (starts_with nat_eq c.prefix prefix) (nat_lt s.stamp c.stamp && starts_with nat_eq s.value.key c.prefix) (starts_with nat_eq s.value.key prefix)
-    (is_covered_by (left_beside prefix cs) s) (is_covered_by cs s)
-    (λ i o. begins-through s.value.key c.prefix prefix (and_parts (nat_lt s.stamp c.stamp) (starts_with nat_eq s.value.key c.prefix) o).1 i) (covered-beside prefix cs s)
-  where
-    pull : (b : Bool) → is_covered_by (cond b (c ∷ left_beside prefix cs) (left_beside prefix cs)) s
-        ≡ cond b ((nat_lt s.stamp c.stamp && starts_with nat_eq s.value.key c.prefix) || is_covered_by (left_beside prefix cs) s) (is_covered_by (left_beside prefix cs) s)
-    pull true = refl
-    pull false = refl
-
-left-past : (prefix : List ℕ) (next : ℕ) (cs : List Cover) → are_past next cs ≡ true → are_past next (left_beside prefix cs) ≡ true
-left-past prefix next [] h = refl
-left-past prefix next (c ∷ cs) h = let parts = and_parts (nat_le c.stamp next) (are_past next cs) h in go (starts_with nat_eq c.prefix prefix) parts.0 (left-past prefix next cs parts.1)
-  where
-    go : (i : Bool) → nat_le c.stamp next ≡ true → are_past next (left_beside prefix cs) ≡ true → are_past next (cond (not i) (c ∷ left_beside prefix cs) (left_beside prefix cs)) ≡ true
-    go true a b = b
-    go false a b = and_from _ _ a b
-
 -- ---- values
 
-pub values-by : (covers : List Cover) (marks : List ℕ) (slots : List Slot) → values_of (map (held_by covers marks) slots) ≡ values_in slots
-values-by covers marks slots = map-through (held_by covers marks) (λ h. h.value) slots
+pub values-by : (opens : Open) (marks : List ℕ) (slots : List Slot) → values_of (map (held_by opens marks) slots) ≡ values_in slots
+values-by opens marks slots = map-through (held_by opens marks) (λ h. h.value) slots
 
 value-without : (key : List ℕ) (slots : List Slot) → values_in (without key slots) ≡ without_key (λ v. v.key) key (values_in slots)
 value-without key slots = sym (without-map (λ s. s.value) (λ (v : Value). v.key) key slots)
@@ -150,18 +102,17 @@ value-found key slots s e = find-map (λ (s : Slot). s.value) (λ (v : Value). s
 
 -- ---- what holds of all values
 
-pub small-view : (next : ℕ) (covers : List Cover) (marks : List ℕ) (slots : List Slot) → are_sound next slots ≡ true → list_all (λ h. nat_lt h.value.part 256) (map (held_by covers marks) slots) ≡ true
-small-view next covers marks [] h = refl
-small-view next covers marks (s ∷ slots) h =
+pub small-view : (next : ℕ) (opens : Open) (marks : List ℕ) (slots : List Slot) → are_sound next slots ≡ true → list_all (λ h. nat_lt h.value.part 256) (map (held_by opens marks) slots) ≡ true
+small-view next opens marks [] h = refl
+small-view next opens marks (s ∷ slots) h =
     let parts = and_parts (nat_lt s.stamp next && nat_lt s.value.part 256) (are_sound next slots) h in
-    and_from _ _ (and_parts (nat_lt s.stamp next) (nat_lt s.value.part 256) parts.0).1 (small-view next covers marks slots parts.1)
+    and_from _ _ (and_parts (nat_lt s.stamp next) (nat_lt s.value.part 256) parts.0).1 (small-view next opens marks slots parts.1)
 
 -- ---- none at first
 
-pub keeps-none : (marks weights : List ℕ) → marks ≡ replicate 256 zero → weights ≡ replicate 256 zero → Keeps 0 [] marks weights 0 []
+pub keeps-none : (marks weights : List ℕ) → marks ≡ replicate 256 zero → weights ≡ replicate 256 zero → Keeps 0 marks weights 0 []
 keeps-none marks weights m w = record {
   sound = refl;
-  covered = refl;
   marked = ap (are_past_marks 0) m ∙ zeros 256;
   marks_of_all = ap length m ∙ many 256;
   weights_of_all = ap length w ∙ many 256;
@@ -200,20 +151,19 @@ used-values key now (s ∷ slots) = ap (λ v. v ∷ values_in (map (used_slot ke
     go true = refl
     go false = refl
 
-pub view-used : (covers : List Cover) (marks : List ℕ) (key : List ℕ) (now : ℕ) (slots : List Slot)
-    → map (held_by covers marks) (map (used_slot key now) slots) ≡ map (used_at key now) (map (held_by covers marks) slots)
-view-used covers marks key now [] = refl
-view-used covers marks key now (s ∷ slots) = ap (λ h. h ∷ map (held_by covers marks) (map (used_slot key now) slots)) (go (same key s.value.key)) ∙ ap (λ hs. used_at key now (held_by covers marks s) ∷ hs) (view-used covers marks key now slots)
+pub view-used : (opens : Open) (marks : List ℕ) (key : List ℕ) (now : ℕ) (slots : List Slot)
+    → map (held_by opens marks) (map (used_slot key now) slots) ≡ map (used_at key now) (map (held_by opens marks) slots)
+view-used opens marks key now [] = refl
+view-used opens marks key now (s ∷ slots) = ap (λ h. h ∷ map (held_by opens marks) (map (used_slot key now) slots)) (go (same key s.value.key)) ∙ ap (λ hs. used_at key now (held_by opens marks s) ∷ hs) (view-used opens marks key now slots)
   where
-    go : (b : Bool) → held_by covers marks (if b then record s { last_use = now } else s) ≡ (if b then record (held_by covers marks s) { last_use = now } else held_by covers marks s)
+    go : (b : Bool) → held_by opens marks (if b then record s { last_use = now } else s) ≡ (if b then record (held_by opens marks s) { last_use = now } else held_by opens marks s)
     go true = refl
     go false = refl
 
-module _ (next : ℕ) (covers : List Cover) (marks weights : List ℕ) (total : ℕ) (slots : List Slot) (k : Keeps next covers marks weights total slots) where
-  pub keeps-used : (key : List ℕ) (now : ℕ) → Keeps next covers marks weights total (map (used_slot key now) slots)
+module _ (next : ℕ) (opens : Open) (marks weights : List ℕ) (total : ℕ) (slots : List Slot) (k : Keeps next marks weights total slots) where
+  pub keeps-used : (key : List ℕ) (now : ℕ) → Keeps next marks weights total (map (used_slot key now) slots)
   keeps-used key now = record {
     sound = used-sound next key now slots ∙ k.sound;
-    covered = k.covered;
     marked = k.marked;
     marks_of_all = k.marks_of_all;
     weights_of_all = k.weights_of_all;
@@ -247,10 +197,9 @@ module _ (next : ℕ) (covers : List Cover) (marks weights : List ℕ) (total : 
   enough-total key s e = let o = all-weight key s e in omega arith
 
   pub keeps-taken : (key : List ℕ) (s : Slot) → slot_at key slots ≡ Some s
-      → Keeps next covers marks (set weights s.value.part (get_or weights s.value.part 0 - s.value.weight)) (total - s.value.weight) (without key slots)
+      → Keeps next marks (set weights s.value.part (get_or weights s.value.part 0 - s.value.weight)) (total - s.value.weight) (without key slots)
   keeps-taken key s e = record {
     sound = all-without (λ (s : Slot). nat_lt s.stamp next && nat_lt s.value.part 256) (λ s. s.value.key) key slots k.sound;
-    covered = k.covered;
     marked = k.marked;
     marks_of_all = k.marks_of_all;
     weights_of_all = length-set weights s.value.part _ ∙ k.weights_of_all;
@@ -289,31 +238,23 @@ module _ (next : ℕ) (covers : List Cover) (marks weights : List ℕ) (total : 
   get-past (x ∷ xs) zero h = le-le x next (and_parts (nat_le x next) (are_past_marks next xs) h).0
   get-past (x ∷ xs) (suc i) h = get-past xs i (and_parts (nat_le x next) (are_past_marks next xs) h).1
 
-  uncovered : (cs : List Cover) (s : Slot) → s.stamp ≡ next → are_past next cs ≡ true → is_covered_by cs s ≡ false
-  uncovered [] s e h = refl
-  uncovered (c ∷ cs) s e h =
-      let parts = and_parts (nat_le c.stamp next) (are_past next cs) h in
-      let le = le-le c.stamp next parts.0 in
-      ap (λ b. (b && starts_with nat_eq s.value.key c.prefix) || is_covered_by cs s) (not-lt s.stamp c.stamp (omega arith)) ∙ uncovered cs s e parts.1
-
-  pub new-view : (s : Slot) (held : HeldValue) → s.stamp ≡ next → s.value ≡ held.value → s.last_use ≡ held.last_use → held.covered ≡ false → held.evictable ≡ false → held_by covers marks s ≡ held
-  new-view s held e v u c m =
+  pub new-view : (s : Slot) (held : HeldValue) → s.stamp ≡ next → s.value ≡ held.value → s.last_use ≡ held.last_use → is_open s.value.key opens ≡ true → held.covered ≡ false → held.evictable ≡ false
+      → held_by opens marks s ≡ held
+  new-view s held e v u o c m =
       let mark = get-past marks s.value.part k.marked in
-      let not_covered = uncovered covers s e k.covered in
       let not_marked = not-lt s.stamp (get_or marks s.value.part 0) (omega arith) in
-      ap (λ b. record (held_by covers marks s) { covered = b }) (not_covered ∙ sym c)
-      ∙ ap (λ b. record (held_by covers marks s) { covered = held.covered; evictable = b }) (not_marked ∙ sym m)
+      ap (λ b. record (held_by opens marks s) { covered = b }) (ap not o ∙ sym c)
+      ∙ ap (λ b. record (held_by opens marks s) { covered = held.covered; evictable = b }) (not_marked ∙ sym m)
       ∙ ap (λ x. record { value = x; last_use = s.last_use; covered = held.covered; evictable = held.evictable }) v
       ∙ ap (λ x. record { value = held.value; last_use = x; covered = held.covered; evictable = held.evictable }) u
 
   pub keeps-added : (s : Slot) → s.stamp ≡ next → s.value.part < 256
-      → Keeps (next + 1) covers marks (set weights s.value.part (get_or weights s.value.part 0 + s.value.weight)) (total + s.value.weight) (slots ++ s ∷ [])
+      → Keeps (next + 1) marks (set weights s.value.part (get_or weights s.value.part 0 + s.value.weight)) (total + s.value.weight) (slots ++ s ∷ [])
   keeps-added s e small = record {
     sound =
         list_all-append (λ (s : Slot). nat_lt s.stamp (next + 1) && nat_lt s.value.part 256) slots (s ∷ [])
         ∙ and_from _ _ (all-more (λ (s : Slot). nat_lt s.stamp next && nat_lt s.value.part 256) (λ (s : Slot). nat_lt s.stamp (next + 1) && nat_lt s.value.part 256) slots older k.sound)
         (and_from _ _ (and_from _ _ (lt-of s.stamp (next + 1) (omega arith)) (lt-of s.value.part 256 small)) refl);
-    covered = all-more (λ (c : Cover). nat_le c.stamp next) (λ (c : Cover). nat_le c.stamp (next + 1)) covers (λ c h. le-suc next c.stamp h) k.covered;
     marked = all-more (λ m. nat_le m next) (λ m. nat_le m (next + 1)) marks (λ m h. le-suc next m h) k.marked;
     marks_of_all = k.marks_of_all;
     weights_of_all = length-set weights s.value.part _ ∙ k.weights_of_all;
@@ -346,49 +287,6 @@ module _ (next : ℕ) (covers : List Cover) (marks weights : List ℕ) (total : 
           plus_none : (n : ℕ) → n ≡ n + 0
           plus_none n = omega arith
 
-  -- ---- a prefix covered
-
-  pub keeps-left : (prefix : List ℕ) → Keeps next (left_beside prefix covers) marks weights total slots
-  keeps-left prefix = record {
-    sound = k.sound;
-    covered = left-past prefix next covers k.covered;
-    marked = k.marked;
-    marks_of_all = k.marks_of_all;
-    weights_of_all = k.weights_of_all;
-    weighed = k.weighed;
-    sum = k.sum;
-  }
-
-  pub keeps-covered : (prefix : List ℕ) (c : Cover) → c.stamp ≡ next → Keeps next (left_beside prefix covers ++ c ∷ []) marks weights total slots
-  keeps-covered prefix c e = record {
-    sound = k.sound;
-    covered =
-        list_all-append (λ (c : Cover). nat_le c.stamp next) (left_beside prefix covers) (c ∷ [])
-        ∙ and_from _ _ (left-past prefix next covers k.covered) (and_from _ _ (le-of c.stamp next (omega arith)) refl);
-    marked = k.marked;
-    marks_of_all = k.marks_of_all;
-    weights_of_all = k.weights_of_all;
-    weighed = k.weighed;
-    sum = k.sum;
-  }
-
-  pub view-covered : (c : Cover) → c.stamp ≡ next → map (held_by (left_beside c.prefix covers ++ c ∷ []) marks) slots ≡ map (covered_by c.prefix) (map (held_by covers marks) slots)
-  view-covered c e =
-      map-all (λ (s : Slot). nat_lt s.stamp next && nat_lt s.value.part 256) (held_by (left_beside c.prefix covers ++ c ∷ []) marks) (λ s. covered_by c.prefix (held_by covers marks s)) slots k.sound one
-      ∙ sym (map-through (held_by covers marks) (covered_by c.prefix) slots)
-    where
-      or_none : (a : Bool) → (a || false) ≡ a
-      or_none true = refl
-      or_none false = refl
-
-      one : (s : Slot) → (nat_lt s.stamp next && nat_lt s.value.part 256) ≡ true → held_by (left_beside c.prefix covers ++ c ∷ []) marks s ≡ covered_by c.prefix (held_by covers marks s)
-      one s h =
-          let earlier = (and_parts (nat_lt s.stamp next) (nat_lt s.value.part 256) h).0 in
-          ap (λ b. record (held_by covers marks s) { covered = b })
-          (list_any-append (λ (c : Cover). nat_lt s.stamp c.stamp && starts_with nat_eq s.value.key c.prefix) (left_beside c.prefix covers) (c ∷ [])
-          ∙ ap (λ b. is_covered_by (left_beside c.prefix covers) s || b) (or_none (nat_lt s.stamp c.stamp && starts_with nat_eq s.value.key c.prefix) ∙ ap (λ b. b && starts_with nat_eq s.value.key c.prefix) (ap (nat_lt s.stamp) e ∙ earlier))
-          ∙ covered-beside c.prefix covers s)
-
   -- ---- a part marked
 
   set-past : (xs : List ℕ) (i m : ℕ) → are_past_marks next xs ≡ true → m ≤ next → are_past_marks next (set xs i m) ≡ true
@@ -408,10 +306,9 @@ module _ (next : ℕ) (covers : List Cover) (marks weights : List ℕ) (total : 
         go false true = omega arith
         go false false = get-past marks part k.marked
 
-    pub keeps-marked : Keeps next covers (set marks part mark_then) weights total slots
+    pub keeps-marked : Keeps next (set marks part mark_then) weights total slots
     keeps-marked = record {
       sound = k.sound;
-      covered = k.covered;
       marked = set-past marks part mark_then k.marked mark-past;
       marks_of_all = length-set marks part mark_then ∙ k.marks_of_all;
       weights_of_all = k.weights_of_all;
@@ -419,48 +316,48 @@ module _ (next : ℕ) (covers : List Cover) (marks weights : List ℕ) (total : 
       sum = k.sum;
     }
 
-    pub view-marked : map (held_by covers (set marks part mark_then)) slots ≡ map (marked_in part over anew) (map (held_by covers marks) slots)
+    pub view-marked : map (held_by opens (set marks part mark_then)) slots ≡ map (marked_in part over anew) (map (held_by opens marks) slots)
     view-marked =
-        map-all (λ (s : Slot). nat_lt s.stamp next && nat_lt s.value.part 256) (held_by covers (set marks part mark_then)) (λ s. marked_in part over anew (held_by covers marks s)) slots k.sound
+        map-all (λ (s : Slot). nat_lt s.stamp next && nat_lt s.value.part 256) (held_by opens (set marks part mark_then)) (λ s. marked_in part over anew (held_by opens marks s)) slots k.sound
         (λ s h. one s (and_parts (nat_lt s.stamp next) (nat_lt s.value.part 256) h).0 (s.value.part == part) refl)
-        ∙ sym (map-through (held_by covers marks) (marked_in part over anew) slots)
+        ∙ sym (map-through (held_by opens marks) (marked_in part over anew) slots)
       where
         by_cases : (stamp old : ℕ) (o a : Bool) → nat_lt stamp next ≡ true → nat_lt stamp (if o then next else (if a then 0 else old)) ≡ (o || (not a && nat_lt stamp old))
         by_cases stamp old true a h = h
         by_cases stamp old false true h = not-lt stamp 0 (omega arith)
         by_cases stamp old false false h = refl
 
-        one : (s : Slot) → nat_lt s.stamp next ≡ true → (b : Bool) → (s.value.part == part) ≡ b → held_by covers (set marks part mark_then) s ≡ marked_in part over anew (held_by covers marks s)
+        one : (s : Slot) → nat_lt s.stamp next ≡ true → (b : Bool) → (s.value.part == part) ≡ b → held_by opens (set marks part mark_then) s ≡ marked_in part over anew (held_by opens marks s)
         one s h true is =
             let e = eqb-true s.value.part part is in
-            ap (λ m. record (held_by covers marks s) { evictable = nat_lt s.stamp m })
+            ap (λ m. record (held_by opens marks s) { evictable = nat_lt s.stamp m })
             (ap (λ p. get_or (set marks part mark_then) p 0) e ∙ get_or-set_same marks part mark_then 0 (let l = k.marks_of_all in omega arith))
-            ∙ ap (λ b. record (held_by covers marks s) { evictable = b })
+            ∙ ap (λ b. record (held_by opens marks s) { evictable = b })
             (by_cases s.stamp (get_or marks part 0) over anew h ∙ ap (λ p. over || (not anew && nat_lt s.stamp (get_or marks p 0))) (sym e))
-            ∙ sym (ap (λ b. if b then record (held_by covers marks s) { evictable = over || (not anew && nat_lt s.stamp (get_or marks s.value.part 0)) } else held_by covers marks s) is)
+            ∙ sym (ap (λ b. if b then record (held_by opens marks s) { evictable = over || (not anew && nat_lt s.stamp (get_or marks s.value.part 0)) } else held_by opens marks s) is)
         one s h false is =
-            ap (λ m. record (held_by covers marks s) { evictable = nat_lt s.stamp m })
+            ap (λ m. record (held_by opens marks s) { evictable = nat_lt s.stamp m })
             (get_or-set_other marks part s.value.part mark_then 0 (λ same_part. differ (sym is ∙ eq-eqb s.value.part part same_part)))
-            ∙ sym (ap (λ b. if b then record (held_by covers marks s) { evictable = over || (not anew && nat_lt s.stamp (get_or marks s.value.part 0)) } else held_by covers marks s) is)
+            ∙ sym (ap (λ b. if b then record (held_by opens marks s) { evictable = over || (not anew && nat_lt s.stamp (get_or marks s.value.part 0)) } else held_by opens marks s) is)
           where
             differ : false ≡ true → ⊥
             differ x = let y : false ≡ true = x in cc
 
 -- ---- values by key
 
-pub find-held : (covers : List Cover) (marks : List ℕ) (key : List ℕ) (slots : List Slot) → find (λ h. same key h.value.key) (map (held_by covers marks) slots) ≡ option_map (held_by covers marks) (slot_at key slots)
-find-held covers marks key slots = find-map (held_by covers marks) (λ (h : HeldValue). same key h.value.key) slots
+pub find-held : (opens : Open) (marks : List ℕ) (key : List ℕ) (slots : List Slot) → find (λ h. same key h.value.key) (map (held_by opens marks) slots) ≡ option_map (held_by opens marks) (slot_at key slots)
+find-held opens marks key slots = find-map (held_by opens marks) (λ (h : HeldValue). same key h.value.key) slots
 
-pub without-held : (covers : List Cover) (marks : List ℕ) (key : List ℕ) (slots : List Slot) → without_key (λ h. h.value.key) key (map (held_by covers marks) slots) ≡ map (held_by covers marks) (without key slots)
-without-held covers marks key slots = without-map (held_by covers marks) (λ (h : HeldValue). h.value.key) key slots
+pub without-held : (opens : Open) (marks : List ℕ) (key : List ℕ) (slots : List Slot) → without_key (λ h. h.value.key) key (map (held_by opens marks) slots) ≡ map (held_by opens marks) (without key slots)
+without-held opens marks key slots = without-map (held_by opens marks) (λ (h : HeldValue). h.value.key) key slots
 
 none-of : {X Y : Type 0} (f : X → Y) (o : Option X) → option_map f o ≡ None → o ≡ None
 none-of f None e = refl
 none-of f (Some x) e = absurd (none-some (f x) (sym e))
 
 -- no slot has the key where no value does
-pub absent-slot : (covers : List Cover) (marks : List ℕ) (key : List ℕ) (slots : List Slot) → find (λ h. same key h.value.key) (map (held_by covers marks) slots) ≡ None → slot_at key slots ≡ None
-absent-slot covers marks key slots e = none-of (held_by covers marks) (slot_at key slots) (sym (find-held covers marks key slots) ∙ e)
+pub absent-slot : (opens : Open) (marks : List ℕ) (key : List ℕ) (slots : List Slot) → find (λ h. same key h.value.key) (map (held_by opens marks) slots) ≡ None → slot_at key slots ≡ None
+absent-slot opens marks key slots e = none-of (held_by opens marks) (slot_at key slots) (sym (find-held opens marks key slots) ∙ e)
 
 pub on-ok : {T E : Type 0} (r : Result T E) {A B : Type 0} → (A → B) → OnOk r A → OnOk r B
 on-ok (Ok x) f a = f a
@@ -471,22 +368,62 @@ either (Ok x) f g a b = f a
 either (Err e) f g a b = g b
 
 -- one value more, as it is kept
-pub keeps-more : (next : ℕ) (covers : List Cover) (marks weights : List ℕ) (total : ℕ) (slots : List Slot) → Keeps next covers marks weights total slots
+pub keeps-more : (next : ℕ) (opens : Open) (marks weights : List ℕ) (total : ℕ) (slots : List Slot) → Keeps next marks weights total slots
     → (s : Slot) (held : HeldValue) (after more : ℕ) (sums : List ℕ) (sum : ℕ) → s ≡ record { value = held.value; last_use = held.last_use; stamp = next } → held.value.part < 256
     → after ≡ next + 1 → sum ≡ get_or weights held.value.part 0 + held.value.weight → sums ≡ set weights held.value.part sum → more ≡ total + held.value.weight
-    → Keeps after covers marks sums more (slots ++ s ∷ [])
-keeps-more next covers marks weights total slots k s held after more sums sum is small a b w m =
+    → Keeps after marks sums more (slots ++ s ∷ [])
+keeps-more next opens marks weights total slots k s held after more sums sum is small a b w m =
     let t : Slot = record { value = held.value; last_use = held.last_use; stamp = next } in
-    subst (λ x. Keeps after covers marks sums more (slots ++ x ∷ [])) (sym is)
-    (subst (λ n. Keeps n covers marks sums more (slots ++ t ∷ [])) (sym a)
-    (subst (λ ws. Keeps (next + 1) covers marks ws more (slots ++ t ∷ [])) (sym (w ∙ ap (set weights held.value.part) b))
-    (subst (λ n. Keeps (next + 1) covers marks (set weights held.value.part (get_or weights held.value.part 0 + held.value.weight)) n (slots ++ t ∷ [])) (sym m)
-    (keeps-added next covers marks weights total slots k t refl small))))
+    subst (λ x. Keeps after marks sums more (slots ++ x ∷ [])) (sym is)
+    (subst (λ n. Keeps n marks sums more (slots ++ t ∷ [])) (sym a)
+    (subst (λ ws. Keeps (next + 1) marks ws more (slots ++ t ∷ [])) (sym (w ∙ ap (set weights held.value.part) b))
+    (subst (λ n. Keeps (next + 1) marks (set weights held.value.part (get_or weights held.value.part 0 + held.value.weight)) n (slots ++ t ∷ [])) (sym m)
+    (keeps-added next opens marks weights total slots k t refl small))))
 
-pub view-more : (next : ℕ) (covers : List Cover) (marks weights : List ℕ) (total : ℕ) (slots : List Slot) → Keeps next covers marks weights total slots
-    → (s : Slot) (held : HeldValue) → s ≡ record { value = held.value; last_use = held.last_use; stamp = next } → held.covered ≡ false → held.evictable ≡ false
-    → map (held_by covers marks) (slots ++ s ∷ []) ≡ map (held_by covers marks) slots ++ held ∷ []
-view-more next covers marks weights total slots k s held is c m =
-    map-append (held_by covers marks) slots (s ∷ [])
-    ∙ ap (λ h. map (held_by covers marks) slots ++ h ∷ [])
-    (new-view next covers marks weights total slots k s held (ap (λ (x : Slot). x.stamp) is) (ap (λ (x : Slot). x.value) is) (ap (λ (x : Slot). x.last_use) is) c m)
+-- what stands beside a key is seen as before where no other key was opened or closed
+pub view-beside : (after before : Open) (marks : List ℕ) (key : List ℕ) (slots : List Slot) → ((q : List ℕ) → same key q ≡ false → is_open q after ≡ is_open q before) → slot_at key slots ≡ None
+    → map (held_by after marks) slots ≡ map (held_by before marks) slots
+view-beside after before marks key [] others e = refl
+view-beside after before marks key (s ∷ slots) others e = go (same key s.value.key) refl e (view-beside after before marks key slots others)
+  where
+    go : (b : Bool) → same key s.value.key ≡ b → cond b (Some s) (slot_at key slots) ≡ None → (slot_at key slots ≡ None → map (held_by after marks) slots ≡ map (held_by before marks) slots)
+        → map (held_by after marks) (s ∷ slots) ≡ map (held_by before marks) (s ∷ slots)
+    go true is e ih = absurd (none-some s (sym e))
+    go false is e ih = ap (λ b. record (held_by before marks s) { covered = not b } ∷ map (held_by after marks) slots) (others s.value.key is) ∙ ap (λ hs. held_by before marks s ∷ hs) (ih e)
+
+-- where the keys that begin so were closed, their values are covered
+pub view-covered : (after before : Open) (marks : List ℕ) (prefix : List ℕ) (slots : List Slot) → ((q : List ℕ) → is_open q after ≡ (not (starts_with nat_eq q prefix) && is_open q before))
+    → map (held_by after marks) slots ≡ map (covered_by prefix) (map (held_by before marks) slots)
+view-covered after before marks prefix [] closed = refl
+view-covered after before marks prefix (s ∷ slots) closed =
+    ap (λ b. record (held_by before marks s) { covered = b } ∷ map (held_by after marks) slots) (ap not (closed s.value.key) ∙ go (starts_with nat_eq s.value.key prefix) (is_open s.value.key before))
+    ∙ ap (λ hs. covered_by prefix (held_by before marks s) ∷ hs) (view-covered after before marks prefix slots closed)
+  where
+    go : (b o : Bool) → not (not b && o) ≡ (not o || b)
+    go true true = refl
+    go true false = refl
+    go false true = refl
+    go false false = refl
+
+pub view-more : (next : ℕ) (after before : Open) (marks weights : List ℕ) (total : ℕ) (slots : List Slot) → Keeps next marks weights total slots
+    → (s : Slot) (held : HeldValue) → s ≡ record { value = held.value; last_use = held.last_use; stamp = next } → slot_at held.value.key slots ≡ None
+    → ((q : List ℕ) → is_open q after ≡ cond (same held.value.key q) true (is_open q before)) → held.covered ≡ false → held.evictable ≡ false
+    → map (held_by after marks) (slots ++ s ∷ []) ≡ map (held_by before marks) slots ++ held ∷ []
+view-more next after before marks weights total slots k s held is absent opened c m =
+    map-append (held_by after marks) slots (s ∷ [])
+    ∙ ap (λ hs. hs ++ held_by after marks s ∷ []) (view-beside after before marks held.value.key slots (λ q e. opened q ∙ ap (λ b. cond b true (is_open q before)) e) absent)
+    ∙ ap (λ h. map (held_by before marks) slots ++ h ∷ [])
+    (new-view next after marks weights total slots k s held (ap (λ (x : Slot). x.stamp) is) (ap (λ (x : Slot). x.value) is) (ap (λ (x : Slot). x.last_use) is)
+    (ap (λ (x : Slot). is_open x.value.key after) is ∙ opened held.value.key ∙ ap (λ b. cond b true (is_open held.value.key before)) ((bytes_eq-Decides held.value.key held.value.key).1 refl)) c m)
+
+-- the slot that is found is the key's own
+pub found-key : (key : List ℕ) (slots : List Slot) (s : Slot) → slot_at key slots ≡ Some s → key ≡ s.value.key
+found-key key slots s e = (bytes_eq-Decides key s.value.key).0 (go slots e)
+  where
+    go : (xs : List Slot) → slot_at key xs ≡ Some s → same key s.value.key ≡ true
+    go [] e = absurd (none-some s e)
+    go (x ∷ xs) e = step (same key x.value.key) refl e (go xs)
+      where
+        step : (b : Bool) → same key x.value.key ≡ b → cond b (Some x) (slot_at key xs) ≡ Some s → (slot_at key xs ≡ Some s → same key s.value.key ≡ true) → same key s.value.key ≡ true
+        step true is e ih = let own : x ≡ s = cc in subst (λ (y : Slot). same key y.value.key ≡ true) own is
+        step false is e ih = ih e

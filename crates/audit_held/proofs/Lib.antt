@@ -1,2 +1,3 @@
 pub mod Weighing
+pub mod Opening
 pub mod Keeping

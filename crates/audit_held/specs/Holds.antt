@@ -1,35 +1,35 @@
 -- What the representation of the values held means.
 use Rattle.std.specs.Prelude.{◌≡◌, ℕ, Bool, true, not, ◌&&◌, ◌||◌, ◌==◌, nat_lt, nat_le, nat_eq, List, map, length, get_or, if◌then◌else◌}
-use Rattle.std.specs.List.{list_any, list_all, filter, starts_with, sum_by}
+use Rattle.std.specs.List.{list_all, starts_with, sum_by}
+use Rattle.std.specs.BTreeSet.{BTreeSet, contains_by}
+use Rattle.std.specs.Cmp.Lexicographic.{slice_cmp}
+use Rattle.std.specs.Ordering.{nat_cmp}
+use Rattle.std.specs.declared.vec.Vec.{Vec}
+use Rattle.std.specs.declared.alloc.Global.{Global}
 use Rattle.audit_model.specs.Bytewise.{same}
 use Rattle.audit_model.specs.History.{Value}
 use Rattle.audit_model.specs.Situation.{HeldValue}
-use Rattle.audit_held.specs.declared.covers.Cover.{Cover}
 use Rattle.audit_table.specs.Slots.{Slot}
 use Rattle.audit_held.specs.Weights.{weight_of_part}
 
--- a cover that came after it was accepted has a prefix of its key
-abbrev pub is_covered_by : List Cover → Slot → Bool
-is_covered_by covers s = list_any (λ c. nat_lt s.stamp c.stamp && starts_with nat_eq s.value.key c.prefix) covers
+-- the keys of the values that no prefix covers
+abbrev pub Open : Type 0
+Open = BTreeSet (Vec ℕ Global)
 
--- a value held, by the covers, and by the numbers at which each part's weight was last a point
-abbrev pub held_by : List Cover → List ℕ → Slot → HeldValue
-held_by covers marks s =
-    record { value = s.value; last_use = s.last_use; covered = is_covered_by covers s; evictable = nat_lt s.stamp (get_or marks s.value.part 0) }
+-- the key is among them
+abbrev pub is_open : List ℕ → Open → Bool
+is_open key open_keys = contains_by (λ k. slice_cmp nat_cmp key k.items) open_keys
 
--- the covers of which that prefix does not cover all keys
-abbrev pub left_beside : List ℕ → List Cover → List Cover
-left_beside prefix covers = filter (λ c. not (starts_with nat_eq c.prefix prefix)) covers
+-- a value held, by the open keys, and by the numbers at which each part's weight was last a point
+abbrev pub held_by : Open → List ℕ → Slot → HeldValue
+held_by open_keys marks s =
+    record { value = s.value; last_use = s.last_use; covered = not (is_open s.value.key open_keys); evictable = nat_lt s.stamp (get_or marks s.value.part 0) }
 
 -- each number was given out before that one, and each part is one of 256
 abbrev pub are_sound : ℕ → List Slot → Bool
 are_sound next slots = list_all (λ s. nat_lt s.stamp next && nat_lt s.value.part 256) slots
 
--- no cover is of a later number
-abbrev pub are_past : ℕ → List Cover → Bool
-are_past next covers = list_all (λ c. nat_le c.stamp next) covers
-
--- no mark is
+-- no mark is a later number
 abbrev pub are_past_marks : ℕ → List ℕ → Bool
 are_past_marks next marks = list_all (λ m. nat_le m next) marks
 
@@ -50,9 +50,8 @@ abbrev pub marked_in : ℕ → Bool → Bool → HeldValue → HeldValue
 marked_in part over anew h = if h.value.part == part then record h { evictable = over || (not anew && h.evictable) } else h
 
 -- what holds of the representation
-pub record Keeps (next : ℕ) (covers : List Cover) (marks weights : List ℕ) (total : ℕ) (slots : List Slot) : Type 0 where
+pub record Keeps (next : ℕ) (marks weights : List ℕ) (total : ℕ) (slots : List Slot) : Type 0 where
   pub sound : are_sound next slots ≡ true
-  pub covered : are_past next covers ≡ true
   pub marked : are_past_marks next marks ≡ true
   pub marks_of_all : length marks ≡ 256
   pub weights_of_all : length weights ≡ 256

@@ -1,19 +1,20 @@
 //! The values held.
-ghost use Rattle.std.specs.Prelude.{◌≡◌, ℕ, List, ◌<◌, ◌++◌, ◌∷◌, [], true, false, not, ◌||◌, ◌&&◌, nat_lt, map, reverse, length, option_map, None, IfOk, IfSome, OnOk};
+ghost use Rattle.std.specs.Prelude.{◌≡◌, ℕ, List, ◌<◌, ◌++◌, ◌∷◌, [], true, false, cond, not, ◌||◌, ◌&&◌, nat_lt, map, reverse, length, option_map, None, IfOk, IfSome, OnOk};
 ghost use Rattle.std.specs.List.{find, list_all, sum_by};
 ghost use Rattle.audit_model.specs.Bytewise.{same};
 ghost use Rattle.audit_model.specs.Values.{without_key};
 ghost use Rattle.audit_table.specs.Slots.{slot_of};
 ghost use Rattle.audit_held.specs.Seeing.{held_of};
 ghost use Rattle.audit_held.specs.Weights.{weight_of_part, values_of};
-ghost use Rattle.audit_held.specs.Holds.{held_by, used_at, covered_by, marked_in, Keeps};
+ghost use Rattle.audit_held.specs.Holds.{held_by, is_open, used_at, covered_by, marked_in, Keeps};
 
-use crate::covers::{Cover, is_covered, leave_out, push_cover};
 use crate::held::{Held, Seen};
+use crate::open::{close_all, close_key, is_open, open_key};
 use crate::sums::{mark_after, mark_at, next_number, put_mark, put_weight, sum_with, weight_at};
 use audit_model::Seq;
 use audit_table::{Kept, Table};
 use std::alloc::{AllocError, Global};
+use std::collections::BTreeSet;
 use std::marker::Model;
 
 /// The values held, seen as the list of them, oldest first. Each is of one of 256 parts.
@@ -21,12 +22,12 @@ use std::marker::Model;
 pub struct Holding {
     alloc: Global,
     table: Table,
-    covers: Vec<Cover>,
+    open_keys: BTreeSet<Vec<u8>>,
     marks: Vec<u64>,
     weights: Vec<u128>,
     total: u128,
     next: u64,
-    ghost keeps: { Keeps next covers.items marks.items weights.items total table },
+    ghost keeps: { Keeps next marks.items weights.items total table },
 }
 
 impl Model for Holding {
@@ -36,12 +37,12 @@ impl Model for Holding {
 
     ghost Value = { List HeldValue };
 
-    ghost view = { λ h. map (held_by h.covers.items h.marks.items) h.table };
+    ghost view = { λ h. map (held_by h.open_keys h.marks.items) h.table };
 }
 
 /// A value as it is lent.
-fn lend<'a>(covers: &[Cover], marks: &[u64], key: &'a [u8], kept: &'a Kept) -> Seen<'a>
-    ensures { held_of result ≡ held_by covers.now marks.now (slot_of key.now kept.now) }
+fn lend<'a>(keys: &BTreeSet<Vec<u8>>, marks: &[u64], key: &'a [u8], kept: &'a Kept) -> Seen<'a>
+    ensures { held_of result ≡ held_by keys.now marks.now (slot_of key.now kept.now) }
 {
     Seen {
         key,
@@ -51,7 +52,7 @@ fn lend<'a>(covers: &[Cover], marks: &[u64], key: &'a [u8], kept: &'a Kept) -> S
         accepted_at: kept.accepted_at,
         own_deadline: kept.own_deadline,
         last_use: kept.last_use,
-        covered: is_covered(covers, key, kept.stamp),
+        covered: !is_open(keys, key),
         evictable: kept.stamp < mark_at(marks, kept.part as usize),
     }
 }
@@ -60,24 +61,26 @@ fn lend<'a>(covers: &[Cover], marks: &[u64], key: &'a [u8], kept: &'a Kept) -> S
 fn lend_all<'a>(
     alloc: Global,
     table: &'a Table,
-    covers: &[Cover],
+    keys: &BTreeSet<Vec<u8>>,
     marks: &[u64],
 ) -> Result<Vec<Seen<'a>>, AllocError>
-    ensures { IfOk result (λ all. reverse (map held_of all.items) ≡ map (held_by covers.now marks.now) table.now) }
+    ensures { IfOk result (λ all. reverse (map held_of all.items) ≡ map (held_by keys.now marks.now) table.now) }
 {
     let mut all = Vec::with_capacity(alloc, table.len())?;
     for (key, kept) in table.iter() {
-        all.push(lend(covers, marks, key.as_slice(), kept))?;
+        all.push(lend(keys, marks, key.as_slice(), kept))?;
     }
     Ok(all)
 }
 
-/// A value as it is handed out.
-fn hand_out(covers: &[Cover], marks: &[u64], key: Vec<u8>, kept: Kept) -> Held
-    ensures { result ≡ held_by covers.now marks.now (slot_of key.items kept) }
+/// A value as it is handed out; its key is closed.
+fn hand_out(keys: &mut BTreeSet<Vec<u8>>, marks: &[u64], key: Vec<u8>, kept: Kept) -> Held
+    ensures value { result ≡ held_by keys.old marks.now (slot_of key.items kept) }
+    ensures closed { (q : List ℕ) → is_open q keys.new ≡ cond (same key.items q) false (is_open q keys.old) }
 {
-    let covered = is_covered(covers, key.as_slice(), kept.stamp);
+    let covered = !is_open(keys, key.as_slice());
     let evictable = kept.stamp < mark_at(marks, kept.part as usize);
+    close_key(keys, &key);
     Held::from_kept(key, kept, covered, evictable)
 }
 
@@ -89,7 +92,7 @@ impl Holding {
         Ok(Holding {
             alloc,
             table: Table::new(alloc)?,
-            covers: Vec::new(alloc),
+            open_keys: BTreeSet::new(alloc),
             marks: vec![in alloc; 0; 256]?,
             weights: vec![in alloc; 0; 256]?,
             total: 0,
@@ -125,7 +128,7 @@ impl Holding {
         ensures { option_map held_of result ≡ find (λ h. same key.now h.value.key) self.now }
     {
         match self.table.get(key) {
-            Some(kept) => Some(lend(&self.covers, &self.marks, key, kept)),
+            Some(kept) => Some(lend(&self.open_keys, &self.marks, key, kept)),
             None => None,
         }
     }
@@ -136,13 +139,14 @@ impl Holding {
         ensures rest { self.new ≡ without_key (λ h. h.value.key) key.now self.old }
         ensures small { IfSome result (λ h. h.value.part < 256) }
     {
+        let _number = self.table.len();
         match self.table.take(key) {
             Some((key, kept)) => {
                 let part = kept.part as usize;
                 let weight = weight_at(&self.weights, part) - u128::from(kept.weight);
                 put_weight(&mut self.weights, part, weight);
                 self.total -= u128::from(kept.weight);
-                Some(hand_out(&self.covers, &self.marks, key, kept))
+                Some(hand_out(&mut self.open_keys, &self.marks, key, kept))
             }
             None => None,
         }
@@ -161,6 +165,7 @@ impl Holding {
         let part = held.part() as usize;
         let weight = sum_with(weight_at(&self.weights, part), held.weight())?;
         let (key, kept) = held.into_kept(self.next);
+        open_key(self.alloc, &mut self.open_keys, key.as_slice())?;
         self.table.add(key, kept)?;
         put_weight(&mut self.weights, part, weight);
         self.total = total;
@@ -179,8 +184,7 @@ impl Holding {
     pub fn cover(&mut self, prefix: &[u8]) -> Result<(), AllocError>
         ensures { OnOk result (self.new ≡ map (covered_by prefix.now) self.old) }
     {
-        leave_out(&mut self.covers, prefix);
-        push_cover(self.alloc, &mut self.covers, prefix, self.next)
+        close_all(self.alloc, &mut self.open_keys, prefix)
     }
 
     /// Marks the values of a part where its weight is a point, and unmarks them where it is none and earlier ones count no more.
@@ -196,6 +200,6 @@ impl Holding {
     pub fn lent(&self) -> Result<Vec<Seen<'_>>, AllocError>
         ensures { IfOk result (λ all. reverse (map held_of all.items) ≡ self.now) }
     {
-        lend_all(self.alloc, &self.table, &self.covers, &self.marks)
+        lend_all(self.alloc, &self.table, &self.open_keys, &self.marks)
     }
 }

@@ -9,13 +9,12 @@ use Rattle.audit_held.proofs.holding.Holding.get.Goals as goal
 pub returns-in-Some : goal.returns-in-Some
 returns-in-Some c =
     let inside = c.self.inside in
-    ap Some (c.lend.ensures ∙ ap (λ cs. held_by cs c.deref-in-Some.result.now (slot_of c.args.key.now c.in-Some.kept.now)) c.deref.ensures.value
-    ∙ ap (λ ms. held_by inside.covers.items ms (slot_of c.args.key.now c.in-Some.kept.now)) c.deref-in-Some.ensures.value)
-    ∙ ap (option_map (held_by inside.covers.items inside.marks.items)) c.in-Some.ensures
-    ∙ sym (find-held inside.covers.items inside.marks.items c.args.key.now inside.table) ∙ ap (find (λ h. same c.args.key.now h.value.key)) c.self.view_is
+    ap Some (c.lend.ensures ∙ ap (λ ms. held_by inside.open_keys ms (slot_of c.args.key.now c.in-Some.kept.now)) c.deref.ensures.value)
+    ∙ ap (option_map (held_by inside.open_keys inside.marks.items)) c.in-Some.ensures
+    ∙ sym (find-held inside.open_keys inside.marks.items c.args.key.now inside.table) ∙ ap (find (λ h. same c.args.key.now h.value.key)) c.self.view_is
 
 pub returns-in-None : goal.returns-in-None
 returns-in-None c =
     let inside = c.self.inside in
-    ap (option_map (held_by inside.covers.items inside.marks.items)) c.in-None.ensures
-    ∙ sym (find-held inside.covers.items inside.marks.items c.args.key.now inside.table) ∙ ap (find (λ h. same c.args.key.now h.value.key)) c.self.view_is
+    ap (option_map (held_by inside.open_keys inside.marks.items)) c.in-None.ensures
+    ∙ sym (find-held inside.open_keys inside.marks.items c.args.key.now inside.table) ∙ ap (find (λ h. same c.args.key.now h.value.key)) c.self.view_is

@@ -10,12 +10,12 @@ use Rattle.audit_held.proofs.holding.Holding.len.Goals as goal
 pub returns-clause-small : goal.returns-clause-small
 returns-clause-small c =
     let inside = c.self.inside in
-    ap (list_all (λ h. nat_lt h.value.part 256)) (sym c.self.view_is) ∙ small-view inside.next inside.covers.items inside.marks.items inside.table inside.keeps.sound
+    ap (list_all (λ h. nat_lt h.value.part 256)) (sym c.self.view_is) ∙ small-view inside.next inside.open_keys inside.marks.items inside.table inside.keeps.sound
 
 pub returns-clause-apart : goal.returns-clause-apart
 returns-clause-apart c key =
     let inside = c.self.inside in
     ap (λ hs. find (λ h. same key h.value.key) (without_key (λ h. h.value.key) key hs)) (sym c.self.view_is)
-    ∙ ap (find (λ h. same key h.value.key)) (without-held inside.covers.items inside.marks.items key inside.table)
-    ∙ find-held inside.covers.items inside.marks.items key (without key inside.table)
-    ∙ ap (option_map (held_by inside.covers.items inside.marks.items)) (c.len.ensures.apart key)
+    ∙ ap (find (λ h. same key h.value.key)) (without-held inside.open_keys inside.marks.items key inside.table)
+    ∙ find-held inside.open_keys inside.marks.items key (without key inside.table)
+    ∙ ap (option_map (held_by inside.open_keys inside.marks.items)) (c.len.ensures.apart key)

@@ -10,8 +10,8 @@ invariant_of-self-inside c =
     c.put_mark.ensures
     ∙ ap (set inside.marks.items c.args.part)
     (c.mark_after-mark.ensures ∙ ap (λ m. if c.args.over then inside.next else (if c.args.anew then 0 else m)) (c.mark_at.ensures ∙ ap (λ ms. get_or ms c.args.part 0) c.deref.ensures.value)) in (
-      subst (λ ms. Keeps inside.next inside.covers.items ms inside.weights.items inside.total inside.table) (sym marks)
-          (keeps-marked inside.next inside.covers.items inside.marks.items inside.weights.items inside.total inside.table inside.keeps c.args.part c.args.over c.args.anew c.requires),
+      subst (λ ms. Keeps inside.next ms inside.weights.items inside.total inside.table) (sym marks)
+          (keeps-marked inside.next inside.open_keys inside.marks.items inside.weights.items inside.total inside.table inside.keeps c.args.part c.args.over c.args.anew c.requires),
       tt,
     )
 
@@ -22,6 +22,6 @@ returns c =
     c.put_mark.ensures
     ∙ ap (set inside.marks.items c.args.part)
     (c.mark_after-mark.ensures ∙ ap (λ m. if c.args.over then inside.next else (if c.args.anew then 0 else m)) (c.mark_at.ensures ∙ ap (λ ms. get_or ms c.args.part 0) c.deref.ensures.value)) in
-    ap (λ ms. map (held_by inside.covers.items ms) inside.table) marks
-    ∙ view-marked inside.next inside.covers.items inside.marks.items inside.weights.items inside.total inside.table inside.keeps c.args.part c.args.over c.args.anew c.requires
+    ap (λ ms. map (held_by inside.open_keys ms) inside.table) marks
+    ∙ view-marked inside.next inside.open_keys inside.marks.items inside.weights.items inside.total inside.table inside.keeps c.args.part c.args.over c.args.anew c.requires
     ∙ ap (map (marked_in c.args.part c.args.over c.args.anew)) c.self.view_is

@@ -7,4 +7,4 @@ pub returns : goal.returns
 returns c =
     let inside = c.self.inside in
     c.weight_at.ensures ∙ ap (λ ws. get_or ws c.args.part 0) c.deref.ensures.value ∙ inside.keeps.weighed c.args.part
-    ∙ ap (weight_of_part c.args.part) (sym (values-by inside.covers.items inside.marks.items inside.table) ∙ ap values_of c.self.view_is)
+    ∙ ap (weight_of_part c.args.part) (sym (values-by inside.open_keys inside.marks.items inside.table) ∙ ap values_of c.self.view_is)
