@@ -1,12 +1,12 @@
 -- Entries by number.
 use Rattle.std.proofs.Common.{◌≡◌, refl, sym, ap, ◌∙◌, subst, ℕ, suc, zero, ◌+◌, ◌-◌, ◌≤◌, ◌==◌, Bool, true, false, cond, not, ◌&&◌, List, [], ◌∷◌, ◌++◌, map, length, take, Option, option_map, Some, None, Result, Ok, Err, OnOk, Bor, if◌then◌else◌, arith, true≢false}
-use Rattle.std.specs.Prelude.{nat_eq}
+use Rattle.std.specs.Prelude.{nat_eq, is_some}
 use Rattle.std.specs.List.{find, filter, list_all}
 use Rattle.std.specs.Map.{values_of, lookup, lookup_entry, remove_entry, set_value}
 use Rattle.std.specs.Option.{option_map_or, option_copied}
 use Rattle.std.proofs.lemmas.Option.{none-some}
 use Rattle.std.proofs.lemmas.Bool.{not-true, and_parts, and_from, eq-eqb, eqb-true}
-use Rattle.lru.specs.LruCache.{lru_cache, put_entries, demoted}
+use Rattle.lru.specs.LruCache.{LruCache, lru_cache, put_entries, demoted}
 use Rattle.audit_situation.specs.Listings.{is_new, is_listing, changed_at}
 
 flip : (m n : ℕ) → (m == n) ≡ (n == m)
@@ -27,6 +27,10 @@ follows (Err e) f p = tt
 pub lent : {X : Type 0} (r : Option (Bor X)) → option_map (λ x. x.now) r ≡ option_copied r
 lent None = refl
 lent (Some x) = refl
+
+is_none : {X : Type 0} (o : Option X) → is_some o ≡ false → o ≡ None
+is_none None e = refl
+is_none (Some x) e = absurd (true≢false e)
 
 module _ {X : Type 0} where
   none-new : (n : ℕ) (es : List (ℕ × X)) → lookup (nat_eq n) es ≡ None → is_new n es ≡ true
@@ -198,3 +202,13 @@ module _ {X : Type 0} (number : X → ℕ) where
           → (lookup (nat_eq (number x)) es ≡ None → is_listing number (es ++ (number x, x) ∷ []) ≡ true) → is_listing number (e ∷ es ++ (number x, x) ∷ []) ≡ true
       go true h p absent ih = absurd (none-some e.1 (sym absent))
       go false h p absent ih = whole e (es ++ (number x, x) ∷ []) p.own (new-last e.0 (number x) x es p.new h) (ih absent)
+
+  -- what is put and moved to the end is the last
+  pub added : (x : X) (es : List (ℕ × X)) (cap n : ℕ) (first second : LruCache ℕ X) → n ≡ number x → cap ≡ 18446744073709551615 → length es ≤ 1125899906842624 → is_some (lookup (nat_eq n) es) ≡ false
+      → first ≡ lru_cache (put_entries nat_eq (lru_cache es cap) n x) cap → second ≡ lru_cache (demoted (nat_eq n) first.entries) first.cap → second ≡ lru_cache (es ++ (number x, x) ∷ []) cap
+  added x es cap n first second same c few absent f g =
+      let put : first ≡ lru_cache ((n, x) ∷ es) cap = f ∙ ap (λ xs. lru_cache xs cap) (put_is es cap n x c few (is_none (lookup (nat_eq n) es) absent)) in
+      g ∙ ap (λ (k : LruCache ℕ X). lru_cache (demoted (nat_eq n) k.entries) k.cap) put ∙ ap (λ xs. lru_cache xs cap) (demoted_is es n x) ∙ ap (λ m. lru_cache (es ++ (m, x) ∷ []) cap) same
+
+  pub added-listing : (x : X) (es : List (ℕ × X)) (n : ℕ) → n ≡ number x → is_some (lookup (nat_eq n) es) ≡ false → is_listing number es ≡ true → is_listing number (es ++ (number x, x) ∷ []) ≡ true
+  added-listing x es n same absent l = last-listing x es l (ap (λ m. lookup (nat_eq m) es) (sym same) ∙ is_none (lookup (nat_eq n) es) absent)

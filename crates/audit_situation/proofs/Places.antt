@@ -1,8 +1,14 @@
--- A list gone through, and what loads are to connections.
-use Rattle.std.proofs.Common.{◌≡◌, refl, ap, ◌∙◌, ℕ, ◌+◌, ◌<◌, Bool, true, false, List, length, set, get_or, Option, Some, None}
+-- A list gone through, a connection changed, and what loads are to connections.
+use Rattle.std.proofs.Common.{◌≡◌, refl, sym, ap, ◌∙◌, subst, ℕ, ◌+◌, ◌<◌, ◌==◌, Bool, true, false, cond, not, ◌&&◌, ◌||◌, List, [], ◌∷◌, map, length, set, get_or, Option, Some, None, if◌then◌else◌, true≢false}
+use Rattle.std.specs.List.{find, list_any}
+use Rattle.std.specs.Option.{option_map_or}
+use Rattle.std.proofs.lemmas.Option.{none-some}
+use Rattle.std.proofs.lemmas.Bool.{eqb-true, and_parts, not-true}
 use Rattle.audit_model.specs.Changes.{join_by}
-use Rattle.audit_model.specs.Situation.{Situation}
+use Rattle.audit_model.specs.Situation.{Situation, Connection, connection_in, without_number, without_connection, with_connection, is_overlong, without_waiting}
 use Rattle.audit_situation.proofs.Done.{done, get-done, set-done}
+use Rattle.audit_situation.specs.Listings.{changed_at}
+use Rattle.audit_situation.specs.States.{are_apart}
 
 -- one more is done
 pub done-more : {X : Type 0} (F : X → X) (xs init : List X) (i : ℕ) (x new : X) → i < length init → xs ≡ done F i init → new ≡ F (get_or xs i x) → set xs i new ≡ done F (i + 1) init
@@ -16,3 +22,100 @@ join-keeps conn waits None load s = refl
 join-keeps conn waits (Some key) (Some number) s = refl
 join-keeps conn true (Some key) None s = refl
 join-keeps conn false (Some key) None s = refl
+
+abbrev of_number : Connection → ℕ
+of_number c = c.number
+
+module _ (conn : ℕ) where
+  abbrev hits : Connection → Bool
+  hits d = d.number == conn
+
+  hit-number : (cs : List Connection) (c : Connection) → find hits cs ≡ Some c → c.number ≡ conn
+  hit-number [] c e = absurd (none-some c e)
+  hit-number (d ∷ ds) c e = go (hits d) refl e (hit-number ds c)
+    where
+      go : (b : Bool) → hits d ≡ b → cond b (Some d) (find hits ds) ≡ Some c → (find hits ds ≡ Some c → c.number ≡ conn) → c.number ≡ conn
+      go true h e ih = let same : d ≡ c = cc in ap of_number (sym same) ∙ eqb-true d.number conn h
+      go false h e ih = ih e
+
+  module _ (F : Connection → Connection) where
+    untouched : (cs : List Connection) → list_any hits cs ≡ false → map (changed_at of_number conn F) cs ≡ cs
+    untouched [] e = refl
+    untouched (d ∷ ds) e = go (hits d) e (untouched ds)
+      where
+        go : (b : Bool) → (b || list_any hits ds) ≡ false → (list_any hits ds ≡ false → map (changed_at of_number conn F) ds ≡ ds) → (if b then F d else d) ∷ map (changed_at of_number conn F) ds ≡ d ∷ ds
+        go true e ih = absurd (true≢false e)
+        go false e ih = ap (λ xs. d ∷ xs) (ih e)
+
+    missed : (cs : List Connection) → find hits cs ≡ None → map (changed_at of_number conn F) cs ≡ cs
+    missed [] e = refl
+    missed (d ∷ ds) e = go (hits d) e (missed ds)
+      where
+        go : (b : Bool) → cond b (Some d) (find hits ds) ≡ None → (find hits ds ≡ None → map (changed_at of_number conn F) ds ≡ ds) → (if b then F d else d) ∷ map (changed_at of_number conn F) ds ≡ d ∷ ds
+        go true e ih = absurd (none-some d (sym e))
+        go false e ih = ap (λ xs. d ∷ xs) (ih e)
+
+    dropped : ((c : Connection) → (F c).number ≡ c.number) → (cs : List Connection) → without_number conn (map (changed_at of_number conn F) cs) ≡ without_number conn cs
+    dropped keeps [] = refl
+    dropped keeps (d ∷ ds) = go (hits d) refl (dropped keeps ds)
+      where
+        go : (b : Bool) → hits d ≡ b → without_number conn (map (changed_at of_number conn F) ds) ≡ without_number conn ds
+            → without_number conn ((if b then F d else d) ∷ map (changed_at of_number conn F) ds) ≡ cond (not b) (d ∷ without_number conn ds) (without_number conn ds)
+        go true h ih =
+            ap (λ b. cond (not b) (F d ∷ without_number conn (map (changed_at of_number conn F) ds)) (without_number conn (map (changed_at of_number conn F) ds))) (ap (λ n. n == conn) (keeps d) ∙ h) ∙ ih
+        go false h ih =
+            ap (λ b. cond (not b) (d ∷ without_number conn (map (changed_at of_number conn F) ds)) (without_number conn (map (changed_at of_number conn F) ds))) h ∙ ap (λ ys. d ∷ ys) ih
+
+  -- where no two have one number, it is one that changes
+  swapped : (F : Connection → Connection) (cs : List Connection) (c : Connection) → are_apart cs ≡ true → find hits cs ≡ Some c → map (changed_at of_number conn F) cs ≡ map (changed_at of_number conn (λ _. F c)) cs
+  swapped F [] c a e = refl
+  swapped F (d ∷ ds) c a e = let p = and_parts _ _ a in go (hits d) refl p.0 e (swapped F ds c p.1)
+    where
+      go : (b : Bool) → hits d ≡ b → not (list_any (λ k. k.number == d.number) ds) ≡ true → cond b (Some d) (find hits ds) ≡ Some c
+          → (find hits ds ≡ Some c → map (changed_at of_number conn F) ds ≡ map (changed_at of_number conn (λ _. F c)) ds)
+          → (if b then F d else d) ∷ map (changed_at of_number conn F) ds ≡ (if b then F c else d) ∷ map (changed_at of_number conn (λ _. F c)) ds
+      go true h n e ih =
+          let same : d ≡ c = cc in
+          let others : list_any hits ds ≡ false = ap (λ m. list_any (λ k. k.number == m) ds) (sym (eqb-true d.number conn h)) ∙ not-true _ n in
+          ap (λ x. F x ∷ map (changed_at of_number conn F) ds) same ∙ ap (λ ys. F c ∷ ys) (untouched F ds others ∙ sym (untouched (λ _. F c) ds others))
+      go false h n e ih = ap (λ ys. d ∷ ys) (ih e)
+
+  module _ (F : Connection → Connection) (keeps : (c : Connection) → (F c).number ≡ c.number) (quits : Bool) (s : Situation) where
+    abbrev changed : Situation
+    changed = record s { connections = map (changed_at of_number conn F) s.connections }
+
+    abbrev wanted : Option Connection → Situation
+    wanted o = option_map_or (λ c. with_connection quits (F c) s) o s
+
+    abbrev closing : Option Connection → Bool
+    closing o = option_map_or (λ c. quits || is_overlong (F c)) o false
+
+    -- it closes
+    pub closed_is : closing (connection_in conn s) ≡ true → without_connection conn changed ≡ wanted (connection_in conn s)
+    closed_is closes = go (connection_in conn s) refl closes
+      where
+        go : (o : Option Connection) → connection_in conn s ≡ o → closing o ≡ true → without_connection conn changed ≡ wanted o
+        go None e b = absurd (true≢false (sym b))
+        go (Some c) e b =
+            let same : conn ≡ (F c).number = sym (keeps c ∙ hit-number s.connections c e) in
+            ap (λ cs. record s { connections = cs; pending = map (without_waiting conn) s.pending }) (dropped F keeps s.connections)
+            ∙ ap (λ n. record s { connections = without_number n s.connections; pending = map (without_waiting n) s.pending }) same
+            ∙ sym (ap (λ b. record s {
+              connections = if b then without_number (F c).number s.connections else map (λ d. if d.number == (F c).number then F c else d) s.connections;
+              pending = if b then map (without_waiting (F c).number) s.pending else s.pending;
+            }) b)
+
+    -- it stays, or there is none
+    pub kept_is : are_apart s.connections ≡ true → closing (connection_in conn s) ≡ false → changed ≡ wanted (connection_in conn s)
+    kept_is apart closes = go (connection_in conn s) refl closes
+      where
+        go : (o : Option Connection) → connection_in conn s ≡ o → closing o ≡ false → changed ≡ wanted o
+        go None e b = ap (λ cs. record s { connections = cs }) (missed F s.connections e)
+        go (Some c) e b =
+            let same : conn ≡ (F c).number = sym (keeps c ∙ hit-number s.connections c e) in
+            ap (λ cs. record s { connections = cs }) (swapped F s.connections c apart e)
+            ∙ ap (λ n. record s { connections = map (changed_at of_number n (λ _. F c)) s.connections; pending = s.pending }) same
+            ∙ sym (ap (λ b. record s {
+              connections = if b then without_number (F c).number s.connections else map (λ d. if d.number == (F c).number then F c else d) s.connections;
+              pending = if b then map (without_waiting (F c).number) s.pending else s.pending;
+            }) b)
