@@ -1,5 +1,6 @@
 -- A list gone through, a connection changed, and what loads are to connections.
 use Rattle.std.proofs.Common.{◌≡◌, refl, sym, ap, ◌∙◌, subst, ℕ, ◌+◌, ◌<◌, ◌==◌, Bool, true, false, cond, not, ◌&&◌, ◌||◌, List, [], ◌∷◌, map, length, set, get_or, Option, Some, None, if◌then◌else◌, true≢false}
+use Rattle.std.specs.Prelude.{is_some}
 use Rattle.std.specs.List.{find, list_any}
 use Rattle.std.specs.Option.{option_map_or}
 use Rattle.std.proofs.lemmas.Option.{none-some}
@@ -22,6 +23,19 @@ join-keeps conn waits None load s = refl
 join-keeps conn waits (Some key) (Some number) s = refl
 join-keeps conn true (Some key) None s = refl
 join-keeps conn false (Some key) None s = refl
+
+-- a connection moved on when the loads are joined
+pub passed_is : (s s1 t : Situation) (conn : ℕ) (quits : Bool) (F : Connection → Connection) (joined : Situation → Situation) → s1 ≡ joined s → (joined s).connections ≡ s.connections → is_some (connection_in conn s) ≡ true
+    → t ≡ option_map_or (λ c. with_connection quits (F c) s1) (connection_in conn s1) s1
+    → t ≡ option_map_or (λ c. with_connection quits (F c) (joined s)) (connection_in conn s) s
+passed_is s s1 t conn quits F joined is same there step =
+    step ∙ ap (λ (u : Situation). option_map_or (λ c. with_connection quits (F c) u) (connection_in conn u) u) is
+    ∙ ap (λ cs. option_map_or (λ c. with_connection quits (F c) (joined s)) (find (λ (d : Connection). d.number == conn) cs) (joined s)) same
+    ∙ go (connection_in conn s) there
+  where
+    go : (o : Option Connection) → is_some o ≡ true → option_map_or (λ c. with_connection quits (F c) (joined s)) o (joined s) ≡ option_map_or (λ c. with_connection quits (F c) (joined s)) o s
+    go None e = absurd (true≢false (sym e))
+    go (Some c) e = refl
 
 abbrev of_number : Connection → ℕ
 of_number c = c.number

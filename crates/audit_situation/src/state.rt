@@ -1,11 +1,11 @@
 //! The situation between two steps, and what changes it.
-ghost use Rattle.std.specs.Prelude.{◌≡◌, ◌&&◌, ◌||◌, ◌<◌, ◌++◌, ◌∷◌, [], OnOk, IfOk, IsTrue, ℕ, suc, max, Some, None, map, not, ◌==◌, position, option_map, slice_index_or, vec_len};
+ghost use Rattle.std.specs.Prelude.{◌≡◌, ◌&&◌, ◌++◌, ◌∷◌, [], OnOk, IfOk, IsTrue, ℕ, suc, max, Some, None, map, not, ◌==◌, option_map};
 ghost use Rattle.std.specs.List.{filter, find};
 ghost use Rattle.std.specs.Option.{option_map_or};
 ghost use Rattle.audit_model.specs.Bytewise.{same};
 ghost use Rattle.audit_model.specs.Changes.{join_by};
 ghost use Rattle.audit_model.specs.Follows.{without_load};
-ghost use Rattle.audit_model.specs.Situation.{Situation, Connection, is_overlong, Ready, empty_situation, connection_in, may_run_in, is_holding_in, without_waiting, without_number, without_connection, with_connection, with_waiting, load_in, pending_in};
+ghost use Rattle.audit_model.specs.Situation.{Ready, empty_situation, connection_in, may_run_in, is_holding_in, without_waiting, without_connection, with_connection, with_waiting, load_in, pending_in};
 ghost use Rattle.audit_situation.specs.States.{situation_of, are_apart, fed_to, moved_in};
 ghost use Rattle.audit_situation.specs.Standings.{moved_on};
 
@@ -126,7 +126,8 @@ pub fn feed(s: &mut State, conn: u64, piece: &[u8]) -> Result<(), AllocError>
     requires { IsTrue (are_apart s.old.connections) }
     ensures { OnOk result (situation_of s.new ≡ fed_to conn piece.now (situation_of s.old)) }
 {
-    if s.connections.feed(conn, piece)? {
+    let closes = s.connections.feed(conn, piece)?;
+    if closes {
         close(s, conn);
     }
     Ok(())
@@ -232,7 +233,8 @@ fn move_in(
     requires { IsTrue (are_apart s.old.connections) }
     ensures { OnOk result (situation_of s.new ≡ option_map_or (λ c. with_connection quits (moved_on moving.entry.reads moving.entry.holds moving.entry.replies moving.entry.line.now c) (situation_of s.old)) (connection_in conn (situation_of s.old)) (situation_of s.old)) }
 {
-    if s.connections.move_on(alloc, conn, moving, quits)? {
+    let closes = s.connections.move_on(alloc, conn, moving, quits)?;
+    if closes {
         close(s, conn);
     }
     Ok(())
