@@ -9,10 +9,13 @@ use cache_service::{
     Clock, LiveService, Loader, RunError, Seat, Seating, Service, SharedService, Watched, play,
     serve,
 };
-use moka_audit::{Config, Conn, EvictionPolicy, Input, Instant, ServiceError, Transcript, Weight};
+use moka_audit::{
+    Config, Conn, EvictionPolicy, Input, Instant, LoadId, Outcome, Seq, ServiceError, Transcript,
+    Weight,
+};
 use rand_core::SeedableRng;
 use rand_xoshiro::Xoshiro256PlusPlus;
-use std::alloc::Global;
+use std::alloc::{AllocError, Global};
 use std::sync::Wait;
 
 /// A namespace without limits.
@@ -64,6 +67,54 @@ fn ask(
     match service.feed(conn, lines, moment) {
         Ok(_) => service.take_output(conn),
         Err(error) => Err(error),
+    }
+}
+
+/// Settles the loads of the first namespace that have gone out by a table of rows: each is answered with the row of its key, or with
+/// nothing. Where memory is wanted it is given up, and goes out again while a connection waits for it.
+pub fn load_rows(
+    alloc: Global,
+    service: &mut Service,
+    rows: &[(&[u8], &[u8])],
+    moment: Instant,
+) -> Result<(), ServiceError> {
+    let loads = match service.take_loads(0) {
+        Ok(loads) => loads,
+        Err(error) => return Err(error),
+    };
+    for (load, key) in loads.as_slice() {
+        settle(
+            service,
+            *load,
+            row_of(alloc, rows, key.as_slice()).ok(),
+            moment,
+        );
+    }
+    Ok(())
+}
+
+/// What a table has for a key.
+fn row_of(alloc: Global, rows: &[(&[u8], &[u8])], key: &[u8]) -> Result<Outcome, AllocError> {
+    for (name, row) in rows {
+        if *name == key {
+            let copy = Vec::from_slice(alloc, row)?;
+            return Ok(Outcome::Value(Seq::from_vec(copy), None));
+        }
+    }
+    Ok(Outcome::None)
+}
+
+/// Answers a load, or gives it up where there is no outcome or the answer is refused.
+fn settle(service: &mut Service, load: LoadId, outcome: Option<Outcome>, moment: Instant) {
+    let answered = match outcome {
+        Some(outcome) => service.answer(load, outcome, moment).is_ok(),
+        None => false,
+    };
+    if !answered {
+        match service.give_up(load, moment) {
+            // It is refused where the load is not under way any more.
+            Ok(()) | Err(_) => {}
+        }
     }
 }
 

@@ -1,4 +1,4 @@
-use crate::{PLAIN, ask_once, play_pair, play_plainly};
+use crate::{PLAIN, ask_once, load_rows, play_pair, play_plainly};
 use cache_service::Service;
 use moka_audit::{Conn, Input, Instant, Seq};
 use rand_core::SeedableRng;
@@ -19,6 +19,30 @@ fn replies_of_connections(rt: HostRuntime) -> Result<(), Fail> {
     assert_eq!(rt; stored.as_slice(), b"OK\n".as_slice());
     let found = ask_once(&mut service, b"GET session:7\nGET session:8\n", START)?;
     assert_eq!(rt; found.as_slice(), b"VAL ada\nNONE\n".as_slice());
+    Ok(())
+}
+
+#[test]
+fn rows_that_are_loaded(rt: HostRuntime) -> Result<(), Fail> {
+    let mut service = Service::new(
+        rt.alloc(),
+        &[PLAIN],
+        Xoshiro256PlusPlus::seed_from_u64(1),
+        START,
+    )?;
+    let conn = service.open(0)?;
+    let _ = service.feed(
+        conn,
+        b"LOAD session:7\nGET session:7\nLOAD session:8\n",
+        START,
+    )?;
+    let rows: [(&[u8], &[u8]); 1] = [(b"session:7", b"ada")];
+    load_rows(rt.alloc(), &mut service, &rows, START)?;
+    let first = service.take_output(conn)?;
+    assert_eq!(rt; first.as_slice(), b"VAL ada\nVAL ada\n".as_slice());
+    load_rows(rt.alloc(), &mut service, &rows, START)?;
+    let second = service.take_output(conn)?;
+    assert_eq!(rt; second.as_slice(), b"NONE\n".as_slice());
     Ok(())
 }
 
