@@ -28,7 +28,7 @@ use Rattle.cache_namespace.proofs.Knowing.{keys-known}
 
 pub ran-kept : (config : Config) (s : Situation) (number : ℕ) (line copy old_text new_text last_text : List ℕ) (accepted : Option Accepted) (quit : Bool) (before steps : List Step) (notes waiting drained last : List Note)
     (part_of : List ℕ → ℕ) (made : ℕ) (Stands Stays : List HeldValue → Type 0) (dropped dropping : Bool) (drawn drawing left : Workings)
-    → Answers config s (action_by (reading config line)) accepted Stands dropped (Hands part_of waiting drained) old_text new_text
+    → Answers config s (action_by (reading config line)) accepted Stands dropped (Hands waiting drained) old_text new_text
     → IsPlainLine config line quit → says_quit (reading config line) ≡ quit → HasItsPart config part_of line accepted → ((held : List HeldValue) → Stands held → IsTrue (not (is_sync (action_by (reading config line))) || list_all (is_timely config made s.latest) held)) → Draws drawn.stream drawing.stream drawn.registered drawing.registered
     → (says_drop (reading config line) ≡ true → new_text ≡ old_text ++ codes "ERR id\n" → AreUsedUp (part_count config) drawn.stream drawing.stream drawn.registered)
     → KeepsIdentifiers drawing.stream left.stream drawing.registered left.registered
@@ -67,7 +67,7 @@ ran-kept config s number line copy old_text new_text last_text accepted quit bef
 -- a line that ran while none is made
 pub ran-loose : (config : Config) (s : Situation) (number : ℕ) (line old_text new_text : List ℕ) (accepted : Option Accepted) (quit : Bool) (waiting drained : List Note)
     (part_of : List ℕ → ℕ) (made : ℕ) (Stands : List HeldValue → Type 0) (dropped : Bool) (drawn drawing : Workings)
-    → Answers config s (action_by (reading config line)) accepted Stands dropped (Hands part_of waiting drained) old_text new_text
+    → Answers config s (action_by (reading config line)) accepted Stands dropped (Hands waiting drained) old_text new_text
     → IsPlainLine config line quit → says_quit (reading config line) ≡ quit → HasItsPart config part_of line accepted → ((held : List HeldValue) → Stands held → IsTrue (not (is_sync (action_by (reading config line))) || list_all (is_timely config made s.latest) held)) → Draws drawn.stream drawing.stream drawn.registered drawing.registered
     → (says_drop (reading config line) ≡ true → new_text ≡ old_text ++ codes "ERR id\n" → AreUsedUp (part_count config) drawn.stream drawing.stream drawn.registered)
     → MovesOrder config drawn.recency drawing.recency (reading config line)

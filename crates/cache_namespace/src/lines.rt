@@ -53,7 +53,7 @@ fn run_line<S: Store>(
     requires in_time { (S.frame store.old).latest ≤ now }
     requires moment { now < 2 ^ 63 }
     requires short { length line.now ≤ 8192 }
-    ensures ok { IfOk result (λ ran. ran.misses ≡ false → (s : Situation) → s.latest ≡ now → s.dropped ≡ (S.frame store.old).dropped → S.stands store.old s.held → Answers config.now s (action_by (reading config.now line.now)) ran.accepted (S.stands store.new) (S.frame store.new).dropped (Hands (S.frame store.old).part_of (S.untaken store.old) (S.untaken store.new)) text.old.items text.new.items) }
+    ensures ok { IfOk result (λ ran. ran.misses ≡ false → (s : Situation) → s.latest ≡ now → s.dropped ≡ (S.frame store.old).dropped → S.stands store.old s.held → Answers config.now s (action_by (reading config.now line.now)) ran.accepted (S.stands store.new) (S.frame store.new).dropped (Hands (S.untaken store.old) (S.untaken store.new)) text.old.items text.new.items) }
     ensures missed { IfOk result (λ ran. ran.misses ≡ true → (store.new ≡ store.old) × (text.new.items ≡ text.old.items) × Misses config.now now line.now (S.stands store.old)) }
     ensures plain { IfOk result (λ ran. IsPlainLine config.now line.now ran.quits) }
     ensures says { IfOk result (λ ran. says_quit (reading config.now line.now) ≡ ran.quits) }

@@ -83,7 +83,7 @@ stored-parted config part_of s key (came.Fault text) (Some a) told at = refl
 -- the record of an answer
 pub answered : (config : Config) (making : Making) (load latest moment : ℕ) (key : List ℕ) (outcome : Outcome) (accepted : Option Accepted) (values : List HeldValue) (Stood Stands : List HeldValue → Type 0) (l k : UnderWay) (cs new : List Connection) (dropped dropping : Bool) (a b c : Identifiers) (told mid telling : List Note) (keeping : Option (List Step))
     → refusal_of config (knows_loads l) (answering load outcome moment) ≡ None → key_in load (situation latest l cs dropped values) ≡ Some key → IfSome accepted (λ x. x.part ≡ making.part_of key)
-    → (x : Stores config (situation (max moment latest) (but_for load l) cs dropped values) key outcome accepted Stood (Hands making.part_of told mid)) → (is_some accepted || is_empty x.told) ≡ true
+    → (x : Stores config (situation (max moment latest) (but_for load l) cs dropped values) key outcome accepted Stood (Hands told mid)) → (is_some accepted || is_empty x.told) ≡ true
     → KeepsIdentifiers a.stream b.stream a.registered b.registered
     → HandsOut config making outcome (max moment latest) (held_when_run config (situation (max moment latest) (but_for load l) cs dropped values) (Storing (Some key) outcome) (step_silent 0 [] None accepted x.told)) (waiting_for load l) Stands (but_for load l) k dropped dropping b c cs new (record { kept = None; waiting = mid }) (record { kept = keeping; waiting = telling })
     → AnswersLoad config making load outcome latest moment accepted values Stands l k dropped dropping a c cs new told telling
@@ -105,7 +105,7 @@ answered config making load latest moment key outcome accepted values Stood Stan
 -- the same, where its steps were kept
 pub answer-kept : (config : Config) (making : Making) (load latest moment : ℕ) (key : List ℕ) (outcome : Outcome) (accepted : Option Accepted) (values : List HeldValue) (Stood Stands : List HeldValue → Type 0) (l k : UnderWay) (cs new : List Connection) (dropped dropping : Bool) (a b c : Identifiers) (told mid own : List Note) (steps : List Step) (keeping : Noted)
     → refusal_of config (knows_loads l) (answering load outcome moment) ≡ None → key_in load (situation latest l cs dropped values) ≡ Some key → IfSome accepted (λ x. x.part ≡ making.part_of key)
-    → (x : Stores config (situation (max moment latest) (but_for load l) cs dropped values) key outcome accepted Stood (Hands making.part_of told mid)) → (is_some accepted || is_empty x.told) ≡ true
+    → (x : Stores config (situation (max moment latest) (but_for load l) cs dropped values) key outcome accepted Stood (Hands told mid)) → (is_some accepted || is_empty x.told) ≡ true
     → KeepsIdentifiers a.stream b.stream a.registered b.registered
     → HandsOut config making outcome (max moment latest) (held_when_run config (situation (max moment latest) (but_for load l) cs dropped values) (Storing (Some key) outcome) (step_silent 0 [] None accepted x.told)) (waiting_for load l) Stands (but_for load l) k dropped dropping b c cs new (record { kept = Some []; waiting = [] }) keeping
     → own ≡ x.told → steps ≡ unwrap_or keeping.kept []

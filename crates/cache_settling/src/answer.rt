@@ -55,7 +55,7 @@ pub fn store_for<S: Store>(
     requires moment { now < 2 ^ 63 }
     requires fit { refusal_of_outcome (S.frame store.old).config outcome.now ≡ None }
     requires under { is_some (load_numbered load (pending_of loads.now)) ≡ true }
-    ensures ok { IfOk result (λ accepted. (key : List ℕ) × (option_map (λ l. l.key) (load_numbered load (pending_of loads.now)) ≡ Some key) × IfSome accepted (λ a. a.part ≡ (S.frame store.old).part_of key) × ((s : Situation) → s.latest ≡ now → S.stands store.old s.held → (x : Stores (S.frame store.old).config s key outcome.now accepted (S.stands store.new) (Hands (S.frame store.old).part_of (S.untaken store.old) (S.untaken store.new))) × ((is_some accepted || is_empty x.told) ≡ true))) }
+    ensures ok { IfOk result (λ accepted. (key : List ℕ) × (option_map (λ l. l.key) (load_numbered load (pending_of loads.now)) ≡ Some key) × IfSome accepted (λ a. a.part ≡ (S.frame store.old).part_of key) × ((s : Situation) → s.latest ≡ now → S.stands store.old s.held → (x : Stores (S.frame store.old).config s key outcome.now accepted (S.stands store.new) (Hands (S.untaken store.old) (S.untaken store.new))) × ((is_some accepted || is_empty x.told) ≡ true))) }
     ensures few { length (S.untaken store.new) ≤ length (S.untaken store.old) + S.count store.old + 1 }
     ensures frame { OnOk result (KeepsFrame (S.frame store.old) (S.frame store.new) now) }
     ensures dropped { (S.frame store.new).dropped ≡ (S.frame store.old).dropped }

@@ -38,7 +38,7 @@ pub fn store_answer<S: Store>(
     requires capacity { (S.frame store.old).config.capacity ≡ capacity }
     requires moment { now < 2 ^ 63 }
     requires fit { refusal_of_outcome (S.frame store.old).config outcome.now ≡ None }
-    ensures ok { IfOk result (λ accepted. (s : Situation) → s.latest ≡ now → S.stands store.old s.held → (x : Stores (S.frame store.old).config s key.now outcome.now accepted (S.stands store.new) (Hands (S.frame store.old).part_of (S.untaken store.old) (S.untaken store.new))) × ((is_some accepted || is_empty x.told) ≡ true)) }
+    ensures ok { IfOk result (λ accepted. (s : Situation) → s.latest ≡ now → S.stands store.old s.held → (x : Stores (S.frame store.old).config s key.now outcome.now accepted (S.stands store.new) (Hands (S.untaken store.old) (S.untaken store.new))) × ((is_some accepted || is_empty x.told) ≡ true)) }
     ensures part { IfOk result (λ accepted. IfSome accepted (λ a. a.part ≡ (S.frame store.old).part_of key.now)) }
     ensures few { length (S.untaken store.new) ≤ length (S.untaken store.old) + S.count store.old + 1 }
     ensures frame { OnOk result (KeepsFrame (S.frame store.old) (S.frame store.new) now) }

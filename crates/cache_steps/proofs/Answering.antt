@@ -145,7 +145,7 @@ answers-set frame s now key bytes ms part old new Stands dropped Handed at a p i
 -- a `SET` at capacity 0
 pub answers-off : (config : Config) (s : Situation) (key bytes : List ℕ) (ms : Option ℕ) (old new : List ℕ) (part_of : List ℕ → ℕ) (untaken : List Note) (Stands : List HeldValue → Type 0) (dropped : Bool)
     → accepts_values config.capacity ≡ false → new ≡ old ++ codes "OFF\n" → Stands (all_held_after config s.latest s.held no_deed []) → dropped ≡ s.dropped
-    → Answers config s (Running (says.Set key ms bytes)) None Stands dropped (Hands part_of untaken untaken) old new
+    → Answers config s (Running (says.Set key ms bytes)) None Stands dropped (Hands untaken untaken) old new
 answers-off config s key bytes ms old new part_of untaken Stands dropped a w m kept =
     record {
       told = [];
@@ -218,7 +218,7 @@ answers-sync config s now number weight old new Stands dropped Handed at w d0 ke
 -- a step that does nothing to values
 pub answers-fault : (config : Config) (s : Situation) (error : LineError) (old new : List ℕ) (part_of : List ℕ → ℕ) (untaken : List Note) (Stands : List HeldValue → Type 0) (dropped : Bool)
     → new ≡ old ++ fault_text error → Stands (all_held_after config s.latest s.held no_deed []) → dropped ≡ s.dropped
-    → Answers config s (Faulting error) None Stands dropped (Hands part_of untaken untaken) old new
+    → Answers config s (Faulting error) None Stands dropped (Hands untaken untaken) old new
 answers-fault config s error old new part_of untaken Stands dropped w m kept =
     record {
       told = [];
@@ -235,7 +235,7 @@ answers-fault config s error old new part_of untaken Stands dropped w m kept =
 -- a `HAS`
 pub answers-has : (config : Config) (s : Situation) (key reply : List ℕ) (old new : List ℕ) (part_of : List ℕ → ℕ) (untaken : List Note) (Stands : List HeldValue → Type 0) (dropped : Bool)
     → new ≡ old ++ reply → reply ≡ yes_or_no (live_at config s.latest s.held key) → Stands (all_held_after config s.latest s.held no_deed []) → dropped ≡ s.dropped
-    → Answers config s (Running (says.Has key)) None Stands dropped (Hands part_of untaken untaken) old new
+    → Answers config s (Running (says.Has key)) None Stands dropped (Hands untaken untaken) old new
 answers-has config s key reply old new part_of untaken Stands dropped w r m kept =
     record {
       told = [];
@@ -250,7 +250,7 @@ answers-has config s key reply old new part_of untaken Stands dropped w r m kept
 -- a `KEYS`
 pub answers-keys : (config : Config) (s : Situation) (reply : List ℕ) (old new : List ℕ) (part_of : List ℕ → ℕ) (untaken : List Note) (Stands : List HeldValue → Type 0) (dropped : Bool)
     → new ≡ old ++ reply → reply ≡ keys_listed (live_keys_at config s.latest s.held) → Stands (all_held_after config s.latest s.held no_deed []) → dropped ≡ s.dropped
-    → Answers config s (Running says.Keys) None Stands dropped (Hands part_of untaken untaken) old new
+    → Answers config s (Running says.Keys) None Stands dropped (Hands untaken untaken) old new
 answers-keys config s reply old new part_of untaken Stands dropped w r m kept =
     record {
       told = [];
@@ -265,7 +265,7 @@ answers-keys config s reply old new part_of untaken Stands dropped w r m kept =
 -- a `QUIT`
 pub answers-quit : (config : Config) (s : Situation) (old new : List ℕ) (part_of : List ℕ → ℕ) (untaken : List Note) (Stands : List HeldValue → Type 0) (dropped : Bool)
     → new ≡ old ++ codes "OK\n" → Stands (all_held_after config s.latest s.held no_deed []) → dropped ≡ s.dropped
-    → Answers config s (Running says.Quit) None Stands dropped (Hands part_of untaken untaken) old new
+    → Answers config s (Running says.Quit) None Stands dropped (Hands untaken untaken) old new
 answers-quit config s old new part_of untaken Stands dropped w m kept =
     record {
       told = [];
@@ -305,7 +305,7 @@ keys-written keys number old before new n b w =
 -- where one was accepted before, it covers nothing
 pub answers-refused : (config : Config) (s : Situation) (prefix old new : List ℕ) (part_of : List ℕ → ℕ) (waited untaken : List Note) (Stands : List HeldValue → Type 0) (dropped : Bool)
     → s.dropped ≡ true → new ≡ old ++ codes "ERR id\n" → Stands (all_held_after config s.latest s.held no_deed []) → dropped ≡ s.dropped → untaken ≡ waited
-    → Answers config s (Running (says.DropIf prefix)) None Stands dropped (Hands part_of waited untaken) old new
+    → Answers config s (Running (says.DropIf prefix)) None Stands dropped (Hands waited untaken) old new
 answers-refused config s prefix old new part_of waited untaken Stands dropped before w m kept same =
     record {
       told = [];

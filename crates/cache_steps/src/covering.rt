@@ -19,7 +19,7 @@ use std::alloc::AllocError;
 /// Answers a `CLEAR`.
 pub fn clear<S: Store>(store: &mut S, now: u64, output: &mut Vec<u8>) -> Result<(), AllocError>
     requires { (S.frame store.old).latest ≤ now }
-    ensures ok { OnOk result ((s : Situation) → s.latest ≡ now → s.dropped ≡ (S.frame store.old).dropped → S.stands store.old s.held → Answers (S.frame store.old).config s (Running says.Clear) None (S.stands store.new) (S.frame store.new).dropped (Hands (S.frame store.old).part_of (S.untaken store.old) (S.untaken store.new)) output.old.items output.new.items) }
+    ensures ok { OnOk result ((s : Situation) → s.latest ≡ now → s.dropped ≡ (S.frame store.old).dropped → S.stands store.old s.held → Answers (S.frame store.old).config s (Running says.Clear) None (S.stands store.new) (S.frame store.new).dropped (Hands (S.untaken store.old) (S.untaken store.new)) output.old.items output.new.items) }
     ensures frame { OnOk result (KeepsFrame (S.frame store.old) (S.frame store.new) now) }
     ensures few { length (S.untaken store.new) ≤ length (S.untaken store.old) + S.count store.old + 1 }
     ensures identifiers { KeepsIdentifiers (S.stream store.old) (S.stream store.new) (S.registered store.old) (S.registered store.new) }
@@ -42,7 +42,7 @@ pub fn drop_prefix<S: Store>(
     output: &mut Vec<u8>,
 ) -> Result<(), AllocError>
     requires { (S.frame store.old).latest ≤ now }
-    ensures ok { OnOk result ((s : Situation) → s.latest ≡ now → s.dropped ≡ (S.frame store.old).dropped → S.stands store.old s.held → Answers (S.frame store.old).config s (Running (says.DropIf prefix.now)) None (S.stands store.new) (S.frame store.new).dropped (Hands (S.frame store.old).part_of (S.untaken store.old) (S.untaken store.new)) output.old.items output.new.items) }
+    ensures ok { OnOk result ((s : Situation) → s.latest ≡ now → s.dropped ≡ (S.frame store.old).dropped → S.stands store.old s.held → Answers (S.frame store.old).config s (Running (says.DropIf prefix.now)) None (S.stands store.new) (S.frame store.new).dropped (Hands (S.untaken store.old) (S.untaken store.new)) output.old.items output.new.items) }
     ensures in_use { OnOk result (output.new.items ≡ output.old.items ++ codes "ERR id\n" → AreUsedUp (part_count (S.frame store.old).config) (S.stream store.old) (S.stream store.new) (S.registered store.old)) }
     ensures frame { OnOk result (KeepsFrame (S.frame store.old) (S.frame store.new) now) }
     ensures few { length (S.untaken store.new) ≤ length (S.untaken store.old) + S.count store.old + 1 }

@@ -1,9 +1,9 @@
 -- Notes on their way from a store to whoever takes them: they come out in the order in which they were told.
-use Rattle.std.specs.Prelude.{◌≡◌, ℕ, List, [], ◌∷◌, ◌++◌, Option, Some, None}
+use Rattle.std.specs.Prelude.{◌≡◌, List, [], ◌∷◌, ◌++◌, Option, Some, None}
 use Rattle.audit_model.specs.declared.transcript.Note.{Note}
 
 -- the notes told stand behind those that wait, in whichever part their keys are
-pub record Hands (part_of : List ℕ → ℕ) (old new told : List Note) : Type 0 where
+pub record Hands (old new told : List Note) : Type 0 where
   pub added : new ≡ old ++ told
 
 -- none waits, or the first is taken

@@ -212,10 +212,10 @@ module _ (config : Config) (now : ℕ) (used : Option (List ℕ)) (value : Value
 
     pub accept_does : (part_of : List ℕ → ℕ) (old new told : List Note) (table : List HeldValue) → new ≡ old ++ (replaced_note config now (value_at items value.key) ++ told)
         → Tells config now (Some value.part) (limit_of config) (weight_in value.part put) put told → ((xs : List HeldValue) → Corresponds (left told put) xs → Corresponds table xs)
-        → Done config now (accepting used value) held (Stands config table) (Hands part_of old new)
+        → Done config now (accepting used value) held (Stands config table) (Hands old new)
     accept_does part_of old new told table same_notes t left_is = go (value_at held value.key) refl
       where
-        go : (o : Option HeldValue) → value_at held value.key ≡ o → Done config now (accepting used value) held (Stands config table) (Hands part_of old new)
+        go : (o : Option HeldValue) → value_at held value.key ≡ o → Done config now (accepting used value) held (Stands config table) (Hands old new)
         go None e =
             let absent : is_absent value.key held ≡ true = absent_from_none value.key held e in
             let none_there : value_at items value.key ≡ None = sym (c.found value.key) ∙ ap (option_map plain) e in

@@ -58,7 +58,7 @@ returns-clause-ran g c = λ values m.
     let s = situation (max moment latest) (but_for load l) between dropped values in
     let ok = c.in_ok-accepted.ensures.ok in
     let key = ok.0 in
-    let x = subst (λ (f : Config). (y : Stores f s key outcome accepted (g.S.Store.stands mid) (Hands making.part_of told telling)) × ((is_some accepted || is_empty y.told) ≡ true)) c.requires.sound.config
+    let x = subst (λ (f : Config). (y : Stores f s key outcome accepted (g.S.Store.stands mid) (Hands told telling)) × ((is_some accepted || is_empty y.told) ≡ true)) c.requires.sound.config
     (ok.3 s (sym c.max-now.ensures) m) in
     let held = held_when_run config s (Storing (Some key) outcome) (step_silent 0 [] None accepted x.0.told) in
     let same : making_of (g.S.Store.frame mid) ≡ making = ap making_of c.in_ok-accepted.ensures.frame.rest in
