@@ -17,10 +17,10 @@ use Rattle.cache_store.specs.Handing.{Hands}
 use Rattle.cache_store.specs.Promises.{no_deed}
 
 -- nothing is stored, and nothing told
-pub stores-nothing : (config : Config) (s : Situation) (key : List ℕ) (outcome : Outcome) (part_of : List ℕ → ℕ) (untaken : List Note) (Stands : List HeldValue → Type 0)
+pub stores-nothing : (config : Config) (s : Situation) (key : List ℕ) (outcome : Outcome) (untaken : List Note) (Stands : List HeldValue → Type 0)
     → taken_where (accepts_values config.capacity) (offered (view_in config s) (Storing (Some key) outcome)) ≡ None → Stands (all_held_after config s.latest s.held no_deed [])
     → (x : Stores config s key outcome None Stands (Hands untaken untaken)) × ((false || is_empty x.told) ≡ true)
-stores-nothing config s key outcome part_of untaken Stands none stands = (
+stores-nothing config s key outcome untaken Stands none stands = (
   record {
     told = [];
     right = record { replies = refl; loads = refl; accepts = ap (λ o. not (is_some o)) none; tells = none_succeeded (map (candidate_at config s.latest) s.held ++ []); silent = refl; within = refl };

@@ -143,10 +143,10 @@ answers-set frame s now key bytes ms part old new Stands dropped Handed at a p i
     }
 
 -- a `SET` at capacity 0
-pub answers-off : (config : Config) (s : Situation) (key bytes : List ℕ) (ms : Option ℕ) (old new : List ℕ) (part_of : List ℕ → ℕ) (untaken : List Note) (Stands : List HeldValue → Type 0) (dropped : Bool)
+pub answers-off : (config : Config) (s : Situation) (key bytes : List ℕ) (ms : Option ℕ) (old new : List ℕ) (untaken : List Note) (Stands : List HeldValue → Type 0) (dropped : Bool)
     → accepts_values config.capacity ≡ false → new ≡ old ++ codes "OFF\n" → Stands (all_held_after config s.latest s.held no_deed []) → dropped ≡ s.dropped
     → Answers config s (Running (says.Set key ms bytes)) None Stands dropped (Hands untaken untaken) old new
-answers-off config s key bytes ms old new part_of untaken Stands dropped a w m kept =
+answers-off config s key bytes ms old new untaken Stands dropped a w m kept =
     record {
       told = [];
       reply = codes "OFF\n";
@@ -216,10 +216,10 @@ answers-sync config s now number weight old new Stands dropped Handed at w d0 ke
 -- ---- a line that cannot be read
 
 -- a step that does nothing to values
-pub answers-fault : (config : Config) (s : Situation) (error : LineError) (old new : List ℕ) (part_of : List ℕ → ℕ) (untaken : List Note) (Stands : List HeldValue → Type 0) (dropped : Bool)
+pub answers-fault : (config : Config) (s : Situation) (error : LineError) (old new : List ℕ) (untaken : List Note) (Stands : List HeldValue → Type 0) (dropped : Bool)
     → new ≡ old ++ fault_text error → Stands (all_held_after config s.latest s.held no_deed []) → dropped ≡ s.dropped
     → Answers config s (Faulting error) None Stands dropped (Hands untaken untaken) old new
-answers-fault config s error old new part_of untaken Stands dropped w m kept =
+answers-fault config s error old new untaken Stands dropped w m kept =
     record {
       told = [];
       reply = fault_text error;
@@ -233,10 +233,10 @@ answers-fault config s error old new part_of untaken Stands dropped w m kept =
 -- ---- commands that ask
 
 -- a `HAS`
-pub answers-has : (config : Config) (s : Situation) (key reply : List ℕ) (old new : List ℕ) (part_of : List ℕ → ℕ) (untaken : List Note) (Stands : List HeldValue → Type 0) (dropped : Bool)
+pub answers-has : (config : Config) (s : Situation) (key reply : List ℕ) (old new : List ℕ) (untaken : List Note) (Stands : List HeldValue → Type 0) (dropped : Bool)
     → new ≡ old ++ reply → reply ≡ yes_or_no (live_at config s.latest s.held key) → Stands (all_held_after config s.latest s.held no_deed []) → dropped ≡ s.dropped
     → Answers config s (Running (says.Has key)) None Stands dropped (Hands untaken untaken) old new
-answers-has config s key reply old new part_of untaken Stands dropped w r m kept =
+answers-has config s key reply old new untaken Stands dropped w r m kept =
     record {
       told = [];
       reply = reply;
@@ -248,10 +248,10 @@ answers-has config s key reply old new part_of untaken Stands dropped w r m kept
     }
 
 -- a `KEYS`
-pub answers-keys : (config : Config) (s : Situation) (reply : List ℕ) (old new : List ℕ) (part_of : List ℕ → ℕ) (untaken : List Note) (Stands : List HeldValue → Type 0) (dropped : Bool)
+pub answers-keys : (config : Config) (s : Situation) (reply : List ℕ) (old new : List ℕ) (untaken : List Note) (Stands : List HeldValue → Type 0) (dropped : Bool)
     → new ≡ old ++ reply → reply ≡ keys_listed (live_keys_at config s.latest s.held) → Stands (all_held_after config s.latest s.held no_deed []) → dropped ≡ s.dropped
     → Answers config s (Running says.Keys) None Stands dropped (Hands untaken untaken) old new
-answers-keys config s reply old new part_of untaken Stands dropped w r m kept =
+answers-keys config s reply old new untaken Stands dropped w r m kept =
     record {
       told = [];
       reply = reply;
@@ -263,10 +263,10 @@ answers-keys config s reply old new part_of untaken Stands dropped w r m kept =
     }
 
 -- a `QUIT`
-pub answers-quit : (config : Config) (s : Situation) (old new : List ℕ) (part_of : List ℕ → ℕ) (untaken : List Note) (Stands : List HeldValue → Type 0) (dropped : Bool)
+pub answers-quit : (config : Config) (s : Situation) (old new : List ℕ) (untaken : List Note) (Stands : List HeldValue → Type 0) (dropped : Bool)
     → new ≡ old ++ codes "OK\n" → Stands (all_held_after config s.latest s.held no_deed []) → dropped ≡ s.dropped
     → Answers config s (Running says.Quit) None Stands dropped (Hands untaken untaken) old new
-answers-quit config s old new part_of untaken Stands dropped w m kept =
+answers-quit config s old new untaken Stands dropped w m kept =
     record {
       told = [];
       reply = codes "OK\n";
@@ -303,10 +303,10 @@ keys-written keys number old before new n b w =
 -- ---- a `DROPIF` that is refused
 
 -- where one was accepted before, it covers nothing
-pub answers-refused : (config : Config) (s : Situation) (prefix old new : List ℕ) (part_of : List ℕ → ℕ) (waited untaken : List Note) (Stands : List HeldValue → Type 0) (dropped : Bool)
+pub answers-refused : (config : Config) (s : Situation) (prefix old new : List ℕ) (waited untaken : List Note) (Stands : List HeldValue → Type 0) (dropped : Bool)
     → s.dropped ≡ true → new ≡ old ++ codes "ERR id\n" → Stands (all_held_after config s.latest s.held no_deed []) → dropped ≡ s.dropped → untaken ≡ waited
     → Answers config s (Running (says.DropIf prefix)) None Stands dropped (Hands waited untaken) old new
-answers-refused config s prefix old new part_of waited untaken Stands dropped before w m kept same =
+answers-refused config s prefix old new waited untaken Stands dropped before w m kept same =
     record {
       told = [];
       reply = codes "ERR id\n";

@@ -132,10 +132,10 @@ abandons config s Stands stands = record {
 -- ---- what is stored
 
 -- nothing is stored
-pub stores-none : (config : Config) (s : Situation) (key : List ℕ) (outcome : Outcome) (part_of : List ℕ → ℕ) (untaken : List Note) (Stands : List HeldValue → Type 0)
+pub stores-none : (config : Config) (s : Situation) (key : List ℕ) (outcome : Outcome) (untaken : List Note) (Stands : List HeldValue → Type 0)
     → taken_where (accepts_values config.capacity) (offered (view_in config s) (Storing (Some key) outcome)) ≡ None → Stands (all_held_after config s.latest s.held no_deed [])
     → Stores config s key outcome None Stands (Hands untaken untaken)
-stores-none config s key outcome part_of untaken Stands none stands = record {
+stores-none config s key outcome untaken Stands none stands = record {
   told = [];
   right = record { replies = refl; loads = refl; accepts = ap (λ o. not (is_some o)) none; tells = none_succeeded (map (candidate_at config s.latest) s.held ++ []); silent = refl; within = refl };
   left = stands;

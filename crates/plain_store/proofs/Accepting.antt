@@ -210,10 +210,10 @@ module _ (config : Config) (now : ℕ) (used : Option (List ℕ)) (value : Value
         (left_is (left (first ++ notes) (held ++ newly_held value ∷ []))
         (subst (Corresponds (left notes put)) (sym lefts) (corresponds-left notes put (rest held) apart_put corresponds_put)))
 
-    pub accept_does : (part_of : List ℕ → ℕ) (old new told : List Note) (table : List HeldValue) → new ≡ old ++ (replaced_note config now (value_at items value.key) ++ told)
+    pub accept_does : (old new told : List Note) (table : List HeldValue) → new ≡ old ++ (replaced_note config now (value_at items value.key) ++ told)
         → Tells config now (Some value.part) (limit_of config) (weight_in value.part put) put told → ((xs : List HeldValue) → Corresponds (left told put) xs → Corresponds table xs)
         → Done config now (accepting used value) held (Stands config table) (Hands old new)
-    accept_does part_of old new told table same_notes t left_is = go (value_at held value.key) refl
+    accept_does old new told table same_notes t left_is = go (value_at held value.key) refl
       where
         go : (o : Option HeldValue) → value_at held value.key ≡ o → Done config now (accepting used value) held (Stands config table) (Hands old new)
         go None e =

@@ -29,8 +29,8 @@ use Rattle.plain_store.specs.Putting.{if_live, live_in, Writes, deleted_note}
 use Rattle.plain_store.specs.Standing.{Stands}
 use Rattle.plain_store.specs.Doing.{or_no, after_plain, corresponds-as, evictable_after, stands_after, none_succeeded, right_to_tell_none}
 
-pub hands_none : (part_of : List ℕ → ℕ) (old new : List Note) → new ≡ old → Hands old new []
-hands_none part_of old new e = record { added = e ∙ sym (append-nil old) }
+pub hands_none : (old new : List Note) → new ≡ old → Hands old new []
+hands_none old new e = record { added = e ∙ sym (append-nil old) }
 
 -- ---- look-ups
 
@@ -164,9 +164,9 @@ module _ (config : Config) (now : ℕ) (key : List ℕ) (items held : List HeldV
       }
 
 -- a look-up uses the key's live value
-pub look_up_does : (config : Config) (part_of : List ℕ → ℕ) (now : ℕ) (key : List ℕ) (items held : List HeldValue) (old new : List Note) → are_apart items ≡ true → new ≡ old → Stands config items held
+pub look_up_does : (config : Config) (now : ℕ) (key : List ℕ) (items held : List HeldValue) (old new : List Note) → are_apart items ≡ true → new ≡ old → Stands config items held
     → Done config now (using key) held (Stands config (looked_up config now key items)) (Hands old new)
-look_up_does config part_of now key items held old new a same_notes s = record {
+look_up_does config now key items held old new a same_notes s = record {
   told = [];
   right = right_to_tell_none config now (Some key) Nothing false held;
   left = record {
@@ -176,7 +176,7 @@ look_up_does config part_of now key items held old new a same_notes s = record {
         (corresponds_used config now key items held a s.same (map (λ (h : HeldValue). h.value) xs) (live_in config now items key) refl);
     evictable = evictable_after config now held (using key) [];
   };
-  handed = hands_none part_of old new same_notes;
+  handed = hands_none old new same_notes;
 }
 
 -- ---- coverage
@@ -216,9 +216,9 @@ all_always [] = refl
 all_always (h ∷ held) = all_always held
 
 -- a run tells what is dead or covered
-pub run_does : (config : Config) (part_of : List ℕ → ℕ) (now : ℕ) (items held : List HeldValue) (old new : List Note) → are_apart items ≡ true → new ≡ old ++ (swept config now None None 0 items).told → Stands config items held
+pub run_does : (config : Config) (now : ℕ) (items held : List HeldValue) (old new : List Note) → are_apart items ≡ true → new ≡ old ++ (swept config now None None 0 items).told → Stands config items held
     → Done config now syncing held (Stands config (swept config now None None 0 items).kept) (Hands old new)
-run_does config part_of now items held old new a same_notes s =
+run_does config now items held old new a same_notes s =
     let told = (swept config now None None 0 items).told in
     let cand = candidate_at config now in
     record {
@@ -243,10 +243,10 @@ deleted_none : (config : Config) (now : ℕ) (key : List ℕ) (held : List HeldV
 deleted_none config now key [] absent = refl
 deleted_none config now key (h ∷ held) absent = let parts = and_parts (not (same key h.value.key)) (is_absent key held) absent in and_from _ _ parts.0 (deleted_none config now key held parts.1)
 
-pub remove_does : (config : Config) (part_of : List ℕ → ℕ) (now : ℕ) (key : List ℕ) (items held : List HeldValue) (old new : List Note) → are_apart items ≡ true
+pub remove_does : (config : Config) (now : ℕ) (key : List ℕ) (items held : List HeldValue) (old new : List Note) → are_apart items ≡ true
     → new ≡ old ++ deleted_note config now (value_at items key) → Stands config items held
     → Done config now (deleting key) held (Stands config (without key items)) (Hands old new)
-remove_does config part_of now key items held old new a same_notes s = go (value_at held key) refl
+remove_does config now key items held old new a same_notes s = go (value_at held key) refl
   where
     absent_left : is_absent key (without key held) ≡ true
     absent_left = absent-without key held s.same.apart

@@ -9,14 +9,14 @@ use Rattle.cache_settling.proofs.storing.store_answer.Goals as goal
 pub returns-then-not-takes_values-clause-ok : goal.returns-then-not-takes_values-clause-ok
 returns-then-not-takes_values-clause-ok g c = λ s e m.
     let config = (g.S.Store.frame c.args.store.now).config in
-    stores-nothing config s c.args.key.now c.args.outcome.now _ _ _ (stores-off config s c.args.key.now c.args.outcome.now (ap accepts_values c.requires.capacity ∙ sym c.takes_values.ensures ∙ c.if-not-takes_values.true)) (g.met.S.Store.idle c.args.store.now s.held s.latest m)
+    stores-nothing config s c.args.key.now c.args.outcome.now _ _ (stores-off config s c.args.key.now c.args.outcome.now (ap accepts_values c.requires.capacity ∙ sym c.takes_values.ensures ∙ c.if-not-takes_values.true)) (g.met.S.Store.idle c.args.store.now s.held s.latest m)
 
 pub returns-in-None-clause-ok : goal.returns-in-None-clause-ok
 returns-in-None-clause-ok g c = λ s e m.
     let config = (g.S.Store.frame c.args.store.now).config in
-    stores-nothing config s c.args.key.now c.args.outcome.now _ _ _ (ap (λ o. taken_where (accepts_values config.capacity) (offered (view_in config s) (Storing (Some c.args.key.now) o))) c.in-None.is) (g.met.S.Store.idle c.args.store.now s.held s.latest m)
+    stores-nothing config s c.args.key.now c.args.outcome.now _ _ (ap (λ o. taken_where (accepts_values config.capacity) (offered (view_in config s) (Storing (Some c.args.key.now) o))) c.in-None.is) (g.met.S.Store.idle c.args.store.now s.held s.latest m)
 
 pub returns-in-Fault-clause-ok : goal.returns-in-Fault-clause-ok
 returns-in-Fault-clause-ok g c = λ s e m.
     let config = (g.S.Store.frame c.args.store.now).config in
-    stores-nothing config s c.args.key.now c.args.outcome.now _ _ _ (ap (λ o. taken_where (accepts_values config.capacity) (offered (view_in config s) (Storing (Some c.args.key.now) o))) c.in-Fault.is) (g.met.S.Store.idle c.args.store.now s.held s.latest m)
+    stores-nothing config s c.args.key.now c.args.outcome.now _ _ (ap (λ o. taken_where (accepts_values config.capacity) (offered (view_in config s) (Storing (Some c.args.key.now) o))) c.in-Fault.is) (g.met.S.Store.idle c.args.store.now s.held s.latest m)

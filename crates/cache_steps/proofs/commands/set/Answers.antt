@@ -7,7 +7,7 @@ use Rattle.cache_steps.proofs.commands.set.Goals as goal
 
 pub returns-then-not-accepts-clause-ok : goal.returns-then-not-accepts-clause-ok
 returns-then-not-accepts-clause-ok g c = λ s e d m.
-    answers-off (g.S.Store.frame c.args.store.now).config s c.args.key.now c.args.value.now c.args.milliseconds c.args.output.now.items c.write.new.output.items _ _ _ _ (ap accepts_values c.requires.capacity ∙ sym c.accepts.ensures ∙ c.if-not-accepts.true) (cc) (g.met.S.Store.idle c.args.store.now s.held s.latest m) (sym d)
+    answers-off (g.S.Store.frame c.args.store.now).config s c.args.key.now c.args.value.now c.args.milliseconds c.args.output.now.items c.write.new.output.items _ _ _ (ap accepts_values c.requires.capacity ∙ sym c.accepts.ensures ∙ c.if-not-accepts.true) (cc) (g.met.S.Store.idle c.args.store.now s.held s.latest m) (sym d)
 
 pub returns-clause-ok : goal.returns-clause-ok
 returns-clause-ok g c = λ s e d m.

@@ -126,7 +126,7 @@ returns-clause-done g c = λ held stands.
     c.in_ok-older.ensures.told ∙ ap (λ ns. ns ++ replaced_note store.config c.args.now (value_at store.table c.in_ok-key.key.items)) c.in_ok-reserve.ensures.items
     ∙ ap (λ k. store.notes.items ++ replaced_note store.config c.args.now (value_at store.table k)) is_key in
     accept_does store.config c.args.now (if c.args.looked_up then Some key else None) value refl (used_so key c.args.looked_up)
-    store.table held store.kept.apart stands.same part_of store.notes.items c.evict-left.new.notes.items told c.evict-left.new.table
+    store.table held store.kept.apart stands.same store.notes.items c.evict-left.new.notes.items told c.evict-left.new.table
     (v.notes_are ∙ ap (λ ns. ns ++ told) first ∙ append_assoc store.notes.items (replaced_note store.config c.args.now (value_at store.table key)) told)
     (evicts_tells store.config c.args.now (part_of key) (limit_of store.config) (weight_in (part_of key) (h ∷ without key store.table)) (h ∷ without key store.table) c.put.new.notes.items apart)
     (λ xs. evicts_left store.config c.args.now (part_of key) (limit_of store.config) (weight_in (part_of key) (h ∷ without key store.table)) (h ∷ without key store.table) c.put.new.notes.items

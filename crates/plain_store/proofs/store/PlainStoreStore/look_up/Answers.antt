@@ -27,7 +27,7 @@ pub returns-clause-done : goal.returns-clause-done
 returns-clause-done g c = λ held stands.
     let store = c.args.self.now in
     let is = c.use_found.ensures ∙ looked_is store.config c.args.now c.args.key.now store.table c.in_ok-is_found.is_found c.args.found.now.items c.write_found.new.found.items c.in_ok-is_found.ensures.ok in
-    rw is (look_up_does store.config (part_by store.parts (g.H.KeyHasher.number_of store.hasher)) c.args.now c.args.key.now store.table held store.notes.items store.notes.items store.kept.apart refl stands)
+    rw is (look_up_does store.config c.args.now c.args.key.now store.table held store.notes.items store.notes.items store.kept.apart refl stands)
 
 pub returns-clause-recency : goal.returns-clause-recency
 returns-clause-recency g c = λ n keys p o.

@@ -51,7 +51,7 @@ pub returns-clause-done : goal.returns-clause-done
 returns-clause-done g c = λ held stands.
     let store = c.args.self.now in
     rw c.take-gone.ensures.rest
-    (remove_does store.config (part_by store.parts (g.H.KeyHasher.number_of store.hasher)) c.args.now c.args.key.now store.table held store.notes.items c.take-gone.new.notes.items store.kept.apart c.take-gone.ensures.told stands)
+    (remove_does store.config c.args.now c.args.key.now store.table held store.notes.items c.take-gone.new.notes.items store.kept.apart c.take-gone.ensures.told stands)
 
 pub returns-clause-recency : goal.returns-clause-recency
 returns-clause-recency g c = λ n keys p o.

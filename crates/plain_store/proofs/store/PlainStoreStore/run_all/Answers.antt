@@ -33,7 +33,7 @@ returns-clause-done g c = λ held stands.
     let part_of = part_by store.parts (g.H.KeyHasher.number_of store.hasher) in
     let s = swept store.config c.args.now None None 0 store.table in
     let d : Done store.config c.args.now syncing held (Stands store.config s.kept) (Hands store.notes.items c.sweep.new.notes.items) =
-    run_does store.config part_of c.args.now store.table held store.notes.items c.sweep.new.notes.items store.kept.apart c.sweep.ensures.told stands in
+    run_does store.config c.args.now store.table held store.notes.items c.sweep.new.notes.items store.kept.apart c.sweep.ensures.told stands in
     let xs = all_held_after store.config c.args.now held syncing d.told in
     let k = kept_swept store.config part_of c.args.now store.table store.kept in
     record {
