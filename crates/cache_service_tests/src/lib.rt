@@ -17,5 +17,3 @@ mod refusing;
 mod script;
 #[cfg(test)]
 mod serving;
-#[cfg(test)]
-mod waiting;

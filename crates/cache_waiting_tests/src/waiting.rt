@@ -1,9 +1,24 @@
 //! Connections that wait for loads of a service: answers, give-ups, and what stands behind a `LOAD`.
-use crate::script::{PLAIN, new_service};
-use audit_model::{Bytes, Closing, Config, Conn, Instant, LoadId, Outcome, Seq, ServiceError};
+use audit_model::{
+    Bytes, Closing, Config, Conn, EvictionPolicy, Instant, LoadId, Outcome, Seq, ServiceError,
+    Weight,
+};
 use cache_spaces::{Fed, Service};
+use rand_core::SeedableRng;
+use rand_xoshiro::Xoshiro256PlusPlus;
 use std::alloc::Global;
 use std::test::Fail;
+
+/// Without capacity, times and own deadlines.
+const PLAIN: Config = Config {
+    capacity: None,
+    policy: EvictionPolicy::Lru,
+    parts: 1,
+    weight: Weight::One,
+    live_ms: None,
+    idle_ms: None,
+    own_deadlines: false,
+};
 
 const START: Instant = Instant { nanos: 0 };
 
@@ -24,7 +39,8 @@ fn load_of(number: u64) -> LoadId {
 
 /// A service of one namespace with two connections.
 fn two(alloc: Global, config: Config) -> Result<(Service, Conn, Conn), Fail> {
-    let mut service = new_service(alloc, &[config], 0)?;
+    let generator = Xoshiro256PlusPlus::seed_from_u64(1);
+    let mut service = Service::new(alloc, &[config], generator, START)?;
     let first = service.open(0)?;
     let second = service.open(0)?;
     Ok((service, first, second))

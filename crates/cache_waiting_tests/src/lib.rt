@@ -1,0 +1,5 @@
+//! Tests of connections of a service that wait for loads.
+#![tactic(auto)]
+
+#[cfg(test)]
+mod waiting;
