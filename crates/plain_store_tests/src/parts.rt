@@ -85,6 +85,34 @@ fn each_part_has_its_share(rt: HostRuntime) -> Result<(), Fail> {
     Ok(())
 }
 
+// of part 0: b, a; of part 1: yy, xx, which stands behind a and stays there
+#[test]
+fn each_part_keeps_its_order_of_use(rt: HostRuntime) -> Result<(), Fail> {
+    let generator = SplitMix64::seed_from_u64(1);
+    let mut store = PlainStore::new(rt.alloc(), THREE_IN_TWO, 0, generator, ByLength)?;
+    let mut found = Vec::new(rt.alloc());
+    store.accept(b"xx", b"1", None, false, 0)?;
+    store.accept(b"a", b"1", None, false, 0)?;
+    store.accept(b"b", b"1", None, false, 0)?;
+    store.accept(b"yy", b"1", None, false, 0)?;
+    // of part 0: c, b
+    store.accept(b"c", b"1", None, false, 0)?;
+    assert!(rt; tells(store.next_notice(), RemovalCause::Size, b"a"));
+    // of part 1: zz, yy
+    store.accept(b"zz", b"1", None, false, 0)?;
+    assert!(rt; tells(store.next_notice(), RemovalCause::Size, b"xx"));
+    // of part 0: b, c; of part 1: yy, zz
+    assert!(rt; store.look_up(b"b", 0, &mut found)?);
+    assert!(rt; store.look_up(b"yy", 0, &mut found)?);
+    store.accept(b"d", b"1", None, false, 0)?;
+    assert!(rt; tells(store.next_notice(), RemovalCause::Size, b"c"));
+    store.accept(b"ww", b"1", None, false, 0)?;
+    assert!(rt; tells(store.next_notice(), RemovalCause::Size, b"zz"));
+    assert!(rt; store.next_notice().is_none());
+    assert_eq!(rt; store.run_all(0).number, 4);
+    Ok(())
+}
+
 // notes of a part come in the order in which they were told, here of all
 #[test]
 fn notes_come_as_they_were_told(rt: HostRuntime) -> Result<(), Fail> {
