@@ -2,4 +2,6 @@
 #![tactic(auto)]
 
 #[cfg(test)]
+mod retrying;
+#[cfg(test)]
 mod waiting;

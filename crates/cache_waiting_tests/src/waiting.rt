@@ -10,7 +10,7 @@ use std::alloc::Global;
 use std::test::Fail;
 
 /// Without capacity, times and own deadlines.
-const PLAIN: Config = Config {
+pub const PLAIN: Config = Config {
     capacity: None,
     policy: EvictionPolicy::Lru,
     parts: 1,
@@ -20,7 +20,7 @@ const PLAIN: Config = Config {
     own_deadlines: false,
 };
 
-const START: Instant = Instant { nanos: 0 };
+pub const START: Instant = Instant { nanos: 0 };
 
 fn bytes(alloc: Global, text: &[u8]) -> Result<Bytes, Fail> {
     Ok(Seq::from_vec(Vec::from_slice(alloc, text)?))
@@ -30,7 +30,7 @@ fn value(alloc: Global, text: &[u8]) -> Result<Outcome, Fail> {
     Ok(Outcome::Value(bytes(alloc, text)?, None))
 }
 
-fn load_of(number: u64) -> LoadId {
+pub fn load_of(number: u64) -> LoadId {
     LoadId {
         namespace: 0,
         number,
