@@ -8,6 +8,8 @@ mod parts;
 #[cfg(test)]
 mod repeating;
 #[cfg(test)]
+mod script;
+#[cfg(test)]
 mod tests;
 #[cfg(test)]
 mod turning;

@@ -1,11 +1,13 @@
 //! What a plain store of several parts does.
 use crate::lengths::ByLength;
+use crate::script::{Row, first_wrong};
 use crate::turning::Turning;
-use audit_model::{Config, EvictionPolicy, Note, RemovalCause, Weight};
-use cache_store::{Store, StoreError};
+use audit_model::{Config, EvictionPolicy, RemovalCause, Weight};
+use cache_store::Store;
 use plain_store::{FixedHasher, PlainStore};
 use rand_core::SeedableRng;
 use rand_xoshiro::SplitMix64;
+use std::alloc::{AllocError, Global};
 use std::test::Fail;
 
 // of two parts: keys of length 1 are in part 0, of length 2 in part 1
@@ -25,128 +27,135 @@ const THREE_IN_TWO: Config = Config {
     ..TWO
 };
 
-fn tells(note: Option<Note>, cause: RemovalCause, key: &[u8]) -> bool {
-    match note {
-        Some(note) => note.cause == cause && note.key.as_slice() == key,
-        None => false,
-    }
+/// The place of the first of these rows that does not come out so.
+fn wrong(alloc: Global, config: Config, rows: &[Row<'_>]) -> Result<Option<usize>, AllocError> {
+    first_wrong(alloc, config, SplitMix64::seed_from_u64(1), ByLength, rows)
 }
 
 #[test]
 fn a_keys_part_is_its_hashs(rt: HostRuntime) -> Result<(), Fail> {
-    let generator = SplitMix64::seed_from_u64(1);
     // three wanted parts become four
     let three = Config { parts: 3, ..TWO };
-    let mut store = PlainStore::new(rt.alloc(), three, 0, generator, ByLength)?;
-    assert_eq!(rt; store.accept(b"a", b"1", None, false, 0)?, 1);
-    assert_eq!(rt; store.accept(b"ab", b"1", None, false, 0)?, 2);
-    assert_eq!(rt; store.accept(b"abc", b"1", None, false, 0)?, 3);
-    assert_eq!(rt; store.accept(b"abcd", b"1", None, false, 0)?, 0);
-    assert_eq!(rt; store.accept(b"b", b"1", None, false, 0)?, 1);
+    let rows = [
+        Row::Accepts(b"a", b"1", None, 1),
+        Row::Accepts(b"ab", b"1", None, 2),
+        Row::Accepts(b"abc", b"1", None, 3),
+        Row::Accepts(b"abcd", b"1", None, 0),
+        Row::Accepts(b"b", b"1", None, 1),
+    ];
+    assert_eq!(rt; wrong(rt.alloc(), three, &rows)?, None);
     Ok(())
 }
 
 #[test]
 fn a_drop_reaches_each_part(rt: HostRuntime) -> Result<(), Fail> {
-    let mut store = PlainStore::new(rt.alloc(), TWO, 0, SplitMix64::seed_from_u64(1), ByLength)?;
-    assert_eq!(rt; store.accept(b"a", b"1", None, false, 0)?, 0);
-    assert_eq!(rt; store.accept(b"ab", b"2", None, false, 0)?, 1);
-    store.accept(b"b", b"3", None, false, 0)?;
-    assert!(rt; store.drop_prefix(b"a", 0).is_ok());
-    assert!(rt; store.find(b"a", 0).is_none());
-    assert!(rt; store.find(b"ab", 0).is_none());
-    assert!(rt; store.find(b"b", 0).is_some());
-    assert_eq!(rt; store.run_all(0).number, 1);
-    assert!(rt; tells(store.next_notice(), RemovalCause::Explicit, b"a"));
-    assert!(rt; tells(store.next_notice(), RemovalCause::Explicit, b"ab"));
-    assert!(rt; store.next_notice().is_none());
+    let rows = [
+        Row::Accepts(b"a", b"1", None, 0),
+        Row::Accepts(b"ab", b"2", None, 1),
+        Row::Accepts(b"b", b"3", None, 0),
+        Row::Drops(b"a", true),
+        Row::Finds(b"a", None),
+        Row::Finds(b"ab", None),
+        Row::Finds(b"b", Some(b"3")),
+        Row::Runs(1, 1),
+        Row::Tells(RemovalCause::Explicit, b"a", b"1"),
+        Row::Tells(RemovalCause::Explicit, b"ab", b"2"),
+        Row::TellsNone,
+    ];
+    assert_eq!(rt; wrong(rt.alloc(), TWO, &rows)?, None);
     Ok(())
 }
 
 #[test]
 fn each_part_has_its_share(rt: HostRuntime) -> Result<(), Fail> {
-    let generator = SplitMix64::seed_from_u64(1);
-    let mut store = PlainStore::new(rt.alloc(), THREE_IN_TWO, 0, generator, ByLength)?;
-    store.accept(b"xx", b"1", None, false, 0)?;
-    store.accept(b"a", b"1", None, false, 0)?;
-    store.accept(b"b", b"1", None, false, 0)?;
-    store.accept(b"yy", b"1", None, false, 0)?;
-    assert!(rt; store.next_notice().is_none());
-    assert_eq!(rt; store.run_all(0).weight, 4);
-    // the one of its part used longest ago leaves, and not those of the other
-    store.accept(b"c", b"1", None, false, 0)?;
-    assert!(rt; tells(store.next_notice(), RemovalCause::Size, b"a"));
-    assert!(rt; store.next_notice().is_none());
-    store.remove(b"xx", 0)?;
-    store.accept(b"zz", b"1", None, false, 0)?;
-    assert!(rt; tells(store.next_notice(), RemovalCause::Explicit, b"xx"));
-    assert!(rt; store.next_notice().is_none());
-    assert_eq!(rt; store.run_all(0).number, 4);
+    let rows = [
+        Row::Accepts(b"xx", b"1", None, 1),
+        Row::Accepts(b"a", b"1", None, 0),
+        Row::Accepts(b"b", b"1", None, 0),
+        Row::Accepts(b"yy", b"1", None, 1),
+        Row::TellsNone,
+        Row::Runs(4, 4),
+        // the one of its part used longest ago leaves, and not those of the other
+        Row::Accepts(b"c", b"1", None, 0),
+        Row::Tells(RemovalCause::Size, b"a", b"1"),
+        Row::TellsNone,
+        Row::Removes(b"xx"),
+        Row::Accepts(b"zz", b"1", None, 1),
+        Row::Tells(RemovalCause::Explicit, b"xx", b"1"),
+        Row::TellsNone,
+        Row::Runs(4, 4),
+    ];
+    assert_eq!(rt; wrong(rt.alloc(), THREE_IN_TWO, &rows)?, None);
     Ok(())
 }
 
-// of part 0: b, a; of part 1: yy, xx, which stands behind a and stays there
 #[test]
 fn each_part_keeps_its_order_of_use(rt: HostRuntime) -> Result<(), Fail> {
-    let generator = SplitMix64::seed_from_u64(1);
-    let mut store = PlainStore::new(rt.alloc(), THREE_IN_TWO, 0, generator, ByLength)?;
-    let mut found = Vec::new(rt.alloc());
-    store.accept(b"xx", b"1", None, false, 0)?;
-    store.accept(b"a", b"1", None, false, 0)?;
-    store.accept(b"b", b"1", None, false, 0)?;
-    store.accept(b"yy", b"1", None, false, 0)?;
-    // of part 0: c, b
-    store.accept(b"c", b"1", None, false, 0)?;
-    assert!(rt; tells(store.next_notice(), RemovalCause::Size, b"a"));
-    // of part 1: zz, yy
-    store.accept(b"zz", b"1", None, false, 0)?;
-    assert!(rt; tells(store.next_notice(), RemovalCause::Size, b"xx"));
-    // of part 0: b, c; of part 1: yy, zz
-    assert!(rt; store.look_up(b"b", 0, &mut found)?);
-    assert!(rt; store.look_up(b"yy", 0, &mut found)?);
-    store.accept(b"d", b"1", None, false, 0)?;
-    assert!(rt; tells(store.next_notice(), RemovalCause::Size, b"c"));
-    store.accept(b"ww", b"1", None, false, 0)?;
-    assert!(rt; tells(store.next_notice(), RemovalCause::Size, b"zz"));
-    assert!(rt; store.next_notice().is_none());
-    assert_eq!(rt; store.run_all(0).number, 4);
+    let rows = [
+        Row::Accepts(b"xx", b"1", None, 1),
+        Row::Accepts(b"a", b"1", None, 0),
+        Row::Accepts(b"b", b"1", None, 0),
+        Row::Accepts(b"yy", b"1", None, 1),
+        // used last, of part 0: b, a; of part 1: yy, xx, which stands behind a and stays there
+        Row::Accepts(b"c", b"1", None, 0),
+        Row::Tells(RemovalCause::Size, b"a", b"1"),
+        Row::Accepts(b"zz", b"1", None, 1),
+        Row::Tells(RemovalCause::Size, b"xx", b"1"),
+        // of part 0: b, c; of part 1: yy, zz
+        Row::LooksUp(b"b", Some(b"1")),
+        Row::LooksUp(b"yy", Some(b"1")),
+        Row::Accepts(b"d", b"1", None, 0),
+        Row::Tells(RemovalCause::Size, b"c", b"1"),
+        Row::Accepts(b"ww", b"1", None, 1),
+        Row::Tells(RemovalCause::Size, b"zz", b"1"),
+        Row::TellsNone,
+        Row::Runs(4, 4),
+    ];
+    assert_eq!(rt; wrong(rt.alloc(), THREE_IN_TWO, &rows)?, None);
     Ok(())
 }
 
 // notes of a part come in the order in which they were told, here of all
 #[test]
 fn notes_come_as_they_were_told(rt: HostRuntime) -> Result<(), Fail> {
-    let mut store = PlainStore::new(rt.alloc(), TWO, 0, SplitMix64::seed_from_u64(1), ByLength)?;
-    store.accept(b"ab", b"1", None, false, 0)?;
-    store.accept(b"a", b"1", None, false, 0)?;
-    store.remove(b"ab", 0)?;
-    store.accept(b"a", b"2", None, false, 0)?;
-    store.accept(b"ab", b"2", None, false, 0)?;
-    store.accept(b"ab", b"3", None, false, 0)?;
-    assert!(rt; tells(store.next_notice(), RemovalCause::Explicit, b"ab"));
-    assert!(rt; tells(store.next_notice(), RemovalCause::Replaced, b"a"));
-    assert!(rt; tells(store.next_notice(), RemovalCause::Replaced, b"ab"));
-    assert!(rt; store.next_notice().is_none());
+    let rows = [
+        Row::Accepts(b"ab", b"1", None, 1),
+        Row::Accepts(b"a", b"1", None, 0),
+        Row::Removes(b"ab"),
+        Row::Accepts(b"a", b"2", None, 0),
+        Row::Accepts(b"ab", b"2", None, 1),
+        Row::Accepts(b"ab", b"3", None, 1),
+        Row::Tells(RemovalCause::Explicit, b"ab", b"1"),
+        Row::Tells(RemovalCause::Replaced, b"a", b"1"),
+        Row::Tells(RemovalCause::Replaced, b"ab", b"2"),
+        Row::TellsNone,
+    ];
+    assert_eq!(rt; wrong(rt.alloc(), TWO, &rows)?, None);
     Ok(())
 }
 
 // the first identifier is 0 and goes to part 0; all others are alike, and the first of them goes to part 1
 #[test]
 fn a_drop_that_is_refused_in_a_part_covers_none(rt: HostRuntime) -> Result<(), Fail> {
-    let mut store = PlainStore::new(rt.alloc(), TWO, 0, Turning(4), ByLength)?;
-    store.accept(b"a", b"1", None, false, 0)?;
-    store.accept(b"ab", b"1", None, false, 0)?;
-    assert!(rt; store.drop_prefix(b"x", 0).is_ok());
-    // part 0 draws one that it has not, part 1 a thousand that it has
-    assert!(rt; store.drop_prefix(b"a", 0) == Err(StoreError::IdsInUse));
-    assert!(rt; store.find(b"a", 0).is_some());
-    assert!(rt; store.find(b"ab", 0).is_some());
-    assert_eq!(rt; store.run_all(0).number, 2);
-    assert!(rt; store.next_notice().is_none());
-    // a run releases the identifiers
-    assert!(rt; store.drop_prefix(b"a", 0).is_ok());
-    assert!(rt; store.find(b"a", 0).is_none());
-    assert!(rt; store.find(b"ab", 0).is_none());
+    let rows = [
+        Row::Accepts(b"a", b"1", None, 0),
+        Row::Accepts(b"ab", b"1", None, 1),
+        Row::Drops(b"x", true),
+        // part 0 draws one that it has not, part 1 a thousand that it has
+        Row::Drops(b"a", false),
+        Row::Finds(b"a", Some(b"1")),
+        Row::Finds(b"ab", Some(b"1")),
+        Row::Runs(2, 2),
+        Row::TellsNone,
+        // a run releases the identifiers
+        Row::Drops(b"a", true),
+        Row::Finds(b"a", None),
+        Row::Finds(b"ab", None),
+    ];
+    assert_eq!(rt;
+        first_wrong(rt.alloc(), TWO, Turning(4), ByLength, &rows)?,
+        None
+    );
     Ok(())
 }
 
