@@ -73,7 +73,7 @@ all-from p q r (load ∷ loads) h a b =
     and_from (r load.number) (are_all r loads) (h load.number x.0 y.0) (all-from p q r loads h x.1 y.1)
 
 -- what passes of each but one passes of the others
-all-but : (p : ℕ → Bool) (number : ℕ) (loads : List PendingLoad) → are_all (λ n. n == number || p n) loads ≡ true → are_all p (filter (λ l. not (l.number == number)) loads) ≡ true
+pub all-but : (p : ℕ → Bool) (number : ℕ) (loads : List PendingLoad) → are_all (λ n. n == number || p n) loads ≡ true → are_all p (filter (λ l. not (l.number == number)) loads) ≡ true
 all-but p number [] all = refl
 all-but p number (load ∷ loads) all =
     let parts = and_parts (load.number == number || p load.number) (are_all (λ n. n == number || p n) loads) all in go (load.number == number) parts.0 (all-but p number loads parts.1)
