@@ -1,6 +1,6 @@
 -- One connection, from its opening to its closing.
-use Rattle.std.proofs.Common.{◌≡◌, ◌≢◌, ℕ, ◌+◌, ◌-◌, ◌<◌, ◌≤◌, Bool, true, false, List, [], ◌∷◌, length, Option, Some, None, refl, sym, ap, ◌∙◌, subst, arith, inl, inr, if◌then◌else◌}
-use Rattle.std.specs.Prelude.{◌⊎◌, ◌++◌, Result, Ok, Err, OnOk, OnErr}
+use Rattle.std.proofs.Common.{◌≡◌, ◌≢◌, ℕ, ◌+◌, ◌-◌, ◌<◌, ◌≤◌, Bool, true, false, List, [], length, Option, Some, None, refl, sym, ap, ◌∙◌, subst, arith, inl, inr}
+use Rattle.std.specs.Prelude.{◌++◌, Result, Ok, Err, OnOk, OnErr, IsTrue}
 use Rattle.std.specs.List.{flat_map}
 use Rattle.std.proofs.lemmas.List.{append-nil}
 use Rattle.std.proofs.lemmas.Option.{none-some}
@@ -11,6 +11,7 @@ use Rattle.audit_model.specs.declared.command.Closing.{Closing}
 use Rattle.audit_model.specs.declared.command.Closing.TheVariants as by
 use Rattle.audit_model.specs.declared.config.Config.{Config}
 use Rattle.audit_model.specs.declared.event.Event.TheVariants as event
+use Rattle.audit_model.specs.declared.input.LoadId.{LoadId}
 use Rattle.audit_model.specs.declared.input.ServiceError.{ServiceError}
 use Rattle.audit_model.specs.declared.transcript.Note.{Note}
 use Rattle.audit_model.specs.declared.transcript.Record.{Record}
@@ -23,6 +24,7 @@ use Rattle.cache_spaces.specs.declared.space.Space.{Space}
 use Rattle.audit_model.specs.declared.event.Outcome.{Outcome}
 use Rattle.run_laws.specs.Alone.{WaitsAlone}
 use Rattle.run_laws.proofs.Events.{quiet}
+use Rattle.cache_run.specs.Accounts.{Accounts, AddsNoLoads, DropsAll, KeepsLoads, SendsLater, nobody_waits, pending_of}
 use Rattle.cache_run.specs.Carried.{Broken, Carried, nothing_left}
 use Rattle.cache_run.specs.Connected.{Connected, IsEnded, IsFed, IsOver, IsReady}
 use Rattle.cache_run.specs.Delivered.{Unfed}
@@ -31,29 +33,18 @@ use Rattle.cache_run.specs.Loading.{GivesUp, GivesUpLoads}
 use Rattle.cache_run.specs.Runs.{Closes, Quiet, ServesPartly, ServesWhole, next_number}
 use Rattle.cache_run.specs.Worlds.{Outside, world}
 use Rattle.cache_run.specs.declared.errors.RunError.{RunError}
+use Rattle.cache_run.proofs.Accounting.{at-accounts-later, at-accounts-more, at-adds-more, at-both, keeps-same, later-kept}
+use Rattle.cache_run.proofs.Gone.{kept-behind, nobody-behind, none-behind}
 use Rattle.cache_run.proofs.Carrying.{broken-more, carried-close, carried-drops, carried-more, carried-opened, carried-still}
 use Rattle.cache_run.proofs.Connecting.{close-refused, connected-map, ended-none}
 use Rattle.cache_run.proofs.Going.{but-loads, goes-more, goes-same, seen-alike}
 use Rattle.cache_run.proofs.Placing.{at-is, at-map, at-more, at-with}
+use Rattle.cache_run.proofs.Quiet.{close-still, open-still}
 
 -- why a connection that is not open has closed
 closed-why : (c : Option Closing) → c ≢ None → (why : Closing) × (c ≡ Some why)
 closed-why None closed = absurd (closed refl)
 closed-why (Some why) closed = (why, refl)
-
-chosen-none : (b : Bool) (t : Situation) → (if b then None else None) ≡ Some t → ⊥
-chosen-none true t e = none-some t e
-chosen-none false t e = none-some t e
-
--- an opening has no steps
-pub open-still : (config : Config) (s : Situation) (number : ℕ) (steps : List Step) (t : Situation) → Follows config s (record_of (event.Open number) steps) t → steps ≡ []
-open-still config s number [] t follows = refl
-open-still config s number (step ∷ steps) t follows = absurd (chosen-none _ t follows)
-
--- a closing has no steps
-pub close-still : (config : Config) (s : Situation) (number : ℕ) (steps : List Step) (t : Situation) → Follows config s (record_of (event.Close number) steps) t → steps ≡ []
-close-still config s number [] t follows = refl
-close-still config s number (step ∷ steps) t follows = absurd (chosen-none _ t follows)
 
 untold : (before after : List Note) (steps : List Step) → steps ≡ [] → after ≡ before ++ flat_map (λ step. step.notices) steps → after ≡ before
 untold before after steps none e = e ∙ ap (λ l. before ++ flat_map (λ step. step.notices) l) none ∙ append-nil before
@@ -178,8 +169,8 @@ module _ {C L : Type 0} (reads : C → ℕ → C → Type 0) (loads : L → List
       ))
 
   whole : (x z w : Space) → number ≡ next_number x → Goes number x z (λ s t. Carried (config_of x) number reads loads (world x s before) (world z t after) true false [] nothing_left)
-      → IsOver after.remaining number z → Closes number z w → ServesWhole reads loads x w before after
-  whole x z w next g (inl over) (inl closes) = record {
+      → IsOver after.remaining number z → Closes number z w → AddsNoLoads x w → ServesWhole reads loads x w before after
+  whole x z w next g (inl over) (inl closes) settled = record {
     number = number;
     next = next;
     closes = true;
@@ -187,10 +178,11 @@ module _ {C L : Type 0} (reads : C → ℕ → C → Type 0) (loads : L → List
         (λ s t. Carried (config_of x) number reads loads (world x s before) (world w t after) true true [] nothing_left) g closes.2
         (λ s t u f q. carried-close (config_of x) number reads loads (world x s before) (world z t after) w u true nothing_left f (subst (λ k. Follows k t (record_of (event.Close number) []) u) g.config q.follows) q.notices);
     ends = (closes.1, over.1);
+    settled = settled;
   }
-  whole x z w next g (inl over) (inr closes) = ended-none (closing_of z number) closes.0 over.0
-  whole x z w next g (inr over) (inl closes) = ended-none (closing_of z number) over closes.0
-  whole x z w next g (inr over) (inr closes) = record {
+  whole x z w next g (inl over) (inr closes) settled = ended-none (closing_of z number) closes.0 over.0
+  whole x z w next g (inr over) (inl closes) settled = ended-none (closing_of z number) over closes.0
+  whole x z w next g (inr over) (inr closes) settled = record {
     number = number;
     next = next;
     closes = false;
@@ -198,6 +190,7 @@ module _ {C L : Type 0} (reads : C → ℕ → C → Type 0) (loads : L → List
         (λ s t. Carried (config_of x) number reads loads (world x s before) (world w t after) true false [] nothing_left) g closes.2
         (λ s t u f q. carried-still (config_of x) number reads loads (world x s before) (world z t after) w u true false [] nothing_left f q.same q.notices);
     ends = subst IsEnded (sym closes.1) closes.0;
+    settled = settled;
   }
 
   -- loads were given up behind the closing
@@ -217,8 +210,8 @@ module _ {C L : Type 0} (reads : C → ℕ → C → Type 0) (loads : L → List
       ))
 
   partly : (x z w v : Space) (e : RunError) → number ≡ next_number x → Goes number x z (λ s t. Broken (config_of x) number reads loads (world x s before) (world z t after) true false [] e)
-      → Closes number z w → GivesUpLoads number w v → ServesPartly reads loads x v before after e
-  partly x z w v e next g (inl closes) d =
+      → Closes number z w → GivesUpLoads number w v → (WaitsAlone number (pending_of x) → AddsNoLoads x v) → ServesPartly reads loads x v before after e
+  partly x z w v e next g (inl closes) d settled =
       let why = closed-why (closing_of v number) (d.1 (λ none. none-some by.Asked (sym none ∙ closes.1))) in
       record {
         number = number;
@@ -235,8 +228,9 @@ module _ {C L : Type 0} (reads : C → ℕ → C → Type 0) (loads : L → List
             })) d;
         why = why.0;
         closed = why.1;
+        settled = settled;
       }
-  partly x z w v e next g (inr closes) d =
+  partly x z w v e next g (inr closes) d settled =
       let why = closed-why (closing_of v number) (d.1 (λ none. ended-none (closing_of z number) closes.0 (sym closes.1 ∙ none))) in
       record {
         number = number;
@@ -253,16 +247,17 @@ module _ {C L : Type 0} (reads : C → ℕ → C → Type 0) (loads : L → List
             })) d;
         why = why.0;
         closed = why.1;
+        settled = settled;
       }
 
   pub at-whole : (first second third fourth : List Space) (n : ℕ)
       → At first second n (λ was is. (number ≡ next_number was) × Goes number was is (λ s t. Quiet (config_of was) (event.Open number) s t (notices_of was) (notices_of is)))
       → At second third n (λ was is. Goes number was is (λ s t. Carried (config_of was) number reads loads (world was s before) (world is t after) false false [] nothing_left))
       → Connected third n number (IsOver after.remaining) → At third fourth n (Closes number)
-      → At first fourth n (λ was is. ServesWhole reads loads was is before after)
+      → At first fourth n (λ was is. AddsNoLoads was is → ServesWhole reads loads was is before after)
   at-whole first second third fourth n a b c d =
       at-more (λ x z. (number ≡ next_number x) × Goes number x z (λ s t. Carried (config_of x) number reads loads (world x s before) (world z t after) true false [] nothing_left))
-      (λ z w. IsOver after.remaining number z × Closes number z w) (λ x w. ServesWhole reads loads x w before after) first third fourth n
+      (λ z w. IsOver after.remaining number z × Closes number z w) (λ x w. AddsNoLoads x w → ServesWhole reads loads x w before after) first third fourth n
       (at-begun first second third n a b)
       (at-with (Closes number) (λ z w. IsOver after.remaining number z × Closes number z w) third fourth n c.space c.at d (λ w closes. (c.left, closes)))
       (λ x z w p q. whole x z w p.0 p.1 q.0 q.1)
@@ -271,10 +266,10 @@ module _ {C L : Type 0} (reads : C → ℕ → C → Type 0) (loads : L → List
       → At first second n (λ was is. (number ≡ next_number was) × Goes number was is (λ s t. Quiet (config_of was) (event.Open number) s t (notices_of was) (notices_of is)))
       → At second third n (λ was is. Goes number was is (λ s t. Broken (config_of was) number reads loads (world was s before) (world is t after) false false [] e))
       → At third fourth n (Closes number) → At fourth fifth n (GivesUpLoads number)
-      → At first fifth n (λ was is. ServesPartly reads loads was is before after e)
+      → At first fifth n (λ was is. (WaitsAlone number (pending_of was) → AddsNoLoads was is) → ServesPartly reads loads was is before after e)
   at-partly first second third fourth fifth n e a b c d =
       at-more (λ x z. (number ≡ next_number x) × Goes number x z (λ s t. Broken (config_of x) number reads loads (world x s before) (world z t after) true false [] e))
-      (λ z v. (w : Space) × Closes number z w × GivesUpLoads number w v) (λ x v. ServesPartly reads loads x v before after e) first third fifth n
+      (λ z v. (w : Space) × Closes number z w × GivesUpLoads number w v) (λ x v. (WaitsAlone number (pending_of x) → AddsNoLoads x v) → ServesPartly reads loads x v before after e) first third fifth n
       (at-begun-broken first second third n e a b)
       (at-more (Closes number) (GivesUpLoads number) (λ z v. (w : Space) × Closes number z w × GivesUpLoads number w v) third fourth fifth n c d (λ z w v p q. (w, p, q)))
       (λ x z v p q. partly x z q.0 v e p.0 p.1 q.1 q.2)
@@ -288,6 +283,60 @@ fed-after spaces n number remaining (Ok x) over left = connected-map (IsOver rem
     fed space (inr p) = inr p
 fed-after spaces n number remaining (Err e) over left = left
 
+-- ---- what becomes of the loads
+
+-- where no other connection waits, nobody does behind the closing
+abbrev AloneStays : ℕ → Space → Space → Type 0
+AloneStays number x w = WaitsAlone number (pending_of x) → IsTrue (nobody_waits (pending_of w))
+
+alone-closes : (number : ℕ) (x z w : Space) (F : Situation → Situation → Type 0) → 0 < number → Goes number x z F → Closes number z w → AloneStays number x w
+alone-closes number x z w F positive g (inl closes) =
+    nobody-behind number x w (λ s t. Unit {0}) positive
+    (goes-more number x z w F (λ s t. Quiet (config_of z) (event.Close number) s t (notices_of z) (notices_of w)) (λ s t. Unit {0}) g closes.2 (λ s t u f q. tt)) (λ none. none-some by.Asked (sym none ∙ closes.1))
+alone-closes number x z w F positive g (inr closes) =
+    nobody-behind number x w (λ s t. Unit {0}) positive
+    (goes-more number x z w F (λ s t. Unfed s t (notices_of z) (notices_of w)) (λ s t. Unit {0}) g closes.2 (λ s t u f q. tt)) (λ none. ended-none (closing_of z number) closes.0 (sym closes.1 ∙ none))
+
+module _ (number n : ℕ) (first second third fourth : List Space) where
+  -- each that is under way behind the closing was so before the opening
+  at-adds-whole : At first second n KeepsLoads → At second third n AddsNoLoads → At third fourth n KeepsLoads → At first fourth n AddsNoLoads
+  at-adds-whole a b c =
+      at-adds-more first third fourth n (at-adds-more first second third n (at-map KeepsLoads AddsNoLoads first second n a (λ x y k. k.loads)) b) (at-map KeepsLoads AddsNoLoads third fourth n c (λ x y k. k.loads))
+
+  at-alone : (F : Space → Space → Situation → Situation → Type 0) → At first third n (λ was is. (number ≡ next_number was) × Goes number was is (F was is)) → At third fourth n (Closes number) → At first fourth n (AloneStays number)
+  at-alone F a b =
+      at-more (λ was is. (number ≡ next_number was) × Goes number was is (F was is)) (Closes number) (AloneStays number) first third fourth n a b (λ x z w p q. let is = p.0 in alone-closes number x z w (F x z) (omega (arith, is)) p.1 q)
+
+  -- each that is under way behind the give-ups was so before the opening
+  at-adds-partly : (fifth : List Space) (outs : List (LoadId × List ℕ)) → At first second n KeepsLoads → At second third n (λ was is. Accounts was is [] outs) → At third fourth n KeepsLoads → At first fourth n (AloneStays number)
+      → At fourth fifth n (DropsAll outs) → At first fifth n (λ was is. WaitsAlone number (pending_of was) → AddsNoLoads was is)
+  at-adds-partly fifth outs a b c alone d =
+      let opened = at-accounts-later first second n [] (at-map KeepsLoads SendsLater first second n a later-kept) in
+      let closed = at-accounts-later third fourth n outs (at-map KeepsLoads SendsLater third fourth n c later-kept) in
+      let accounted = at-accounts-more first third fourth n [] outs outs (at-accounts-more first second third n [] [] outs opened b) closed in
+      at-more (λ x w. AloneStays number x w × Accounts x w [] outs) (DropsAll outs) (λ x v. WaitsAlone number (pending_of x) → AddsNoLoads x v) first fourth fifth n
+      (at-both (AloneStays number) (λ x w. Accounts x w [] outs) first fourth n alone accounted) d
+      (λ x w v p q alone. kept-behind x w v outs p.1 q (p.0 alone))
+
+-- what follows where that is given
+at-given : (F G : Space → Space → Type 0) (old new : List Space) (n : ℕ) → At old new n G → At old new n (λ was is. G was is → F was is) → At old new n F
+at-given F G old new n a b = at-map (λ was is. G was is × (G was is → F was is)) F old new n (at-both G (λ was is. G was is → F was is) old new n a b) (λ x y p. p.1 p.0)
+
+-- where no load was under way before, none is
+pub whole-none : {C L : Type 0} (reads : C → ℕ → C → Type 0) (loads : L → List ℕ → Option Outcome → L → Type 0) (before after : Outside C L) (old new : List Space) (n : ℕ) → At old new n (λ was is. ServesWhole reads loads was is before after)
+    → At old new n (λ was is. pending_of was ≡ [] → pending_of is ≡ [])
+whole-none reads loads before after old new n a =
+    at-map (λ was is. ServesWhole reads loads was is before after) (λ was is. pending_of was ≡ [] → pending_of is ≡ []) old new n a (λ x y w none. none-behind x y w.settled none)
+
+pub partly-none : {C L : Type 0} (reads : C → ℕ → C → Type 0) (loads : L → List ℕ → Option Outcome → L → Type 0) (before after : Outside C L) (old new : List Space) (n : ℕ) (e : RunError) → At old new n (λ was is. ServesPartly reads loads was is before after e)
+    → At old new n (λ was is. pending_of was ≡ [] → pending_of is ≡ [])
+partly-none reads loads before after old new n e a =
+    at-map (λ was is. ServesPartly reads loads was is before after e) (λ was is. pending_of was ≡ [] → pending_of is ≡ []) old new n a
+    (λ x y p none. none-behind x y (p.settled (subst (WaitsAlone p.number) (sym none) tt)) none)
+
+pub same-none : (old new : List Space) (n : ℕ) → At old new n SameSpace → At old new n (λ was is. pending_of was ≡ [] → pending_of is ≡ [])
+same-none old new n a = at-map SameSpace (λ was is. pending_of was ≡ [] → pending_of is ≡ []) old new n a (λ x y same none. none-behind x y (keeps-same x y same.stands same.goes.taken).loads none)
+
 -- ---- what a run leaves
 
 module _ {C L : Type 0} (reads : C → ℕ → C → Type 0) (loads : L → List ℕ → Option Outcome → L → Type 0) (first second third fourth : List Space) (m n number : ℕ) (before after : Outside C L) where
@@ -295,20 +344,26 @@ module _ {C L : Type 0} (reads : C → ℕ → C → Type 0) (loads : L → List
       → At first second n (λ was is. (number ≡ next_number was) × Goes number was is (λ s t. Quiet (config_of was) (event.Open number) s t (notices_of was) (notices_of is)))
       → At second third m (λ was is. Goes number was is (λ s t. Carried (config_of was) number reads loads (world was s before) (world is t after) false false [] nothing_left))
       → Connected third m number (IsOver after.remaining) → At third fourth m (Closes number)
+      → At first second n KeepsLoads → At second third m AddsNoLoads → At third fourth m KeepsLoads
       → At first fourth n (λ was is. ServesWhole reads loads was is before after)
-  run-whole e opened carried over closes =
-      at-whole reads loads number before after first second third fourth n opened
+  run-whole e opened carried over closes opens settled leaves =
+      at-given (λ was is. ServesWhole reads loads was is before after) AddsNoLoads first fourth n
+      (at-adds-whole number n first second third fourth opens (subst (λ k. At second third k AddsNoLoads) e settled) (subst (λ k. At third fourth k KeepsLoads) e leaves))
+      (at-whole reads loads number before after first second third fourth n opened
       (subst (λ k. At second third k (λ was is. Goes number was is (λ s t. Carried (config_of was) number reads loads (world was s before) (world is t after) false false [] nothing_left))) e carried)
-      (subst (λ k. Connected third k number (IsOver after.remaining)) e over) (subst (λ k. At third fourth k (Closes number)) e closes)
+      (subst (λ k. Connected third k number (IsOver after.remaining)) e over) (subst (λ k. At third fourth k (Closes number)) e closes))
 
-  pub run-partly : (fifth : List Space) (Else : Space → Space → Type 0) (error : RunError) → m ≡ n
+  pub run-partly : (fifth : List Space) (error : RunError) → m ≡ n
       → At first second n (λ was is. (number ≡ next_number was) × Goes number was is (λ s t. Quiet (config_of was) (event.Open number) s t (notices_of was) (notices_of is)))
       → At second third m (λ was is. Goes number was is (λ s t. Broken (config_of was) number reads loads (world was s before) (world is t after) false false [] error))
       → At third fourth m (Closes number) → At fourth fifth m (GivesUpLoads number)
-      → At first fifth n (λ was is. Else was is ⊎ ServesPartly reads loads was is before after error)
-  run-partly fifth Else error same opened broken closes dropped =
-      at-map (λ was is. ServesPartly reads loads was is before after error) (λ was is. Else was is ⊎ ServesPartly reads loads was is before after error) first fifth n
+      → (outs : List (LoadId × List ℕ)) → At first second n KeepsLoads → At second third m (λ was is. Accounts was is [] outs) → At third fourth m KeepsLoads → At fourth fifth m (DropsAll outs)
+      → At first fifth n (λ was is. ServesPartly reads loads was is before after error)
+  run-partly fifth error same opened broken closes dropped outs opens accounted leaves drops =
+      let begun = at-begun-broken reads loads number before after first second third n error opened (subst (λ k. At second third k (λ was is. Goes number was is (λ s t. Broken (config_of was) number reads loads (world was s before) (world is t after) false false [] error))) same broken) in
+      let alone = at-alone number n first second third fourth (λ x z s t. Broken (config_of x) number reads loads (world x s before) (world z t after) true false [] error) begun (subst (λ k. At third fourth k (Closes number)) same closes) in
+      at-given (λ was is. ServesPartly reads loads was is before after error) (λ was is. WaitsAlone number (pending_of was) → AddsNoLoads was is) first fifth n
+      (at-adds-partly number n first second third fourth fifth outs opens (subst (λ k. At second third k (λ was is. Accounts was is [] outs)) same accounted) (subst (λ k. At third fourth k KeepsLoads) same leaves) alone (subst (λ k. At fourth fifth k (DropsAll outs)) same drops))
       (at-partly reads loads number before after first second third fourth fifth n error opened
       (subst (λ k. At second third k (λ was is. Goes number was is (λ s t. Broken (config_of was) number reads loads (world was s before) (world is t after) false false [] error))) same broken)
       (subst (λ k. At third fourth k (Closes number)) same closes) (subst (λ k. At fourth fifth k (GivesUpLoads number)) same dropped))
-      (λ x y p. inr p)

@@ -7,5 +7,8 @@ pub mod Knowing
 pub mod Turning
 pub mod Settling
 pub mod Refusing
+pub mod Quiet
+pub mod Accounting
+pub mod Gone
 pub mod Dropping
 pub mod Ending

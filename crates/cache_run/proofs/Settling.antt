@@ -100,7 +100,7 @@ not-asked c (inl none) e = let h : None ≡ Some by.Asked = sym none ∙ e in cc
 not-asked c (inr ended) e = not-asked-ended c ended e
 
 -- a namespace stands for some situation
-situated : (x : Space) → ∥ ((s : Situation) × Stands x s) ∥₁
+pub situated : (x : Space) → ∥ ((s : Situation) × Stands x s) ∥₁
 situated x = ∥∥₁_map x.waiting (λ k. (situation x.inner.latest (loads_of x) (connections_of x) x.inner.store.dropped k.values, record { values = k.values; held = k.held; same = refl }))
 
 -- an open connection may have closed for what it was fed

@@ -6,4 +6,5 @@ pub mod Connected
 pub mod Delivered
 pub mod Turns
 pub mod Loading
+pub mod Accounts
 pub mod Runs

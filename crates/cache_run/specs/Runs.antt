@@ -14,6 +14,8 @@ use Rattle.cache_namespace.specs.Taken.{record_of}
 use Rattle.cache_spaces.specs.Spaces.{closing_of, config_of, connections_of, notices_of}
 use Rattle.cache_spaces.specs.declared.space.Space.{Space}
 use Rattle.audit_model.specs.declared.event.Outcome.{Outcome}
+use Rattle.run_laws.specs.Alone.{WaitsAlone}
+use Rattle.cache_run.specs.Accounts.{AddsNoLoads, pending_of}
 use Rattle.cache_run.specs.Carried.{Broken, Carried, nothing_left}
 use Rattle.cache_run.specs.Connected.{IsEnded}
 use Rattle.cache_run.specs.Delivered.{Unfed}
@@ -49,6 +51,8 @@ pub record ServesWhole {C L : Type 0} (reads : C → ℕ → C → Type 0) (load
   pub closes : Bool
   pub goes : Goes number was is (λ s t. Carried (config_of was) number reads loads (world was s before) (world is t after) true closes [] nothing_left)
   pub ends : Ends closes (closing_of is number) after.remaining
+  -- each load under way behind it was under way before it
+  pub settled : AddsNoLoads was is
 
 -- One connection was opened, fed, and closed after an error, and then loads were given up; the bytes written are a beginning of its replies.
 pub record ServesPartly {C L : Type 0} (reads : C → ℕ → C → Type 0) (loads : L → List ℕ → Option Outcome → L → Type 0) (was is : Space) (before after : Outside C L) (e : RunError) : Type 0 where
@@ -58,3 +62,5 @@ pub record ServesPartly {C L : Type 0} (reads : C → ℕ → C → Type 0) (loa
   pub goes : Goes number was is (λ s t. (drops : List Record) × Broken (config_of was) number reads loads (world was s before) (world is t after) true closes drops e)
   pub why : Closing
   pub closed : closing_of is number ≡ Some why
+  -- where no other connection waits for a load, each load under way behind it was under way before it
+  pub settled : WaitsAlone number (pending_of was) → AddsNoLoads was is

@@ -10,6 +10,7 @@ ghost use Rattle.cache_spaces.specs.Moves.{At};
 ghost use Rattle.cache_spaces.specs.Serves.{SameSpace, Takes, TakesOutput};
 ghost use Rattle.cache_spaces.specs.Services.{is_held, spaces_of};
 ghost use Rattle.cache_spaces.specs.Spaces.{closing_of, config_of, notices_of};
+ghost use Rattle.cache_run.specs.Accounts.{SendsLater};
 ghost use Rattle.cache_run.specs.Connected.{Connected, IsFed, IsReady, IsTaken};
 ghost use Rattle.cache_run.specs.Delivered.{Answered, Delivered, IsCause, Unanswered, Undelivered};
 ghost use Rattle.cache_run.specs.Goes.{Goes};
@@ -74,6 +75,7 @@ fn answer_piece(
     ensures taken { OnOk result (Connected (spaces_of service.new) conn.namespace conn.number IsTaken) }
     ensures err { IfErr result (λ e. At (spaces_of service.old) (spaces_of service.new) conn.namespace (λ was is. Goes conn.number was is (λ s t. Unanswered (config_of was) conn.number piece.now moment [] s t (notices_of was) (notices_of is) e))) }
     ensures left { OnErr result (Connected (spaces_of service.new) conn.namespace conn.number IsFed) }
+    ensures later { At (spaces_of service.old) (spaces_of service.new) conn.namespace SendsLater }
     ensures causes { IfErr result (λ e. (e ≢ RunError.Read) × (e ≢ RunError.Write) × (e ≢ RunError.UsedUp)) }
     ensures moment { IsErrOf result RunError.Moment → 2 ^ 63 ≤ moment }
 {
@@ -97,6 +99,7 @@ pub fn deliver<W: Write>(
     ensures taken { OnOk result (Connected (spaces_of service.new) conn.namespace conn.number IsTaken) }
     ensures err { IfErr result (λ e. At (spaces_of service.old) (spaces_of service.new) conn.namespace (λ was is. Goes conn.number was is (λ s t. Undelivered (config_of was) conn.number piece.now moment [] s t (notices_of was) (notices_of is) (W.contents (device writer.old)) (W.contents (device writer.new)) e))) }
     ensures left { OnErr result (Connected (spaces_of service.new) conn.namespace conn.number IsFed) }
+    ensures later { At (spaces_of service.old) (spaces_of service.new) conn.namespace SendsLater }
     ensures cause { IsErrOf result RunError.Write → HasFailed (failures writer.old) (failures writer.new) }
     ensures used_up { IsErrOf result RunError.UsedUp → HasFailed (failures writer.old) (failures writer.new) }
     ensures moment { IsErrOf result RunError.Moment → 2 ^ 63 ≤ moment }

@@ -1,5 +1,5 @@
 //! The loads of a connection, asked of the loader.
-ghost use Rattle.std.specs.Prelude.{◌≡◌, ◌≢◌, ◌≤◌, ◌<◌, ◌⊎◌, ◌^◌, ◌-◌, ℕ, List, [], ◌∷◌, Option, None, true, false, length, is_some, IfOk, IfErr, OnOk, OnErr, IsErrOf};
+ghost use Rattle.std.specs.Prelude.{◌≡◌, ◌≢◌, ◌==◌, ◌≤◌, ◌<◌, ◌⊎◌, ◌^◌, ◌-◌, ℕ, List, [], ◌∷◌, Option, None, true, false, length, is_some, IfOk, IfErr, OnOk, OnErr, IsErrOf};
 ghost use Rattle.audit_model.specs.Belongs.{refusal_of_outcome};
 ghost use Rattle.cache_devices.specs.Failures.{HasFailed};
 ghost use Rattle.cache_devices.specs.Watched.{device, failures};
@@ -7,6 +7,7 @@ ghost use Rattle.cache_spaces.specs.Moves.{At};
 ghost use Rattle.cache_spaces.specs.Serves.{SameSpace};
 ghost use Rattle.cache_spaces.specs.Services.{spaces_of};
 ghost use Rattle.cache_spaces.specs.Spaces.{config_of, notices_of, output_of};
+ghost use Rattle.cache_run.specs.Accounts.{Accounts, DropsAll, DropsUnwaited, HasTakenAll, SettlesLoad, is_left};
 ghost use Rattle.cache_run.specs.Connected.{Connected, IsFed, IsTaken};
 ghost use Rattle.cache_run.specs.Delivered.{AnsweredLoad, IsCause};
 ghost use Rattle.cache_run.specs.Goes.{Goes};
@@ -28,6 +29,7 @@ fn give_up(service: &mut Service, conn: Conn, load: u64, moment: u64) -> Result<
     requires taken { Connected (spaces_of service.old) conn.namespace conn.number IsTaken }
     ensures ok { OnOk result (At (spaces_of service.old) (spaces_of service.new) conn.namespace (λ was is. (asking : Asking) → IsGivenUpFor (config_of was) asking.answer → Goes conn.number was is (λ s t. AnsweredLoad (config_of was) conn.number load moment asking s t (notices_of was) (notices_of is) (output_of is conn.number)))) }
     ensures left { OnOk result (Connected (spaces_of service.new) conn.namespace conn.number IsFed) }
+    ensures gone { OnOk result (At (spaces_of service.old) (spaces_of service.new) conn.namespace (SettlesLoad load)) }
     ensures err { IfErr result (λ e. At (spaces_of service.old) (spaces_of service.new) conn.namespace SameSpace × IsCause moment e) }
 {
     let id = LoadId {
@@ -58,6 +60,7 @@ fn answer(
     ensures settled { IfOk result (λ settled. settled ≡ true → At (spaces_of service.old) (spaces_of service.new) conn.namespace (λ was is. (key : List ℕ) → Goes conn.number was is (λ s t. AnsweredLoad (config_of was) conn.number load moment (asking_of key (Some outcome)) s t (notices_of was) (notices_of is) (output_of is conn.number)))) }
     ensures refused { IfOk result (λ settled. settled ≡ false → At (spaces_of service.old) (spaces_of service.new) conn.namespace (λ was is. SameSpace was is × (is_some (refusal_of_outcome (config_of was) outcome) ≡ true))) }
     ensures left { IfOk result (λ settled. settled ≡ true → Connected (spaces_of service.new) conn.namespace conn.number IsFed) }
+    ensures gone { IfOk result (λ settled. settled ≡ true → At (spaces_of service.old) (spaces_of service.new) conn.namespace (SettlesLoad load)) }
     ensures err { IfErr result (λ e. At (spaces_of service.old) (spaces_of service.new) conn.namespace SameSpace × IsCause moment e) }
 {
     let id = LoadId {
@@ -89,6 +92,7 @@ fn settle(
     requires taken { Connected (spaces_of service.old) conn.namespace conn.number IsTaken }
     ensures ok { OnOk result (At (spaces_of service.old) (spaces_of service.new) conn.namespace (λ was is. (key : List ℕ) → Goes conn.number was is (λ s t. AnsweredLoad (config_of was) conn.number load moment (asking_of key said) s t (notices_of was) (notices_of is) (output_of is conn.number)))) }
     ensures left { OnOk result (Connected (spaces_of service.new) conn.namespace conn.number IsFed) }
+    ensures gone { OnOk result (At (spaces_of service.old) (spaces_of service.new) conn.namespace (SettlesLoad load)) }
     ensures err { IfErr result (λ e. At (spaces_of service.old) (spaces_of service.new) conn.namespace SameSpace × IsCause moment e) }
 {
     let outcome = match said {
@@ -113,6 +117,7 @@ fn settle_load(
     requires taken { Connected (spaces_of service.old) conn.namespace conn.number IsTaken }
     ensures ok { IfOk result (λ text. (key : List ℕ) → At (spaces_of service.old) (spaces_of service.new) conn.namespace (λ was is. Goes conn.number was is (λ s t. AnsweredLoad (config_of was) conn.number load moment (asking_of key said) s t (notices_of was) (notices_of is) text.items))) }
     ensures taken { OnOk result (Connected (spaces_of service.new) conn.namespace conn.number IsTaken) }
+    ensures gone { OnOk result (At (spaces_of service.old) (spaces_of service.new) conn.namespace (SettlesLoad load)) }
     ensures err { IfErr result (λ e. At (spaces_of service.old) (spaces_of service.new) conn.namespace SameSpace × IsCause moment e) }
     ensures causes { IfErr result (λ e. (e ≢ RunError.Read) × (e ≢ RunError.Write) × (e ≢ RunError.UsedUp)) }
     ensures moment { IsErrOf result RunError.Moment → 2 ^ 63 ≤ moment }
@@ -138,6 +143,8 @@ fn settle_last<W: Write, C: Clock, L: Loader>(
     ensures taken { OnOk result (Connected (spaces_of service.new) conn.namespace conn.number IsTaken) }
     ensures err { IfErr result (λ e. (remaining : Option (List ℕ)) → Breaks C.reads L.loads (spaces_of service.old) (spaces_of service.new) conn.namespace conn.number (outside remaining (W.contents (device writer.old)) clock.old loader.old) (outside remaining (W.contents (device writer.new)) clock.new loader.new) taken.old.items e) }
     ensures left { OnErr result (Connected (spaces_of service.new) conn.namespace conn.number IsFed) }
+    ensures accounted { At (spaces_of service.old) (spaces_of service.new) conn.namespace (λ was is. Accounts was is taken.old.items taken.new.items) }
+    ensures none { IfOk result (λ asked. asked ≡ false → (taken.old.items ≡ []) × (taken.new.items ≡ []) × (spaces_of service.new ≡ spaces_of service.old)) }
     ensures asks { HasAsked L.loads loader.old 0 loader.new }
     ensures asked { IfOk result (λ asked. asked ≡ true → HasAsked L.loads loader.old 1 loader.new) }
     ensures cause { IsErrOf result RunError.Write → HasFailed (failures writer.old) (failures writer.new) }
@@ -167,6 +174,8 @@ fn take_more(service: &mut Service, conn: Conn, taken: &mut Vec<(LoadId, Bytes)>
     requires taken { Connected (spaces_of service.old) conn.namespace conn.number IsTaken }
     ensures same { At (spaces_of service.old) (spaces_of service.new) conn.namespace (λ was is. TakesMore was is taken.old.items taken.new.items) }
     ensures taken { Connected (spaces_of service.new) conn.namespace conn.number IsTaken }
+    ensures accounted { At (spaces_of service.old) (spaces_of service.new) conn.namespace (λ was is. Accounts was is taken.old.items taken.new.items) }
+    ensures all { taken.new.items ≡ [] → At (spaces_of service.old) (spaces_of service.new) conn.namespace HasTakenAll }
 {
     if !taken.is_empty() {
         return;
@@ -192,6 +201,8 @@ fn settle_next<W: Write, C: Clock, L: Loader>(
     ensures taken { OnOk result (Connected (spaces_of service.new) conn.namespace conn.number IsTaken) }
     ensures err { IfErr result (λ e. (remaining : Option (List ℕ)) → Breaks C.reads L.loads (spaces_of service.old) (spaces_of service.new) conn.namespace conn.number (outside remaining (W.contents (device writer.old)) clock.old loader.old) (outside remaining (W.contents (device writer.new)) clock.new loader.new) taken.old.items e) }
     ensures left { OnErr result (Connected (spaces_of service.new) conn.namespace conn.number IsFed) }
+    ensures accounted { At (spaces_of service.old) (spaces_of service.new) conn.namespace (λ was is. Accounts was is taken.old.items taken.new.items) }
+    ensures all { IfOk result (λ settled. settled ≡ false → (taken.new.items ≡ []) × At (spaces_of service.old) (spaces_of service.new) conn.namespace HasTakenAll) }
     ensures asks { HasAsked L.loads loader.old 0 loader.new }
     ensures asked { IfOk result (λ asked. asked ≡ true → HasAsked L.loads loader.old 1 loader.new) }
     ensures cause { IsErrOf result RunError.Write → HasFailed (failures writer.old) (failures writer.new) }
@@ -231,6 +242,8 @@ pub fn settle_loads<W: Write, C: Clock, L: Loader>(
     ensures taken { OnOk result (Connected (spaces_of service.new) conn.namespace conn.number IsTaken) }
     ensures err { IfErr result (λ e. (remaining : Option (List ℕ)) → Breaks C.reads L.loads (spaces_of service.old) (spaces_of service.new) conn.namespace conn.number (outside remaining (W.contents (device writer.old)) clock.old loader.old) (outside remaining (W.contents (device writer.new)) clock.new loader.new) taken.old.items e) }
     ensures left { OnErr result (Connected (spaces_of service.new) conn.namespace conn.number IsFed) }
+    ensures accounted { At (spaces_of service.old) (spaces_of service.new) conn.namespace (λ was is. Accounts was is taken.old.items taken.new.items) }
+    ensures all { OnOk result ((taken.new.items ≡ []) × At (spaces_of service.old) (spaces_of service.new) conn.namespace HasTakenAll) }
     ensures asks { HasAsked L.loads loader.old 0 loader.new }
     ensures cause { IsErrOf result RunError.Write → HasFailed (failures writer.old) (failures writer.new) }
     ensures used_up { IsErrOf result RunError.UsedUp → HasFailed (failures writer.old) (failures writer.new) ⊎ HasAsked L.loads loader.old (2 ^ 64 - 1) loader.new }
@@ -252,6 +265,7 @@ pub fn settle_loads<W: Write, C: Clock, L: Loader>(
 fn drop_load(service: &mut Service, conn: Conn, load: u64)
     requires known { conn.namespace < length (spaces_of service.old) }
     ensures dropped { At (spaces_of service.old) (spaces_of service.new) conn.namespace (GivesUpLoads conn.number) }
+    ensures gone { At (spaces_of service.old) (spaces_of service.new) conn.namespace (DropsUnwaited (λ n. n == load)) }
     ensures known { conn.namespace < length (spaces_of service.new) }
 {
     let id = LoadId {
@@ -269,6 +283,7 @@ fn drop_load(service: &mut Service, conn: Conn, load: u64)
 fn drop_all(service: &mut Service, conn: Conn, loads: &[(LoadId, Bytes)])
     requires known { conn.namespace < length (spaces_of service.old) }
     ensures dropped { At (spaces_of service.old) (spaces_of service.new) conn.namespace (GivesUpLoads conn.number) }
+    ensures gone { At (spaces_of service.old) (spaces_of service.new) conn.namespace (DropsUnwaited (λ n. is_left n loads.now)) }
     ensures known { conn.namespace < length (spaces_of service.new) }
 {
     for (load, _key) in loads {
@@ -280,6 +295,7 @@ fn drop_all(service: &mut Service, conn: Conn, loads: &[(LoadId, Bytes)])
 pub fn drop_loads(service: &mut Service, conn: Conn, taken: &[(LoadId, Bytes)])
     requires known { conn.namespace < length (spaces_of service.old) }
     ensures dropped { At (spaces_of service.old) (spaces_of service.new) conn.namespace (GivesUpLoads conn.number) }
+    ensures gone { At (spaces_of service.old) (spaces_of service.new) conn.namespace (DropsAll taken.now) }
 {
     drop_all(service, conn, taken);
     match service.take_loads(conn.namespace) {

@@ -7,6 +7,7 @@ ghost use Rattle.cache_spaces.specs.Moves.{At};
 ghost use Rattle.cache_spaces.specs.Serves.{SameSpace};
 ghost use Rattle.cache_spaces.specs.Services.{spaces_of};
 ghost use Rattle.cache_spaces.specs.Spaces.{config_of, notices_of};
+ghost use Rattle.cache_run.specs.Accounts.{Accounts, AddsNoLoads, KeepsLoads, pending_of};
 ghost use Rattle.cache_run.specs.Carried.{Broken, Carried, nothing_left};
 ghost use Rattle.cache_run.specs.Connected.{Connected, IsFed, IsOver, IsReady};
 ghost use Rattle.cache_run.specs.Goes.{Goes};
@@ -31,6 +32,7 @@ fn open_connection(service: &mut Service, namespace: u64) -> Result<Conn, RunErr
     requires known { namespace < length (spaces_of service.old) }
     ensures ok { IfOk result (λ conn. (conn.namespace ≡ namespace) × At (spaces_of service.old) (spaces_of service.new) namespace (λ was is. (conn.number ≡ next_number was) × Goes conn.number was is (λ s t. Quiet (config_of was) (event.Open conn.number) s t (notices_of was) (notices_of is)))) }
     ensures ready { IfOk result (λ conn. Connected (spaces_of service.new) conn.namespace conn.number IsReady) }
+    ensures loads { IfOk result (λ conn. At (spaces_of service.old) (spaces_of service.new) namespace KeepsLoads) }
     ensures err { IfErr result (λ e. (e ≡ RunError.OutOfMemory) × At (spaces_of service.old) (spaces_of service.new) namespace SameSpace) }
 {
     match service.open(namespace) {
@@ -43,6 +45,7 @@ fn open_connection(service: &mut Service, namespace: u64) -> Result<Conn, RunErr
 fn close_if_open(service: &mut Service, conn: Conn)
     requires fed { Connected (spaces_of service.old) conn.namespace conn.number IsFed }
     ensures closes { At (spaces_of service.old) (spaces_of service.new) conn.namespace (Closes conn.number) }
+    ensures loads { At (spaces_of service.old) (spaces_of service.new) conn.namespace KeepsLoads }
     ensures known { conn.namespace < length (spaces_of service.new) }
 {
     match service.close(conn) {
@@ -74,6 +77,8 @@ fn converse<R: Read, W: Write, C: Clock, L: Loader>(
         (world was s (outside (R.remaining (device reader.old)) (W.contents (device writer.old)) clock.old loader.old))
         (world is t (outside (R.remaining (device reader.new)) (W.contents (device writer.new)) clock.new loader.new)) false false [] e))) }
     ensures left { OnErr result (Connected (spaces_of service.new) conn.namespace conn.number IsFed) }
+    ensures settled { OnOk result (At (spaces_of service.old) (spaces_of service.new) conn.namespace AddsNoLoads) }
+    ensures accounted { At (spaces_of service.old) (spaces_of service.new) conn.namespace (λ was is. Accounts was is [] taken.new.items) }
     ensures read { IsErrOf result RunError.Read → HasFailed (failures reader.old) (failures reader.new) }
     ensures write { IsErrOf result RunError.Write → HasFailed (failures writer.old) (failures writer.new) }
     ensures moment { IsErrOf result RunError.Moment → HasToldLate C.reads clock.new }
@@ -93,7 +98,8 @@ fn converse<R: Read, W: Write, C: Clock, L: Loader>(
 ///
 /// Each load that goes out is asked of the loader by its key, and answered with what the loader says; given up where the loader gives no
 /// answer or one that is refused for its bytes or its time. After an error the connection is closed, and then loads that are left are
-/// given up at moment 0, which counts as the latest. No load is under way behind it, where none was before.
+/// given up at moment 0, which counts as the latest. Each load under way behind it was under way before it; after an error this is so
+/// where no other connection waits for a load. However it ends, no load is under way behind it where none was before.
 pub fn run<R: Read, W: Write, C: Clock, L: Loader>(
     service: &mut Service,
     alloc: Global,
@@ -115,6 +121,9 @@ pub fn run<R: Read, W: Write, C: Clock, L: Loader>(
         ⊎ ServesPartly C.reads L.loads was is
         (outside (R.remaining (device reader.old)) (W.contents (device writer.old)) clock.old loader.old)
         (outside (R.remaining (device reader.new)) (W.contents (device writer.new)) clock.new loader.new) e)) }
+
+    // However it ends, no load is under way behind it where none was before.
+    ensures none { At (spaces_of service.old) (spaces_of service.new) namespace (λ was is. pending_of was ≡ [] → pending_of is ≡ []) }
     ensures read { IsErrOf result RunError.Read → HasFailed (failures reader.old) (failures reader.new) }
     ensures write { IsErrOf result RunError.Write → HasFailed (failures writer.old) (failures writer.new) }
     ensures moment { IsErrOf result RunError.Moment → HasToldLate C.reads clock.new }

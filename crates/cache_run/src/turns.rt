@@ -1,8 +1,10 @@
 //! One turn of a run.
-ghost use Rattle.std.specs.Prelude.{◌≡◌, ◌≤◌, ◌<◌, ◌⊎◌, ◌^◌, ◌-◌, ℕ, List, Option, length, IfOk, IfErr, OnOk, OnErr, IsErrOf};
+ghost use Rattle.std.specs.Prelude.{◌≡◌, ◌≤◌, ◌<◌, ◌⊎◌, ◌^◌, ◌-◌, ℕ, List, [], Option, length, IfOk, IfErr, OnOk, OnErr, IsErrOf};
 ghost use Rattle.cache_devices.specs.Failures.{HasFailed};
 ghost use Rattle.cache_devices.specs.Watched.{device, failures};
+ghost use Rattle.cache_spaces.specs.Moves.{At};
 ghost use Rattle.cache_spaces.specs.Services.{spaces_of};
+ghost use Rattle.cache_run.specs.Accounts.{Accounts, AddsNoLoads};
 ghost use Rattle.cache_run.specs.Connected.{Connected, IsFed, IsReady, IsTaken};
 ghost use Rattle.cache_run.specs.Loading.{Breaks, Carries};
 ghost use Rattle.cache_run.specs.Turns.{HasAsked, HasRead, HasToldLate, LeavesSo};
@@ -58,6 +60,8 @@ pub fn take_turn<R: Read, W: Write, C: Clock, L: Loader>(
         (outside (R.remaining (device reader.old)) (W.contents (device writer.old)) clock.old loader.old)
         (outside (R.remaining (device reader.new)) (W.contents (device writer.new)) clock.new loader.new) taken.old.items e) }
     ensures left { OnErr result (Connected (spaces_of service.new) conn.namespace conn.number IsFed) }
+    ensures accounted { At (spaces_of service.old) (spaces_of service.new) conn.namespace (λ was is. Accounts was is taken.old.items taken.new.items) }
+    ensures settled { OnOk result (taken.old.items ≡ [] → (taken.new.items ≡ []) × At (spaces_of service.old) (spaces_of service.new) conn.namespace AddsNoLoads) }
     ensures read { IsErrOf result RunError.Read → HasFailed (failures reader.old) (failures reader.new) }
     ensures write { IsErrOf result RunError.Write → HasFailed (failures writer.old) (failures writer.new) }
     ensures used_up { IsErrOf result RunError.UsedUp → HasFailed (failures writer.old) (failures writer.new) ⊎ HasAsked L.loads loader.old (2 ^ 64 - 1) loader.new }

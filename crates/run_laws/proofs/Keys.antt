@@ -56,7 +56,7 @@ keys-joined n key conn of (load ∷ loads) has = (go (same load.key of), keys-jo
 -- ---- a step
 
 -- a load that is sent has the next number
-abbrev Sends : Option (List ℕ) → Option ℕ → ℕ → Type 0
+abbrev pub Sends : Option (List ℕ) → Option ℕ → ℕ → Type 0
 Sends (Some key) (Some number) sent = number ≡ suc sent
 Sends key load sent = Unit {0}
 
@@ -70,7 +70,7 @@ sends-by seen sent (Running (says.Load key)) None next e = tt
 sends-by seen sent (Running command) load next e = tt
 sends-by seen sent action load next e = tt
 
-sends-right : (config : Config) (s : Situation) (task : Option Task) (step : Step) → is_right config (placed_step_in config s task step) ≡ true → Sends (key_loaded (placed_step_in config s task step).effect.action) step.load s.sent
+pub sends-right : (config : Config) (s : Situation) (task : Option Task) (step : Step) → is_right config (placed_step_in config s task step) ≡ true → Sends (key_loaded (placed_step_in config s task step).effect.action) step.load s.sent
 sends-right config s task step right =
     let parts = and_parts _ _ (and_parts _ _ (and_parts _ _ (and_parts _ _ right).0).0).0 in
     sends-by (view_in config s) s.sent (placed_step_in config s task step).effect.action step.load refl (and_parts _ _ parts.0).1

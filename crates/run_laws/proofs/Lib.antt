@@ -3,3 +3,4 @@ pub mod Events
 pub mod Apart
 pub mod Closed
 pub mod Keys
+pub mod Sending

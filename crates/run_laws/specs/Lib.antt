@@ -2,3 +2,4 @@ pub mod Alone
 pub mod Apart
 pub mod Closed
 pub mod Keys
+pub mod Sending

@@ -2,6 +2,7 @@ use Rattle.std.proofs.Common.{[], false, true, inl}
 use Rattle.cache_run.specs.Connected.{IsFed, IsReady}
 use Rattle.cache_run.proofs.Connecting.{connected-fed, connected-map, connected-same, connected-taken}
 use Rattle.cache_run.proofs.Going.{at-answered, at-held, at-refused}
+use Rattle.cache_run.proofs.Accounting.{at-later-more, at-later-output, at-later-same, at-later-takes}
 use Rattle.cache_run.proofs.feeding.answer_piece.Goals as goal
 
 pub take_replies-requires : goal.take_replies-requires
@@ -27,3 +28,12 @@ returns-in-Err-clause-err c = at-refused _ _ _ _ c.args.piece.now c.args.moment 
 
 pub returns-in-Err-clause-left : goal.returns-in-Err-clause-left
 returns-in-Err-clause-left c = connected-map IsReady IsFed _ _ _ (connected-same _ _ _ _ c.requires.ready c.in-Err.ensures.refused.0) (λ x left. inl left.0)
+
+pub returns-in-Ok-All-clause-later : goal.returns-in-Ok-All-clause-later
+returns-in-Ok-All-clause-later c = at-later-more _ _ _ _ (at-later-takes _ _ _ _ _ _ c.in-Ok-All.ensures.taken) (at-later-output _ _ _ _ _ c.take_replies.ensures)
+
+pub returns-in-Ok-Held-clause-later : goal.returns-in-Ok-Held-clause-later
+returns-in-Ok-Held-clause-later c = at-later-takes _ _ _ _ _ _ c.in-Ok-Held.ensures.taken
+
+pub returns-in-Err-clause-later : goal.returns-in-Err-clause-later
+returns-in-Err-clause-later c = at-later-same _ _ _ c.in-Err.ensures.refused.0

@@ -7,6 +7,8 @@ use Rattle.cache_run.proofs.Connecting.{connected-map, refused-here}
 use Rattle.cache_run.proofs.Placing.{at-map}
 use Rattle.cache_run.proofs.Refusing.{answer-late, answer-refused, answer-unknown}
 use Rattle.cache_run.proofs.Settling.{at-answer, at-dropped, connected-kept, connected-settled}
+use Rattle.cache_settling.specs.Answered.{answering}
+use Rattle.cache_run.proofs.Accounting.{at-settles, at-settles-unknown}
 use Rattle.cache_run.proofs.loading.answer.Goals as goal
 
 pub returns-in-Ok-clause-settled : goal.returns-in-Ok-clause-settled
@@ -44,3 +46,11 @@ returns-in_default-clause-refused c = λ no.
     let r = c.requires.taken in
     at-map _ _ _ _ _ (refused-here _ _ _ _ _ r.space r.at c.in-Err.ensures.refused)
     (λ x y p. (p.0, answer-refused x c.args.load c.args.outcome c.args.moment _ p.1 c.in_default.not-NoLoad c.in_default.not-Moment c.in_default.not-OutOfMemory))
+
+pub returns-in-Ok-clause-gone : goal.returns-in-Ok-clause-gone
+returns-in-Ok-clause-gone c = λ yes. at-settles _ _ _ c.args.load (answering c.args.load c.args.outcome c.args.moment) refl c.in-Ok.ensures.taken
+
+pub returns-in-NoLoad-clause-gone : goal.returns-in-NoLoad-clause-gone
+returns-in-NoLoad-clause-gone c = λ yes.
+    let r = c.requires.taken in
+    at-settles-unknown _ _ _ c.args.load (at-map _ _ _ _ _ (refused-here _ _ _ error.NoLoad _ r.space r.at (rw c.in-NoLoad.is at c.in-Err.ensures.refused)) (λ x y p. (p.0, answer-unknown x c.args.load c.args.outcome c.args.moment p.1)))

@@ -7,6 +7,8 @@ use Rattle.cache_run.proofs.Connecting.{connected-map, refused-here}
 use Rattle.cache_run.proofs.Placing.{at-map}
 use Rattle.cache_run.proofs.Refusing.{give-up-late, give-up-unknown}
 use Rattle.cache_run.proofs.Settling.{at-dropped, at-given-up, connected-kept, connected-settled}
+use Rattle.cache_settling.specs.Answered.{giving_up}
+use Rattle.cache_run.proofs.Accounting.{at-settles, at-settles-unknown}
 use Rattle.cache_run.proofs.loading.give_up.Goals as goal
 
 pub returns-in-Ok-clause-ok : goal.returns-in-Ok-clause-ok
@@ -32,3 +34,11 @@ returns-in_default-clause-left c =
     let r = c.requires.taken in
     let a = at-map _ SameSpace _ _ _ (refused-here _ _ _ _ _ r.space r.at c.in-Err.ensures.refused) (λ x y p. p.0) in
     connected-map IsTaken IsFed _ _ _ (connected-kept _ _ _ _ r a) (λ x left. left.0)
+
+pub returns-in-Ok-clause-gone : goal.returns-in-Ok-clause-gone
+returns-in-Ok-clause-gone c = at-settles _ _ _ c.args.load (giving_up c.args.load c.args.moment) refl c.in-Ok.ensures.taken
+
+pub returns-in_default-clause-gone : goal.returns-in_default-clause-gone
+returns-in_default-clause-gone c =
+    let r = c.requires.taken in
+    at-settles-unknown _ _ _ c.args.load (at-map _ _ _ _ _ (refused-here _ _ _ _ _ r.space r.at c.in-Err.ensures.refused) (λ x y p. (p.0, give-up-unknown (config_of x) (known_of x) c.args.load c.args.moment _ p.1 c.in_default.not-Moment)))

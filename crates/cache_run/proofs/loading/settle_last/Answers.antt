@@ -10,6 +10,9 @@ use Rattle.cache_run.proofs.Delivering.{at-unanswered}
 use Rattle.cache_run.proofs.Going.{at-but-loads, at-refused}
 use Rattle.cache_run.proofs.Settling.{connected-kept, same-here}
 use Rattle.cache_run.proofs.Turning.{asked-fewer, asked-one, at-carried-same, at-none-taken, settled-broken, settled-one, turn-broken}
+use Rattle.cache_run.specs.Accounts.{Accounts, SettlesLoad}
+use Rattle.cache_run.proofs.Accounting.{accounts-last, at-accounts-later, at-later-same}
+use Rattle.cache_run.proofs.Placing.{at-map}
 use Rattle.cache_run.proofs.loading.settle_last.Goals as goal
 
 pub returns-in-None-clause-ok : goal.returns-in-None-clause-ok
@@ -51,3 +54,19 @@ returns-clause-err g c = λ remaining.
 
 pub returns-clause-asks : goal.returns-clause-asks
 returns-clause-asks g c = asked-fewer g.L.Loader.loads _ _ 1 0 (omega arith) (asked-one g.L.Loader.loads _ _ _ _ c.load.ensures)
+
+pub returns-in-None-clause-accounted : goal.returns-in-None-clause-accounted
+returns-in-None-clause-accounted g c = at-accounts-later _ _ _ _ (at-later-same _ _ _ (same-here _ _ _ c.requires.taken))
+
+pub returns-in-Err-clause-accounted : goal.returns-in-Err-clause-accounted
+returns-in-Err-clause-accounted g c = at-accounts-later _ _ _ _ (at-later-same _ _ _ c.in-Err.ensures.err.0)
+
+pub returns-in-Ok-write_replies-clause-accounted : goal.returns-in-Ok-write_replies-clause-accounted
+returns-in-Ok-write_replies-clause-accounted g c =
+    at-map (SettlesLoad c.in-Some.field-0.now.0.number) (λ was is. Accounts was is c.args.taken.now.items c.pop.new.self.items) _ _ _ c.in-Ok.ensures.gone
+    (λ x y l. accounts-last x y c.args.taken.now.items _ _ c.in-Some.field-0.now _ _ c.deref.ensures.value c.last.ensures.value (ap option_copied c.in-Some.is) (let ok = c.args.taken.now.ok in omega arith) c.pop.ensures.rest l)
+
+pub returns-clause-accounted : goal.returns-clause-accounted
+returns-clause-accounted g c =
+    at-map (SettlesLoad c.in-Some.field-0.now.0.number) (λ was is. Accounts was is c.args.taken.now.items c.pop.new.self.items) _ _ _ c.in-Ok.ensures.gone
+    (λ x y l. accounts-last x y c.args.taken.now.items _ _ c.in-Some.field-0.now _ _ c.deref.ensures.value c.last.ensures.value (ap option_copied c.in-Some.is) (let ok = c.args.taken.now.ok in omega arith) c.pop.ensures.rest l)

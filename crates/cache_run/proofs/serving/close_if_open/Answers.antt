@@ -1,6 +1,9 @@
 use Rattle.cache_run.proofs.Connecting.{refused-here}
 use Rattle.cache_run.proofs.Dropping.{known-still}
 use Rattle.cache_run.proofs.Ending.{at-closed, at-closed-before}
+use Rattle.cache_spaces.specs.Serves.{SameSpace}
+use Rattle.cache_run.proofs.Accounting.{at-closes, at-keeps-same}
+use Rattle.cache_run.proofs.Placing.{at-map}
 use Rattle.cache_run.proofs.serving.close_if_open.Goals as goal
 
 pub returns-in-Ok-clause-closes : goal.returns-in-Ok-clause-closes
@@ -18,3 +21,11 @@ pub returns-in-Err-clause-known : goal.returns-in-Err-clause-known
 returns-in-Err-clause-known c =
     let r = c.requires.fed in
     known-still _ _ _ _ (refused-here _ _ _ _ _ r.space r.at c.in-Err.ensures.refused)
+
+pub returns-in-Ok-clause-loads : goal.returns-in-Ok-clause-loads
+returns-in-Ok-clause-loads c = at-closes _ _ _ _ c.in-Ok.ensures.taken
+
+pub returns-in-Err-clause-loads : goal.returns-in-Err-clause-loads
+returns-in-Err-clause-loads c =
+    let r = c.requires.fed in
+    at-keeps-same _ _ _ (at-map _ SameSpace _ _ _ (refused-here _ _ _ _ _ r.space r.at c.in-Err.ensures.refused) (λ x y p. p.0))

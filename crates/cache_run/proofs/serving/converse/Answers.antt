@@ -4,11 +4,15 @@ use Rattle.cache_run.specs.Connected.{IsFed, IsReady}
 use Rattle.cache_run.specs.declared.errors.RunError.TheVariants.{Moment, UsedUp}
 use Rattle.cache_run.proofs.Connecting.{connected-map}
 use Rattle.cache_run.proofs.Turning.{asked-fewer, asked-more, asked-none, at-broken, at-fresh, at-fresh-broken, at-broken-more, at-carried-more, at-carried-start, still-err, turns-more, turns-none}
+use Rattle.cache_run.proofs.Accounting.{at-accounts-more, at-accounts-start, at-adds-more, at-adds-still}
 use Rattle.cache_run.proofs.serving.converse.Goals as goal
 
 pub loop-turn-init : goal.loop-turn-init
 loop-turn-init g c = record {
   carried = at-carried-start g.C.Clock.reads g.L.Loader.loads _ _ _ _ _ c.requires.fresh c.requires.ready;
+  fresh = c.requires.fresh;
+  settled = at-adds-still IsReady _ _ _ c.requires.ready;
+  accounted = at-accounts-start IsReady _ _ _ _ c.requires.fresh c.requires.ready;
   ready = c.requires.ready;
   reads = omega arith;
   writes = omega arith;
@@ -20,6 +24,9 @@ loop-turn-init g c = record {
 pub loop-turn-preserved : goal.loop-turn-preserved
 loop-turn-preserved g c = record {
   carried = at-carried-more g.C.Clock.reads g.L.Loader.loads _ _ _ _ _ _ _ _ [] _ _ c.loop-turn.invariant.carried c.in-Ok-More.ensures.ok;
+  fresh = (c.in-Ok-More.ensures.settled c.loop-turn.invariant.fresh).0;
+  settled = at-adds-more _ _ _ _ c.loop-turn.invariant.settled (c.in-Ok-More.ensures.settled c.loop-turn.invariant.fresh).1;
+  accounted = at-accounts-more _ _ _ _ _ _ _ c.loop-turn.invariant.accounted c.in-Ok-More.ensures.accounted;
   ready = rw c.in-Ok-More.field-0-is at c.in-Ok-More.ensures.goes;
   reads = omega (arith, c.loop-turn.invariant.reads, c.in-Ok-More.ensures.reads);
   writes = omega (arith, c.loop-turn.invariant.writes, c.in-Ok-More.ensures.writes);
@@ -50,3 +57,12 @@ returns-clause-err g c =
 
 pub returns-clause-left : goal.returns-clause-left
 returns-clause-left g c = connected-map IsReady IsFed _ _ _ c.loop-turn.invariant.ready (λ x left. inl left.0)
+
+pub returns-in-Ok-Over-clause-settled : goal.returns-in-Ok-Over-clause-settled
+returns-in-Ok-Over-clause-settled g c = at-adds-more _ _ _ _ c.loop-turn.invariant.settled (c.in-Ok-Over.ensures.settled c.loop-turn.invariant.fresh).1
+
+pub returns-in-Ok-Over-clause-accounted : goal.returns-in-Ok-Over-clause-accounted
+returns-in-Ok-Over-clause-accounted g c = at-accounts-more _ _ _ _ _ _ _ c.loop-turn.invariant.accounted c.in-Ok-Over.ensures.accounted
+
+pub returns-in-Err-clause-accounted : goal.returns-in-Err-clause-accounted
+returns-in-Err-clause-accounted g c = at-accounts-more _ _ _ _ _ _ _ c.loop-turn.invariant.accounted c.in-Err.ensures.accounted

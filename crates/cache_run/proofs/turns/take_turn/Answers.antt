@@ -6,6 +6,9 @@ use Rattle.cache_run.specs.declared.errors.RunError.TheVariants.{Moment, Read, U
 use Rattle.cache_run.proofs.Carrying.{consumes_none}
 use Rattle.cache_run.proofs.Connecting.{connected-map}
 use Rattle.cache_run.proofs.Turning.{at-broken, at-broken-more, at-carried-more, still-err, turn-broken, turn-none, turn-one}
+use Rattle.cache_run.specs.Accounts.{HasTakenAll}
+use Rattle.cache_run.proofs.Accounting.{at-accounts-later, at-accounts-more, at-accounts-still, at-adds-none, at-adds-still}
+use Rattle.cache_run.proofs.Placing.{at-more}
 use Rattle.cache_run.proofs.turns.take_turn.Goals as goal
 
 pub returns-then-eq-clause-ok : goal.returns-then-eq-clause-ok
@@ -46,3 +49,33 @@ returns-then-count-eq0-clause-goes g c =
 
 pub returns-in-Ok-settle_loads-clause-goes : goal.returns-in-Ok-settle_loads-clause-goes
 returns-in-Ok-settle_loads-clause-goes g c = c.progress_of.ensures (g.R.Read.remaining (device c.read.new.self))
+
+pub returns-then-eq-clause-accounted : goal.returns-then-eq-clause-accounted
+returns-then-eq-clause-accounted g c = at-accounts-still IsReady _ _ _ _ c.requires.ready
+
+pub returns-then-eq-clause-settled : goal.returns-then-eq-clause-settled
+returns-then-eq-clause-settled g c = λ none. (none, at-adds-still IsReady _ _ _ c.requires.ready)
+
+pub returns-in-Err-clause-accounted : goal.returns-in-Err-clause-accounted
+returns-in-Err-clause-accounted g c = at-accounts-still IsReady _ _ _ _ c.requires.ready
+
+pub returns-then-count-eq0-clause-accounted : goal.returns-then-count-eq0-clause-accounted
+returns-then-count-eq0-clause-accounted g c = at-accounts-still IsReady _ _ _ _ c.requires.ready
+
+pub returns-then-count-eq0-clause-settled : goal.returns-then-count-eq0-clause-settled
+returns-then-count-eq0-clause-settled g c = λ none. (none, at-adds-still IsReady _ _ _ c.requires.ready)
+
+pub returns-in-Err-deliver-clause-accounted : goal.returns-in-Err-deliver-clause-accounted
+returns-in-Err-deliver-clause-accounted g c = at-accounts-later _ _ _ _ c.in-Err-deliver.ensures.later
+
+pub returns-in-Ok-settle_loads-clause-accounted : goal.returns-in-Ok-settle_loads-clause-accounted
+returns-in-Ok-settle_loads-clause-accounted g c = at-accounts-more _ _ _ _ _ _ _ (at-accounts-later _ _ _ _ c.in-Ok-deliver.ensures.later) c.in-Ok-settle_loads.ensures.accounted
+
+pub returns-in-Ok-settle_loads-clause-settled : goal.returns-in-Ok-settle_loads-clause-settled
+returns-in-Ok-settle_loads-clause-settled g c = λ none.
+    let all = c.in-Ok-settle_loads.ensures.all in
+    let more = at-accounts-more _ _ _ _ _ _ _ (at-accounts-later _ _ _ c.args.taken.now.items c.in-Ok-deliver.ensures.later) c.in-Ok-settle_loads.ensures.accounted in
+    (all.0, at-adds-none _ _ _ _ _ none all.0 (at-more _ HasTakenAll HasTakenAll _ _ _ _ c.in-Ok-deliver.ensures.later all.1 (λ x y z p q. q)) more)
+
+pub returns-in-Err-settle_loads-clause-accounted : goal.returns-in-Err-settle_loads-clause-accounted
+returns-in-Err-settle_loads-clause-accounted g c = at-accounts-more _ _ _ _ _ _ _ (at-accounts-later _ _ _ _ c.in-Ok-deliver.ensures.later) c.in-Err-settle_loads.ensures.accounted
