@@ -2,10 +2,12 @@
 #![tactic(auto)]
 
 mod link;
+mod links;
 mod pending;
 mod state;
 
 pub use link::{Link, Moving, Standing, first_line};
+pub use links::Links;
 pub use pending::Pending;
 pub use state::{
     Moved, State, begin, close, feed, find_link, find_load, find_pending, is_holding, may_run,

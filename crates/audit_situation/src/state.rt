@@ -1,15 +1,16 @@
 //! The situation between two steps, and what changes it.
-ghost use Rattle.std.specs.Prelude.{◌≡◌, ◌&&◌, ◌||◌, ◌<◌, ◌++◌, ◌∷◌, [], OnOk, IfOk, IsTrue, ℕ, suc, max, Some, None, map, not, ◌==◌, position, option_map, slice_index_or, vec_len};
+ghost use Rattle.std.specs.Prelude.{◌≡◌, ◌&&◌, ◌++◌, ◌∷◌, [], OnOk, IfOk, IsTrue, ℕ, suc, max, Some, None, map, not, ◌==◌, option_map};
 ghost use Rattle.std.specs.List.{filter, find};
 ghost use Rattle.std.specs.Option.{option_map_or};
 ghost use Rattle.audit_model.specs.Bytewise.{same};
 ghost use Rattle.audit_model.specs.Changes.{join_by};
 ghost use Rattle.audit_model.specs.Follows.{without_load};
-ghost use Rattle.audit_model.specs.Situation.{Situation, Connection, is_overlong, Ready, empty_situation, connection_in, may_run_in, is_holding_in, without_waiting, without_number, without_connection, with_connection, with_waiting, load_in, pending_in};
-ghost use Rattle.audit_situation.specs.States.{situation_of, are_apart, fed_to, moved_in, Changed};
+ghost use Rattle.audit_model.specs.Situation.{Ready, empty_situation, connection_in, may_run_in, is_holding_in, without_waiting, without_connection, with_connection, with_waiting, load_in, pending_in};
+ghost use Rattle.audit_situation.specs.States.{situation_of, are_apart, fed_to, moved_in};
 ghost use Rattle.audit_situation.specs.Standings.{moved_on};
 
-use crate::link::{Link, Moving, first_line, is_overlong, move_on};
+use crate::link::{Link, Moving, first_line};
+use crate::links::Links;
 use crate::pending::Pending;
 use audit_held::Holding;
 use audit_model::{Seq, copy_bytes};
@@ -22,7 +23,7 @@ pub struct State {
     pub latest: u64,
     pub opened: u64,
     pub sent: u64,
-    pub connections: Vec<Link>,
+    pub connections: Links,
     pub pending: Vec<Pending>,
     pub held: Holding,
     pub dropped: bool,
@@ -36,7 +37,7 @@ pub fn begin(alloc: Global, made: u64) -> Result<State, AllocError>
         latest: made,
         opened: 0,
         sent: 0,
-        connections: Vec::new(alloc),
+        connections: Links::new(alloc)?,
         pending: Vec::new(alloc),
         held: Holding::new(alloc)?,
         dropped: false,
@@ -44,17 +45,10 @@ pub fn begin(alloc: Global, made: u64) -> Result<State, AllocError>
 }
 
 /// The open connection of that number.
-pub fn find_link(links: &[Link], conn: u64) -> Option<&Link>
+pub fn find_link(links: &Links, conn: u64) -> Option<&Link>
     ensures { option_map (λ l. l.now) result ≡ find (λ c. c.number == conn) links.now }
 {
-    links.iter().find(|l| l.number() == conn)
-}
-
-/// Where the open connection of that number stands.
-pub fn place_of(links: &[Link], conn: u64) -> Option<usize>
-    ensures { result ≡ position (λ c. c.number == conn) links.now }
-{
-    links.iter().position(|l| l.number() == conn)
+    links.get(conn)
 }
 
 /// Whether a connection's next line may run.
@@ -103,18 +97,11 @@ pub fn find_pending(pending: &[Pending], number: u64) -> Option<&Pending>
 
 /// Opens a connection, with the next number.
 pub fn open(alloc: Global, s: &mut State, conn: u64) -> Result<(), AllocError>
-    ensures { OnOk result (situation_of s.new ≡ record (situation_of s.old) { opened = conn; connections = s.old.connections.items ++ record { number = conn; unread = []; standing = Ready; waited = 0 } ∷ [] }) }
+    ensures { OnOk result (situation_of s.new ≡ record (situation_of s.old) { opened = conn; connections = s.old.connections ++ record { number = conn; unread = []; standing = Ready; waited = 0 } ∷ [] }) }
 {
-    s.connections.push(Link::new(alloc, conn))?;
+    s.connections.add(Link::new(alloc, conn))?;
     s.opened = conn;
     Ok(())
-}
-
-/// Leaves a connection out.
-fn leave_out(links: &mut Vec<Link>, conn: u64)
-    ensures { links.new.items ≡ without_number conn links.old.items }
-{
-    links.retain(|l| l.number() != conn);
 }
 
 /// Lets a connection leave all loads that it waits for.
@@ -130,38 +117,18 @@ fn leave_all(pending: &mut [Pending], conn: u64)
 pub fn close(s: &mut State, conn: u64)
     ensures { situation_of s.new ≡ without_connection conn (situation_of s.old) }
 {
-    leave_out(&mut s.connections, conn);
+    s.connections.remove(conn);
     leave_all(&mut s.pending, conn);
-}
-
-/// Closes the connection at a place if it quits, or if it has to.
-fn close_where(s: &mut State, at: usize, quits: bool)
-    requires { at < vec_len s.old.connections }
-    ensures { (was : Situation) (c : Connection) → Changed was (situation_of s.old) at c → situation_of s.new ≡ with_connection quits c was }
-{
-    let link = &s.connections[at];
-    let number = link.number();
-    if closes(link, quits) {
-        close(s, number);
-    }
-}
-
-/// Whether a connection closes.
-fn closes(link: &Link, quits: bool) -> bool
-    ensures { result ≡ (quits || is_overlong link.now) }
-{
-    quits || is_overlong(link)
 }
 
 /// Takes a piece for a connection.
 pub fn feed(s: &mut State, conn: u64, piece: &[u8]) -> Result<(), AllocError>
-    requires { IsTrue (are_apart s.old.connections.items) }
+    requires { IsTrue (are_apart s.old.connections) }
     ensures { OnOk result (situation_of s.new ≡ fed_to conn piece.now (situation_of s.old)) }
 {
-    if let Some(at) = place_of(&s.connections, conn) {
-        let link = &mut s.connections[at];
-        link.feed(piece)?;
-        close_where(s, at, false);
+    let closes = s.connections.feed(conn, piece)?;
+    if closes {
+        close(s, conn);
     }
     Ok(())
 }
@@ -244,32 +211,32 @@ fn waits(moving: Moving<'_>) -> bool
 
 /// Does to the connection of a step, and to the loads, what the step does.
 pub fn pass(alloc: Global, s: &mut State, moved: Moved<'_>) -> Result<(), AllocError>
-    requires { IsTrue (are_apart s.old.connections.items) }
+    requires { IsTrue (are_apart s.old.connections) }
     ensures { OnOk result (situation_of s.new ≡ moved_in moved.entry.conn moved.entry.moving.reads moved.entry.moving.holds moved.entry.moving.replies moved.entry.moving.line.now moved.entry.quits (option_map (λ k. k.now) moved.entry.key) moved.entry.load (situation_of s.old)) }
 {
-    if let Some(at) = place_of(&s.connections, moved.conn) {
+    if find_link(&s.connections, moved.conn).is_some() {
         let waits = waits(moved.moving);
         join(alloc, s, moved.conn, waits, moved.key, moved.load)?;
-        move_at(alloc, s, at, moved.moving, moved.quits)?;
+        move_in(alloc, s, moved.conn, moved.moving, moved.quits)?;
     }
     Ok(())
 }
 
-/// Does to the connection at a place what a step does.
-fn move_at(
+/// Does to a connection what a step does.
+fn move_in(
     alloc: Global,
     s: &mut State,
-    at: usize,
+    conn: u64,
     moving: Moving<'_>,
     quits: bool,
 ) -> Result<(), AllocError>
-    requires inside { at < vec_len s.old.connections }
-    requires apart { IsTrue (are_apart s.old.connections.items) }
-    ensures { OnOk result ((conn : ℕ) (c : Connection) → position (λ d. d.number == conn) s.old.connections.items ≡ Some at → slice_index_or s.old.connections.items at c ≡ c → situation_of s.new ≡ with_connection quits (moved_on moving.entry.reads moving.entry.holds moving.entry.replies moving.entry.line.now c) (situation_of s.old)) }
+    requires { IsTrue (are_apart s.old.connections) }
+    ensures { OnOk result (situation_of s.new ≡ option_map_or (λ c. with_connection quits (moved_on moving.entry.reads moving.entry.holds moving.entry.replies moving.entry.line.now c) (situation_of s.old)) (connection_in conn (situation_of s.old)) (situation_of s.old)) }
 {
-    let link = &mut s.connections[at];
-    move_on(alloc, link, moving)?;
-    close_where(s, at, quits);
+    let closes = s.connections.move_on(alloc, conn, moving, quits)?;
+    if closes {
+        close(s, conn);
+    }
     Ok(())
 }
 

@@ -1,6 +1,5 @@
 use Rattle.std.proofs.Common.{arith}
 use Rattle.audit_model.specs.Situation.{without_waiting}
-use Rattle.audit_situation.proofs.Done.{all-done}
 use Rattle.audit_situation.proofs.Places.{done-more}
 use Rattle.audit_situation.proofs.state.leave_all.Goals as goal
 
