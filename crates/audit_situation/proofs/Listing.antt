@@ -1,6 +1,6 @@
 -- Entries by number.
-use Rattle.std.proofs.Common.{◌≡◌, refl, sym, ap, ◌∙◌, subst, ℕ, suc, zero, ◌-◌, ◌≤◌, ◌==◌, Bool, true, false, cond, not, ◌&&◌, List, [], ◌∷◌, ◌++◌, map, length, take, Option, option_map, Some, None, Result, Ok, Err, OnOk, Bor, if◌then◌else◌, arith, true≢false}
-use Rattle.std.specs.Prelude.{nat_eq, is_some}
+use Rattle.std.proofs.Common.{◌≡◌, refl, sym, ap, ◌∙◌, subst, ℕ, suc, zero, ◌-◌, ◌≤◌, ◌==◌, Bool, true, false, cond, not, ◌&&◌, List, [], ◌∷◌, ◌++◌, map, length, take, Option, option_map, Some, None, Result, Ok, Err, OnOk, OnErr, Bor, if◌then◌else◌, arith, true≢false}
+use Rattle.std.specs.Prelude.{nat_eq, is_some, ⊤}
 use Rattle.std.specs.List.{find, filter}
 use Rattle.std.specs.Map.{values_of, lookup, lookup_entry, remove_entry, set_value}
 use Rattle.std.specs.Option.{option_map_or, option_copied}
@@ -22,6 +22,11 @@ flip m n = go (m == n) (n == m) refl refl
 pub follows : {A E P Q : Type 0} (r : Result A E) → (P → Q) → OnOk r P → OnOk r Q
 follows (Ok x) f p = f p
 follows (Err e) f p = tt
+
+-- where it failed, the same
+pub fails : {A E P Q : Type 0} (r : Result A E) → (P → Q) → OnErr r P → OnErr r Q
+fails (Ok x) f p = tt
+fails (Err e) f p = f p
 
 -- what a look-up lends
 pub lent : {X : Type 0} (r : Option (Bor X)) → option_map (λ x. x.now) r ≡ option_copied r
@@ -212,3 +217,26 @@ module _ {X : Type 0} (number : X → ℕ) where
 
   pub added-listing : (x : X) (es : List (ℕ × X)) (n : ℕ) → n ≡ number x → is_some (lookup (nat_eq n) es) ≡ false → is_listing number es ≡ true → is_listing number (es ++ (number x, x) ∷ []) ≡ true
   added-listing x es n same absent l = last-listing x es l (ap (λ m. lookup (nat_eq m) es) (sym same) ∙ is_none (lookup (nat_eq n) es) absent)
+
+  -- ---- an entry added as the first
+
+  pub put-kept : {E : Type 0} (x : X) (es : List (ℕ × X)) (cap n : ℕ) (new : LruCache ℕ X) (r : Result (Option X) E) → n ≡ number x → cap ≡ 18446744073709551615 → length es ≤ 1125899906842624 → is_some (lookup (nat_eq n) es) ≡ false
+      → is_listing number es ≡ true → OnOk r (new ≡ lru_cache (put_entries nat_eq (lru_cache es cap) n x) cap) → OnErr r (new ≡ lru_cache es cap)
+      → (new.cap ≡ 18446744073709551615) × ((is_listing number new.entries ≡ true) × ⊤)
+  put-kept x es cap n new (Ok old) same c few absent l ok err =
+      rw (ok ∙ ap (λ xs. lru_cache xs cap) (put_is es cap n x c few (is_none (lookup (nat_eq n) es) absent)))
+      (c, (whole (n, x) es (eq-eqb n (number x) same) (none-new n es (is_none (lookup (nat_eq n) es) absent)) l, tt))
+  put-kept x es cap n new (Err e) same c few absent l ok err = rw err (c, (l, tt))
+
+pub put-first : {X : Type 0} (x : X) (es : List (ℕ × X)) (cap n : ℕ) (new : LruCache ℕ X) → cap ≡ 18446744073709551615 → length es ≤ 1125899906842624 → is_some (lookup (nat_eq n) es) ≡ false
+    → new ≡ lru_cache (put_entries nat_eq (lru_cache es cap) n x) cap → new ≡ lru_cache ((n, x) ∷ es) cap
+put-first x es cap n new c few absent is = is ∙ ap (λ xs. lru_cache xs cap) (put_is es cap n x c few (is_none (lookup (nat_eq n) es) absent))
+
+-- a value put back where it stood
+pub put-back : {X : Type 0} (n : ℕ) (es : List (ℕ × X)) (x w : X) → lookup (nat_eq n) es ≡ Some x → w ≡ x → set_value (nat_eq n) es w ≡ es
+put-back n [] x w found is = refl
+put-back {X} n (e ∷ es) x w found is = go (nat_eq n e.0) found (put-back n es x w)
+  where
+    go : (b : Bool) → cond b (Some e.1) (lookup (nat_eq n) es) ≡ Some x → (lookup (nat_eq n) es ≡ Some x → w ≡ x → set_value (nat_eq n) es w ≡ es) → cond b ((e.0, w) ∷ es) (e ∷ set_value (nat_eq n) es w) ≡ e ∷ es
+    go true f ih = let same : e.1 ≡ x = cc in ap (λ y. (e.0, y) ∷ es) (is ∙ sym same)
+    go false f ih = ap (λ ys. e ∷ ys) (ih f is)

@@ -1,5 +1,5 @@
--- A list gone through, a connection changed, and what loads are to connections.
-use Rattle.std.proofs.Common.{◌≡◌, refl, sym, ap, ◌∙◌, ℕ, ◌+◌, ◌<◌, ◌==◌, Bool, true, false, cond, not, ◌||◌, List, [], ◌∷◌, map, length, set, get_or, Option, Some, None, if◌then◌else◌, true≢false}
+-- A connection changed, and what loads are to connections.
+use Rattle.std.proofs.Common.{◌≡◌, refl, sym, ap, ◌∙◌, ℕ, ◌==◌, Bool, true, false, cond, not, ◌||◌, List, [], ◌∷◌, map, Option, Some, None, if◌then◌else◌, true≢false}
 use Rattle.std.specs.Prelude.{is_some}
 use Rattle.std.specs.List.{find, list_any}
 use Rattle.std.specs.Option.{option_map_or}
@@ -7,15 +7,8 @@ use Rattle.std.proofs.lemmas.Option.{none-some}
 use Rattle.std.proofs.lemmas.Bool.{eqb-true, and_parts, not-true}
 use Rattle.audit_model.specs.Changes.{join_by}
 use Rattle.audit_model.specs.Situation.{Situation, Connection, connection_in, without_number, without_connection, with_connection, is_overlong, without_waiting}
-use Rattle.audit_situation.proofs.Done.{done, get-done, set-done}
 use Rattle.audit_situation.specs.Listings.{changed_at}
 use Rattle.audit_situation.specs.States.{are_apart}
-
--- one more is done
-pub done-more : {X : Type 0} (F : X → X) (xs init : List X) (i : ℕ) (x new : X) → i < length init → xs ≡ done F i init → new ≡ F (get_or xs i x) → set xs i new ≡ done F (i + 1) init
-done-more F xs init i x new lt is n =
-    ap (set xs i) (n ∙ ap F (ap (λ ys. get_or ys i x) is ∙ get-done F init i x lt))
-    ∙ ap (λ ys. set ys i (F (get_or init i x))) is ∙ set-done F init i x lt
 
 -- what a step does to loads changes no connection
 pub join-keeps : (conn : ℕ) (waits : Bool) (key : Option (List ℕ)) (load : Option ℕ) (s : Situation) → (join_by conn waits key load s).connections ≡ s.connections

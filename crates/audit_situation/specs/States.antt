@@ -10,7 +10,7 @@ use Rattle.audit_situation.specs.declared.state.State.{State}
 -- as the definitions have it
 abbrev pub situation_of : State → Situation
 situation_of s =
-    record { latest = s.latest; opened = s.opened; sent = s.sent; connections = s.connections; pending = s.pending.items; held = s.held; dropped = s.dropped }
+    record { latest = s.latest; opened = s.opened; sent = s.sent; connections = s.connections; pending = s.pending; held = s.held; dropped = s.dropped }
 
 -- no two have one number
 abbrev pub are_apart : List Connection → Bool

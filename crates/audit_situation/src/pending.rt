@@ -1,5 +1,5 @@
 //! A load under way.
-ghost use Rattle.std.specs.Prelude.{◌≡◌, ◌∷◌, [], ◌++◌, OnOk, not, ◌==◌};
+ghost use Rattle.std.specs.Prelude.{◌≡◌, ◌∷◌, [], ◌++◌, OnOk, OnErr, not, ◌==◌};
 ghost use Rattle.std.specs.List.{filter};
 ghost use Rattle.audit_model.specs.Situation.{without_waiting};
 
@@ -65,7 +65,9 @@ impl Pending {
 
     /// A connection joins those that wait for it.
     pub fn join(&mut self, conn: u64) -> Result<(), AllocError>
-        ensures { OnOk result (self.new ≡ record self.old { waiting = self.old.waiting ++ conn ∷ [] }) }
+        ensures joined { OnOk result (self.new ≡ record self.old { waiting = self.old.waiting ++ conn ∷ [] }) }
+        ensures unchanged { OnErr result (self.new ≡ self.old) }
+        ensures number { self.new.number ≡ self.old.number }
     {
         self.waiting.push(conn)?;
         Ok(())

@@ -11,9 +11,9 @@ ghost use Rattle.audit_situation.specs.Standings.{moved_on};
 
 use crate::link::{Link, Moving, first_line};
 use crate::links::Links;
+use crate::loads::Loads;
 use crate::pending::Pending;
 use audit_held::Holding;
-use audit_model::{Seq, copy_bytes};
 use std::alloc::{AllocError, Global};
 
 /// What later steps depend on: the latest moment in nanoseconds, how many connections were opened and loads sent, the open connections, the
@@ -24,7 +24,7 @@ pub struct State {
     pub opened: u64,
     pub sent: u64,
     pub connections: Links,
-    pub pending: Vec<Pending>,
+    pub pending: Loads,
     pub held: Holding,
     pub dropped: bool,
 }
@@ -38,7 +38,7 @@ pub fn begin(alloc: Global, made: u64) -> Result<State, AllocError>
         opened: 0,
         sent: 0,
         connections: Links::new(alloc)?,
-        pending: Vec::new(alloc),
+        pending: Loads::new(alloc)?,
         held: Holding::new(alloc)?,
         dropped: false,
     })
@@ -82,17 +82,17 @@ pub fn waited(s: &State, conn: u64) -> u64
 }
 
 /// The load under way of a key.
-pub fn find_load<'a>(pending: &'a [Pending], key: &[u8]) -> Option<&'a Pending>
+pub fn find_load<'a>(pending: &'a Loads, key: &[u8]) -> Option<&'a Pending>
     ensures { option_map (λ p. p.now) result ≡ find (λ p. same p.key key.now) pending.now }
 {
-    pending.iter().find(|p| p.key() == key)
+    pending.of_key(key)
 }
 
 /// The load under way of that number.
-pub fn find_pending(pending: &[Pending], number: u64) -> Option<&Pending>
+pub fn find_pending(pending: &Loads, number: u64) -> Option<&Pending>
     ensures { option_map (λ p. p.now) result ≡ find (λ p. p.number == number) pending.now }
 {
-    pending.iter().find(|p| p.number() == number)
+    pending.get(number)
 }
 
 /// Opens a connection, with the next number.
@@ -104,21 +104,12 @@ pub fn open(alloc: Global, s: &mut State, conn: u64) -> Result<(), AllocError>
     Ok(())
 }
 
-/// Lets a connection leave all loads that it waits for.
-fn leave_all(pending: &mut [Pending], conn: u64)
-    ensures { pending.new ≡ map (without_waiting conn) pending.old }
-{
-    for load in pending.iter_mut() {
-        load.leave(conn);
-    }
-}
-
 /// Closes a connection; its load stays under way.
 pub fn close(s: &mut State, conn: u64)
     ensures { situation_of s.new ≡ without_connection conn (situation_of s.old) }
 {
     s.connections.remove(conn);
-    leave_all(&mut s.pending, conn);
+    s.pending.leave(conn);
 }
 
 /// Takes a piece for a connection.
@@ -133,44 +124,20 @@ pub fn feed(s: &mut State, conn: u64, piece: &[u8]) -> Result<(), AllocError>
     Ok(())
 }
 
-/// Lets a connection join a load, if it is of that key.
-fn join_where(load: &mut Pending, conn: u64, key: &[u8]) -> Result<(), AllocError>
-    ensures { OnOk result (load.new ≡ with_waiting conn key.now load.old) }
-{
-    if load.key() == key {
-        load.join(conn)?;
-    }
-    Ok(())
-}
-
-/// Lets a connection join the loads of a key.
-fn join_all(pending: &mut [Pending], conn: u64, key: &[u8]) -> Result<(), AllocError>
-    ensures { OnOk result (pending.new ≡ map (with_waiting conn key.now) pending.old) }
-{
-    for load in pending.iter_mut() {
-        join_where(load, conn, key)?;
-    }
-    Ok(())
-}
-
 /// Sends a load of a key, for which a connection waits.
-fn send(alloc: Global, s: &mut State, conn: u64, key: &[u8], number: u64) -> Result<(), AllocError>
-    ensures { OnOk result (situation_of s.new ≡ record (situation_of s.old) { sent = suc s.old.sent; pending = record { number = number; key = key.now; waiting = conn ∷ [] } ∷ s.old.pending.items }) }
+fn send(s: &mut State, conn: u64, key: &[u8], number: u64) -> Result<(), AllocError>
+    ensures { OnOk result (situation_of s.new ≡ record (situation_of s.old) { sent = suc s.old.sent; pending = record { number = number; key = key.now; waiting = conn ∷ [] } ∷ s.old.pending }) }
 {
     let Some(sent) = s.sent.checked_add(1) else {
         return Err(AllocError);
     };
-    let key = Seq::from_vec(Vec::from_slice(alloc, key)?);
-    let mut waiting = Vec::new(alloc);
-    waiting.push(conn)?;
-    s.pending.insert(0, Pending::new(number, key, waiting))?;
+    s.pending.send(number, key, conn)?;
     s.sent = sent;
     Ok(())
 }
 
 /// What a step does to the loads: a `LOAD` that waits joins its key's load, or the load that it sent.
 pub fn join(
-    alloc: Global,
     s: &mut State,
     conn: u64,
     waits: bool,
@@ -182,8 +149,8 @@ pub fn join(
     match key {
         None => Ok(()),
         Some(key) => match load {
-            Some(number) => send(alloc, s, conn, key, number),
-            None if waits => join_all(&mut s.pending, conn, key),
+            Some(number) => send(s, conn, key, number),
+            None if waits => s.pending.join(conn, key),
             None => Ok(()),
         },
     }
@@ -216,7 +183,7 @@ pub fn pass(alloc: Global, s: &mut State, moved: Moved<'_>) -> Result<(), AllocE
 {
     if find_link(&s.connections, moved.conn).is_some() {
         let waits = waits(moved.moving);
-        join(alloc, s, moved.conn, waits, moved.key, moved.load)?;
+        join(s, moved.conn, waits, moved.key, moved.load)?;
         move_in(alloc, s, moved.conn, moved.moving, moved.quits)?;
     }
     Ok(())
@@ -240,17 +207,10 @@ fn move_in(
     Ok(())
 }
 
-/// Leaves a load out.
-fn leave_load(pending: &mut Vec<Pending>, number: u64)
-    ensures { pending.new.items ≡ filter (λ p. not (p.number == number)) pending.old.items }
-{
-    pending.retain(|p| p.number() != number);
-}
-
 /// A load is settled at a moment.
 pub fn settle(s: &mut State, number: u64, moment: u64)
     ensures { situation_of s.new ≡ without_load number moment (situation_of s.old) }
 {
     s.latest = moment.max(s.latest);
-    leave_load(&mut s.pending, number);
+    s.pending.remove(number);
 }
