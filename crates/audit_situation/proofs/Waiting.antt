@@ -1,6 +1,6 @@
 -- What stands beside the loads under way, when they change.
-use Rattle.std.proofs.Common.{◌≡◌, refl, sym, ap, ◌∙◌, subst, ℕ, suc, zero, ◌+◌, ◌<◌, ◌≤◌, ◌==◌, Bool, true, false, cond, not, ◌||◌, inl, inr, List, [], ◌∷◌, ◌++◌, map, Option, Some, None, Result, Ok, Err, OnOk, OnErr, get_or, take, if◌then◌else◌, arith, true≢false}
-use Rattle.std.specs.Prelude.{is_some, nat_lt, All, length}
+use Rattle.std.proofs.Common.{◌≡◌, refl, sym, ap, ◌∙◌, subst, ℕ, suc, zero, ◌<◌, ◌≤◌, ◌==◌, Bool, true, false, cond, not, ◌||◌, inl, inr, List, [], ◌∷◌, ◌++◌, map, Option, Some, None, Result, Ok, Err, OnOk, OnErr, if◌then◌else◌, arith, true≢false}
+use Rattle.std.specs.Prelude.{is_some, nat_lt, All}
 use Rattle.std.specs.List.{find, filter, list_any, AllByRecursion}
 use Rattle.std.specs.BTreeMap.{insert_entry}
 use Rattle.std.specs.Map.{lookup, remove_entry}
@@ -13,7 +13,7 @@ use Rattle.std.specs.declared.alloc.Global.{Global}
 use Rattle.std.proofs.lemmas.Option.{none-some}
 use Rattle.std.proofs.lemmas.Bool.{eqb-true, eqb-false, eq-eqb, ne_eqb, not-true, or_cases, or_right, false_from_ne_true}
 use Rattle.std.proofs.lemmas.Bool.Decides.{nat_tests}
-use Rattle.std.proofs.lemmas.List.Folds.{list_any-append, list_any_more}
+use Rattle.std.proofs.lemmas.List.Folds.{list_any-append}
 use Rattle.std.proofs.lemmas.Map.Text.{is_eq-slice_cmp}
 use Rattle.std.proofs.lemmas.Slice.Eq.{bytes_eq-Decides}
 use Rattle.audit_model.specs.Bytewise.{same}
@@ -199,19 +199,6 @@ put key n q before after e has = go (same key.items q) refl
     go : (b : Bool) → same key.items q ≡ b → number_at q after ≡ cond b (Some n) (number_at q before)
     go true h = ap (λ t. number_at t after) (sym (equal key.items q h)) ∙ has
     go false h = ap (lookup (at q)) e ∙ put-other key n q before.entries h
-
--- connections out of a list gone through
-pub more-removed : (q i : ℕ) (conns : List ℕ) (d : ℕ) (initial before after : Option ℕ) → i < length conns → before ≡ cond (list_any (λ n. n == q) (take i conns)) None initial → after ≡ cond (get_or conns i d == q) None before
-    → after ≡ cond (list_any (λ n. n == q) (take (i + 1) conns)) None initial
-more-removed q i conns d initial before after lt b a =
-    a ∙ ap (λ o. cond (get_or conns i d == q) None o) b ∙ go (list_any (λ n. n == q) (take i conns)) (get_or conns i d == q)
-    ∙ sym (ap (λ c. cond c None initial) (list_any_more (λ n. n == q) conns i d lt))
-  where
-    go : (c d : Bool) → cond d None (cond c None initial) ≡ cond (c || d) None initial
-    go true true = refl
-    go true false = refl
-    go false true = refl
-    go false false = refl
 
 -- what holds whether a call went well or not
 pub either-way : {A E : Type 0} (P : List PendingLoad → Type 0) (r : Result A E) (x y new : List PendingLoad) → OnOk r (new ≡ x) → OnErr r (new ≡ y) → P x → P y → P new

@@ -3,6 +3,7 @@ ghost use Rattle.std.specs.Prelude.{◌≡◌, ◌==◌, ℕ, OnOk, OnErr, Some,
 ghost use Rattle.std.specs.List.{list_any};
 ghost use Rattle.audit_situation.specs.Underway.{load_of};
 
+use crate::waiters::Waiters;
 use std::alloc::AllocError;
 use std::collections::BTreeMap;
 
@@ -35,10 +36,10 @@ pub fn take_waiting(joined: &mut BTreeMap<u64, u64>, conn: u64) -> Option<u64>
 }
 
 /// None of these connections waits any more.
-pub fn remove_all(joined: &mut BTreeMap<u64, u64>, conns: &[u64])
+pub fn remove_all(joined: &mut BTreeMap<u64, u64>, conns: &Waiters)
     ensures { (q : ℕ) → load_of q joined.new ≡ cond (list_any (λ n. n == q) conns.now) None (load_of q joined.old) }
 {
-    for conn in conns {
+    for (_, conn) in conns.iter() {
         take_waiting(joined, *conn);
     }
 }

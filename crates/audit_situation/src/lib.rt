@@ -9,6 +9,7 @@ mod loads;
 mod numbered;
 mod pending;
 mod state;
+mod waiters;
 
 pub use link::{Link, Moving, Standing, first_line};
 pub use links::Links;
@@ -18,3 +19,4 @@ pub use state::{
     Moved, State, begin, close, feed, find_link, find_load, find_pending, is_holding, may_run,
     open, pass, settle, waited,
 };
+pub use waiters::Waiters;

@@ -9,6 +9,7 @@ use crate::joined::{load_of, put_waiting, remove_all, take_waiting};
 use crate::keys::{number_at, put_key, remove_key};
 use crate::numbered::Numbered;
 use crate::pending::Pending;
+use crate::waiters::Waiters;
 use audit_model::Seq;
 use std::alloc::{AllocError, Global};
 use std::collections::BTreeMap;
@@ -39,7 +40,7 @@ fn new_load(alloc: Global, number: u64, key: &[u8], conn: u64) -> Result<Pending
     ensures { IfOk result (λ load. load ≡ record { number = number; key = key.now; waiting = conn ∷ [] }) }
 {
     let key = Seq::from_vec(Vec::from_slice(alloc, key)?);
-    let mut waiting = Vec::new(alloc);
+    let mut waiting = Waiters::new(alloc)?;
     waiting.push(conn)?;
     Ok(Pending::new(number, key, waiting))
 }
@@ -124,7 +125,7 @@ impl Loads {
     {
         if let Some(load) = self.table.take(number) {
             remove_key(&mut self.keys, load.key());
-            remove_all(&mut self.joined, load.waiting());
+            remove_all(&mut self.joined, load.waiters());
         }
     }
 }
