@@ -1,11 +1,15 @@
 #!/usr/bin/env python3
-"""transcripts.py [STEPS [KEYS [CAPACITY [mixed | dropping]]]]: how long `transcript audit` takes to judge a transcript of so many steps over so many keys.
+"""transcripts.py [STEPS [KEYS [CAPACITY [mixed | dropping | connections | loads | waiting]]]]: how long `transcript audit` takes to judge a transcript of so many steps over so many keys.
 
 It makes the transcript itself, the same each time: one connection that is fed a line a record, which is a `SET` for each key first and then a
 `SET`, a `GET` or, one in a thousand, a `SYNC`, answered as by a service that holds each key's last value and tells each older one as it is
 replaced. A capacity has to be at least as large as the number of keys, so that nothing has to leave. With `mixed`, two in three of the
 `SYNC` are a `DROPIF` of a prefix drawn from a thousand, and a `KEYS`; what is covered is told once its key is written again. With
 `dropping`, one in ten lines is a `DROPIF` of one key's whole name. The verdict has to be `yes`.
+
+With `connections`, as many connections are open as there are keys, and each line comes over one of them, drawn. With `loads`, each of them
+waits with a `LOAD` of its own key; one after another, drawn, is answered that there is no value, and asks again. With `waiting`, all of them
+wait for one load and close, in drawn order, and as many others come.
 
 Build the program first: in crates/transcript, `rt run` leaves it at out/transcript.
 """
@@ -35,14 +39,69 @@ def rare_line(turn, draw, keys, held, covered):
     return "SYNC", f"SYNC {len(held)} {len(held)}\n"
 
 
+def asked(conn, key, number, load):
+    """A connection asks for a key, and waits."""
+    line = f"LOAD key{key:05}"
+    yield f"feed {conn} {number} {hexed(line + chr(10))}"
+    yield f"step {conn} run {hexed(line)} - {load} -"
+
+
+def loads_of(steps, keys):
+    """Each connection waits for a load of its own."""
+    draw = random.Random(1)
+    for conn in range(1, keys + 1):
+        yield f"open {conn}"
+    waits = {}
+    for conn in range(1, keys + 1):
+        waits[conn] = conn
+        yield from asked(conn, conn, conn, conn)
+    sent = keys
+    for number in range(keys, steps, 2):
+        conn = draw.randrange(keys) + 1
+        yield f"answer {waits[conn]} {number} none"
+        yield f"step {conn} run {hexed(f'LOAD key{conn:05}')} {hexed('NONE' + chr(10))} - -"
+        sent += 1
+        waits[conn] = sent
+        yield from asked(conn, conn, number + 1, sent)
+    for conn in range(1, keys + 1):
+        yield f"close {conn}"
+
+
+def waiting_of(steps, keys):
+    """All connections wait for one load, and close."""
+    draw = random.Random(1)
+    for first in range(1, steps + 1, keys):
+        conns = list(range(first, first + keys))
+        for conn in conns:
+            yield f"open {conn}"
+        for conn in conns:
+            yield from asked(conn, 0, conn, "1" if conn == 1 else "-")
+        draw.shuffle(conns)
+        for conn in conns:
+            yield f"close {conn}"
+
+
 def lines_of(steps, keys, capacity, kinds):
     """The lines of the transcript."""
-    draw = random.Random(1)
-    held, covered, turn = {}, set(), 0
     yield f"config capacity={capacity} policy=lru parts=1 weight=one live_ms=- idle_ms=- deadlines=0"
     yield "made 0"
-    yield "open 1"
+    if kinds == "loads":
+        yield from loads_of(steps, keys)
+    elif kinds == "waiting":
+        yield from waiting_of(steps, keys)
+    else:
+        yield from values_of(steps, keys, kinds)
+
+
+def values_of(steps, keys, kinds):
+    """Values written and read."""
+    draw = random.Random(1)
+    held, covered, turn = {}, set(), 0
+    conns = keys if kinds == "connections" else 1
+    for conn in range(1, conns + 1):
+        yield f"open {conn}"
     for number in range(steps):
+        conn = draw.randrange(conns) + 1 if conns > 1 else 1
         key = f"key{number if number < keys else draw.randrange(keys):05}"
         kind = 0 if number < keys else draw.randrange(1000)
         note, part = None, "-"
@@ -61,11 +120,12 @@ def lines_of(steps, keys, capacity, kinds):
         else:
             line, reply = rare_line(turn if kinds == "mixed" else 0, draw, keys, held, covered)
             turn += 1
-        yield f"feed 1 {number} {hexed(line + chr(10))}"
-        yield f"step 1 run {hexed(line)} {hexed(reply)} - {part}"
+        yield f"feed {conn} {number} {hexed(line + chr(10))}"
+        yield f"step {conn} run {hexed(line)} {hexed(reply)} - {part}"
         if note:
             yield note
-    yield "close 1"
+    for conn in range(1, conns + 1):
+        yield f"close {conn}"
 
 
 def main():

@@ -110,7 +110,7 @@ fn waiting_of(alloc: Global, s: &State, load: u64) -> Result<Vec<u64>, AllocErro
     ensures { IfOk result (λ conns. conns.items ≡ waiting_in load (situation_of s.now)) }
 {
     match find_pending(&s.pending, load) {
-        Some(pending) => Vec::from_slice(alloc, pending.waiting()),
+        Some(pending) => pending.waiting(alloc),
         None => Ok(Vec::new(alloc)),
     }
 }

@@ -1,2 +1,3 @@
-mod Done
+mod Listing
 mod Places
+mod Waiting

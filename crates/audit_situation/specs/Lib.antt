@@ -1,2 +1,4 @@
+pub mod Listings
 pub mod Standings
 pub mod States
+pub mod Underway

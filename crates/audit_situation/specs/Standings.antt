@@ -1,5 +1,5 @@
 -- What a connection does, and what a step leaves of it.
-use Rattle.std.specs.Prelude.{ℕ, ◌+◌, Bool, true, false, not, ◌&&◌, List, Option, Some, None, if◌then◌else◌}
+use Rattle.std.specs.Prelude.{ℕ, ◌+◌, ◌++◌, Bool, not, ◌&&◌, List, Option, Some, None, if◌then◌else◌}
 use Rattle.audit_model.specs.Situation.{Standing, Ready, Held, Waiting, Connection}
 use Rattle.audit_model.specs.Stream.{behind_lines}
 use Rattle.audit_situation.specs.declared.link.Standing.{Standing as Stands}
@@ -23,6 +23,10 @@ waits_after holds replies waited = if replies then 0 else ((if not replies && no
 abbrev pub moved_on : Bool → Bool → Bool → List ℕ → Connection → Connection
 moved_on reads holds replies line c =
     record { number = c.number; unread = if reads then behind_lines 1 c.unread else c.unread; standing = left_standing holds replies line; waited = waits_after holds replies c.waited }
+
+-- the connection when a piece came for it
+abbrev pub fed_with : List ℕ → Connection → Connection
+fed_with piece c = record c { unread = c.unread ++ piece }
 
 -- the line that a connection holds back or waits with
 abbrev pub kept_line : Standing → Option (List ℕ)

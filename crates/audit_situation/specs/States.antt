@@ -1,6 +1,6 @@
 -- The situation that the judge keeps.
-use Rattle.std.specs.Prelude.{◌≡◌, ℕ, Bool, true, false, not, ◌&&◌, ◌==◌, nat_le, List, [], ◌∷◌, ◌++◌, position, Option, Some, IsTrue, slice_set}
-use Rattle.std.specs.List.{list_all, list_any}
+use Rattle.std.specs.Prelude.{ℕ, Bool, true, false, not, ◌&&◌, ◌==◌, List, [], ◌∷◌, ◌++◌, Option}
+use Rattle.std.specs.List.{list_any}
 use Rattle.std.specs.Option.{option_map_or}
 use Rattle.audit_model.specs.Changes.{join_by}
 use Rattle.audit_model.specs.Situation.{Situation, Connection, connection_in, with_connection}
@@ -10,18 +10,12 @@ use Rattle.audit_situation.specs.declared.state.State.{State}
 -- as the definitions have it
 abbrev pub situation_of : State → Situation
 situation_of s =
-    record { latest = s.latest; opened = s.opened; sent = s.sent; connections = s.connections.items; pending = s.pending.items; held = s.held; dropped = s.dropped }
+    record { latest = s.latest; opened = s.opened; sent = s.sent; connections = s.connections; pending = s.pending; held = s.held; dropped = s.dropped }
 
 -- no two have one number
 abbrev pub are_apart : List Connection → Bool
 are_apart [] = true
 are_apart (c ∷ cs) = not (list_any (λ d. d.number == c.number) cs) && are_apart cs
-
--- the connection of that number has changed to this one
-pub record Changed (was now : Situation) (at : ℕ) (c : Connection) : Type 0 where
-  pub first : position (λ d. d.number == c.number) was.connections ≡ Some at
-  pub apart : IsTrue (are_apart was.connections)
-  pub put : now ≡ record was { connections = slice_set was.connections at c }
 
 -- the situation when a piece came for a connection
 abbrev pub fed_to : ℕ → List ℕ → Situation → Situation

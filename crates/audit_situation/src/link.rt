@@ -1,9 +1,9 @@
 //! A connection that is open.
-ghost use Rattle.std.specs.Prelude.{◌≡◌, ◌<◌, ◌+◌, [], ◌++◌, OnOk, MatchOption, Some, None, length, take, drop, option_map, nat_lt, IfOk, if◌then◌else◌};
+ghost use Rattle.std.specs.Prelude.{◌≡◌, ◌<◌, ◌+◌, [], ◌++◌, ◌||◌, OnOk, MatchOption, Some, None, length, take, drop, option_map, nat_lt, IfOk, if◌then◌else◌};
 ghost use Rattle.audit_model.specs.Bytewise.{cut_at};
 ghost use Rattle.audit_model.specs.Stream.{first_line, behind_lines, without_return};
 ghost use Rattle.audit_model.specs.Situation.{Ready, is_ready, is_holding, is_waiting_now, is_overlong};
-ghost use Rattle.audit_situation.specs.Standings.{kept_line, standing_of, left_standing, waits_after, moved_on};
+ghost use Rattle.audit_situation.specs.Standings.{kept_line, standing_of, left_standing, waits_after, moved_on, fed_with};
 
 use audit_model::{Bytes, Seq};
 use cache_lines::Buffer;
@@ -120,7 +120,8 @@ impl Link {
 
     /// Takes a piece of its bytes.
     pub fn feed(&mut self, piece: &[u8]) -> Result<(), AllocError>
-        ensures { OnOk result (self.new ≡ record self.old { unread = self.old.unread ++ piece.now }) }
+        ensures fed { OnOk result (self.new ≡ record self.old { unread = self.old.unread ++ piece.now }) }
+        ensures number { self.new.number ≡ self.old.number }
     {
         self.unread.reserve(piece.len())?;
         self.unread.append(piece);
@@ -251,11 +252,44 @@ fn read_where(link: &mut Link, reads: bool)
 
 /// Does to a connection what a step of its own does.
 pub fn move_on(alloc: Global, link: &mut Link, moving: Moving<'_>) -> Result<(), AllocError>
-    ensures { OnOk result (link.new ≡ moved_on moving.entry.reads moving.entry.holds moving.entry.replies moving.entry.line.now link.old) }
+    ensures moved { OnOk result (link.new ≡ moved_on moving.entry.reads moving.entry.holds moving.entry.replies moving.entry.line.now link.old) }
+    ensures number { link.new.number ≡ link.old.number }
 {
     let standing = standing_after(alloc, moving)?;
     let waited = waited_after(moving, link.waited())?;
     read_where(link, moving.reads);
     link.settle(standing, waited);
     Ok(())
+}
+
+/// Whether a connection closes.
+fn closes(link: &Link, quits: bool) -> bool
+    ensures { result ≡ (quits || is_overlong link.now) }
+{
+    quits || is_overlong(link)
+}
+
+/// Feeds a connection, and answers whether it has to close.
+pub fn feed_link(link: &mut Link, piece: &[u8]) -> Result<bool, AllocError>
+    ensures closes { IfOk result (λ b. b ≡ is_overlong (fed_with piece.now link.old)) }
+    ensures fed { OnOk result (link.new ≡ fed_with piece.now link.old) }
+    ensures number { link.new.number ≡ link.old.number }
+{
+    link.feed(piece)?;
+    Ok(is_overlong(link))
+}
+
+/// Does to a connection what a step of its own does, and answers whether it closes.
+pub fn move_link(
+    alloc: Global,
+    link: &mut Link,
+    moving: Moving<'_>,
+    quits: bool,
+) -> Result<bool, AllocError>
+    ensures closes { IfOk result (λ b. b ≡ (quits || is_overlong (moved_on moving.entry.reads moving.entry.holds moving.entry.replies moving.entry.line.now link.old))) }
+    ensures moved { OnOk result (link.new ≡ moved_on moving.entry.reads moving.entry.holds moving.entry.replies moving.entry.line.now link.old) }
+    ensures number { link.new.number ≡ link.old.number }
+{
+    move_on(alloc, link, moving)?;
+    Ok(closes(link, quits))
 }

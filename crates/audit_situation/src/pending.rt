@@ -1,10 +1,10 @@
 //! A load under way.
-ghost use Rattle.std.specs.Prelude.{◌≡◌, ◌∷◌, [], ◌++◌, OnOk, not, ◌==◌};
-ghost use Rattle.std.specs.List.{filter};
+ghost use Rattle.std.specs.Prelude.{◌≡◌, ◌∷◌, [], ◌++◌, IfOk, OnOk, OnErr};
 ghost use Rattle.audit_model.specs.Situation.{without_waiting};
 
+use crate::waiters::Waiters;
 use audit_model::Bytes;
-use std::alloc::AllocError;
+use std::alloc::{AllocError, Global};
 use std::marker::Model;
 
 /// A load under way, with the connections that wait for it in the order in which they joined.
@@ -12,7 +12,7 @@ use std::marker::Model;
 pub struct Pending {
     number: u64,
     key: Bytes,
-    waiting: Vec<u64>,
+    waiting: Waiters,
 }
 
 impl Model for Pending {
@@ -20,13 +20,13 @@ impl Model for Pending {
 
     ghost Value = { PendingLoad };
 
-    ghost view = { λ p. record { number = p.number; key = p.key; waiting = p.waiting.items } };
+    ghost view = { λ p. record { number = p.number; key = p.key; waiting = p.waiting } };
 }
 
 impl Pending {
     /// A load of a key, for which these connections wait.
-    pub fn new(number: u64, key: Bytes, waiting: Vec<u64>) -> Pending
-        ensures { result ≡ record { number = number; key = key; waiting = waiting.items } }
+    pub fn new(number: u64, key: Bytes, waiting: Waiters) -> Pending
+        ensures { result ≡ record { number = number; key = key; waiting = waiting } }
     {
         Pending {
             number,
@@ -50,31 +50,33 @@ impl Pending {
     }
 
     /// The connections that wait for it.
-    pub fn waiting(&self) -> &[u64]
+    pub fn waiters(&self) -> &Waiters
         ensures { result.now ≡ self.now.waiting }
     {
-        self.waiting.as_slice()
+        &self.waiting
+    }
+
+    /// The connections that wait for it, in the order in which they joined.
+    pub fn waiting(&self, alloc: Global) -> Result<Vec<u64>, AllocError>
+        ensures { IfOk result (λ conns. conns.items ≡ self.now.waiting) }
+    {
+        self.waiting.to_vec(alloc)
     }
 
     /// A connection waits for it no more.
     pub fn leave(&mut self, conn: u64)
         ensures { self.new ≡ without_waiting conn self.old }
     {
-        leave_out(&mut self.waiting, conn);
+        self.waiting.remove(conn);
     }
 
-    /// A connection joins those that wait for it.
+    /// A connection joins those that wait for it. An `Err` is want of memory, or it is among them.
     pub fn join(&mut self, conn: u64) -> Result<(), AllocError>
-        ensures { OnOk result (self.new ≡ record self.old { waiting = self.old.waiting ++ conn ∷ [] }) }
+        ensures joined { OnOk result (self.new ≡ record self.old { waiting = self.old.waiting ++ conn ∷ [] }) }
+        ensures unchanged { OnErr result (self.new ≡ self.old) }
+        ensures number { self.new.number ≡ self.old.number }
     {
         self.waiting.push(conn)?;
         Ok(())
     }
-}
-
-/// Leaves a number out.
-fn leave_out(numbers: &mut Vec<u64>, number: u64)
-    ensures { numbers.new.items ≡ filter (λ n. not (n == number)) numbers.old.items }
-{
-    numbers.retain(|n| *n != number);
 }

@@ -1,18 +1,19 @@
 //! The situation between two steps, and what changes it.
-ghost use Rattle.std.specs.Prelude.{◌≡◌, ◌&&◌, ◌||◌, ◌<◌, ◌++◌, ◌∷◌, [], OnOk, IfOk, IsTrue, ℕ, suc, max, Some, None, map, not, ◌==◌, position, option_map, slice_index_or, vec_len};
+ghost use Rattle.std.specs.Prelude.{◌≡◌, ◌&&◌, ◌++◌, ◌∷◌, [], OnOk, IfOk, IsTrue, ℕ, suc, max, Some, None, map, not, ◌==◌, option_map};
 ghost use Rattle.std.specs.List.{filter, find};
 ghost use Rattle.std.specs.Option.{option_map_or};
 ghost use Rattle.audit_model.specs.Bytewise.{same};
 ghost use Rattle.audit_model.specs.Changes.{join_by};
 ghost use Rattle.audit_model.specs.Follows.{without_load};
-ghost use Rattle.audit_model.specs.Situation.{Situation, Connection, is_overlong, Ready, empty_situation, connection_in, may_run_in, is_holding_in, without_waiting, without_number, without_connection, with_connection, with_waiting, load_in, pending_in};
-ghost use Rattle.audit_situation.specs.States.{situation_of, are_apart, fed_to, moved_in, Changed};
+ghost use Rattle.audit_model.specs.Situation.{Ready, empty_situation, connection_in, may_run_in, is_holding_in, without_waiting, without_connection, with_connection, with_waiting, load_in, pending_in};
+ghost use Rattle.audit_situation.specs.States.{situation_of, are_apart, fed_to, moved_in};
 ghost use Rattle.audit_situation.specs.Standings.{moved_on};
 
-use crate::link::{Link, Moving, first_line, is_overlong, move_on};
+use crate::link::{Link, Moving, first_line};
+use crate::links::Links;
+use crate::loads::Loads;
 use crate::pending::Pending;
 use audit_held::Holding;
-use audit_model::{Seq, copy_bytes};
 use std::alloc::{AllocError, Global};
 
 /// What later steps depend on: the latest moment in nanoseconds, how many connections were opened and loads sent, the open connections, the
@@ -22,8 +23,8 @@ pub struct State {
     pub latest: u64,
     pub opened: u64,
     pub sent: u64,
-    pub connections: Vec<Link>,
-    pub pending: Vec<Pending>,
+    pub connections: Links,
+    pub pending: Loads,
     pub held: Holding,
     pub dropped: bool,
 }
@@ -36,25 +37,18 @@ pub fn begin(alloc: Global, made: u64) -> Result<State, AllocError>
         latest: made,
         opened: 0,
         sent: 0,
-        connections: Vec::new(alloc),
-        pending: Vec::new(alloc),
+        connections: Links::new(alloc)?,
+        pending: Loads::new(alloc)?,
         held: Holding::new(alloc)?,
         dropped: false,
     })
 }
 
 /// The open connection of that number.
-pub fn find_link(links: &[Link], conn: u64) -> Option<&Link>
+pub fn find_link(links: &Links, conn: u64) -> Option<&Link>
     ensures { option_map (λ l. l.now) result ≡ find (λ c. c.number == conn) links.now }
 {
-    links.iter().find(|l| l.number() == conn)
-}
-
-/// Where the open connection of that number stands.
-pub fn place_of(links: &[Link], conn: u64) -> Option<usize>
-    ensures { result ≡ position (λ c. c.number == conn) links.now }
-{
-    links.iter().position(|l| l.number() == conn)
+    links.get(conn)
 }
 
 /// Whether a connection's next line may run.
@@ -88,122 +82,62 @@ pub fn waited(s: &State, conn: u64) -> u64
 }
 
 /// The load under way of a key.
-pub fn find_load<'a>(pending: &'a [Pending], key: &[u8]) -> Option<&'a Pending>
+pub fn find_load<'a>(pending: &'a Loads, key: &[u8]) -> Option<&'a Pending>
     ensures { option_map (λ p. p.now) result ≡ find (λ p. same p.key key.now) pending.now }
 {
-    pending.iter().find(|p| p.key() == key)
+    pending.of_key(key)
 }
 
 /// The load under way of that number.
-pub fn find_pending(pending: &[Pending], number: u64) -> Option<&Pending>
+pub fn find_pending(pending: &Loads, number: u64) -> Option<&Pending>
     ensures { option_map (λ p. p.now) result ≡ find (λ p. p.number == number) pending.now }
 {
-    pending.iter().find(|p| p.number() == number)
+    pending.get(number)
 }
 
 /// Opens a connection, with the next number.
 pub fn open(alloc: Global, s: &mut State, conn: u64) -> Result<(), AllocError>
-    ensures { OnOk result (situation_of s.new ≡ record (situation_of s.old) { opened = conn; connections = s.old.connections.items ++ record { number = conn; unread = []; standing = Ready; waited = 0 } ∷ [] }) }
+    ensures { OnOk result (situation_of s.new ≡ record (situation_of s.old) { opened = conn; connections = s.old.connections ++ record { number = conn; unread = []; standing = Ready; waited = 0 } ∷ [] }) }
 {
-    s.connections.push(Link::new(alloc, conn))?;
+    s.connections.add(Link::new(alloc, conn))?;
     s.opened = conn;
     Ok(())
-}
-
-/// Leaves a connection out.
-fn leave_out(links: &mut Vec<Link>, conn: u64)
-    ensures { links.new.items ≡ without_number conn links.old.items }
-{
-    links.retain(|l| l.number() != conn);
-}
-
-/// Lets a connection leave all loads that it waits for.
-fn leave_all(pending: &mut [Pending], conn: u64)
-    ensures { pending.new ≡ map (without_waiting conn) pending.old }
-{
-    for load in pending.iter_mut() {
-        load.leave(conn);
-    }
 }
 
 /// Closes a connection; its load stays under way.
 pub fn close(s: &mut State, conn: u64)
     ensures { situation_of s.new ≡ without_connection conn (situation_of s.old) }
 {
-    leave_out(&mut s.connections, conn);
-    leave_all(&mut s.pending, conn);
-}
-
-/// Closes the connection at a place if it quits, or if it has to.
-fn close_where(s: &mut State, at: usize, quits: bool)
-    requires { at < vec_len s.old.connections }
-    ensures { (was : Situation) (c : Connection) → Changed was (situation_of s.old) at c → situation_of s.new ≡ with_connection quits c was }
-{
-    let link = &s.connections[at];
-    let number = link.number();
-    if closes(link, quits) {
-        close(s, number);
-    }
-}
-
-/// Whether a connection closes.
-fn closes(link: &Link, quits: bool) -> bool
-    ensures { result ≡ (quits || is_overlong link.now) }
-{
-    quits || is_overlong(link)
+    s.connections.remove(conn);
+    s.pending.leave(conn);
 }
 
 /// Takes a piece for a connection.
 pub fn feed(s: &mut State, conn: u64, piece: &[u8]) -> Result<(), AllocError>
-    requires { IsTrue (are_apart s.old.connections.items) }
+    requires { IsTrue (are_apart s.old.connections) }
     ensures { OnOk result (situation_of s.new ≡ fed_to conn piece.now (situation_of s.old)) }
 {
-    if let Some(at) = place_of(&s.connections, conn) {
-        let link = &mut s.connections[at];
-        link.feed(piece)?;
-        close_where(s, at, false);
-    }
-    Ok(())
-}
-
-/// Lets a connection join a load, if it is of that key.
-fn join_where(load: &mut Pending, conn: u64, key: &[u8]) -> Result<(), AllocError>
-    ensures { OnOk result (load.new ≡ with_waiting conn key.now load.old) }
-{
-    if load.key() == key {
-        load.join(conn)?;
-    }
-    Ok(())
-}
-
-/// Lets a connection join the loads of a key.
-fn join_all(pending: &mut [Pending], conn: u64, key: &[u8]) -> Result<(), AllocError>
-    ensures { OnOk result (pending.new ≡ map (with_waiting conn key.now) pending.old) }
-{
-    for load in pending.iter_mut() {
-        join_where(load, conn, key)?;
+    let closes = s.connections.feed(conn, piece)?;
+    if closes {
+        close(s, conn);
     }
     Ok(())
 }
 
 /// Sends a load of a key, for which a connection waits.
-fn send(alloc: Global, s: &mut State, conn: u64, key: &[u8], number: u64) -> Result<(), AllocError>
-    ensures { OnOk result (situation_of s.new ≡ record (situation_of s.old) { sent = suc s.old.sent; pending = record { number = number; key = key.now; waiting = conn ∷ [] } ∷ s.old.pending.items }) }
+fn send(s: &mut State, conn: u64, key: &[u8], number: u64) -> Result<(), AllocError>
+    ensures { OnOk result (situation_of s.new ≡ record (situation_of s.old) { sent = suc s.old.sent; pending = record { number = number; key = key.now; waiting = conn ∷ [] } ∷ s.old.pending }) }
 {
     let Some(sent) = s.sent.checked_add(1) else {
         return Err(AllocError);
     };
-    let key = Seq::from_vec(Vec::from_slice(alloc, key)?);
-    let mut waiting = Vec::new(alloc);
-    waiting.push(conn)?;
-    s.pending.insert(0, Pending::new(number, key, waiting))?;
+    s.pending.send(number, key, conn)?;
     s.sent = sent;
     Ok(())
 }
 
 /// What a step does to the loads: a `LOAD` that waits joins its key's load, or the load that it sent.
 pub fn join(
-    alloc: Global,
     s: &mut State,
     conn: u64,
     waits: bool,
@@ -215,8 +149,8 @@ pub fn join(
     match key {
         None => Ok(()),
         Some(key) => match load {
-            Some(number) => send(alloc, s, conn, key, number),
-            None if waits => join_all(&mut s.pending, conn, key),
+            Some(number) => send(s, conn, key, number),
+            None if waits => s.pending.join(conn, key),
             None => Ok(()),
         },
     }
@@ -244,40 +178,33 @@ fn waits(moving: Moving<'_>) -> bool
 
 /// Does to the connection of a step, and to the loads, what the step does.
 pub fn pass(alloc: Global, s: &mut State, moved: Moved<'_>) -> Result<(), AllocError>
-    requires { IsTrue (are_apart s.old.connections.items) }
+    requires { IsTrue (are_apart s.old.connections) }
     ensures { OnOk result (situation_of s.new ≡ moved_in moved.entry.conn moved.entry.moving.reads moved.entry.moving.holds moved.entry.moving.replies moved.entry.moving.line.now moved.entry.quits (option_map (λ k. k.now) moved.entry.key) moved.entry.load (situation_of s.old)) }
 {
-    if let Some(at) = place_of(&s.connections, moved.conn) {
+    if find_link(&s.connections, moved.conn).is_some() {
         let waits = waits(moved.moving);
-        join(alloc, s, moved.conn, waits, moved.key, moved.load)?;
-        move_at(alloc, s, at, moved.moving, moved.quits)?;
+        join(s, moved.conn, waits, moved.key, moved.load)?;
+        move_in(alloc, s, moved.conn, moved.moving, moved.quits)?;
     }
     Ok(())
 }
 
-/// Does to the connection at a place what a step does.
-fn move_at(
+/// Does to a connection what a step does.
+fn move_in(
     alloc: Global,
     s: &mut State,
-    at: usize,
+    conn: u64,
     moving: Moving<'_>,
     quits: bool,
 ) -> Result<(), AllocError>
-    requires inside { at < vec_len s.old.connections }
-    requires apart { IsTrue (are_apart s.old.connections.items) }
-    ensures { OnOk result ((conn : ℕ) (c : Connection) → position (λ d. d.number == conn) s.old.connections.items ≡ Some at → slice_index_or s.old.connections.items at c ≡ c → situation_of s.new ≡ with_connection quits (moved_on moving.entry.reads moving.entry.holds moving.entry.replies moving.entry.line.now c) (situation_of s.old)) }
+    requires { IsTrue (are_apart s.old.connections) }
+    ensures { OnOk result (situation_of s.new ≡ option_map_or (λ c. with_connection quits (moved_on moving.entry.reads moving.entry.holds moving.entry.replies moving.entry.line.now c) (situation_of s.old)) (connection_in conn (situation_of s.old)) (situation_of s.old)) }
 {
-    let link = &mut s.connections[at];
-    move_on(alloc, link, moving)?;
-    close_where(s, at, quits);
+    let closes = s.connections.move_on(alloc, conn, moving, quits)?;
+    if closes {
+        close(s, conn);
+    }
     Ok(())
-}
-
-/// Leaves a load out.
-fn leave_load(pending: &mut Vec<Pending>, number: u64)
-    ensures { pending.new.items ≡ filter (λ p. not (p.number == number)) pending.old.items }
-{
-    pending.retain(|p| p.number() != number);
 }
 
 /// A load is settled at a moment.
@@ -285,5 +212,5 @@ pub fn settle(s: &mut State, number: u64, moment: u64)
     ensures { situation_of s.new ≡ without_load number moment (situation_of s.old) }
 {
     s.latest = moment.max(s.latest);
-    leave_load(&mut s.pending, number);
+    s.pending.remove(number);
 }

@@ -176,7 +176,7 @@ fn pass_step(
     shown: Shown<'_>,
     doing: Doing<'_>,
 ) -> Result<(), AllocError>
-    requires { IsTrue (are_apart s.old.connections.items) }
+    requires { IsTrue (are_apart s.old.connections) }
     ensures { OnOk result (situation_of s.new ≡ with_connection_after (option_map task_of duty.entry) (step_of shown.entry) (acting (action_of doing.entry) (option_map (λ r. r.now) shown.entry.reply) shown.entry.load) (situation_of s.old)) }
 {
     if is_store(duty) {
@@ -209,7 +209,7 @@ fn finish(
     doing: Doing<'_>,
     newcomer: Option<Held>,
 ) -> Result<bool, AllocError>
-    requires apart { IsTrue (are_apart s.old.connections.items) }
+    requires apart { IsTrue (are_apart s.old.connections) }
     requires new { IfSome newcomer (IsNew s.old.latest) }
     requires small { IfSome newcomer (λ h. h.value.part < 256) }
     ensures right { IfOk result (λ b. let placed = placed_with config.now (situation_of s.old) (option_map task_of duty.entry) (action_of doing.entry) (step_of shown.entry) (option_map (λ h. h.value) newcomer) in b ≡ (has_right_notes config.now placed && is_synced config.now placed)) }
@@ -232,7 +232,7 @@ fn judge_doing(
     shown: Shown<'_>,
     doing: Doing<'_>,
 ) -> Result<bool, AllocError>
-    requires { IsTrue (are_apart s.old.connections.items) }
+    requires { IsTrue (are_apart s.old.connections) }
     ensures { IfOk result (λ b. IsJudged config.now (situation_of s.old) parts.old (option_map task_of duty.entry) (step_of shown.entry) (placed_by config.now (situation_of s.old) (option_map task_of duty.entry) (action_of doing.entry) (step_of shown.entry)) b (situation_of s.new) parts.new) }
 {
     if !is_fit(alloc, config, s, duty, shown, doing)? {
@@ -257,7 +257,7 @@ pub fn judge(
     duty: Option<Duty<'_>>,
     shown: Shown<'_>,
 ) -> Result<bool, AllocError>
-    requires { IsTrue (are_apart s.old.connections.items) }
+    requires { IsTrue (are_apart s.old.connections) }
     ensures { IfOk result (λ b. IsJudged config.now (situation_of s.old) parts.old (option_map task_of duty.entry) (step_of shown.entry) (placed_step_in config.now (situation_of s.old) (option_map task_of duty.entry) (step_of shown.entry)) b (situation_of s.new) parts.new) }
 {
     let waited = waited(s, shown.conn);

@@ -125,6 +125,20 @@ const LOADS: &[Row] = &[
         lines: b"open 1\nopen 2\nfeed 1 0 'LOAD_k~\nstep 1 run 'LOAD_k - 1 -\nclose 1\nfeed 2 0 'LOAD_k~\nstep 2 run 'LOAD_k - 2 -\n",
         breaks: 5,
     },
+    // Loads of several keys are answered in another order, and one of those that wait closes.
+    Row {
+        lines: b"open 1\nopen 2\nopen 3\nfeed 1 0 'LOAD_a~\nstep 1 run 'LOAD_a - 1 -\nfeed 2 0 'LOAD_b~\nstep 2 run 'LOAD_b - 2 -\nfeed 3 0 'LOAD_c~\nstep 3 run 'LOAD_c - 3 -\nanswer 2 0 none\nstep 2 run 'LOAD_b 'NONE~ - -\nfeed 2 0 'LOAD_a~\nstep 2 run 'LOAD_a - - -\nclose 1\nanswer 3 0 none\nstep 3 run 'LOAD_c 'NONE~ - -\nfeed 3 0 'LOAD_b~\nstep 3 run 'LOAD_b - 4 -\nanswer 1 0 none\nstep 2 run 'LOAD_a 'NONE~ - -\nanswer 4 0 none\nstep 3 run 'LOAD_b 'NONE~ - -\n",
+        breaks: 0,
+    },
+    // Those that wait are told in the order in which they joined, without the one that closed.
+    Row {
+        lines: b"open 1\nopen 2\nopen 3\nopen 4\nfeed 1 0 'LOAD_k~\nstep 1 run 'LOAD_k - 1 -\nfeed 2 0 'LOAD_k~\nstep 2 run 'LOAD_k - - -\nfeed 3 0 'LOAD_k~\nstep 3 run 'LOAD_k - - -\nfeed 4 0 'LOAD_k~\nstep 4 run 'LOAD_k - - -\nclose 2\nopen 5\nfeed 5 0 'LOAD_k~\nstep 5 run 'LOAD_k - - -\nanswer 1 0 value 'v -\nown 0\nstep 1 run 'LOAD_k 'VAL_v~ - -\nstep 3 run 'LOAD_k 'VAL_v~ - -\nstep 4 run 'LOAD_k 'VAL_v~ - -\nstep 5 run 'LOAD_k 'VAL_v~ - -\n",
+        breaks: 0,
+    },
+    Row {
+        lines: b"open 1\nopen 2\nopen 3\nopen 4\nfeed 1 0 'LOAD_k~\nstep 1 run 'LOAD_k - 1 -\nfeed 2 0 'LOAD_k~\nstep 2 run 'LOAD_k - - -\nfeed 3 0 'LOAD_k~\nstep 3 run 'LOAD_k - - -\nfeed 4 0 'LOAD_k~\nstep 4 run 'LOAD_k - - -\nclose 2\nopen 5\nfeed 5 0 'LOAD_k~\nstep 5 run 'LOAD_k - - -\nanswer 1 0 value 'v -\nown 0\nstep 1 run 'LOAD_k 'VAL_v~ - -\nstep 4 run 'LOAD_k 'VAL_v~ - -\nstep 3 run 'LOAD_k 'VAL_v~ - -\nstep 5 run 'LOAD_k 'VAL_v~ - -\n",
+        breaks: 12,
+    },
     // A `LOAD` that runs again finds no memory, and is held back.
     Row {
         lines: b"open 1\nfeed 1 0 'LOAD_k~\nstep 1 run 'LOAD_k - 1 -\ngiveup 1 0\nstep 1 held 'LOAD_k - - -\nfeed 1 0 '\nstep 1 run 'LOAD_k - 2 -\n",
