@@ -1,3 +1,4 @@
 mod Asking
+mod Outgoing
 mod Writing
 mod Next

@@ -5,6 +5,7 @@ ghost use Rattle.cache_devices.specs.Failures.{HasFailed};
 ghost use Rattle.cache_devices.specs.Watched.{device, failures};
 ghost use Rattle.cache_run.specs.Turns.{HasToldLate};
 ghost use Rattle.cache_serve.specs.Asked.{AsksOrNot, Drops, Feeds, FeedsMost, HasAsked, HasAskedMost, Settles, Settling, answer_of, give_up_of};
+ghost use Rattle.cache_serve.specs.Out.{AreOut, HadGoneOut};
 ghost use Rattle.cache_serve.specs.Written.{Answers, Breaks};
 ghost use Rattle.cache_shared.specs.Seats.{SameReceipts};
 ghost use Rattle.cache_shared.specs.Untaken.{WereUntaken};
@@ -114,7 +115,7 @@ fn settle<L: Seating, C: Takings>(
     ensures count { seat.old.count ≤ seat.new.count }
     ensures moment { IsErrOf result RunError.Moment → 2 ^ 63 ≤ moment }
     ensures causes { IfErr result (λ e. (e ≢ RunError.Read) × (e ≢ RunError.Write)) }
-    ensures asked { C.KEEPS ≡ true → (key : List ℕ) → Settles load.namespace seat.old.receipts.items seat.new.receipts.items moment (record { key = key; answer = said }) }
+    ensures asked { C.KEEPS ≡ true → (key : List ℕ) → Settles load.namespace seat.old.receipts.items seat.new.receipts.items moment load.number (record { key = key; answer = said }) }
     ensures kept { OnErr result (seat.new.count ≡ seat.old.count) }
     ensures same { C.KEEPS ≡ true → OnErr result (SameReceipts seat.old.receipts.items seat.new.receipts.items) }
 {
@@ -138,12 +139,13 @@ fn ask<L: Seating, C: Takings, K: Clock, D: Loader>(
     clock: &mut K,
     loader: &mut D,
 ) -> Result<(), RunError>
+    requires out { HadGoneOut C.service C.events load.namespace load.number key.now }
     ensures one { seat.new.count ≤ seat.old.count + 1 }
     ensures count { seat.old.count ≤ seat.new.count }
     ensures moment { IsErrOf result RunError.Moment → HasToldLate K.reads clock.new }
     ensures causes { IfErr result (λ e. (e ≢ RunError.Read) × (e ≢ RunError.Write)) }
     ensures loader { HasAsked D.loads loader.old loader.new }
-    ensures asked { C.KEEPS ≡ true → (conn : Conn) → conn.namespace ≡ load.namespace → (read : Option (List ℕ)) → Feeds K.reads D.loads seat.old.receipts.items seat.new.receipts.items read read clock.old clock.new loader.old loader.new conn [] [] }
+    ensures asked { C.KEEPS ≡ true → (conn : Conn) → conn.namespace ≡ load.namespace → (read : Option (List ℕ)) → Feeds (HadGoneOut C.service C.events) K.reads D.loads seat.old.receipts.items seat.new.receipts.items read read clock.old clock.new loader.old loader.new conn [] [] }
 {
     let said = loader.load(key);
     let moment = clock.now();
@@ -161,12 +163,14 @@ fn settle_last<L: Seating, C: Takings, K: Clock, D: Loader, T: Teller, R: Wait>(
     loader: &mut D,
     teller: &mut T,
 ) -> Result<(), RunError>
+    requires out { AreOut C.service C.events conn.namespace taken.old.items }
+    ensures out { AreOut C.service C.events conn.namespace taken.new.items }
     ensures one { seat.new.count ≤ seat.old.count + 1 }
     ensures count { seat.old.count ≤ seat.new.count }
     ensures moment { IsErrOf result RunError.Moment → HasToldLate K.reads clock.new }
     ensures causes { IfErr result (λ e. (e ≢ RunError.Read) × (e ≢ RunError.Write)) }
     ensures loader { HasAsked D.loads loader.old loader.new }
-    ensures asked { C.KEEPS ≡ true → (read : Option (List ℕ)) → Feeds K.reads D.loads seat.old.receipts.items seat.new.receipts.items read read clock.old clock.new loader.old loader.new conn [] [] }
+    ensures asked { C.KEEPS ≡ true → (read : Option (List ℕ)) → Feeds (HadGoneOut C.service C.events) K.reads D.loads seat.old.receipts.items seat.new.receipts.items read read clock.old clock.new loader.old loader.new conn [] [] }
 {
     let Some((load, key)) = taken.last() else {
         return Ok(());
@@ -190,7 +194,10 @@ fn take_more<L: Seating, C: Takings>(
     shared: &SharedService<L, C>,
     namespace: u64,
     taken: &mut Vec<(LoadId, Bytes)>,
-) {
+)
+    requires out { AreOut C.service C.events namespace taken.old.items }
+    ensures out { AreOut C.service C.events namespace taken.new.items }
+{
     if !taken.is_empty() {
         return;
     }
@@ -238,6 +245,8 @@ fn go_on<L: Seating, C: Takings, K: Clock, D: Loader, T: Teller, R: Wait>(
     loader: &mut D,
     teller: &mut T,
 ) -> Result<Next, RunError>
+    requires out { AreOut C.service C.events conn.namespace taken.old.items }
+    ensures out { AreOut C.service C.events conn.namespace taken.new.items }
     ensures one { seat.new.count ≤ seat.old.count + 1 }
     ensures count { seat.old.count ≤ seat.new.count }
     ensures nothing { result ≡ Ok Next.Nothing → seat.new.count ≡ seat.old.count }
@@ -245,8 +254,8 @@ fn go_on<L: Seating, C: Takings, K: Clock, D: Loader, T: Teller, R: Wait>(
     ensures moment { IsErrOf result RunError.Moment → HasToldLate K.reads clock.new }
     ensures causes { IfErr result (λ e. (e ≢ RunError.Read) × (e ≢ RunError.Write)) }
     ensures loader { HasAsked D.loads loader.old loader.new }
-    ensures asked { C.KEEPS ≡ true → result ≢ Ok Next.Over → OnOk result ((read : Option (List ℕ)) → Feeds K.reads D.loads seat.old.receipts.items seat.new.receipts.items read read clock.old clock.new loader.old loader.new conn [] []) }
-    ensures left { C.KEEPS ≡ true → (read : Option (List ℕ)) → FeedsMost K.reads D.loads seat.old.receipts.items seat.new.receipts.items read read clock.old clock.new loader.old loader.new conn }
+    ensures asked { C.KEEPS ≡ true → result ≢ Ok Next.Over → OnOk result ((read : Option (List ℕ)) → Feeds (HadGoneOut C.service C.events) K.reads D.loads seat.old.receipts.items seat.new.receipts.items read read clock.old clock.new loader.old loader.new conn [] []) }
+    ensures left { C.KEEPS ≡ true → (read : Option (List ℕ)) → FeedsMost (HadGoneOut C.service C.events) K.reads D.loads seat.old.receipts.items seat.new.receipts.items read read clock.old clock.new loader.old loader.new conn }
 {
     if !taken.is_empty() {
         return match settle_last(rt, shared, seat, conn, taken, clock, loader, teller) {
@@ -282,6 +291,8 @@ fn settle_next<L: Seating, C: Takings, O: Write, K: Clock, D: Loader, T: Teller,
     loader: &mut D,
     teller: &mut T,
 ) -> Result<Next, RunError>
+    requires out { AreOut C.service C.events conn.namespace taken.old.items }
+    ensures out { AreOut C.service C.events conn.namespace taken.new.items }
     ensures ok { OnOk result (Answers (λ text. ∥ WereUntaken C.service C.events C.untaken conn text ∥₁) seat.old.count seat.new.count (O.contents (device writer.old)) (O.contents (device writer.new))) }
     ensures nothing { result ≡ Ok Next.Nothing → Answers (λ text. ∥ WereUntaken C.service C.events C.untaken conn text ∥₁) seat.old.count (seat.new.count + 1) (O.contents (device writer.old)) (O.contents (device writer.new)) }
     ensures over { result ≡ Ok Next.Over → Answers (λ text. ∥ WereUntaken C.service C.events C.untaken conn text ∥₁) seat.old.count (seat.new.count + 1) (O.contents (device writer.old)) (O.contents (device writer.new)) }
@@ -292,8 +303,8 @@ fn settle_next<L: Seating, C: Takings, O: Write, K: Clock, D: Loader, T: Teller,
     ensures moment { IsErrOf result RunError.Moment → HasToldLate K.reads clock.new }
     ensures causes { IfErr result (λ e. e ≢ RunError.Read) }
     ensures loader { HasAsked D.loads loader.old loader.new }
-    ensures asked { C.KEEPS ≡ true → result ≢ Ok Next.Over → OnOk result ((read : Option (List ℕ)) → Feeds K.reads D.loads seat.old.receipts.items seat.new.receipts.items read read clock.old clock.new loader.old loader.new conn [] []) }
-    ensures left { C.KEEPS ≡ true → (read : Option (List ℕ)) → FeedsMost K.reads D.loads seat.old.receipts.items seat.new.receipts.items read read clock.old clock.new loader.old loader.new conn }
+    ensures asked { C.KEEPS ≡ true → result ≢ Ok Next.Over → OnOk result ((read : Option (List ℕ)) → Feeds (HadGoneOut C.service C.events) K.reads D.loads seat.old.receipts.items seat.new.receipts.items read read clock.old clock.new loader.old loader.new conn [] []) }
+    ensures left { C.KEEPS ≡ true → (read : Option (List ℕ)) → FeedsMost (HadGoneOut C.service C.events) K.reads D.loads seat.old.receipts.items seat.new.receipts.items read read clock.old clock.new loader.old loader.new conn }
 {
     take_more(rt, shared, conn.namespace, taken);
     // Where nothing waits now, the replies that are taken next are all.
@@ -324,6 +335,8 @@ pub fn settle_loads<L: Seating, C: Takings, O: Write, K: Clock, D: Loader, T: Te
     loader: &mut D,
     teller: &mut T,
 ) -> Result<Progress, RunError>
+    requires out { AreOut C.service C.events conn.namespace taken.old.items }
+    ensures out { AreOut C.service C.events conn.namespace taken.new.items }
     ensures ok { OnOk result (Answers (λ text. ∥ WereUntaken C.service C.events C.untaken conn text ∥₁) seat.old.count (seat.new.count + 1) (O.contents (device writer.old)) (O.contents (device writer.new))) }
     ensures err { OnErr result (Breaks (λ text. ∥ WereUntaken C.service C.events C.untaken conn text ∥₁) seat.old.count (seat.new.count + 1) (O.contents (device writer.old)) (O.contents (device writer.new))) }
     ensures count { seat.old.count ≤ seat.new.count }
@@ -332,8 +345,8 @@ pub fn settle_loads<L: Seating, C: Takings, O: Write, K: Clock, D: Loader, T: Te
     ensures moment { IsErrOf result RunError.Moment → HasToldLate K.reads clock.new }
     ensures causes { IfErr result (λ e. e ≢ RunError.Read) }
     ensures loader { HasAsked D.loads loader.old loader.new }
-    ensures asked { C.KEEPS ≡ true → result ≡ Ok Progress.More → (read : Option (List ℕ)) → Feeds K.reads D.loads seat.old.receipts.items seat.new.receipts.items read read clock.old clock.new loader.old loader.new conn [] [] }
-    ensures left { C.KEEPS ≡ true → (read : Option (List ℕ)) → FeedsMost K.reads D.loads seat.old.receipts.items seat.new.receipts.items read read clock.old clock.new loader.old loader.new conn }
+    ensures asked { C.KEEPS ≡ true → result ≡ Ok Progress.More → (read : Option (List ℕ)) → Feeds (HadGoneOut C.service C.events) K.reads D.loads seat.old.receipts.items seat.new.receipts.items read read clock.old clock.new loader.old loader.new conn [] [] }
+    ensures left { C.KEEPS ≡ true → (read : Option (List ℕ)) → FeedsMost (HadGoneOut C.service C.events) K.reads D.loads seat.old.receipts.items seat.new.receipts.items read read clock.old clock.new loader.old loader.new conn }
 {
     let mut may_hold = false;
     for _turn in 0..u64::MAX {
@@ -359,9 +372,10 @@ fn settle_after<L: Seating, C: Takings, D: Loader>(
     key: &[u8],
     loader: &mut D,
 )
+    requires out { HadGoneOut C.service C.events load.namespace load.number key.now }
     ensures count { seat.old.count ≤ seat.new.count }
     ensures loader { HasAskedMost D.loads loader.old loader.new seat.old.count seat.new.count }
-    ensures asked { C.KEEPS ≡ true → (drops : List Settling) × Drops load.namespace seat.old.receipts.items seat.new.receipts.items D.loads loader.old loader.new drops }
+    ensures asked { C.KEEPS ≡ true → (drops : List Settling) × Drops load.namespace seat.old.receipts.items seat.new.receipts.items (HadGoneOut C.service C.events) D.loads loader.old loader.new drops }
 {
     let said = loader.load(key);
     match settle(rt, shared, seat, load, said, 0) {
@@ -382,9 +396,10 @@ pub fn settle_rest<L: Seating, C: Takings, D: Loader, T: Teller, R: Wait>(
     loader: &mut D,
     teller: &mut T,
 )
+    requires out { AreOut C.service C.events namespace taken.old.items }
     ensures count { seat.old.count ≤ seat.new.count }
     ensures loader { HasAskedMost D.loads loader.old loader.new seat.old.count seat.new.count }
-    ensures asked { C.KEEPS ≡ true → (drops : List Settling) × Drops namespace seat.old.receipts.items seat.new.receipts.items D.loads loader.old loader.new drops }
+    ensures asked { C.KEEPS ≡ true → (drops : List Settling) × Drops namespace seat.old.receipts.items seat.new.receipts.items (HadGoneOut C.service C.events) D.loads loader.old loader.new drops }
 {
     for _turn in 0..u64::MAX {
         take_more(rt, shared, namespace, taken);

@@ -5,6 +5,7 @@ ghost use Rattle.cache_devices.specs.Sent.{SentBut};
 ghost use Rattle.cache_devices.specs.Watched.{device, failures};
 ghost use Rattle.cache_run.specs.Turns.{HasToldLate};
 ghost use Rattle.cache_serve.specs.Asked.{Asks, AsksOrNot, Feeds, FeedsMost, HasAsked, feed_of};
+ghost use Rattle.cache_serve.specs.Out.{AreOut, HadGoneOut};
 ghost use Rattle.cache_serve.specs.Written.{Answers, Breaks, Writes};
 ghost use Rattle.cache_shared.specs.Untaken.{WereUntaken};
 
@@ -191,6 +192,8 @@ pub fn take_turn<
     loader: &mut D,
     teller: &mut T,
 ) -> Result<Progress, RunError>
+    requires out { AreOut C.service C.events conn.namespace taken.old.items }
+    ensures out { AreOut C.service C.events conn.namespace taken.new.items }
     ensures ok { OnOk result (Answers (λ text. ∥ WereUntaken C.service C.events C.untaken conn text ∥₁) seat.old.count seat.new.count (O.contents (device writer.old)) (O.contents (device writer.new))) }
     ensures err { OnErr result (Breaks (λ text. ∥ WereUntaken C.service C.events C.untaken conn text ∥₁) seat.old.count seat.new.count (O.contents (device writer.old)) (O.contents (device writer.new))) }
     ensures count { seat.old.count ≤ seat.new.count }
@@ -200,8 +203,8 @@ pub fn take_turn<
     ensures reads { failures reader.old ≤ failures reader.new }
     ensures writes { failures writer.old ≤ failures writer.new }
     ensures loader { HasAsked D.loads loader.old loader.new }
-    ensures asked { C.KEEPS ≡ true → result ≡ Ok Progress.More → Feeds K.reads D.loads seat.old.receipts.items seat.new.receipts.items (I.remaining (device reader.old)) (I.remaining (device reader.new)) clock.old clock.new loader.old loader.new conn [] [] }
-    ensures left { C.KEEPS ≡ true → FeedsMost K.reads D.loads seat.old.receipts.items seat.new.receipts.items (I.remaining (device reader.old)) (I.remaining (device reader.new)) clock.old clock.new loader.old loader.new conn }
+    ensures asked { C.KEEPS ≡ true → result ≡ Ok Progress.More → Feeds (HadGoneOut C.service C.events) K.reads D.loads seat.old.receipts.items seat.new.receipts.items (I.remaining (device reader.old)) (I.remaining (device reader.new)) clock.old clock.new loader.old loader.new conn [] [] }
+    ensures left { C.KEEPS ≡ true → FeedsMost (HadGoneOut C.service C.events) K.reads D.loads seat.old.receipts.items seat.new.receipts.items (I.remaining (device reader.old)) (I.remaining (device reader.new)) clock.old clock.new loader.old loader.new conn }
 {
     let count = match reader.read(buffer) {
         Ok(count) => count,

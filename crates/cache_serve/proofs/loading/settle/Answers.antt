@@ -3,10 +3,10 @@ use Rattle.cache_serve.proofs.Asking.{behind-none, settles-answer, settles-give-
 use Rattle.cache_serve.proofs.loading.settle.Goals as goal
 
 pub returns-in-Ok-true-clause-asked : goal.returns-in-Ok-true-clause-asked
-returns-in-Ok-true-clause-asked g c = λ keeps key. settles-said _ _ _ _ key _ _ c.in-Some.is (settles-answer _ _ _ _ _ key _ (c.answer.ensures.asked keeps))
+returns-in-Ok-true-clause-asked g c = λ keeps key. settles-said _ _ _ _ _ key _ _ c.in-Some.is (settles-answer _ _ _ _ _ key _ (c.answer.ensures.asked keeps))
 
 pub returns-in-Err-clause-asked : goal.returns-in-Err-clause-asked
-returns-in-Err-clause-asked g c = λ keeps key. settles-said _ _ _ _ key _ _ c.in-Some.is (settles-answer _ _ _ _ _ key _ (c.answer.ensures.asked keeps))
+returns-in-Err-clause-asked g c = λ keeps key. settles-said _ _ _ _ _ key _ _ c.in-Some.is (settles-answer _ _ _ _ _ key _ (c.answer.ensures.asked keeps))
 
 pub returns-in-Ok-false-clause-asked : goal.returns-in-Ok-false-clause-asked
 returns-in-Ok-false-clause-asked g c = λ keeps key.

@@ -1,4 +1,5 @@
-use Rattle.std.proofs.Common.{[], refl, arith, inl, inr, length}
+use Rattle.std.proofs.Common.{[], refl, arith, inl, inr}
+use Rattle.cache_serve.specs.Out.{HadGoneOut}
 use Rattle.cache_serve.proofs.Asking.{attends, drops-none, idles, most-asked-all}
 use Rattle.cache_serve.proofs.Writing.{serves-cut, serves-none, serves-so}
 use Rattle.cache_serve.proofs.serving.serve_and_tell.Goals as goal
@@ -8,7 +9,7 @@ returns-in-Err-clause-broke g c = (
   [],
   [],
   refl,
-  serves-none g.C.Core.service g.C.Core.events g.C.Takings.untaken c.args.namespace _ _ _ _ 0 (omega arith) (λ keeps. inr (idles g.K.Clock.reads g.D.Loader.loads _ _ _ _ _ (λ n. refl))),
+  serves-none g.C.Core.service g.C.Core.events g.C.Takings.untaken c.args.namespace _ _ _ _ 0 (omega arith) (λ keeps. inr (idles (HadGoneOut g.C.Core.service g.C.Core.events) g.K.Clock.reads g.D.Loader.loads _ _ _ _ _ (λ n. refl))),
 )
 
 pub returns-in-Err-open_connection-clause-broke : goal.returns-in-Err-open_connection-clause-broke
@@ -17,14 +18,14 @@ returns-in-Err-open_connection-clause-broke g c = (
   [],
   refl,
   serves-none g.C.Core.service g.C.Core.events g.C.Takings.untaken c.args.namespace _ _ _ _ 0 c.in-Err-open_connection.ensures.closed
-      (λ keeps. inr (idles g.K.Clock.reads g.D.Loader.loads _ _ _ _ _ (c.in-Err-open_connection.ensures.same keeps))),
+      (λ keeps. inr (idles (HadGoneOut g.C.Core.service g.C.Core.events) g.K.Clock.reads g.D.Loader.loads _ _ _ _ _ (c.in-Err-open_connection.ensures.same keeps))),
 )
 
 pub returns-in-Ok-outcome-clause-wrote : goal.returns-in-Ok-outcome-clause-wrote
 returns-in-Ok-outcome-clause-wrote g c =
     serves-so g.C.Core.service g.C.Core.events g.C.Takings.untaken c.args.namespace _ _ _ _ _ _ _ _ c.in-Ok-open_connection.ensures.here
-    (λ keeps. attends g.K.Clock.reads g.D.Loader.loads _ _ _ _ _ _ _ _ _ _ _ _ _ _ [] c.in-Ok-open_connection.ensures.here (c.in-Ok-open_connection.ensures.asked keeps) (c.converse-outcome.ensures.asked keeps) (c.close_if_open.ensures.asked keeps)
-    (drops-none g.D.Loader.loads _ _ _ _ (λ n. refl)))
+    (λ keeps. attends (HadGoneOut g.C.Core.service g.C.Core.events) g.K.Clock.reads g.D.Loader.loads _ _ _ _ _ _ _ _ _ _ _ _ _ _ [] c.in-Ok-open_connection.ensures.here (c.in-Ok-open_connection.ensures.asked keeps) (c.converse-outcome.ensures.asked keeps) (c.close_if_open.ensures.asked keeps)
+    (drops-none (HadGoneOut g.C.Core.service g.C.Core.events) g.D.Loader.loads _ _ _ _ (λ n. refl)))
     c.in-Ok-open_connection.ensures.opened c.close_if_open.ensures.one c.in-Ok-outcome.ensures.ok
 
 pub returns-clause-broke : goal.returns-clause-broke
@@ -37,7 +38,7 @@ returns-clause-broke g c =
       serves-cut g.C.Core.service g.C.Core.events g.C.Takings.untaken c.args.namespace _ _ _ _ _ _ _ _ _ _ c.in-Ok-open_connection.ensures.here
           (λ keeps. inl (
             (c.settle_rest.ensures.asked keeps).0,
-            attends g.K.Clock.reads g.D.Loader.loads _ _ _ _ _ _ _ _ _ _ _ _ _ _ _ c.in-Ok-open_connection.ensures.here (c.in-Ok-open_connection.ensures.asked keeps) (c.converse-outcome.ensures.asked keeps) (c.close_if_open.ensures.asked keeps)
+            attends (HadGoneOut g.C.Core.service g.C.Core.events) g.K.Clock.reads g.D.Loader.loads _ _ _ _ _ _ _ _ _ _ _ _ _ _ _ c.in-Ok-open_connection.ensures.here (c.in-Ok-open_connection.ensures.asked keeps) (c.converse-outcome.ensures.asked keeps) (c.close_if_open.ensures.asked keeps)
                 (c.settle_rest.ensures.asked keeps).1,
           ))
           c.in-Ok-open_connection.ensures.opened c.close_if_open.ensures.one all.few breaks,
