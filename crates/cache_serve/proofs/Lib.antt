@@ -1,4 +1,5 @@
 mod Asking
+mod Full
 mod Outgoing
 mod Writing
 mod Next

@@ -1,3 +1,4 @@
 pub mod Out
 pub mod Asked
+pub mod Full
 pub mod Written

@@ -1,10 +1,11 @@
 //! The loads of a connection's namespace, asked of its loader.
-ghost use Rattle.std.specs.Prelude.{◌≡◌, ◌≢◌, ◌≤◌, ◌+◌, ◌^◌, ℕ, List, Option, [], true, false, Ok, IfErr, OnOk, OnErr, IsErrOf};
+ghost use Rattle.std.specs.Prelude.{◌≡◌, ◌≢◌, ◌⊎◌, ◌≤◌, ◌+◌, ◌^◌, ℕ, List, Option, [], true, false, Ok, IfErr, OnOk, OnErr, IsErrOf};
 ghost use Rattle.audit_model.specs.declared.input.Input.TheVariants as asked;
 ghost use Rattle.cache_devices.specs.Failures.{HasFailed};
 ghost use Rattle.cache_devices.specs.Watched.{device, failures};
 ghost use Rattle.cache_run.specs.Turns.{HasToldLate};
 ghost use Rattle.cache_serve.specs.Asked.{AsksOrNot, Drops, Feeds, FeedsMost, HasAsked, HasAskedMost, Settles, Settling, answer_of, give_up_of};
+ghost use Rattle.cache_serve.specs.Full.{HasUsedUp};
 ghost use Rattle.cache_serve.specs.Out.{AreOut, HadGoneOut};
 ghost use Rattle.cache_serve.specs.Written.{Answers, Breaks};
 ghost use Rattle.cache_shared.specs.Seats.{SameReceipts};
@@ -33,12 +34,13 @@ fn give_up<L: Seating, C: Takings>(
     ensures one { seat.new.count ≤ seat.old.count + 1 }
     ensures count { seat.old.count ≤ seat.new.count }
     ensures moment { IsErrOf result RunError.Moment → 2 ^ 63 ≤ moment }
+    ensures used_up { IsErrOf result RunError.UsedUp → HasUsedUp C.events seat.old.count seat.new.count }
     ensures causes { IfErr result (λ e. (e ≢ RunError.Read) × (e ≢ RunError.Write)) }
     ensures asked { C.KEEPS ≡ true → AsksOrNot load.namespace seat.old.receipts.items seat.new.receipts.items (give_up_of load.namespace moment load.number) }
     ensures kept { OnErr result (seat.new.count ≡ seat.old.count) }
     ensures same { C.KEEPS ≡ true → OnErr result (SameReceipts seat.old.receipts.items seat.new.receipts.items) }
 {
-    for _try in 0..u64::MAX {
+    for _try in rt.forever() {
         match shared.step(
             rt,
             seat,
@@ -56,7 +58,7 @@ fn give_up<L: Seating, C: Takings>(
             },
         }
     }
-    Err(RunError::UsedUp)
+    unreachable!()
 }
 
 /// Answers a load, in one hold of the lock. Answers whether it is settled: it is not where the outcome is refused for its bytes or its
@@ -73,6 +75,7 @@ fn answer<L: Seating, C: Takings>(
     ensures count { seat.old.count ≤ seat.new.count }
     ensures left { result ≡ Ok false → seat.new.count ≡ seat.old.count }
     ensures moment { IsErrOf result RunError.Moment → 2 ^ 63 ≤ moment }
+    ensures used_up { IsErrOf result RunError.UsedUp → HasUsedUp C.events seat.old.count seat.new.count }
     ensures causes { IfErr result (λ e. (e ≢ RunError.Read) × (e ≢ RunError.Write)) }
     ensures asked { C.KEEPS ≡ true → AsksOrNot load.namespace seat.old.receipts.items seat.new.receipts.items (answer_of load.namespace moment load.number outcome) }
     ensures refused { result ≡ Ok false → SameReceipts seat.old.receipts.items seat.new.receipts.items }
@@ -114,6 +117,7 @@ fn settle<L: Seating, C: Takings>(
     ensures one { seat.new.count ≤ seat.old.count + 1 }
     ensures count { seat.old.count ≤ seat.new.count }
     ensures moment { IsErrOf result RunError.Moment → 2 ^ 63 ≤ moment }
+    ensures used_up { IsErrOf result RunError.UsedUp → HasUsedUp C.events seat.old.count seat.new.count }
     ensures causes { IfErr result (λ e. (e ≢ RunError.Read) × (e ≢ RunError.Write)) }
     ensures asked { C.KEEPS ≡ true → (key : List ℕ) → Settles load.namespace seat.old.receipts.items seat.new.receipts.items moment load.number (record { key = key; answer = said }) }
     ensures kept { OnErr result (seat.new.count ≡ seat.old.count) }
@@ -143,6 +147,7 @@ fn ask<L: Seating, C: Takings, K: Clock, D: Loader>(
     ensures one { seat.new.count ≤ seat.old.count + 1 }
     ensures count { seat.old.count ≤ seat.new.count }
     ensures moment { IsErrOf result RunError.Moment → HasToldLate K.reads clock.new }
+    ensures used_up { IsErrOf result RunError.UsedUp → HasUsedUp C.events seat.old.count seat.new.count }
     ensures causes { IfErr result (λ e. (e ≢ RunError.Read) × (e ≢ RunError.Write)) }
     ensures loader { HasAsked D.loads loader.old loader.new }
     ensures asked { C.KEEPS ≡ true → (conn : Conn) → conn.namespace ≡ load.namespace → (read : Option (List ℕ)) → Feeds (HadGoneOut C.service C.events) K.reads D.loads seat.old.receipts.items seat.new.receipts.items read read clock.old clock.new loader.old loader.new conn [] [] }
@@ -168,6 +173,7 @@ fn settle_last<L: Seating, C: Takings, K: Clock, D: Loader, T: Teller, R: Wait>(
     ensures one { seat.new.count ≤ seat.old.count + 1 }
     ensures count { seat.old.count ≤ seat.new.count }
     ensures moment { IsErrOf result RunError.Moment → HasToldLate K.reads clock.new }
+    ensures used_up { IsErrOf result RunError.UsedUp → HasUsedUp C.events seat.old.count seat.new.count }
     ensures causes { IfErr result (λ e. (e ≢ RunError.Read) × (e ≢ RunError.Write)) }
     ensures loader { HasAsked D.loads loader.old loader.new }
     ensures asked { C.KEEPS ≡ true → (read : Option (List ℕ)) → Feeds (HadGoneOut C.service C.events) K.reads D.loads seat.old.receipts.items seat.new.receipts.items read read clock.old clock.new loader.old loader.new conn [] [] }
@@ -252,6 +258,7 @@ fn go_on<L: Seating, C: Takings, K: Clock, D: Loader, T: Teller, R: Wait>(
     ensures nothing { result ≡ Ok Next.Nothing → seat.new.count ≡ seat.old.count }
     ensures over { result ≡ Ok Next.Over → seat.new.count ≡ seat.old.count }
     ensures moment { IsErrOf result RunError.Moment → HasToldLate K.reads clock.new }
+    ensures used_up { IsErrOf result RunError.UsedUp → HasUsedUp C.events seat.old.count seat.new.count }
     ensures causes { IfErr result (λ e. (e ≢ RunError.Read) × (e ≢ RunError.Write)) }
     ensures loader { HasAsked D.loads loader.old loader.new }
     ensures asked { C.KEEPS ≡ true → result ≢ Ok Next.Over → OnOk result ((read : Option (List ℕ)) → Feeds (HadGoneOut C.service C.events) K.reads D.loads seat.old.receipts.items seat.new.receipts.items read read clock.old clock.new loader.old loader.new conn [] []) }
@@ -300,6 +307,7 @@ fn settle_next<L: Seating, C: Takings, O: Write, K: Clock, D: Loader, T: Teller,
     ensures count { seat.old.count ≤ seat.new.count }
     ensures write { IsErrOf result RunError.Write → HasFailed (failures writer.old) (failures writer.new) }
     ensures writes { failures writer.old ≤ failures writer.new }
+    ensures used_up { IsErrOf result RunError.UsedUp → HasFailed (failures writer.old) (failures writer.new) ⊎ HasUsedUp C.events seat.old.count seat.new.count }
     ensures moment { IsErrOf result RunError.Moment → HasToldLate K.reads clock.new }
     ensures causes { IfErr result (λ e. e ≢ RunError.Read) }
     ensures loader { HasAsked D.loads loader.old loader.new }
@@ -342,6 +350,7 @@ pub fn settle_loads<L: Seating, C: Takings, O: Write, K: Clock, D: Loader, T: Te
     ensures count { seat.old.count ≤ seat.new.count }
     ensures write { IsErrOf result RunError.Write → HasFailed (failures writer.old) (failures writer.new) }
     ensures writes { failures writer.old ≤ failures writer.new }
+    ensures used_up { IsErrOf result RunError.UsedUp → HasFailed (failures writer.old) (failures writer.new) ⊎ HasUsedUp C.events seat.old.count seat.new.count }
     ensures moment { IsErrOf result RunError.Moment → HasToldLate K.reads clock.new }
     ensures causes { IfErr result (λ e. e ≢ RunError.Read) }
     ensures loader { HasAsked D.loads loader.old loader.new }
@@ -349,7 +358,7 @@ pub fn settle_loads<L: Seating, C: Takings, O: Write, K: Clock, D: Loader, T: Te
     ensures left { C.KEEPS ≡ true → (read : Option (List ℕ)) → FeedsMost (HadGoneOut C.service C.events) K.reads D.loads seat.old.receipts.items seat.new.receipts.items read read clock.old clock.new loader.old loader.new conn }
 {
     let mut may_hold = false;
-    for _turn in 0..u64::MAX {
+    for _turn in rt.forever() {
         match settle_next(
             rt, alloc, shared, seat, conn, taken, may_hold, writer, clock, loader, teller,
         ) {
@@ -359,7 +368,7 @@ pub fn settle_loads<L: Seating, C: Takings, O: Write, K: Clock, D: Loader, T: Te
             Err(error) => return Err(error),
         }
     }
-    Err(RunError::UsedUp)
+    unreachable!()
 }
 
 /// Asks the loader for a load of a connection that has closed, and settles it at moment 0, which counts as the latest. An answer that is

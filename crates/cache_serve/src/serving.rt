@@ -1,5 +1,5 @@
 //! One connection of a shared service, from its opening to its closing.
-ghost use Rattle.std.specs.Prelude.{◌≡◌, ◌≢◌, ◌≤◌, ◌+◌, List, ℕ, [], true, length, IfOk, IfErr, OnOk, OnErr, IsErrOf};
+ghost use Rattle.std.specs.Prelude.{◌≡◌, ◌≢◌, ◌⊎◌, ◌≤◌, ◌+◌, List, ℕ, [], true, length, IfOk, IfErr, OnOk, OnErr, IsErrOf};
 ghost use Rattle.audit_model.specs.declared.input.Input.TheVariants as asked;
 ghost use Rattle.cache_devices.specs.Failures.{HasFailed};
 ghost use Rattle.cache_devices.specs.Watched.{device, failures};
@@ -7,6 +7,7 @@ ghost use Rattle.cache_run.specs.Carried.{Askings};
 ghost use Rattle.cache_run.specs.Happened.{Asking};
 ghost use Rattle.cache_run.specs.Turns.{HasToldLate};
 ghost use Rattle.cache_serve.specs.Asked.{AsksOrNot, Attends, AttendsOrNot, FeedsMost, HasAsked, Opens};
+ghost use Rattle.cache_serve.specs.Full.{HasUsedUp};
 ghost use Rattle.cache_serve.specs.Out.{AreOut, HadGoneOut};
 ghost use Rattle.cache_serve.specs.Written.{Answers, Breaks, Serves};
 ghost use Rattle.cache_shared.specs.Seats.{SameReceipts};
@@ -37,6 +38,7 @@ fn open_connection<L: Seating, C: Takings>(
     ensures opened { OnOk result (seat.new.count ≡ seat.old.count + 1) }
     ensures closed { OnErr result (seat.new.count ≤ seat.old.count + 1) }
     ensures count { seat.old.count ≤ seat.new.count }
+    ensures used_up { IsErrOf result RunError.UsedUp → HasUsedUp C.events seat.old.count seat.new.count }
     ensures causes { IfErr result (λ e. (e ≢ RunError.Read) × (e ≢ RunError.Write) × (e ≢ RunError.Moment)) }
     ensures here { IfOk result (λ conn. conn.namespace ≡ namespace) }
     ensures asked { C.KEEPS ≡ true → IfOk result (λ conn. Opens namespace seat.old.receipts.items seat.new.receipts.items conn) }
@@ -101,11 +103,12 @@ fn converse<L: Seating, C: Takings, I: Read, O: Write, K: Clock, D: Loader, T: T
     ensures count { seat.old.count ≤ seat.new.count }
     ensures read { IsErrOf result RunError.Read → HasFailed (failures reader.old) (failures reader.new) }
     ensures write { IsErrOf result RunError.Write → HasFailed (failures writer.old) (failures writer.new) }
+    ensures used_up { IsErrOf result RunError.UsedUp → HasFailed (failures writer.old) (failures writer.new) ⊎ HasUsedUp C.events seat.old.count seat.new.count }
     ensures moment { IsErrOf result RunError.Moment → HasToldLate K.reads clock.new }
     ensures loader { HasAsked D.loads loader.old loader.new }
     ensures asked { C.KEEPS ≡ true → FeedsMost (HadGoneOut C.service C.events) K.reads D.loads seat.old.receipts.items seat.new.receipts.items (I.remaining (device reader.old)) (I.remaining (device reader.new)) clock.old clock.new loader.old loader.new conn }
 {
-    for _turn in 0..u64::MAX {
+    for _turn in rt.forever() {
         match take_turn(
             rt, alloc, shared, seat, conn, buffer, taken, reader, writer, clock, loader, teller,
         ) {
@@ -114,7 +117,7 @@ fn converse<L: Seating, C: Takings, I: Read, O: Write, K: Clock, D: Loader, T: T
             Err(error) => return Err(error),
         }
     }
-    Err(RunError::UsedUp)
+    unreachable!()
 }
 
 /// Serves one connection of a namespace that there is, from its opening to the end of its input, where it is closed, or until it has
@@ -147,6 +150,7 @@ pub fn serve<L: Seating, C: Takings, I: Read, O: Write, K: Clock, D: Loader, R: 
     ensures count { seat.old.count ≤ seat.new.count }
     ensures read { IsErrOf result RunError.Read → HasFailed (failures reader.old) (failures reader.new) }
     ensures write { IsErrOf result RunError.Write → HasFailed (failures writer.old) (failures writer.new) }
+    ensures used_up { IsErrOf result RunError.UsedUp → HasFailed (failures writer.old) (failures writer.new) ⊎ HasUsedUp C.events seat.old.count seat.new.count }
     ensures moment { IsErrOf result RunError.Moment → HasToldLate K.reads clock.new }
     ensures loader { HasAsked D.loads loader.old loader.new }
 {
@@ -194,6 +198,7 @@ pub fn serve_and_tell<
     ensures count { seat.old.count ≤ seat.new.count }
     ensures read { IsErrOf result RunError.Read → HasFailed (failures reader.old) (failures reader.new) }
     ensures write { IsErrOf result RunError.Write → HasFailed (failures writer.old) (failures writer.new) }
+    ensures used_up { IsErrOf result RunError.UsedUp → HasFailed (failures writer.old) (failures writer.new) ⊎ HasUsedUp C.events seat.old.count seat.new.count }
     ensures moment { IsErrOf result RunError.Moment → HasToldLate K.reads clock.new }
     ensures loader { HasAsked D.loads loader.old loader.new }
 {

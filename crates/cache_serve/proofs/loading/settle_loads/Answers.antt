@@ -3,7 +3,10 @@ use Rattle.cache_run.proofs.Carrying.{same_consumes}
 use Rattle.cache_serve.specs.Out.{HadGoneOut}
 use Rattle.cache_serve.proofs.Asking.{asked-more, asked-none, feeds-more, feeds-none, most-more}
 use Rattle.cache_serve.proofs.Next.{more-not-over, nothing-not-over}
-use Rattle.cache_serve.proofs.Writing.{answers-more, answers-none, breaks-more, breaks-one-more}
+use Rattle.cache_serve.proofs.Writing.{answers-more, answers-none, breaks-more}
+use Rattle.cache_run.proofs.Turning.{still-err}
+use Rattle.cache_run.specs.declared.errors.RunError.TheVariants.{UsedUp}
+use Rattle.cache_serve.proofs.Full.{stops-later}
 use Rattle.cache_serve.proofs.loading.settle_loads.Goals as goal
 
 pub loop-turn-init : goal.loop-turn-init
@@ -35,9 +38,6 @@ returns-in-Ok-Nothing-clause-ok g c = answers-more _ _ _ _ _ _ _ c.loop-turn.inv
 pub returns-in-Err-clause-err : goal.returns-in-Err-clause-err
 returns-in-Err-clause-err g c = breaks-more _ _ _ _ _ _ _ c.loop-turn.invariant.wrote c.in-Err.ensures.err
 
-pub returns-clause-err : goal.returns-clause-err
-returns-clause-err g c = breaks-one-more _ _ _ _ _ c.loop-turn.invariant.wrote
-
 pub returns-in-Ok-Over-clause-loader : goal.returns-in-Ok-Over-clause-loader
 returns-in-Ok-Over-clause-loader g c = asked-more g.D.Loader.loads _ _ _ c.loop-turn.invariant.loader c.settle_next.ensures.loader
 
@@ -59,3 +59,7 @@ returns-in-Err-clause-left g c = λ keeps read. most-more (HadGoneOut g.C.Core.s
 pub returns-in-Ok-Nothing-clause-asked : goal.returns-in-Ok-Nothing-clause-asked
 returns-in-Ok-Nothing-clause-asked g c = λ keeps is read.
     feeds-more (HadGoneOut g.C.Core.service g.C.Core.events) g.K.Clock.reads g.D.Loader.loads c.args.conn _ _ _ _ _ _ _ _ _ _ _ _ _ _ (c.loop-turn.invariant.asked keeps read) (c.in-Ok-Nothing.ensures.asked keeps (nothing-not-over _ c.in-Ok-Nothing.field-0-is) read)
+
+pub returns-in-Err-clause-used_up : goal.returns-in-Err-clause-used_up
+returns-in-Err-clause-used_up g c = λ is.
+    stops-later g.C.Core.events _ _ _ _ _ _ c.loop-turn.invariant.writes c.in-Err.ensures.writes c.loop-turn.invariant.count (c.in-Err.ensures.used_up (still-err c.in-Err.error UsedUp is))

@@ -3,6 +3,9 @@ use Rattle.cache_run.proofs.Carrying.{same_consumes}
 use Rattle.cache_serve.specs.Out.{HadGoneOut}
 use Rattle.cache_serve.proofs.Asking.{most-none}
 use Rattle.cache_serve.proofs.Writing.{answers-one, breaks-behind, breaks-one}
+use Rattle.std.proofs.Common.{inr}
+use Rattle.cache_run.proofs.Turning.{still-err}
+use Rattle.cache_run.specs.declared.errors.RunError.TheVariants.{UsedUp}
 use Rattle.cache_serve.proofs.loading.settle_next.Goals as goal
 
 pub returns-in-Err-clause-err : goal.returns-in-Err-clause-err
@@ -22,3 +25,6 @@ returns-in-Ok-go_on-clause-over g c = λ is. answers-one _ _ _ _ _ (let e = c.in
 
 pub returns-in-Err-go_on-clause-err : goal.returns-in-Err-go_on-clause-err
 returns-in-Err-go_on-clause-err g c = breaks-behind _ _ _ _ _ (let e = c.go_on.ensures.one in omega arith) c.in-Ok.ensures.ok
+
+pub returns-in-Err-go_on-clause-used_up : goal.returns-in-Err-go_on-clause-used_up
+returns-in-Err-go_on-clause-used_up g c = λ is. inr (c.in-Err-go_on.ensures.used_up (still-err c.in-Err-go_on.error UsedUp is))

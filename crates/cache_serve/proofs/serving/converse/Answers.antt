@@ -1,8 +1,11 @@
 use Rattle.std.proofs.Common.{refl, ap, ◌∙◌, Ok, arith}
 use Rattle.cache_run.proofs.Carrying.{same_consumes}
 use Rattle.cache_serve.specs.Out.{HadGoneOut}
-use Rattle.cache_serve.proofs.Asking.{asked-more, asked-none, feeds-more, feeds-none, most-more, most-so}
-use Rattle.cache_serve.proofs.Writing.{answers-more, answers-none, breaks-more, breaks-so}
+use Rattle.cache_serve.proofs.Asking.{asked-more, asked-none, feeds-more, feeds-none, most-more}
+use Rattle.cache_serve.proofs.Writing.{answers-more, answers-none, breaks-more}
+use Rattle.cache_run.proofs.Turning.{still-err}
+use Rattle.cache_run.specs.declared.errors.RunError.TheVariants.{UsedUp}
+use Rattle.cache_serve.proofs.Full.{stops-later}
 use Rattle.cache_serve.proofs.serving.converse.Goals as goal
 
 pub loop-turn-init : goal.loop-turn-init
@@ -45,8 +48,6 @@ returns-in-Ok-Over-clause-asked g c = λ keeps. most-more (HadGoneOut g.C.Core.s
 pub returns-in-Err-clause-asked : goal.returns-in-Err-clause-asked
 returns-in-Err-clause-asked g c = λ keeps. most-more (HadGoneOut g.C.Core.service g.C.Core.events) g.K.Clock.reads g.D.Loader.loads c.args.conn _ _ _ _ _ _ _ _ _ _ _ _ (c.loop-turn.invariant.asked keeps) (c.take_turn.ensures.left keeps)
 
-pub returns-clause-asked : goal.returns-clause-asked
-returns-clause-asked g c = λ keeps. most-so (HadGoneOut g.C.Core.service g.C.Core.events) g.K.Clock.reads g.D.Loader.loads c.args.conn _ _ _ _ _ _ _ _ (c.loop-turn.invariant.asked keeps)
-
-pub returns-clause-err : goal.returns-clause-err
-returns-clause-err g c = breaks-so _ _ _ _ _ c.loop-turn.invariant.wrote
+pub returns-in-Err-clause-used_up : goal.returns-in-Err-clause-used_up
+returns-in-Err-clause-used_up g c = λ is.
+    stops-later g.C.Core.events _ _ _ _ _ _ c.loop-turn.invariant.writes c.in-Err.ensures.writes c.loop-turn.invariant.count (c.in-Err.ensures.used_up (still-err c.in-Err.error UsedUp is))

@@ -1,7 +1,11 @@
 use Rattle.std.proofs.Common.{[], refl, arith, inl, inr}
 use Rattle.cache_serve.specs.Out.{HadGoneOut}
 use Rattle.cache_serve.proofs.Asking.{attends, drops-none, idles, most-asked-all}
+use Rattle.cache_serve.proofs.Full.{used-up-within}
 use Rattle.cache_serve.proofs.Writing.{serves-cut, serves-none, serves-so}
+use Rattle.std.proofs.Common.{⊎_elim}
+use Rattle.cache_run.proofs.Turning.{still-err}
+use Rattle.cache_run.specs.declared.errors.RunError.TheVariants.{UsedUp}
 use Rattle.cache_serve.proofs.serving.serve_and_tell.Goals as goal
 
 pub returns-in-Err-clause-broke : goal.returns-in-Err-clause-broke
@@ -48,3 +52,12 @@ pub returns-clause-loader : goal.returns-clause-loader
 returns-clause-loader g c =
     let all = most-asked-all g.D.Loader.loads _ _ _ _ _ c.converse-outcome.ensures.loader c.settle_rest.ensures.loader in
     (all.asks, all.loaded)
+
+pub returns-in-Err-open_connection-clause-used_up : goal.returns-in-Err-open_connection-clause-used_up
+returns-in-Err-open_connection-clause-used_up g c = λ is. inr (c.in-Err-open_connection.ensures.used_up (still-err c.in-Err-open_connection.error UsedUp is))
+
+pub returns-clause-used_up : goal.returns-clause-used_up
+returns-clause-used_up g c = λ is.
+    ⊎_elim (λ failed. inl failed)
+    (λ full. inr (used-up-within g.C.Core.events _ _ _ _ c.open_connection.ensures.count (omega (arith, c.close_if_open.ensures.count, c.settle_rest.ensures.count)) full))
+    (c.in-Err-outcome.ensures.used_up (still-err c.in-Err-outcome.error UsedUp is))

@@ -3,6 +3,9 @@ use Rattle.cache_run.proofs.Carrying.{consumes_none}
 use Rattle.cache_serve.specs.Out.{HadGoneOut}
 use Rattle.cache_serve.proofs.Asking.{feeds-more, feeds-none, feeds-one, most-more, most-none, most-one}
 use Rattle.cache_serve.proofs.Writing.{answers-behind, answers-none, breaks-later, breaks-none}
+use Rattle.cache_run.proofs.Turning.{still-err}
+use Rattle.cache_run.specs.declared.errors.RunError.TheVariants.{UsedUp}
+use Rattle.cache_serve.proofs.Full.{stops-later}
 use Rattle.cache_serve.proofs.turns.take_turn.Goals as goal
 
 pub returns-then-eq-clause-ok : goal.returns-then-eq-clause-ok
@@ -67,3 +70,7 @@ returns-in-Err-settle_loads-clause-left g c = λ keeps.
     most-more (HadGoneOut g.C.Core.service g.C.Core.events) g.K.Clock.reads g.D.Loader.loads c.args.conn _ _ _ _ _ _ _ _ _ _ _ _
     (feeds-one (HadGoneOut g.C.Core.service g.C.Core.events) g.K.Clock.reads g.D.Loader.loads c.args.conn _ _ _ _ _ _ _ _ _ (c.hand_in.ensures.told.3 keeps (c.in-Ok-More.is ∙ ap Ok c.in-Ok-More.field-0-is)) c.in-Ok.ensures.bytes.0 c.hand_in.ensures.told.1)
     (c.settle_loads.ensures.left keeps _)
+
+pub returns-in-Err-settle_loads-clause-used_up : goal.returns-in-Err-settle_loads-clause-used_up
+returns-in-Err-settle_loads-clause-used_up g c = λ is.
+    stops-later g.C.Core.events _ _ _ _ _ _ (omega arith) c.in-Err-settle_loads.ensures.writes c.hand_in.ensures.count (c.in-Err-settle_loads.ensures.used_up (still-err c.in-Err-settle_loads.error UsedUp is))
