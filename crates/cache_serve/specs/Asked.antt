@@ -1,5 +1,5 @@
 -- What a seat asks of a shared service for one connection, and what its loader is asked.
-use Rattle.std.specs.Prelude.{◌≡◌, ◌≢◌, ℕ, ◌+◌, ◌≤◌, Bool, List, [], ◌∷◌, ◌++◌, length, map, Option, Some, Vec, ◌⊎◌, if◌then◌else◌}
+use Rattle.std.specs.Prelude.{◌≡◌, ◌≢◌, ℕ, ◌+◌, ◌≤◌, Bool, List, [], ◌∷◌, ◌++◌, length, map, Option, Some, Vec, ◌⊎◌, IfSome, if◌then◌else◌}
 use Rattle.std.specs.Io.KnownBytes.{Consumes}
 use Rattle.std.specs.List.{All, flat_map}
 use Rattle.std.specs.declared.alloc.Global.{Global}
@@ -59,6 +59,12 @@ number_of (Dropped number asking) = number
 -- it is of a load of that namespace that had gone out, and the loader was asked by the key of that load
 abbrev pub IsOfLoad : (ℕ → ℕ → List ℕ → Type 0) → ℕ → Settling → Type 0
 IsOfLoad WentOut namespace settling = WentOut namespace (number_of settling) (asking_of settling).key
+
+-- it is given up only where the loader said nothing, or what it said is refused for its bytes or its time
+abbrev pub IsGivenUpFor : (ℕ → Outcome → Type 0) → ℕ → Settling → Type 0
+IsGivenUpFor Unfit namespace (Answered number key outcome) = Unit {0}
+IsGivenUpFor Unfit namespace (GivenUp number asking) = IfSome asking.answer (Unfit namespace)
+IsGivenUpFor Unfit namespace (Dropped number asking) = Unit {0}
 
 -- what is asked of the service at a moment for a load of a namespace
 abbrev pub settling_inputs : ℕ → ℕ → Settling → List Input
@@ -135,6 +141,10 @@ module _ (namespace : ℕ) (before after : List (Vec Receipt Global)) where
     pub numbered : number_of settling ≡ number
     pub asks : Asks (settling_inputs namespace moment settling)
 
+  -- so it is, and it is given up only where it may be
+  abbrev pub SettlesSo : (ℕ → Outcome → Type 0) → ℕ → ℕ → Asking → Type 0
+  SettlesSo Unfit moment number asking = (settles : Settles moment number asking) × IsGivenUpFor Unfit namespace settles.settling
+
   -- A loader was asked for loads that had gone out, one after another, by their keys; they were settled at moment 0, which counts as the
   -- latest.
   pub record Drops {D : Type 0} (WentOut : ℕ → ℕ → List ℕ → Type 0) (loads : D → List ℕ → Option Outcome → D → Type 0) (d e : D) (drops : List Settling) : Type 0 where
@@ -142,7 +152,7 @@ module _ (namespace : ℕ) (before after : List (Vec Receipt Global)) where
     pub loaded : Askings loads d (map asking_of drops) e
     pub out : All (IsOfLoad WentOut namespace) drops
 
-module _ {K D : Type 0} (WentOut : ℕ → ℕ → List ℕ → Type 0) (reads : K → ℕ → K → Type 0) (loads : D → List ℕ → Option Outcome → D → Type 0) (before after : List (Vec Receipt Global)) (remaining later : Option (List ℕ)) (k l : K) (d e : D) where
+module _ {K D : Type 0} (WentOut : ℕ → ℕ → List ℕ → Type 0) (Unfit : ℕ → Outcome → Type 0) (reads : K → ℕ → K → Type 0) (loads : D → List ℕ → Option Outcome → D → Type 0) (before after : List (Vec Receipt Global)) (remaining later : Option (List ℕ)) (k l : K) (d e : D) where
   -- A connection was fed, and loads of its namespace that had gone out were settled. The pieces, and then lost, were read, the clock told the
   -- moments, and then late, and the loader was asked by the keys of the loads.
   pub record Feeds (conn : Conn) (lost late : List ℕ) : Type 0 where
@@ -152,6 +162,7 @@ module _ {K D : Type 0} (WentOut : ℕ → ℕ → List ℕ → Type 0) (reads :
     pub told : Readings reads k (map moment_of deeds ++ late) l
     pub loaded : Askings loads d (flat_map asks_of deeds) e
     pub out : All (IsOfLoad WentOut conn.namespace) (flat_map settlings_of deeds)
+    pub fit : All (IsGivenUpFor Unfit conn.namespace) (flat_map settlings_of deeds)
 
   -- so it was, but perhaps for a last piece, which was refused
   pub record FeedsMost (conn : Conn) : Type 0 where
@@ -162,7 +173,7 @@ module _ {K D : Type 0} (WentOut : ℕ → ℕ → List ℕ → Type 0) (reads :
 
   -- A connection of that namespace was opened, fed with what was read but perhaps for a last piece, and closed or not. Between its pieces
   -- loads of the namespace were settled, and those of drops behind the closing. Each of them had gone out, and the loader was asked by its
-  -- key. Nothing else was asked.
+  -- key. One between the pieces is given up only where it may be. Nothing else was asked.
   pub record Attends (namespace : ℕ) (conn : Conn) (drops : List Settling) : Type 0 where
     pub first : Receipt
     pub opening : first.input ≡ input.Open namespace
@@ -179,6 +190,7 @@ module _ {K D : Type 0} (WentOut : ℕ → ℕ → List ℕ → Type 0) (reads :
     pub few : length late ≤ 1
     pub loaded : Askings loads d (flat_map asks_of deeds ++ map asking_of drops) e
     pub out : All (IsOfLoad WentOut namespace) (flat_map settlings_of deeds ++ drops)
+    pub fit : All (IsGivenUpFor Unfit namespace) (flat_map settlings_of deeds)
 
   -- nothing was asked, read or told
   pub record Idles : Type 0 where

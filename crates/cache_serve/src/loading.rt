@@ -4,9 +4,10 @@ ghost use Rattle.audit_model.specs.declared.input.Input.TheVariants as asked;
 ghost use Rattle.cache_devices.specs.Failures.{HasFailed};
 ghost use Rattle.cache_devices.specs.Watched.{device, failures};
 ghost use Rattle.cache_run.specs.Turns.{HasToldLate};
-ghost use Rattle.cache_serve.specs.Asked.{AsksOrNot, Drops, Feeds, FeedsMost, HasAsked, HasAskedMost, Settles, Settling, answer_of, give_up_of};
+ghost use Rattle.cache_serve.specs.Asked.{AsksOrNot, Drops, Feeds, FeedsMost, HasAsked, HasAskedMost, SettlesSo, Settling, answer_of, give_up_of};
 ghost use Rattle.cache_serve.specs.Full.{HasUsedUp};
 ghost use Rattle.cache_serve.specs.Out.{AreOut, HadGoneOut};
+ghost use Rattle.cache_serve.specs.Unfit.{IsUnfit};
 ghost use Rattle.cache_serve.specs.Written.{Answers, Breaks};
 ghost use Rattle.cache_shared.specs.Seats.{SameReceipts};
 ghost use Rattle.cache_shared.specs.Untaken.{WereUntaken};
@@ -79,6 +80,7 @@ fn answer<L: Seating, C: Takings>(
     ensures causes { IfErr result (λ e. (e ≢ RunError.Read) × (e ≢ RunError.Write)) }
     ensures asked { C.KEEPS ≡ true → AsksOrNot load.namespace seat.old.receipts.items seat.new.receipts.items (answer_of load.namespace moment load.number outcome) }
     ensures refused { result ≡ Ok false → SameReceipts seat.old.receipts.items seat.new.receipts.items }
+    ensures unfit { result ≡ Ok false → IsUnfit C.service C.events load.namespace outcome }
     ensures kept { OnErr result (seat.new.count ≡ seat.old.count) }
     ensures same { C.KEEPS ≡ true → OnErr result (SameReceipts seat.old.receipts.items seat.new.receipts.items) }
 {
@@ -119,7 +121,7 @@ fn settle<L: Seating, C: Takings>(
     ensures moment { IsErrOf result RunError.Moment → 2 ^ 63 ≤ moment }
     ensures used_up { IsErrOf result RunError.UsedUp → HasUsedUp C.events seat.old.count seat.new.count }
     ensures causes { IfErr result (λ e. (e ≢ RunError.Read) × (e ≢ RunError.Write)) }
-    ensures asked { C.KEEPS ≡ true → (key : List ℕ) → Settles load.namespace seat.old.receipts.items seat.new.receipts.items moment load.number (record { key = key; answer = said }) }
+    ensures asked { C.KEEPS ≡ true → (key : List ℕ) → SettlesSo load.namespace seat.old.receipts.items seat.new.receipts.items (IsUnfit C.service C.events) moment load.number (record { key = key; answer = said }) }
     ensures kept { OnErr result (seat.new.count ≡ seat.old.count) }
     ensures same { C.KEEPS ≡ true → OnErr result (SameReceipts seat.old.receipts.items seat.new.receipts.items) }
 {
@@ -150,7 +152,7 @@ fn ask<L: Seating, C: Takings, K: Clock, D: Loader>(
     ensures used_up { IsErrOf result RunError.UsedUp → HasUsedUp C.events seat.old.count seat.new.count }
     ensures causes { IfErr result (λ e. (e ≢ RunError.Read) × (e ≢ RunError.Write)) }
     ensures loader { HasAsked D.loads loader.old loader.new }
-    ensures asked { C.KEEPS ≡ true → (conn : Conn) → conn.namespace ≡ load.namespace → (read : Option (List ℕ)) → Feeds (HadGoneOut C.service C.events) K.reads D.loads seat.old.receipts.items seat.new.receipts.items read read clock.old clock.new loader.old loader.new conn [] [] }
+    ensures asked { C.KEEPS ≡ true → (conn : Conn) → conn.namespace ≡ load.namespace → (read : Option (List ℕ)) → Feeds (HadGoneOut C.service C.events) (IsUnfit C.service C.events) K.reads D.loads seat.old.receipts.items seat.new.receipts.items read read clock.old clock.new loader.old loader.new conn [] [] }
 {
     let said = loader.load(key);
     let moment = clock.now();
@@ -176,7 +178,7 @@ fn settle_last<L: Seating, C: Takings, K: Clock, D: Loader, T: Teller, R: Wait>(
     ensures used_up { IsErrOf result RunError.UsedUp → HasUsedUp C.events seat.old.count seat.new.count }
     ensures causes { IfErr result (λ e. (e ≢ RunError.Read) × (e ≢ RunError.Write)) }
     ensures loader { HasAsked D.loads loader.old loader.new }
-    ensures asked { C.KEEPS ≡ true → (read : Option (List ℕ)) → Feeds (HadGoneOut C.service C.events) K.reads D.loads seat.old.receipts.items seat.new.receipts.items read read clock.old clock.new loader.old loader.new conn [] [] }
+    ensures asked { C.KEEPS ≡ true → (read : Option (List ℕ)) → Feeds (HadGoneOut C.service C.events) (IsUnfit C.service C.events) K.reads D.loads seat.old.receipts.items seat.new.receipts.items read read clock.old clock.new loader.old loader.new conn [] [] }
 {
     let Some((load, key)) = taken.last() else {
         return Ok(());
@@ -261,8 +263,8 @@ fn go_on<L: Seating, C: Takings, K: Clock, D: Loader, T: Teller, R: Wait>(
     ensures used_up { IsErrOf result RunError.UsedUp → HasUsedUp C.events seat.old.count seat.new.count }
     ensures causes { IfErr result (λ e. (e ≢ RunError.Read) × (e ≢ RunError.Write)) }
     ensures loader { HasAsked D.loads loader.old loader.new }
-    ensures asked { C.KEEPS ≡ true → result ≢ Ok Next.Over → OnOk result ((read : Option (List ℕ)) → Feeds (HadGoneOut C.service C.events) K.reads D.loads seat.old.receipts.items seat.new.receipts.items read read clock.old clock.new loader.old loader.new conn [] []) }
-    ensures left { C.KEEPS ≡ true → (read : Option (List ℕ)) → FeedsMost (HadGoneOut C.service C.events) K.reads D.loads seat.old.receipts.items seat.new.receipts.items read read clock.old clock.new loader.old loader.new conn }
+    ensures asked { C.KEEPS ≡ true → result ≢ Ok Next.Over → OnOk result ((read : Option (List ℕ)) → Feeds (HadGoneOut C.service C.events) (IsUnfit C.service C.events) K.reads D.loads seat.old.receipts.items seat.new.receipts.items read read clock.old clock.new loader.old loader.new conn [] []) }
+    ensures left { C.KEEPS ≡ true → (read : Option (List ℕ)) → FeedsMost (HadGoneOut C.service C.events) (IsUnfit C.service C.events) K.reads D.loads seat.old.receipts.items seat.new.receipts.items read read clock.old clock.new loader.old loader.new conn }
 {
     if !taken.is_empty() {
         return match settle_last(rt, shared, seat, conn, taken, clock, loader, teller) {
@@ -311,8 +313,8 @@ fn settle_next<L: Seating, C: Takings, O: Write, K: Clock, D: Loader, T: Teller,
     ensures moment { IsErrOf result RunError.Moment → HasToldLate K.reads clock.new }
     ensures causes { IfErr result (λ e. e ≢ RunError.Read) }
     ensures loader { HasAsked D.loads loader.old loader.new }
-    ensures asked { C.KEEPS ≡ true → result ≢ Ok Next.Over → OnOk result ((read : Option (List ℕ)) → Feeds (HadGoneOut C.service C.events) K.reads D.loads seat.old.receipts.items seat.new.receipts.items read read clock.old clock.new loader.old loader.new conn [] []) }
-    ensures left { C.KEEPS ≡ true → (read : Option (List ℕ)) → FeedsMost (HadGoneOut C.service C.events) K.reads D.loads seat.old.receipts.items seat.new.receipts.items read read clock.old clock.new loader.old loader.new conn }
+    ensures asked { C.KEEPS ≡ true → result ≢ Ok Next.Over → OnOk result ((read : Option (List ℕ)) → Feeds (HadGoneOut C.service C.events) (IsUnfit C.service C.events) K.reads D.loads seat.old.receipts.items seat.new.receipts.items read read clock.old clock.new loader.old loader.new conn [] []) }
+    ensures left { C.KEEPS ≡ true → (read : Option (List ℕ)) → FeedsMost (HadGoneOut C.service C.events) (IsUnfit C.service C.events) K.reads D.loads seat.old.receipts.items seat.new.receipts.items read read clock.old clock.new loader.old loader.new conn }
 {
     take_more(rt, shared, conn.namespace, taken);
     // Where nothing waits now, the replies that are taken next are all.
@@ -354,8 +356,8 @@ pub fn settle_loads<L: Seating, C: Takings, O: Write, K: Clock, D: Loader, T: Te
     ensures moment { IsErrOf result RunError.Moment → HasToldLate K.reads clock.new }
     ensures causes { IfErr result (λ e. e ≢ RunError.Read) }
     ensures loader { HasAsked D.loads loader.old loader.new }
-    ensures asked { C.KEEPS ≡ true → result ≡ Ok Progress.More → (read : Option (List ℕ)) → Feeds (HadGoneOut C.service C.events) K.reads D.loads seat.old.receipts.items seat.new.receipts.items read read clock.old clock.new loader.old loader.new conn [] [] }
-    ensures left { C.KEEPS ≡ true → (read : Option (List ℕ)) → FeedsMost (HadGoneOut C.service C.events) K.reads D.loads seat.old.receipts.items seat.new.receipts.items read read clock.old clock.new loader.old loader.new conn }
+    ensures asked { C.KEEPS ≡ true → result ≡ Ok Progress.More → (read : Option (List ℕ)) → Feeds (HadGoneOut C.service C.events) (IsUnfit C.service C.events) K.reads D.loads seat.old.receipts.items seat.new.receipts.items read read clock.old clock.new loader.old loader.new conn [] [] }
+    ensures left { C.KEEPS ≡ true → (read : Option (List ℕ)) → FeedsMost (HadGoneOut C.service C.events) (IsUnfit C.service C.events) K.reads D.loads seat.old.receipts.items seat.new.receipts.items read read clock.old clock.new loader.old loader.new conn }
 {
     let mut may_hold = false;
     for _turn in rt.forever() {

@@ -7,6 +7,7 @@ ghost use Rattle.cache_run.specs.Turns.{HasToldLate};
 ghost use Rattle.cache_serve.specs.Asked.{Asks, AsksOrNot, Feeds, FeedsMost, HasAsked, feed_of};
 ghost use Rattle.cache_serve.specs.Full.{HasUsedUp};
 ghost use Rattle.cache_serve.specs.Out.{AreOut, HadGoneOut};
+ghost use Rattle.cache_serve.specs.Unfit.{IsUnfit};
 ghost use Rattle.cache_serve.specs.Written.{Answers, Breaks, Writes};
 ghost use Rattle.cache_shared.specs.Untaken.{WereUntaken};
 
@@ -207,8 +208,8 @@ pub fn take_turn<
     ensures reads { failures reader.old ≤ failures reader.new }
     ensures writes { failures writer.old ≤ failures writer.new }
     ensures loader { HasAsked D.loads loader.old loader.new }
-    ensures asked { C.KEEPS ≡ true → result ≡ Ok Progress.More → Feeds (HadGoneOut C.service C.events) K.reads D.loads seat.old.receipts.items seat.new.receipts.items (I.remaining (device reader.old)) (I.remaining (device reader.new)) clock.old clock.new loader.old loader.new conn [] [] }
-    ensures left { C.KEEPS ≡ true → FeedsMost (HadGoneOut C.service C.events) K.reads D.loads seat.old.receipts.items seat.new.receipts.items (I.remaining (device reader.old)) (I.remaining (device reader.new)) clock.old clock.new loader.old loader.new conn }
+    ensures asked { C.KEEPS ≡ true → result ≡ Ok Progress.More → Feeds (HadGoneOut C.service C.events) (IsUnfit C.service C.events) K.reads D.loads seat.old.receipts.items seat.new.receipts.items (I.remaining (device reader.old)) (I.remaining (device reader.new)) clock.old clock.new loader.old loader.new conn [] [] }
+    ensures left { C.KEEPS ≡ true → FeedsMost (HadGoneOut C.service C.events) (IsUnfit C.service C.events) K.reads D.loads seat.old.receipts.items seat.new.receipts.items (I.remaining (device reader.old)) (I.remaining (device reader.new)) clock.old clock.new loader.old loader.new conn }
 {
     let count = match reader.read(buffer) {
         Ok(count) => count,

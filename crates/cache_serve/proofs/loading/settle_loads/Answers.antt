@@ -1,6 +1,7 @@
 use Rattle.std.proofs.Common.{refl, arith, ap, ◌∙◌, Ok}
 use Rattle.cache_run.proofs.Carrying.{same_consumes}
 use Rattle.cache_serve.specs.Out.{HadGoneOut}
+use Rattle.cache_serve.specs.Unfit.{IsUnfit}
 use Rattle.cache_serve.proofs.Asking.{asked-more, asked-none, feeds-more, feeds-none, most-more}
 use Rattle.cache_serve.proofs.Next.{more-not-over, nothing-not-over}
 use Rattle.cache_serve.proofs.Writing.{answers-more, answers-none, breaks-more}
@@ -15,7 +16,7 @@ loop-turn-init g c = record {
   writes = omega arith;
   wrote = answers-none _ _ _ _ refl;
   loader = asked-none g.D.Loader.loads _;
-  asked = λ keeps read. feeds-none (HadGoneOut g.C.Core.service g.C.Core.events) g.K.Clock.reads g.D.Loader.loads c.args.conn _ _ _ _ _ _ (λ n. refl) (same_consumes read);
+  asked = λ keeps read. feeds-none (HadGoneOut g.C.Core.service g.C.Core.events) (IsUnfit g.C.Core.service g.C.Core.events) g.K.Clock.reads g.D.Loader.loads c.args.conn _ _ _ _ _ _ (λ n. refl) (same_consumes read);
   out = c.requires.out;
 }
 
@@ -25,7 +26,7 @@ loop-turn-preserved g c = record {
   writes = let before = c.loop-turn.invariant.writes in let after = c.settle_next.ensures.writes in omega arith;
   wrote = answers-more _ _ _ _ _ _ _ c.loop-turn.invariant.wrote c.in-Ok-More.ensures.ok;
   loader = asked-more g.D.Loader.loads _ _ _ c.loop-turn.invariant.loader c.settle_next.ensures.loader;
-  asked = λ keeps read. feeds-more (HadGoneOut g.C.Core.service g.C.Core.events) g.K.Clock.reads g.D.Loader.loads c.args.conn _ _ _ _ _ _ _ _ _ _ _ _ _ _ (c.loop-turn.invariant.asked keeps read) (c.in-Ok-More.ensures.asked keeps (more-not-over _ _ c.in-Ok-More.field-0-is) read);
+  asked = λ keeps read. feeds-more (HadGoneOut g.C.Core.service g.C.Core.events) (IsUnfit g.C.Core.service g.C.Core.events) g.K.Clock.reads g.D.Loader.loads c.args.conn _ _ _ _ _ _ _ _ _ _ _ _ _ _ (c.loop-turn.invariant.asked keeps read) (c.in-Ok-More.ensures.asked keeps (more-not-over _ _ c.in-Ok-More.field-0-is) read);
   out = c.settle_next.ensures.out;
 }
 
@@ -48,17 +49,17 @@ pub returns-in-Err-clause-loader : goal.returns-in-Err-clause-loader
 returns-in-Err-clause-loader g c = asked-more g.D.Loader.loads _ _ _ c.loop-turn.invariant.loader c.settle_next.ensures.loader
 
 pub returns-in-Ok-Over-clause-left : goal.returns-in-Ok-Over-clause-left
-returns-in-Ok-Over-clause-left g c = λ keeps read. most-more (HadGoneOut g.C.Core.service g.C.Core.events) g.K.Clock.reads g.D.Loader.loads c.args.conn _ _ _ _ _ _ _ _ _ _ _ _ (c.loop-turn.invariant.asked keeps read) (c.settle_next.ensures.left keeps read)
+returns-in-Ok-Over-clause-left g c = λ keeps read. most-more (HadGoneOut g.C.Core.service g.C.Core.events) (IsUnfit g.C.Core.service g.C.Core.events) g.K.Clock.reads g.D.Loader.loads c.args.conn _ _ _ _ _ _ _ _ _ _ _ _ (c.loop-turn.invariant.asked keeps read) (c.settle_next.ensures.left keeps read)
 
 pub returns-in-Ok-Nothing-clause-left : goal.returns-in-Ok-Nothing-clause-left
-returns-in-Ok-Nothing-clause-left g c = λ keeps read. most-more (HadGoneOut g.C.Core.service g.C.Core.events) g.K.Clock.reads g.D.Loader.loads c.args.conn _ _ _ _ _ _ _ _ _ _ _ _ (c.loop-turn.invariant.asked keeps read) (c.settle_next.ensures.left keeps read)
+returns-in-Ok-Nothing-clause-left g c = λ keeps read. most-more (HadGoneOut g.C.Core.service g.C.Core.events) (IsUnfit g.C.Core.service g.C.Core.events) g.K.Clock.reads g.D.Loader.loads c.args.conn _ _ _ _ _ _ _ _ _ _ _ _ (c.loop-turn.invariant.asked keeps read) (c.settle_next.ensures.left keeps read)
 
 pub returns-in-Err-clause-left : goal.returns-in-Err-clause-left
-returns-in-Err-clause-left g c = λ keeps read. most-more (HadGoneOut g.C.Core.service g.C.Core.events) g.K.Clock.reads g.D.Loader.loads c.args.conn _ _ _ _ _ _ _ _ _ _ _ _ (c.loop-turn.invariant.asked keeps read) (c.settle_next.ensures.left keeps read)
+returns-in-Err-clause-left g c = λ keeps read. most-more (HadGoneOut g.C.Core.service g.C.Core.events) (IsUnfit g.C.Core.service g.C.Core.events) g.K.Clock.reads g.D.Loader.loads c.args.conn _ _ _ _ _ _ _ _ _ _ _ _ (c.loop-turn.invariant.asked keeps read) (c.settle_next.ensures.left keeps read)
 
 pub returns-in-Ok-Nothing-clause-asked : goal.returns-in-Ok-Nothing-clause-asked
 returns-in-Ok-Nothing-clause-asked g c = λ keeps is read.
-    feeds-more (HadGoneOut g.C.Core.service g.C.Core.events) g.K.Clock.reads g.D.Loader.loads c.args.conn _ _ _ _ _ _ _ _ _ _ _ _ _ _ (c.loop-turn.invariant.asked keeps read) (c.in-Ok-Nothing.ensures.asked keeps (nothing-not-over _ c.in-Ok-Nothing.field-0-is) read)
+    feeds-more (HadGoneOut g.C.Core.service g.C.Core.events) (IsUnfit g.C.Core.service g.C.Core.events) g.K.Clock.reads g.D.Loader.loads c.args.conn _ _ _ _ _ _ _ _ _ _ _ _ _ _ (c.loop-turn.invariant.asked keeps read) (c.in-Ok-Nothing.ensures.asked keeps (nothing-not-over _ c.in-Ok-Nothing.field-0-is) read)
 
 pub returns-in-Err-clause-used_up : goal.returns-in-Err-clause-used_up
 returns-in-Err-clause-used_up g c = λ is.

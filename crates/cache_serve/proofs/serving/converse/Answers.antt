@@ -1,6 +1,7 @@
 use Rattle.std.proofs.Common.{refl, ap, ◌∙◌, Ok, arith}
 use Rattle.cache_run.proofs.Carrying.{same_consumes}
 use Rattle.cache_serve.specs.Out.{HadGoneOut}
+use Rattle.cache_serve.specs.Unfit.{IsUnfit}
 use Rattle.cache_serve.proofs.Asking.{asked-more, asked-none, feeds-more, feeds-none, most-more}
 use Rattle.cache_serve.proofs.Writing.{answers-more, answers-none, breaks-more}
 use Rattle.cache_run.proofs.Turning.{still-err}
@@ -15,7 +16,7 @@ loop-turn-init g c = record {
   writes = omega arith;
   wrote = answers-none _ _ _ _ refl;
   loader = asked-none g.D.Loader.loads _;
-  asked = λ keeps. feeds-none (HadGoneOut g.C.Core.service g.C.Core.events) g.K.Clock.reads g.D.Loader.loads c.args.conn _ _ _ _ _ _ (λ n. refl) (same_consumes _);
+  asked = λ keeps. feeds-none (HadGoneOut g.C.Core.service g.C.Core.events) (IsUnfit g.C.Core.service g.C.Core.events) g.K.Clock.reads g.D.Loader.loads c.args.conn _ _ _ _ _ _ (λ n. refl) (same_consumes _);
   out = c.requires.out;
 }
 
@@ -26,7 +27,7 @@ loop-turn-preserved g c = record {
   writes = let before = c.loop-turn.invariant.writes in let after = c.take_turn.ensures.writes in omega arith;
   wrote = answers-more _ _ _ _ _ _ _ c.loop-turn.invariant.wrote c.in-Ok-More.ensures.ok;
   loader = asked-more g.D.Loader.loads _ _ _ c.loop-turn.invariant.loader c.take_turn.ensures.loader;
-  asked = λ keeps. feeds-more (HadGoneOut g.C.Core.service g.C.Core.events) g.K.Clock.reads g.D.Loader.loads c.args.conn _ _ _ _ _ _ _ _ _ _ _ _ _ _ (c.loop-turn.invariant.asked keeps) (c.take_turn.ensures.asked keeps (c.in-Ok-More.is ∙ ap Ok c.in-Ok-More.field-0-is));
+  asked = λ keeps. feeds-more (HadGoneOut g.C.Core.service g.C.Core.events) (IsUnfit g.C.Core.service g.C.Core.events) g.K.Clock.reads g.D.Loader.loads c.args.conn _ _ _ _ _ _ _ _ _ _ _ _ _ _ (c.loop-turn.invariant.asked keeps) (c.take_turn.ensures.asked keeps (c.in-Ok-More.is ∙ ap Ok c.in-Ok-More.field-0-is));
   out = c.take_turn.ensures.out;
 }
 
@@ -43,10 +44,10 @@ pub returns-in-Err-clause-loader : goal.returns-in-Err-clause-loader
 returns-in-Err-clause-loader g c = asked-more g.D.Loader.loads _ _ _ c.loop-turn.invariant.loader c.take_turn.ensures.loader
 
 pub returns-in-Ok-Over-clause-asked : goal.returns-in-Ok-Over-clause-asked
-returns-in-Ok-Over-clause-asked g c = λ keeps. most-more (HadGoneOut g.C.Core.service g.C.Core.events) g.K.Clock.reads g.D.Loader.loads c.args.conn _ _ _ _ _ _ _ _ _ _ _ _ (c.loop-turn.invariant.asked keeps) (c.take_turn.ensures.left keeps)
+returns-in-Ok-Over-clause-asked g c = λ keeps. most-more (HadGoneOut g.C.Core.service g.C.Core.events) (IsUnfit g.C.Core.service g.C.Core.events) g.K.Clock.reads g.D.Loader.loads c.args.conn _ _ _ _ _ _ _ _ _ _ _ _ (c.loop-turn.invariant.asked keeps) (c.take_turn.ensures.left keeps)
 
 pub returns-in-Err-clause-asked : goal.returns-in-Err-clause-asked
-returns-in-Err-clause-asked g c = λ keeps. most-more (HadGoneOut g.C.Core.service g.C.Core.events) g.K.Clock.reads g.D.Loader.loads c.args.conn _ _ _ _ _ _ _ _ _ _ _ _ (c.loop-turn.invariant.asked keeps) (c.take_turn.ensures.left keeps)
+returns-in-Err-clause-asked g c = λ keeps. most-more (HadGoneOut g.C.Core.service g.C.Core.events) (IsUnfit g.C.Core.service g.C.Core.events) g.K.Clock.reads g.D.Loader.loads c.args.conn _ _ _ _ _ _ _ _ _ _ _ _ (c.loop-turn.invariant.asked keeps) (c.take_turn.ensures.left keeps)
 
 pub returns-in-Err-clause-used_up : goal.returns-in-Err-clause-used_up
 returns-in-Err-clause-used_up g c = λ is.

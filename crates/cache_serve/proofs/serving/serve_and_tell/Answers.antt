@@ -1,5 +1,6 @@
 use Rattle.std.proofs.Common.{[], refl, arith, inl, inr}
 use Rattle.cache_serve.specs.Out.{HadGoneOut}
+use Rattle.cache_serve.specs.Unfit.{IsUnfit}
 use Rattle.cache_serve.proofs.Asking.{attends, drops-none, idles, most-asked-all}
 use Rattle.cache_serve.proofs.Full.{used-up-within}
 use Rattle.cache_serve.proofs.Writing.{serves-cut, serves-none, serves-so}
@@ -13,7 +14,7 @@ returns-in-Err-clause-broke g c = (
   [],
   [],
   refl,
-  serves-none g.C.Core.service g.C.Core.events g.C.Takings.untaken c.args.namespace _ _ _ _ 0 (omega arith) (λ keeps. inr (idles (HadGoneOut g.C.Core.service g.C.Core.events) g.K.Clock.reads g.D.Loader.loads _ _ _ _ _ (λ n. refl))),
+  serves-none g.C.Core.service g.C.Core.events g.C.Takings.untaken c.args.namespace _ _ _ _ 0 (omega arith) (λ keeps. inr (idles (HadGoneOut g.C.Core.service g.C.Core.events) (IsUnfit g.C.Core.service g.C.Core.events) g.K.Clock.reads g.D.Loader.loads _ _ _ _ _ (λ n. refl))),
 )
 
 pub returns-in-Err-open_connection-clause-broke : goal.returns-in-Err-open_connection-clause-broke
@@ -22,13 +23,13 @@ returns-in-Err-open_connection-clause-broke g c = (
   [],
   refl,
   serves-none g.C.Core.service g.C.Core.events g.C.Takings.untaken c.args.namespace _ _ _ _ 0 c.in-Err-open_connection.ensures.closed
-      (λ keeps. inr (idles (HadGoneOut g.C.Core.service g.C.Core.events) g.K.Clock.reads g.D.Loader.loads _ _ _ _ _ (c.in-Err-open_connection.ensures.same keeps))),
+      (λ keeps. inr (idles (HadGoneOut g.C.Core.service g.C.Core.events) (IsUnfit g.C.Core.service g.C.Core.events) g.K.Clock.reads g.D.Loader.loads _ _ _ _ _ (c.in-Err-open_connection.ensures.same keeps))),
 )
 
 pub returns-in-Ok-outcome-clause-wrote : goal.returns-in-Ok-outcome-clause-wrote
 returns-in-Ok-outcome-clause-wrote g c =
     serves-so g.C.Core.service g.C.Core.events g.C.Takings.untaken c.args.namespace _ _ _ _ _ _ _ _ c.in-Ok-open_connection.ensures.here
-    (λ keeps. attends (HadGoneOut g.C.Core.service g.C.Core.events) g.K.Clock.reads g.D.Loader.loads _ _ _ _ _ _ _ _ _ _ _ _ _ _ [] c.in-Ok-open_connection.ensures.here (c.in-Ok-open_connection.ensures.asked keeps) (c.converse-outcome.ensures.asked keeps) (c.close_if_open.ensures.asked keeps)
+    (λ keeps. attends (HadGoneOut g.C.Core.service g.C.Core.events) (IsUnfit g.C.Core.service g.C.Core.events) g.K.Clock.reads g.D.Loader.loads _ _ _ _ _ _ _ _ _ _ _ _ _ _ [] c.in-Ok-open_connection.ensures.here (c.in-Ok-open_connection.ensures.asked keeps) (c.converse-outcome.ensures.asked keeps) (c.close_if_open.ensures.asked keeps)
     (drops-none (HadGoneOut g.C.Core.service g.C.Core.events) g.D.Loader.loads _ _ _ _ (λ n. refl)))
     c.in-Ok-open_connection.ensures.opened c.close_if_open.ensures.one c.in-Ok-outcome.ensures.ok
 
@@ -42,7 +43,7 @@ returns-clause-broke g c =
       serves-cut g.C.Core.service g.C.Core.events g.C.Takings.untaken c.args.namespace _ _ _ _ _ _ _ _ _ _ c.in-Ok-open_connection.ensures.here
           (λ keeps. inl (
             (c.settle_rest.ensures.asked keeps).0,
-            attends (HadGoneOut g.C.Core.service g.C.Core.events) g.K.Clock.reads g.D.Loader.loads _ _ _ _ _ _ _ _ _ _ _ _ _ _ _ c.in-Ok-open_connection.ensures.here (c.in-Ok-open_connection.ensures.asked keeps) (c.converse-outcome.ensures.asked keeps) (c.close_if_open.ensures.asked keeps)
+            attends (HadGoneOut g.C.Core.service g.C.Core.events) (IsUnfit g.C.Core.service g.C.Core.events) g.K.Clock.reads g.D.Loader.loads _ _ _ _ _ _ _ _ _ _ _ _ _ _ _ c.in-Ok-open_connection.ensures.here (c.in-Ok-open_connection.ensures.asked keeps) (c.converse-outcome.ensures.asked keeps) (c.close_if_open.ensures.asked keeps)
                 (c.settle_rest.ensures.asked keeps).1,
           ))
           c.in-Ok-open_connection.ensures.opened c.close_if_open.ensures.one all.few breaks,
