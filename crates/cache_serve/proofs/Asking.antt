@@ -1,9 +1,10 @@
 -- What is asked, one after another.
-use Rattle.std.proofs.Common.{◌≡◌, ◌≢◌, ◌⊎◌, ℕ, ◌+◌, ◌≤◌, Bool, true, false, List, [], ◌∷◌, ◌++◌, length, map, Option, Vec, Global, refl, sym, ap, subst, ◌∙◌, append_assoc, inl, inr, arith, Some, length-append}
-use Rattle.std.specs.Prelude.{Result, Ok, Err, IfOk, OnErr}
-use Rattle.std.specs.Io.KnownBytes.{Consumes, Keeps}
-use Rattle.std.specs.List.{flat_map}
+use Rattle.std.proofs.Common.{◌≡◌, ℕ, ◌+◌, ◌≤◌, Bool, true, false, List, [], ◌∷◌, ◌++◌, map, Option, Vec, Global, refl, sym, ap, subst, ◌∙◌, append_assoc, inl, inr, arith, Some, length-append}
+use Rattle.std.specs.Prelude.{Result, Ok, Err, IfOk, IfSome, OnErr}
+use Rattle.std.specs.Io.KnownBytes.{Consumes}
+use Rattle.std.specs.List.{All, flat_map}
 use Rattle.std.proofs.lemmas.List.{append-nil, map-append}
+use Rattle.std.proofs.lemmas.List.Elements.{All-append, All-cons, All-nil}
 use Rattle.std.proofs.lemmas.Grind.{flat_map-append}
 use Rattle.audit_model.specs.declared.event.Outcome.{Outcome}
 use Rattle.audit_model.specs.declared.input.Conn.{Conn}
@@ -12,10 +13,10 @@ use Rattle.audit_model.specs.declared.input.Input.TheVariants as input
 use Rattle.audit_receipts.specs.declared.output.Output.{Output}
 use Rattle.audit_receipts.specs.declared.output.Output.TheVariants.{Opened}
 use Rattle.audit_receipts.specs.declared.receipt.Receipt.{Receipt}
-use Rattle.cache_run.proofs.Carrying.{askings_more, consumes_more, consumes_none, readings_more, same_consumes}
+use Rattle.cache_run.proofs.Carrying.{askings_more, consumes_more, readings_more, same_consumes}
 use Rattle.cache_run.specs.Carried.{Askings, Readings}
 use Rattle.cache_run.specs.Happened.{Asking}
-use Rattle.cache_serve.specs.Asked.{Asks, AsksOrNot, Attends, AttendsOrNot, Deed, Drops, Feeds, FeedsMost, Grows, HasAsked, HasAskedMost, Idles, Opens, Piece, Settles, Settling, answer_of, asking_of, asks_of, bytes_of, closing_inputs, feed_of, give_up_of, inputs_of, moment_of, settling_inputs}
+use Rattle.cache_serve.specs.Asked.{Asks, AsksOrNot, Attends, Deed, Drops, Feeds, FeedsMost, Grows, HasAsked, HasAskedMost, Idles, IsGivenUpFor, IsOfLoad, Opens, Settles, SettlesSo, Settling, answer_of, asking_of, asks_of, bytes_of, closing_inputs, feed_of, give_up_of, inputs_of, moment_of, number_of, settling_inputs, settlings_of}
 use Rattle.cache_serve.specs.Asked.{Fed, Settled, Answered, Dropped, GivenUp}
 use Rattle.cache_shared.specs.Seats.{Gains, SameReceipts, receipt_for, receipts_at}
 use Rattle.cache_spaces.specs.Recorded.{namespace_of}
@@ -103,40 +104,51 @@ module _ {D : Type 0} (loads : D → List ℕ → Option Outcome → D → Type 
 
 -- ---- loads
 
--- an answer was taken, or dropped
-pub settles-answer : (n moment number : ℕ) (a b : Lists) (key : List ℕ) (outcome : Outcome) → AsksOrNot n a b (answer_of n moment number outcome) → Settles n a b moment (record { key = key; answer = Some outcome })
-settles-answer n moment number a b key outcome (inl none) = record { settling = Dropped (record { key = key; answer = Some outcome }); of = refl; asks = none }
-settles-answer n moment number a b key outcome (inr asks) = record { settling = Answered number key outcome; of = refl; asks = asks }
+module _ (Unfit : ℕ → Outcome → Type 0) (n moment number : ℕ) (a b : Lists) where
+  -- an answer was taken, or dropped
+  pub settles-answer : (key : List ℕ) (outcome : Outcome) → AsksOrNot n a b (answer_of n moment number outcome) → SettlesSo n a b Unfit moment number (record { key = key; answer = Some outcome })
+  settles-answer key outcome (inl none) = (record { settling = Dropped number (record { key = key; answer = Some outcome }); of = refl; numbered = refl; asks = none }, tt)
+  settles-answer key outcome (inr asks) = (record { settling = Answered number key outcome; of = refl; numbered = refl; asks = asks }, tt)
+
+  -- a give-up was taken, or dropped, where nothing was said, or what the service refuses
+  pub settles-give-up : (asking : Asking) → IfSome asking.answer (Unfit n) → AsksOrNot n a b (give_up_of n moment number) → SettlesSo n a b Unfit moment number asking
+  settles-give-up asking unfit (inl none) = (record { settling = Dropped number asking; of = refl; numbered = refl; asks = none }, tt)
+  settles-give-up asking unfit (inr asks) = (record { settling = GivenUp number asking; of = refl; numbered = refl; asks = asks }, unfit)
+
+  -- the loader said so
+  pub settles-said : (key : List ℕ) (said answer : Option Outcome) → said ≡ answer → SettlesSo n a b Unfit moment number (record { key = key; answer = answer }) → SettlesSo n a b Unfit moment number (record { key = key; answer = said })
+  settles-said key said answer is s = subst (λ (o : Option Outcome). SettlesSo n a b Unfit moment number (record { key = key; answer = o })) (sym is) s
 
 -- a give-up was taken, or dropped
-pub settles-give-up : (n moment number : ℕ) (a b : Lists) (asking : Asking) → AsksOrNot n a b (give_up_of n moment number) → Settles n a b moment asking
-settles-give-up n moment number a b asking (inl none) = record { settling = Dropped asking; of = refl; asks = none }
-settles-give-up n moment number a b asking (inr asks) = record { settling = GivenUp number asking; of = refl; asks = asks }
+pub settles-dropped : (n moment number : ℕ) (a b : Lists) (asking : Asking) → AsksOrNot n a b (give_up_of n moment number) → Settles n a b moment number asking
+settles-dropped n moment number a b asking (inl none) = record { settling = Dropped number asking; of = refl; numbered = refl; asks = none }
+settles-dropped n moment number a b asking (inr asks) = record { settling = GivenUp number asking; of = refl; numbered = refl; asks = asks }
 
--- the loader said so
-pub settles-said : (n moment : ℕ) (a b : Lists) (key : List ℕ) (said answer : Option Outcome) → said ≡ answer → Settles n a b moment (record { key = key; answer = answer }) → Settles n a b moment (record { key = key; answer = said })
-settles-said n moment a b key said answer is s = record { settling = s.settling; of = s.of ∙ ap (λ (o : Option Outcome). record { key = key; answer = o }) (sym is); asks = s.asks }
+-- its load had gone out, and has that key
+of-load : (WentOut : ℕ → ℕ → List ℕ → Type 0) (n moment number : ℕ) (a b : Lists) (key : List ℕ) (answer : Option Outcome) (s : Settles n a b moment number (record { key = key; answer = answer })) → WentOut n number key → IsOfLoad WentOut n s.settling
+of-load WentOut n moment number a b key answer s out = subst (λ (asking : Asking). WentOut n (number_of s.settling) asking.key) (sym s.of) (subst (λ m. WentOut n m key) (sym s.numbered) out)
 
 -- so it is behind what asked nothing
 pub behind-none : (n : ℕ) (a b c : Lists) (i : Input) → SameReceipts a b → AsksOrNot n b c i → AsksOrNot n a c i
 behind-none n a b c i same (inl none) = inl (asks-more n a b c [] [] (asks-none n a b same) none)
 behind-none n a b c i same (inr asks) = inr (asks-more n a b c [] (i ∷ []) (asks-none n a b same) asks)
 
-module _ {D : Type 0} (loads : D → List ℕ → Option Outcome → D → Type 0) (n : ℕ) where
-  pub drops-none : (a b : Lists) (d : D) → SameReceipts a b → Drops n a b loads d d []
-  drops-none a b d same = record { asks = asks-none n a b same; loaded = refl }
+module _ {D : Type 0} (WentOut : ℕ → ℕ → List ℕ → Type 0) (loads : D → List ℕ → Option Outcome → D → Type 0) (n : ℕ) where
+  pub drops-none : (a b : Lists) (d : D) → SameReceipts a b → Drops n a b WentOut loads d d []
+  drops-none a b d same = record { asks = asks-none n a b same; loaded = refl; out = All-nil (IsOfLoad WentOut n) }
 
-  pub drops-one : (a b : Lists) (d e : D) (key : List ℕ) (answer : Option Outcome) → loads d key answer e → Settles n a b 0 (record { key = key; answer = answer })
-      → (drops : List Settling) × Drops n a b loads d e drops
-  drops-one a b d e key answer h s = (
+  pub drops-one : (a b : Lists) (d e : D) (number : ℕ) (key : List ℕ) (answer : Option Outcome) → WentOut n number key → loads d key answer e → Settles n a b 0 number (record { key = key; answer = answer })
+      → (drops : List Settling) × Drops n a b WentOut loads d e drops
+  drops-one a b d e number key answer out h s = (
     s.settling ∷ [],
     record {
       asks = subst (Asks n a b) (sym (append-nil (settling_inputs n 0 s.settling))) s.asks;
       loaded = (e, subst (λ (k : Asking). loads d k.key k.answer e) (sym s.of) h, refl);
+      out = All-cons (IsOfLoad WentOut n) s.settling [] (of-load WentOut n 0 number a b key answer s out) (All-nil (IsOfLoad WentOut n));
     },
   )
 
-  pub drops-more : (a b c : Lists) (d e f : D) → (drops : List Settling) × Drops n a b loads d e drops → (drops : List Settling) × Drops n b c loads e f drops → (drops : List Settling) × Drops n a c loads d f drops
+  pub drops-more : (a b c : Lists) (d e f : D) → (drops : List Settling) × Drops n a b WentOut loads d e drops → (drops : List Settling) × Drops n b c WentOut loads e f drops → (drops : List Settling) × Drops n a c WentOut loads d f drops
   drops-more a b c d e f p q =
       let xs = p.0 in
       let ys = q.0 in (
@@ -144,57 +156,68 @@ module _ {D : Type 0} (loads : D → List ℕ → Option Outcome → D → Type 
         record {
           asks = subst (Asks n a c) (sym (flat_map-append (settling_inputs n 0) xs ys)) (asks-more n a b c (flat_map (settling_inputs n 0) xs) (flat_map (settling_inputs n 0) ys) p.1.asks q.1.asks);
           loaded = subst (λ ks. Askings loads d ks f) (sym (map-append asking_of xs ys)) (askings_more loads d (map asking_of xs) e (map asking_of ys) f p.1.loaded q.1.loaded);
+          out = All-append (IsOfLoad WentOut n) xs ys p.1.out q.1.out;
         },
       )
 
 -- ---- pieces and loads
 
-module _ {K D : Type 0} (reads : K → ℕ → K → Type 0) (loads : D → List ℕ → Option Outcome → D → Type 0) (conn : Conn) where
-  -- nothing was done
-  pub feeds-none : (a b : Lists) (r q : Option (List ℕ)) (k : K) (d : D) → SameReceipts a b → Consumes r q [] → Feeds reads loads a b r q k k d d conn [] []
-  feeds-none a b r q k d same read = record { deeds = []; asks = asks-none conn.namespace a b same; read = read; told = refl; loaded = refl }
+module _ {K D : Type 0} (WentOut : ℕ → ℕ → List ℕ → Type 0) (Unfit : ℕ → Outcome → Type 0) (reads : K → ℕ → K → Type 0) (loads : D → List ℕ → Option Outcome → D → Type 0) (conn : Conn) where
+  none-settled : All (IsOfLoad WentOut conn.namespace) []
+  none-settled = All-nil (IsOfLoad WentOut conn.namespace)
 
-  pub most-none : (a b : Lists) (r q : Option (List ℕ)) (k : K) (d : D) → SameReceipts a b → Consumes r q [] → FeedsMost reads loads a b r q k k d d conn
+  none-given-up : All (IsGivenUpFor Unfit conn.namespace) []
+  none-given-up = All-nil (IsGivenUpFor Unfit conn.namespace)
+
+  -- nothing was done
+  pub feeds-none : (a b : Lists) (r q : Option (List ℕ)) (k : K) (d : D) → SameReceipts a b → Consumes r q [] → Feeds WentOut Unfit reads loads a b r q k k d d conn [] []
+  feeds-none a b r q k d same read = record { deeds = []; asks = asks-none conn.namespace a b same; read = read; told = refl; loaded = refl; out = none-settled; fit = none-given-up }
+
+  pub most-none : (a b : Lists) (r q : Option (List ℕ)) (k : K) (d : D) → SameReceipts a b → Consumes r q [] → FeedsMost WentOut Unfit reads loads a b r q k k d d conn
   most-none a b r q k d same read = record { lost = []; late = []; feeds = feeds-none a b r q k d same read; few = omega arith }
 
   -- one piece was fed
   pub feeds-one : (a b : Lists) (r q : Option (List ℕ)) (k l : K) (d : D) (bytes : List ℕ) (moment : ℕ) → Asks conn.namespace a b (feed_of conn (record { bytes = bytes; moment = moment }) ∷ []) → Consumes r q bytes → reads k moment l
-      → Feeds reads loads a b r q k l d d conn [] []
+      → Feeds WentOut Unfit reads loads a b r q k l d d conn [] []
   feeds-one a b r q k l d bytes moment asks read told = record {
     deeds = Fed (record { bytes = bytes; moment = moment }) ∷ [];
     asks = asks;
     read = subst (Consumes r q) (sym (append-nil (bytes ++ []) ∙ append-nil bytes)) read;
     told = (l, told, refl);
     loaded = refl;
+    out = none-settled;
+    fit = none-given-up;
   }
 
   -- one load was settled
-  pub feeds-settled : (n : ℕ) → conn.namespace ≡ n → (a b : Lists) (r : Option (List ℕ)) (k l : K) (d e : D) (moment : ℕ) (key : List ℕ) (answer : Option Outcome) → Settles n a b moment (record { key = key; answer = answer }) → reads k moment l → loads d key answer e
-      → Feeds reads loads a b r r k l d e conn [] []
-  feeds-settled n here a b r k l d e moment key answer s told h = record {
-    deeds = Settled s.settling moment ∷ [];
-    asks = subst (Asks conn.namespace a b) (sym (append-nil (settling_inputs conn.namespace moment s.settling))) (subst (λ m. Asks m a b (settling_inputs m moment s.settling)) (sym here) s.asks);
+  pub feeds-settled : (n : ℕ) → conn.namespace ≡ n → (a b : Lists) (r : Option (List ℕ)) (k l : K) (d e : D) (moment number : ℕ) (key : List ℕ) (answer : Option Outcome) → WentOut n number key → SettlesSo n a b Unfit moment number (record { key = key; answer = answer }) → reads k moment l → loads d key answer e
+      → Feeds WentOut Unfit reads loads a b r r k l d e conn [] []
+  feeds-settled n here a b r k l d e moment number key answer out s told h = record {
+    deeds = Settled s.0.settling moment ∷ [];
+    asks = subst (Asks conn.namespace a b) (sym (append-nil (settling_inputs conn.namespace moment s.0.settling))) (subst (λ m. Asks m a b (settling_inputs m moment s.0.settling)) (sym here) s.0.asks);
     read = same_consumes r;
     told = (l, told, refl);
-    loaded = (e, subst (λ (x : Asking). loads d x.key x.answer e) (sym s.of) h, refl);
+    loaded = (e, subst (λ (x : Asking). loads d x.key x.answer e) (sym s.0.of) h, refl);
+    out = subst (λ m. All (IsOfLoad WentOut m) (s.0.settling ∷ [])) (sym here) (All-cons (IsOfLoad WentOut n) s.0.settling [] (of-load WentOut n moment number a b key answer s.0 out) (All-nil (IsOfLoad WentOut n)));
+    fit = subst (λ m. All (IsGivenUpFor Unfit m) (s.0.settling ∷ [])) (sym here) (All-cons (IsGivenUpFor Unfit n) s.0.settling [] s.1 (All-nil (IsGivenUpFor Unfit n)));
   }
 
-  pub most-so : (a b : Lists) (r q : Option (List ℕ)) (k l : K) (d e : D) → Feeds reads loads a b r q k l d e conn [] [] → FeedsMost reads loads a b r q k l d e conn
+  pub most-so : (a b : Lists) (r q : Option (List ℕ)) (k l : K) (d e : D) → Feeds WentOut Unfit reads loads a b r q k l d e conn [] [] → FeedsMost WentOut Unfit reads loads a b r q k l d e conn
   most-so a b r q k l d e f = record { lost = []; late = []; feeds = f; few = omega arith }
 
   -- one piece was fed, or refused
   pub most-one : (a b : Lists) (r q : Option (List ℕ)) (k l : K) (d : D) (bytes : List ℕ) (moment : ℕ) → AsksOrNot conn.namespace a b (feed_of conn (record { bytes = bytes; moment = moment })) → Consumes r q bytes → reads k moment l
-      → FeedsMost reads loads a b r q k l d d conn
+      → FeedsMost WentOut Unfit reads loads a b r q k l d d conn
   most-one a b r q k l d bytes moment (inl none) read told = record {
     lost = bytes;
     late = moment ∷ [];
-    feeds = record { deeds = []; asks = none; read = read; told = (l, told, refl); loaded = refl };
+    feeds = record { deeds = []; asks = none; read = read; told = (l, told, refl); loaded = refl; out = none-settled; fit = none-given-up };
     few = omega arith;
   }
   most-one a b r q k l d bytes moment (inr asks) read told = most-so a b r q k l d d (feeds-one a b r q k l d bytes moment asks read told)
 
   -- one after another
-  pub feeds-more : (a b c : Lists) (r q s : Option (List ℕ)) (k l m : K) (d e f : D) (lost late : List ℕ) → Feeds reads loads a b r q k l d e conn [] [] → Feeds reads loads b c q s l m e f conn lost late → Feeds reads loads a c r s k m d f conn lost late
+  pub feeds-more : (a b c : Lists) (r q s : Option (List ℕ)) (k l m : K) (d e f : D) (lost late : List ℕ) → Feeds WentOut Unfit reads loads a b r q k l d e conn [] [] → Feeds WentOut Unfit reads loads b c q s l m e f conn lost late → Feeds WentOut Unfit reads loads a c r s k m d f conn lost late
   feeds-more a b c r q s k l m d e f lost late x y =
       let xs = x.deeds in
       let ys = y.deeds in
@@ -210,16 +233,22 @@ module _ {K D : Type 0} (reads : K → ℕ → K → Type 0) (loads : D → List
         read = subst (Consumes r s) read (consumes_more r q s (bytes xs ++ []) (bytes ys ++ lost) x.read y.read);
         told = subst (λ ts. Readings reads k ts m) times (readings_more reads k (moments xs ++ []) l (moments ys ++ late) m x.told y.told);
         loaded = subst (λ ks. Askings loads d ks f) (sym (flat_map-append asks_of xs ys)) (askings_more loads d (flat_map asks_of xs) e (flat_map asks_of ys) f x.loaded y.loaded);
+        out =
+            subst (All (IsOfLoad WentOut conn.namespace)) (sym (flat_map-append settlings_of xs ys))
+            (All-append (IsOfLoad WentOut conn.namespace) (flat_map settlings_of xs) (flat_map settlings_of ys) x.out y.out);
+        fit =
+            subst (All (IsGivenUpFor Unfit conn.namespace)) (sym (flat_map-append settlings_of xs ys))
+            (All-append (IsGivenUpFor Unfit conn.namespace) (flat_map settlings_of xs) (flat_map settlings_of ys) x.fit y.fit);
       }
 
-  pub most-more : (a b c : Lists) (r q s : Option (List ℕ)) (k l m : K) (d e f : D) → Feeds reads loads a b r q k l d e conn [] [] → FeedsMost reads loads b c q s l m e f conn → FeedsMost reads loads a c r s k m d f conn
+  pub most-more : (a b c : Lists) (r q s : Option (List ℕ)) (k l m : K) (d e f : D) → Feeds WentOut Unfit reads loads a b r q k l d e conn [] [] → FeedsMost WentOut Unfit reads loads b c q s l m e f conn → FeedsMost WentOut Unfit reads loads a c r s k m d f conn
   most-more a b c r q s k l m d e f x y = record { lost = y.lost; late = y.late; feeds = feeds-more a b c r q s k l m d e f y.lost y.late x y.feeds; few = y.few }
 
   -- opened, fed, and closed or not, with loads behind it
-  pub attends : (n : ℕ) (a b c z o : Lists) (r q : Option (List ℕ)) (k l : K) (d e f : D) (drops : List Settling) → conn.namespace ≡ n → Opens n a b conn → FeedsMost reads loads b c r q k l d e conn → AsksOrNot conn.namespace c z (input.Close conn) → Drops n z o loads e f drops → Attends reads loads a o r q k l d f n conn drops
+  pub attends : (n : ℕ) (a b c z o : Lists) (r q : Option (List ℕ)) (k l : K) (d e f : D) (drops : List Settling) → conn.namespace ≡ n → Opens n a b conn → FeedsMost WentOut Unfit reads loads b c r q k l d e conn → AsksOrNot conn.namespace c z (input.Close conn) → Drops n z o WentOut loads e f drops → Attends WentOut Unfit reads loads a o r q k l d f n conn drops
   attends n a b c z o r q k l d e f drops here p x y w = go y
     where
-      whole : (closes : Bool) → Asks conn.namespace c z (closing_inputs conn closes) → Attends reads loads a o r q k l d f n conn drops
+      whole : (closes : Bool) → Asks conn.namespace c z (closing_inputs conn closes) → Attends WentOut Unfit reads loads a o r q k l d f n conn drops
       whole closes v =
           let done = flat_map (inputs_of conn) x.feeds.deeds in
           let last = flat_map (settling_inputs n 0) drops in
@@ -240,11 +269,13 @@ module _ {K D : Type 0} (reads : K → ℕ → K → Type 0) (loads : D → List
             told = x.feeds.told;
             few = x.few;
             loaded = askings_more loads d (flat_map asks_of x.feeds.deeds) e (map asking_of drops) f x.feeds.loaded w.loaded;
+            out = All-append (IsOfLoad WentOut n) (flat_map settlings_of x.feeds.deeds) drops (subst (λ m. All (IsOfLoad WentOut m) (flat_map settlings_of x.feeds.deeds)) here x.feeds.out) w.out;
+            fit = subst (λ m. All (IsGivenUpFor Unfit m) (flat_map settlings_of x.feeds.deeds)) here x.feeds.fit;
           }
 
-      go : AsksOrNot conn.namespace c z (input.Close conn) → Attends reads loads a o r q k l d f n conn drops
+      go : AsksOrNot conn.namespace c z (input.Close conn) → Attends WentOut Unfit reads loads a o r q k l d f n conn drops
       go (inl none) = whole false none
       go (inr asks) = whole true asks
 
-pub idles : {K D : Type 0} (reads : K → ℕ → K → Type 0) (loads : D → List ℕ → Option Outcome → D → Type 0) (a b : Lists) (r : Option (List ℕ)) (k : K) (d : D) → SameReceipts a b → Idles reads loads a b r r k k d d
-idles reads loads a b r k d same = record { same = same; unread = refl; untold = refl; unasked = refl }
+pub idles : {K D : Type 0} (WentOut : ℕ → ℕ → List ℕ → Type 0) (Unfit : ℕ → Outcome → Type 0) (reads : K → ℕ → K → Type 0) (loads : D → List ℕ → Option Outcome → D → Type 0) (a b : Lists) (r : Option (List ℕ)) (k : K) (d : D) → SameReceipts a b → Idles WentOut Unfit reads loads a b r r k k d d
+idles WentOut Unfit reads loads a b r k d same = record { same = same; unread = refl; untold = refl; unasked = refl }

@@ -1,3 +1,6 @@
 mod Asking
+mod Full
+mod Outgoing
+mod Refusing
 mod Writing
 mod Next

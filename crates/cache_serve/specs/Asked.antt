@@ -1,7 +1,7 @@
 -- What a seat asks of a shared service for one connection, and what its loader is asked.
-use Rattle.std.specs.Prelude.{◌≡◌, ◌≢◌, ℕ, ◌+◌, ◌≤◌, Bool, List, [], ◌∷◌, ◌++◌, length, map, Option, Some, Vec, ◌⊎◌, if◌then◌else◌}
+use Rattle.std.specs.Prelude.{◌≡◌, ◌≢◌, ℕ, ◌+◌, ◌≤◌, Bool, List, [], ◌∷◌, ◌++◌, length, map, Option, Some, Vec, ◌⊎◌, IfSome, if◌then◌else◌}
 use Rattle.std.specs.Io.KnownBytes.{Consumes}
-use Rattle.std.specs.List.{flat_map}
+use Rattle.std.specs.List.{All, flat_map}
 use Rattle.std.specs.declared.alloc.Global.{Global}
 use Rattle.audit_model.specs.declared.event.Outcome.{Outcome}
 use Rattle.audit_model.specs.declared.input.Conn.{Conn}
@@ -19,12 +19,12 @@ pub record Piece : Type 0 where
   pub bytes : List ℕ
   pub moment : ℕ
 
--- A loader was asked for a load. The load was answered with what the loader said, or given up; or nothing was asked of the service, or it
--- refused.
+-- A loader was asked for the load of that number. The load was answered with what the loader said, or given up; or nothing was asked of the
+-- service, or it refused.
 pub data Settling : Type 0 where
   Answered : (number : ℕ) → (key : List ℕ) → (outcome : Outcome) → Settling
   GivenUp : (number : ℕ) → (asking : Asking) → Settling
-  Dropped : (asking : Asking) → Settling
+  Dropped : (number : ℕ) → (asking : Asking) → Settling
 
 -- a piece was fed, or a load was settled when the clock told that moment
 pub data Deed : Type 0 where
@@ -48,13 +48,29 @@ give_up_of namespace moment number = input.GiveUp (load_in namespace number) (re
 abbrev pub asking_of : Settling → Asking
 asking_of (Answered number key outcome) = record { key = key; answer = Some outcome }
 asking_of (GivenUp number asking) = asking
-asking_of (Dropped asking) = asking
+asking_of (Dropped number asking) = asking
+
+-- the load for which the loader was asked
+abbrev pub number_of : Settling → ℕ
+number_of (Answered number key outcome) = number
+number_of (GivenUp number asking) = number
+number_of (Dropped number asking) = number
+
+-- it is of a load of that namespace that had gone out, and the loader was asked by the key of that load
+abbrev pub IsOfLoad : (ℕ → ℕ → List ℕ → Type 0) → ℕ → Settling → Type 0
+IsOfLoad WentOut namespace settling = WentOut namespace (number_of settling) (asking_of settling).key
+
+-- it is given up only where the loader said nothing, or what it said is refused for its bytes or its time
+abbrev pub IsGivenUpFor : (ℕ → Outcome → Type 0) → ℕ → Settling → Type 0
+IsGivenUpFor Unfit namespace (Answered number key outcome) = Unit {0}
+IsGivenUpFor Unfit namespace (GivenUp number asking) = IfSome asking.answer (Unfit namespace)
+IsGivenUpFor Unfit namespace (Dropped number asking) = Unit {0}
 
 -- what is asked of the service at a moment for a load of a namespace
 abbrev pub settling_inputs : ℕ → ℕ → Settling → List Input
 settling_inputs namespace moment (Answered number key outcome) = answer_of namespace moment number outcome ∷ []
 settling_inputs namespace moment (GivenUp number asking) = give_up_of namespace moment number ∷ []
-settling_inputs namespace moment (Dropped asking) = []
+settling_inputs namespace moment (Dropped number asking) = []
 
 -- the bytes that were read for it
 abbrev pub bytes_of : Deed → List ℕ
@@ -70,6 +86,11 @@ moment_of (Settled settling moment) = moment
 abbrev pub asks_of : Deed → List Asking
 asks_of (Fed piece) = []
 asks_of (Settled settling moment) = asking_of settling ∷ []
+
+-- the load that was settled
+abbrev pub settlings_of : Deed → List Settling
+settlings_of (Fed piece) = []
+settlings_of (Settled settling moment) = settling ∷ []
 
 -- what was asked of the service
 abbrev pub inputs_of : Conn → Deed → List Input
@@ -113,26 +134,35 @@ module _ (namespace : ℕ) (before after : List (Vec Receipt Global)) where
     pub opened : first.output ≡ Opened conn
     pub grows : Grows (first ∷ [])
 
-  -- by what is asked at that moment for a load for which the loader was asked so
-  pub record Settles (moment : ℕ) (asking : Asking) : Type 0 where
+  -- by what is asked at that moment for the load of that number, for which the loader was asked so
+  pub record Settles (moment number : ℕ) (asking : Asking) : Type 0 where
     pub settling : Settling
     pub of : asking_of settling ≡ asking
+    pub numbered : number_of settling ≡ number
     pub asks : Asks (settling_inputs namespace moment settling)
 
-  -- A loader was asked for loads, one after another; they were settled at moment 0, which counts as the latest.
-  pub record Drops {D : Type 0} (loads : D → List ℕ → Option Outcome → D → Type 0) (d e : D) (drops : List Settling) : Type 0 where
+  -- so it is, and it is given up only where it may be
+  abbrev pub SettlesSo : (ℕ → Outcome → Type 0) → ℕ → ℕ → Asking → Type 0
+  SettlesSo Unfit moment number asking = (settles : Settles moment number asking) × IsGivenUpFor Unfit namespace settles.settling
+
+  -- A loader was asked for loads that had gone out, one after another, by their keys; they were settled at moment 0, which counts as the
+  -- latest.
+  pub record Drops {D : Type 0} (WentOut : ℕ → ℕ → List ℕ → Type 0) (loads : D → List ℕ → Option Outcome → D → Type 0) (d e : D) (drops : List Settling) : Type 0 where
     pub asks : Asks (flat_map (settling_inputs namespace 0) drops)
     pub loaded : Askings loads d (map asking_of drops) e
+    pub out : All (IsOfLoad WentOut namespace) drops
 
-module _ {K D : Type 0} (reads : K → ℕ → K → Type 0) (loads : D → List ℕ → Option Outcome → D → Type 0) (before after : List (Vec Receipt Global)) (remaining later : Option (List ℕ)) (k l : K) (d e : D) where
-  -- A connection was fed, and loads of its namespace were settled. The pieces, and then lost, were read, the clock told the moments, and then
-  -- late, and the loader was asked for the keys.
+module _ {K D : Type 0} (WentOut : ℕ → ℕ → List ℕ → Type 0) (Unfit : ℕ → Outcome → Type 0) (reads : K → ℕ → K → Type 0) (loads : D → List ℕ → Option Outcome → D → Type 0) (before after : List (Vec Receipt Global)) (remaining later : Option (List ℕ)) (k l : K) (d e : D) where
+  -- A connection was fed, and loads of its namespace that had gone out were settled. The pieces, and then lost, were read, the clock told the
+  -- moments, and then late, and the loader was asked by the keys of the loads.
   pub record Feeds (conn : Conn) (lost late : List ℕ) : Type 0 where
     pub deeds : List Deed
     pub asks : Asks conn.namespace before after (flat_map (inputs_of conn) deeds)
     pub read : Consumes remaining later (flat_map bytes_of deeds ++ lost)
     pub told : Readings reads k (map moment_of deeds ++ late) l
     pub loaded : Askings loads d (flat_map asks_of deeds) e
+    pub out : All (IsOfLoad WentOut conn.namespace) (flat_map settlings_of deeds)
+    pub fit : All (IsGivenUpFor Unfit conn.namespace) (flat_map settlings_of deeds)
 
   -- so it was, but perhaps for a last piece, which was refused
   pub record FeedsMost (conn : Conn) : Type 0 where
@@ -142,7 +172,8 @@ module _ {K D : Type 0} (reads : K → ℕ → K → Type 0) (loads : D → List
     pub few : length late ≤ 1
 
   -- A connection of that namespace was opened, fed with what was read but perhaps for a last piece, and closed or not. Between its pieces
-  -- loads of the namespace were settled, and those of drops behind the closing. Nothing else was asked.
+  -- loads of the namespace were settled, and those of drops behind the closing. Each of them had gone out, and the loader was asked by its
+  -- key. One between the pieces is given up only where it may be. Nothing else was asked.
   pub record Attends (namespace : ℕ) (conn : Conn) (drops : List Settling) : Type 0 where
     pub first : Receipt
     pub opening : first.input ≡ input.Open namespace
@@ -158,6 +189,8 @@ module _ {K D : Type 0} (reads : K → ℕ → K → Type 0) (loads : D → List
     pub told : Readings reads k (map moment_of deeds ++ late) l
     pub few : length late ≤ 1
     pub loaded : Askings loads d (flat_map asks_of deeds ++ map asking_of drops) e
+    pub out : All (IsOfLoad WentOut namespace) (flat_map settlings_of deeds ++ drops)
+    pub fit : All (IsGivenUpFor Unfit namespace) (flat_map settlings_of deeds)
 
   -- nothing was asked, read or told
   pub record Idles : Type 0 where

@@ -1,2 +1,5 @@
+pub mod Out
+pub mod Unfit
 pub mod Asked
+pub mod Full
 pub mod Written

@@ -1,10 +1,13 @@
 //! The loads of a connection's namespace, asked of its loader.
-ghost use Rattle.std.specs.Prelude.{◌≡◌, ◌≢◌, ◌≤◌, ◌+◌, ◌^◌, ℕ, List, Option, [], true, false, Ok, IfErr, OnOk, OnErr, IsErrOf};
+ghost use Rattle.std.specs.Prelude.{◌≡◌, ◌≢◌, ◌⊎◌, ◌≤◌, ◌+◌, ◌^◌, ℕ, List, Option, [], true, false, Ok, IfErr, OnOk, OnErr, IsErrOf};
 ghost use Rattle.audit_model.specs.declared.input.Input.TheVariants as asked;
 ghost use Rattle.cache_devices.specs.Failures.{HasFailed};
 ghost use Rattle.cache_devices.specs.Watched.{device, failures};
 ghost use Rattle.cache_run.specs.Turns.{HasToldLate};
-ghost use Rattle.cache_serve.specs.Asked.{AsksOrNot, Drops, Feeds, FeedsMost, HasAsked, HasAskedMost, Settles, Settling, answer_of, give_up_of};
+ghost use Rattle.cache_serve.specs.Asked.{AsksOrNot, Drops, Feeds, FeedsMost, HasAsked, HasAskedMost, SettlesSo, Settling, answer_of, give_up_of};
+ghost use Rattle.cache_serve.specs.Full.{HasUsedUp};
+ghost use Rattle.cache_serve.specs.Out.{AreOut, HadGoneOut};
+ghost use Rattle.cache_serve.specs.Unfit.{IsUnfit};
 ghost use Rattle.cache_serve.specs.Written.{Answers, Breaks};
 ghost use Rattle.cache_shared.specs.Seats.{SameReceipts};
 ghost use Rattle.cache_shared.specs.Untaken.{WereUntaken};
@@ -32,12 +35,13 @@ fn give_up<L: Seating, C: Takings>(
     ensures one { seat.new.count ≤ seat.old.count + 1 }
     ensures count { seat.old.count ≤ seat.new.count }
     ensures moment { IsErrOf result RunError.Moment → 2 ^ 63 ≤ moment }
+    ensures used_up { IsErrOf result RunError.UsedUp → HasUsedUp C.events seat.old.count seat.new.count }
     ensures causes { IfErr result (λ e. (e ≢ RunError.Read) × (e ≢ RunError.Write)) }
     ensures asked { C.KEEPS ≡ true → AsksOrNot load.namespace seat.old.receipts.items seat.new.receipts.items (give_up_of load.namespace moment load.number) }
     ensures kept { OnErr result (seat.new.count ≡ seat.old.count) }
     ensures same { C.KEEPS ≡ true → OnErr result (SameReceipts seat.old.receipts.items seat.new.receipts.items) }
 {
-    for _try in 0..u64::MAX {
+    for _try in rt.forever() {
         match shared.step(
             rt,
             seat,
@@ -55,7 +59,7 @@ fn give_up<L: Seating, C: Takings>(
             },
         }
     }
-    Err(RunError::UsedUp)
+    unreachable!()
 }
 
 /// Answers a load, in one hold of the lock. Answers whether it is settled: it is not where the outcome is refused for its bytes or its
@@ -72,9 +76,11 @@ fn answer<L: Seating, C: Takings>(
     ensures count { seat.old.count ≤ seat.new.count }
     ensures left { result ≡ Ok false → seat.new.count ≡ seat.old.count }
     ensures moment { IsErrOf result RunError.Moment → 2 ^ 63 ≤ moment }
+    ensures used_up { IsErrOf result RunError.UsedUp → HasUsedUp C.events seat.old.count seat.new.count }
     ensures causes { IfErr result (λ e. (e ≢ RunError.Read) × (e ≢ RunError.Write)) }
     ensures asked { C.KEEPS ≡ true → AsksOrNot load.namespace seat.old.receipts.items seat.new.receipts.items (answer_of load.namespace moment load.number outcome) }
     ensures refused { result ≡ Ok false → SameReceipts seat.old.receipts.items seat.new.receipts.items }
+    ensures unfit { result ≡ Ok false → IsUnfit C.service C.events load.namespace outcome }
     ensures kept { OnErr result (seat.new.count ≡ seat.old.count) }
     ensures same { C.KEEPS ≡ true → OnErr result (SameReceipts seat.old.receipts.items seat.new.receipts.items) }
 {
@@ -113,8 +119,9 @@ fn settle<L: Seating, C: Takings>(
     ensures one { seat.new.count ≤ seat.old.count + 1 }
     ensures count { seat.old.count ≤ seat.new.count }
     ensures moment { IsErrOf result RunError.Moment → 2 ^ 63 ≤ moment }
+    ensures used_up { IsErrOf result RunError.UsedUp → HasUsedUp C.events seat.old.count seat.new.count }
     ensures causes { IfErr result (λ e. (e ≢ RunError.Read) × (e ≢ RunError.Write)) }
-    ensures asked { C.KEEPS ≡ true → (key : List ℕ) → Settles load.namespace seat.old.receipts.items seat.new.receipts.items moment (record { key = key; answer = said }) }
+    ensures asked { C.KEEPS ≡ true → (key : List ℕ) → SettlesSo load.namespace seat.old.receipts.items seat.new.receipts.items (IsUnfit C.service C.events) moment load.number (record { key = key; answer = said }) }
     ensures kept { OnErr result (seat.new.count ≡ seat.old.count) }
     ensures same { C.KEEPS ≡ true → OnErr result (SameReceipts seat.old.receipts.items seat.new.receipts.items) }
 {
@@ -138,12 +145,14 @@ fn ask<L: Seating, C: Takings, K: Clock, D: Loader>(
     clock: &mut K,
     loader: &mut D,
 ) -> Result<(), RunError>
+    requires out { HadGoneOut C.service C.events load.namespace load.number key.now }
     ensures one { seat.new.count ≤ seat.old.count + 1 }
     ensures count { seat.old.count ≤ seat.new.count }
     ensures moment { IsErrOf result RunError.Moment → HasToldLate K.reads clock.new }
+    ensures used_up { IsErrOf result RunError.UsedUp → HasUsedUp C.events seat.old.count seat.new.count }
     ensures causes { IfErr result (λ e. (e ≢ RunError.Read) × (e ≢ RunError.Write)) }
     ensures loader { HasAsked D.loads loader.old loader.new }
-    ensures asked { C.KEEPS ≡ true → (conn : Conn) → conn.namespace ≡ load.namespace → (read : Option (List ℕ)) → Feeds K.reads D.loads seat.old.receipts.items seat.new.receipts.items read read clock.old clock.new loader.old loader.new conn [] [] }
+    ensures asked { C.KEEPS ≡ true → (conn : Conn) → conn.namespace ≡ load.namespace → (read : Option (List ℕ)) → Feeds (HadGoneOut C.service C.events) (IsUnfit C.service C.events) K.reads D.loads seat.old.receipts.items seat.new.receipts.items read read clock.old clock.new loader.old loader.new conn [] [] }
 {
     let said = loader.load(key);
     let moment = clock.now();
@@ -161,12 +170,15 @@ fn settle_last<L: Seating, C: Takings, K: Clock, D: Loader, T: Teller, R: Wait>(
     loader: &mut D,
     teller: &mut T,
 ) -> Result<(), RunError>
+    requires out { AreOut C.service C.events conn.namespace taken.old.items }
+    ensures out { AreOut C.service C.events conn.namespace taken.new.items }
     ensures one { seat.new.count ≤ seat.old.count + 1 }
     ensures count { seat.old.count ≤ seat.new.count }
     ensures moment { IsErrOf result RunError.Moment → HasToldLate K.reads clock.new }
+    ensures used_up { IsErrOf result RunError.UsedUp → HasUsedUp C.events seat.old.count seat.new.count }
     ensures causes { IfErr result (λ e. (e ≢ RunError.Read) × (e ≢ RunError.Write)) }
     ensures loader { HasAsked D.loads loader.old loader.new }
-    ensures asked { C.KEEPS ≡ true → (read : Option (List ℕ)) → Feeds K.reads D.loads seat.old.receipts.items seat.new.receipts.items read read clock.old clock.new loader.old loader.new conn [] [] }
+    ensures asked { C.KEEPS ≡ true → (read : Option (List ℕ)) → Feeds (HadGoneOut C.service C.events) (IsUnfit C.service C.events) K.reads D.loads seat.old.receipts.items seat.new.receipts.items read read clock.old clock.new loader.old loader.new conn [] [] }
 {
     let Some((load, key)) = taken.last() else {
         return Ok(());
@@ -190,7 +202,10 @@ fn take_more<L: Seating, C: Takings>(
     shared: &SharedService<L, C>,
     namespace: u64,
     taken: &mut Vec<(LoadId, Bytes)>,
-) {
+)
+    requires out { AreOut C.service C.events namespace taken.old.items }
+    ensures out { AreOut C.service C.events namespace taken.new.items }
+{
     if !taken.is_empty() {
         return;
     }
@@ -238,15 +253,18 @@ fn go_on<L: Seating, C: Takings, K: Clock, D: Loader, T: Teller, R: Wait>(
     loader: &mut D,
     teller: &mut T,
 ) -> Result<Next, RunError>
+    requires out { AreOut C.service C.events conn.namespace taken.old.items }
+    ensures out { AreOut C.service C.events conn.namespace taken.new.items }
     ensures one { seat.new.count ≤ seat.old.count + 1 }
     ensures count { seat.old.count ≤ seat.new.count }
     ensures nothing { result ≡ Ok Next.Nothing → seat.new.count ≡ seat.old.count }
     ensures over { result ≡ Ok Next.Over → seat.new.count ≡ seat.old.count }
     ensures moment { IsErrOf result RunError.Moment → HasToldLate K.reads clock.new }
+    ensures used_up { IsErrOf result RunError.UsedUp → HasUsedUp C.events seat.old.count seat.new.count }
     ensures causes { IfErr result (λ e. (e ≢ RunError.Read) × (e ≢ RunError.Write)) }
     ensures loader { HasAsked D.loads loader.old loader.new }
-    ensures asked { C.KEEPS ≡ true → result ≢ Ok Next.Over → OnOk result ((read : Option (List ℕ)) → Feeds K.reads D.loads seat.old.receipts.items seat.new.receipts.items read read clock.old clock.new loader.old loader.new conn [] []) }
-    ensures left { C.KEEPS ≡ true → (read : Option (List ℕ)) → FeedsMost K.reads D.loads seat.old.receipts.items seat.new.receipts.items read read clock.old clock.new loader.old loader.new conn }
+    ensures asked { C.KEEPS ≡ true → result ≢ Ok Next.Over → OnOk result ((read : Option (List ℕ)) → Feeds (HadGoneOut C.service C.events) (IsUnfit C.service C.events) K.reads D.loads seat.old.receipts.items seat.new.receipts.items read read clock.old clock.new loader.old loader.new conn [] []) }
+    ensures left { C.KEEPS ≡ true → (read : Option (List ℕ)) → FeedsMost (HadGoneOut C.service C.events) (IsUnfit C.service C.events) K.reads D.loads seat.old.receipts.items seat.new.receipts.items read read clock.old clock.new loader.old loader.new conn }
 {
     if !taken.is_empty() {
         return match settle_last(rt, shared, seat, conn, taken, clock, loader, teller) {
@@ -282,6 +300,8 @@ fn settle_next<L: Seating, C: Takings, O: Write, K: Clock, D: Loader, T: Teller,
     loader: &mut D,
     teller: &mut T,
 ) -> Result<Next, RunError>
+    requires out { AreOut C.service C.events conn.namespace taken.old.items }
+    ensures out { AreOut C.service C.events conn.namespace taken.new.items }
     ensures ok { OnOk result (Answers (λ text. ∥ WereUntaken C.service C.events C.untaken conn text ∥₁) seat.old.count seat.new.count (O.contents (device writer.old)) (O.contents (device writer.new))) }
     ensures nothing { result ≡ Ok Next.Nothing → Answers (λ text. ∥ WereUntaken C.service C.events C.untaken conn text ∥₁) seat.old.count (seat.new.count + 1) (O.contents (device writer.old)) (O.contents (device writer.new)) }
     ensures over { result ≡ Ok Next.Over → Answers (λ text. ∥ WereUntaken C.service C.events C.untaken conn text ∥₁) seat.old.count (seat.new.count + 1) (O.contents (device writer.old)) (O.contents (device writer.new)) }
@@ -289,11 +309,12 @@ fn settle_next<L: Seating, C: Takings, O: Write, K: Clock, D: Loader, T: Teller,
     ensures count { seat.old.count ≤ seat.new.count }
     ensures write { IsErrOf result RunError.Write → HasFailed (failures writer.old) (failures writer.new) }
     ensures writes { failures writer.old ≤ failures writer.new }
+    ensures used_up { IsErrOf result RunError.UsedUp → HasFailed (failures writer.old) (failures writer.new) ⊎ HasUsedUp C.events seat.old.count seat.new.count }
     ensures moment { IsErrOf result RunError.Moment → HasToldLate K.reads clock.new }
     ensures causes { IfErr result (λ e. e ≢ RunError.Read) }
     ensures loader { HasAsked D.loads loader.old loader.new }
-    ensures asked { C.KEEPS ≡ true → result ≢ Ok Next.Over → OnOk result ((read : Option (List ℕ)) → Feeds K.reads D.loads seat.old.receipts.items seat.new.receipts.items read read clock.old clock.new loader.old loader.new conn [] []) }
-    ensures left { C.KEEPS ≡ true → (read : Option (List ℕ)) → FeedsMost K.reads D.loads seat.old.receipts.items seat.new.receipts.items read read clock.old clock.new loader.old loader.new conn }
+    ensures asked { C.KEEPS ≡ true → result ≢ Ok Next.Over → OnOk result ((read : Option (List ℕ)) → Feeds (HadGoneOut C.service C.events) (IsUnfit C.service C.events) K.reads D.loads seat.old.receipts.items seat.new.receipts.items read read clock.old clock.new loader.old loader.new conn [] []) }
+    ensures left { C.KEEPS ≡ true → (read : Option (List ℕ)) → FeedsMost (HadGoneOut C.service C.events) (IsUnfit C.service C.events) K.reads D.loads seat.old.receipts.items seat.new.receipts.items read read clock.old clock.new loader.old loader.new conn }
 {
     take_more(rt, shared, conn.namespace, taken);
     // Where nothing waits now, the replies that are taken next are all.
@@ -324,19 +345,22 @@ pub fn settle_loads<L: Seating, C: Takings, O: Write, K: Clock, D: Loader, T: Te
     loader: &mut D,
     teller: &mut T,
 ) -> Result<Progress, RunError>
+    requires out { AreOut C.service C.events conn.namespace taken.old.items }
+    ensures out { AreOut C.service C.events conn.namespace taken.new.items }
     ensures ok { OnOk result (Answers (λ text. ∥ WereUntaken C.service C.events C.untaken conn text ∥₁) seat.old.count (seat.new.count + 1) (O.contents (device writer.old)) (O.contents (device writer.new))) }
     ensures err { OnErr result (Breaks (λ text. ∥ WereUntaken C.service C.events C.untaken conn text ∥₁) seat.old.count (seat.new.count + 1) (O.contents (device writer.old)) (O.contents (device writer.new))) }
     ensures count { seat.old.count ≤ seat.new.count }
     ensures write { IsErrOf result RunError.Write → HasFailed (failures writer.old) (failures writer.new) }
     ensures writes { failures writer.old ≤ failures writer.new }
+    ensures used_up { IsErrOf result RunError.UsedUp → HasFailed (failures writer.old) (failures writer.new) ⊎ HasUsedUp C.events seat.old.count seat.new.count }
     ensures moment { IsErrOf result RunError.Moment → HasToldLate K.reads clock.new }
     ensures causes { IfErr result (λ e. e ≢ RunError.Read) }
     ensures loader { HasAsked D.loads loader.old loader.new }
-    ensures asked { C.KEEPS ≡ true → result ≡ Ok Progress.More → (read : Option (List ℕ)) → Feeds K.reads D.loads seat.old.receipts.items seat.new.receipts.items read read clock.old clock.new loader.old loader.new conn [] [] }
-    ensures left { C.KEEPS ≡ true → (read : Option (List ℕ)) → FeedsMost K.reads D.loads seat.old.receipts.items seat.new.receipts.items read read clock.old clock.new loader.old loader.new conn }
+    ensures asked { C.KEEPS ≡ true → result ≡ Ok Progress.More → (read : Option (List ℕ)) → Feeds (HadGoneOut C.service C.events) (IsUnfit C.service C.events) K.reads D.loads seat.old.receipts.items seat.new.receipts.items read read clock.old clock.new loader.old loader.new conn [] [] }
+    ensures left { C.KEEPS ≡ true → (read : Option (List ℕ)) → FeedsMost (HadGoneOut C.service C.events) (IsUnfit C.service C.events) K.reads D.loads seat.old.receipts.items seat.new.receipts.items read read clock.old clock.new loader.old loader.new conn }
 {
     let mut may_hold = false;
-    for _turn in 0..u64::MAX {
+    for _turn in rt.forever() {
         match settle_next(
             rt, alloc, shared, seat, conn, taken, may_hold, writer, clock, loader, teller,
         ) {
@@ -346,7 +370,7 @@ pub fn settle_loads<L: Seating, C: Takings, O: Write, K: Clock, D: Loader, T: Te
             Err(error) => return Err(error),
         }
     }
-    Err(RunError::UsedUp)
+    unreachable!()
 }
 
 /// Asks the loader for a load of a connection that has closed, and settles it at moment 0, which counts as the latest. An answer that is
@@ -359,9 +383,10 @@ fn settle_after<L: Seating, C: Takings, D: Loader>(
     key: &[u8],
     loader: &mut D,
 )
+    requires out { HadGoneOut C.service C.events load.namespace load.number key.now }
     ensures count { seat.old.count ≤ seat.new.count }
     ensures loader { HasAskedMost D.loads loader.old loader.new seat.old.count seat.new.count }
-    ensures asked { C.KEEPS ≡ true → (drops : List Settling) × Drops load.namespace seat.old.receipts.items seat.new.receipts.items D.loads loader.old loader.new drops }
+    ensures asked { C.KEEPS ≡ true → (drops : List Settling) × Drops load.namespace seat.old.receipts.items seat.new.receipts.items (HadGoneOut C.service C.events) D.loads loader.old loader.new drops }
 {
     let said = loader.load(key);
     match settle(rt, shared, seat, load, said, 0) {
@@ -382,9 +407,10 @@ pub fn settle_rest<L: Seating, C: Takings, D: Loader, T: Teller, R: Wait>(
     loader: &mut D,
     teller: &mut T,
 )
+    requires out { AreOut C.service C.events namespace taken.old.items }
     ensures count { seat.old.count ≤ seat.new.count }
     ensures loader { HasAskedMost D.loads loader.old loader.new seat.old.count seat.new.count }
-    ensures asked { C.KEEPS ≡ true → (drops : List Settling) × Drops namespace seat.old.receipts.items seat.new.receipts.items D.loads loader.old loader.new drops }
+    ensures asked { C.KEEPS ≡ true → (drops : List Settling) × Drops namespace seat.old.receipts.items seat.new.receipts.items (HadGoneOut C.service C.events) D.loads loader.old loader.new drops }
 {
     for _turn in 0..u64::MAX {
         take_more(rt, shared, namespace, taken);

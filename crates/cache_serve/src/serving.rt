@@ -1,5 +1,5 @@
 //! One connection of a shared service, from its opening to its closing.
-ghost use Rattle.std.specs.Prelude.{◌≡◌, ◌≢◌, ◌≤◌, ◌+◌, List, ℕ, [], true, length, IfOk, IfErr, OnOk, OnErr, IsErrOf};
+ghost use Rattle.std.specs.Prelude.{◌≡◌, ◌≢◌, ◌⊎◌, ◌≤◌, ◌+◌, List, ℕ, [], true, length, IfOk, IfErr, OnOk, OnErr, IsErrOf};
 ghost use Rattle.audit_model.specs.declared.input.Input.TheVariants as asked;
 ghost use Rattle.cache_devices.specs.Failures.{HasFailed};
 ghost use Rattle.cache_devices.specs.Watched.{device, failures};
@@ -7,6 +7,9 @@ ghost use Rattle.cache_run.specs.Carried.{Askings};
 ghost use Rattle.cache_run.specs.Happened.{Asking};
 ghost use Rattle.cache_run.specs.Turns.{HasToldLate};
 ghost use Rattle.cache_serve.specs.Asked.{AsksOrNot, Attends, AttendsOrNot, FeedsMost, HasAsked, Opens};
+ghost use Rattle.cache_serve.specs.Full.{HasUsedUp};
+ghost use Rattle.cache_serve.specs.Out.{AreOut, HadGoneOut};
+ghost use Rattle.cache_serve.specs.Unfit.{IsUnfit};
 ghost use Rattle.cache_serve.specs.Written.{Answers, Breaks, Serves};
 ghost use Rattle.cache_shared.specs.Seats.{SameReceipts};
 ghost use Rattle.cache_shared.specs.Untaken.{WereUntaken};
@@ -36,6 +39,7 @@ fn open_connection<L: Seating, C: Takings>(
     ensures opened { OnOk result (seat.new.count ≡ seat.old.count + 1) }
     ensures closed { OnErr result (seat.new.count ≤ seat.old.count + 1) }
     ensures count { seat.old.count ≤ seat.new.count }
+    ensures used_up { IsErrOf result RunError.UsedUp → HasUsedUp C.events seat.old.count seat.new.count }
     ensures causes { IfErr result (λ e. (e ≢ RunError.Read) × (e ≢ RunError.Write) × (e ≢ RunError.Moment)) }
     ensures here { IfOk result (λ conn. conn.namespace ≡ namespace) }
     ensures asked { C.KEEPS ≡ true → IfOk result (λ conn. Opens namespace seat.old.receipts.items seat.new.receipts.items conn) }
@@ -93,16 +97,19 @@ fn converse<L: Seating, C: Takings, I: Read, O: Write, K: Clock, D: Loader, T: T
     loader: &mut D,
     teller: &mut T,
 ) -> Result<(), RunError>
+    requires out { AreOut C.service C.events conn.namespace taken.old.items }
+    ensures out { AreOut C.service C.events conn.namespace taken.new.items }
     ensures ok { OnOk result (Answers (λ text. ∥ WereUntaken C.service C.events C.untaken conn text ∥₁) seat.old.count seat.new.count (O.contents (device writer.old)) (O.contents (device writer.new))) }
     ensures err { OnErr result (Breaks (λ text. ∥ WereUntaken C.service C.events C.untaken conn text ∥₁) seat.old.count seat.new.count (O.contents (device writer.old)) (O.contents (device writer.new))) }
     ensures count { seat.old.count ≤ seat.new.count }
     ensures read { IsErrOf result RunError.Read → HasFailed (failures reader.old) (failures reader.new) }
     ensures write { IsErrOf result RunError.Write → HasFailed (failures writer.old) (failures writer.new) }
+    ensures used_up { IsErrOf result RunError.UsedUp → HasFailed (failures writer.old) (failures writer.new) ⊎ HasUsedUp C.events seat.old.count seat.new.count }
     ensures moment { IsErrOf result RunError.Moment → HasToldLate K.reads clock.new }
     ensures loader { HasAsked D.loads loader.old loader.new }
-    ensures asked { C.KEEPS ≡ true → FeedsMost K.reads D.loads seat.old.receipts.items seat.new.receipts.items (I.remaining (device reader.old)) (I.remaining (device reader.new)) clock.old clock.new loader.old loader.new conn }
+    ensures asked { C.KEEPS ≡ true → FeedsMost (HadGoneOut C.service C.events) (IsUnfit C.service C.events) K.reads D.loads seat.old.receipts.items seat.new.receipts.items (I.remaining (device reader.old)) (I.remaining (device reader.new)) clock.old clock.new loader.old loader.new conn }
 {
-    for _turn in 0..u64::MAX {
+    for _turn in rt.forever() {
         match take_turn(
             rt, alloc, shared, seat, conn, buffer, taken, reader, writer, clock, loader, teller,
         ) {
@@ -111,7 +118,7 @@ fn converse<L: Seating, C: Takings, I: Read, O: Write, K: Clock, D: Loader, T: T
             Err(error) => return Err(error),
         }
     }
-    Err(RunError::UsedUp)
+    unreachable!()
 }
 
 /// Serves one connection of a namespace that there is, from its opening to the end of its input, where it is closed, or until it has
@@ -139,11 +146,12 @@ pub fn serve<L: Seating, C: Takings, I: Read, O: Write, K: Clock, D: Loader, R: 
     clock: &mut K,
     loader: &mut D,
 ) -> Result<(), RunError>
-    ensures wrote { OnOk result (Serves C.service C.events C.untaken namespace (λ conn. C.KEEPS ≡ true → Attends K.reads D.loads seat.old.receipts.items seat.new.receipts.items (I.remaining (device reader.old)) (I.remaining (device reader.new)) clock.old clock.new loader.old loader.new namespace conn []) seat.old.count seat.new.count 3 (O.contents (device writer.old)) (O.contents (device writer.new)) []) }
-    ensures broke { OnErr result ((rest : List ℕ) × (asks : List Asking) × Askings D.loads loader.old asks loader.new × Serves C.service C.events C.untaken namespace (λ conn. C.KEEPS ≡ true → AttendsOrNot K.reads D.loads seat.old.receipts.items seat.new.receipts.items (I.remaining (device reader.old)) (I.remaining (device reader.new)) clock.old clock.new loader.old loader.new namespace conn) seat.old.count seat.new.count (length asks + 3) (O.contents (device writer.old)) (O.contents (device writer.new)) rest) }
+    ensures wrote { OnOk result (Serves C.service C.events C.untaken namespace (λ conn. C.KEEPS ≡ true → Attends (HadGoneOut C.service C.events) (IsUnfit C.service C.events) K.reads D.loads seat.old.receipts.items seat.new.receipts.items (I.remaining (device reader.old)) (I.remaining (device reader.new)) clock.old clock.new loader.old loader.new namespace conn []) seat.old.count seat.new.count 3 (O.contents (device writer.old)) (O.contents (device writer.new)) []) }
+    ensures broke { OnErr result ((rest : List ℕ) × (asks : List Asking) × Askings D.loads loader.old asks loader.new × Serves C.service C.events C.untaken namespace (λ conn. C.KEEPS ≡ true → AttendsOrNot (HadGoneOut C.service C.events) (IsUnfit C.service C.events) K.reads D.loads seat.old.receipts.items seat.new.receipts.items (I.remaining (device reader.old)) (I.remaining (device reader.new)) clock.old clock.new loader.old loader.new namespace conn) seat.old.count seat.new.count (length asks + 3) (O.contents (device writer.old)) (O.contents (device writer.new)) rest) }
     ensures count { seat.old.count ≤ seat.new.count }
     ensures read { IsErrOf result RunError.Read → HasFailed (failures reader.old) (failures reader.new) }
     ensures write { IsErrOf result RunError.Write → HasFailed (failures writer.old) (failures writer.new) }
+    ensures used_up { IsErrOf result RunError.UsedUp → HasFailed (failures writer.old) (failures writer.new) ⊎ HasUsedUp C.events seat.old.count seat.new.count }
     ensures moment { IsErrOf result RunError.Moment → HasToldLate K.reads clock.new }
     ensures loader { HasAsked D.loads loader.old loader.new }
 {
@@ -186,11 +194,12 @@ pub fn serve_and_tell<
     loader: &mut D,
     teller: &mut T,
 ) -> Result<(), RunError>
-    ensures wrote { OnOk result (Serves C.service C.events C.untaken namespace (λ conn. C.KEEPS ≡ true → Attends K.reads D.loads seat.old.receipts.items seat.new.receipts.items (I.remaining (device reader.old)) (I.remaining (device reader.new)) clock.old clock.new loader.old loader.new namespace conn []) seat.old.count seat.new.count 3 (O.contents (device writer.old)) (O.contents (device writer.new)) []) }
-    ensures broke { OnErr result ((rest : List ℕ) × (asks : List Asking) × Askings D.loads loader.old asks loader.new × Serves C.service C.events C.untaken namespace (λ conn. C.KEEPS ≡ true → AttendsOrNot K.reads D.loads seat.old.receipts.items seat.new.receipts.items (I.remaining (device reader.old)) (I.remaining (device reader.new)) clock.old clock.new loader.old loader.new namespace conn) seat.old.count seat.new.count (length asks + 3) (O.contents (device writer.old)) (O.contents (device writer.new)) rest) }
+    ensures wrote { OnOk result (Serves C.service C.events C.untaken namespace (λ conn. C.KEEPS ≡ true → Attends (HadGoneOut C.service C.events) (IsUnfit C.service C.events) K.reads D.loads seat.old.receipts.items seat.new.receipts.items (I.remaining (device reader.old)) (I.remaining (device reader.new)) clock.old clock.new loader.old loader.new namespace conn []) seat.old.count seat.new.count 3 (O.contents (device writer.old)) (O.contents (device writer.new)) []) }
+    ensures broke { OnErr result ((rest : List ℕ) × (asks : List Asking) × Askings D.loads loader.old asks loader.new × Serves C.service C.events C.untaken namespace (λ conn. C.KEEPS ≡ true → AttendsOrNot (HadGoneOut C.service C.events) (IsUnfit C.service C.events) K.reads D.loads seat.old.receipts.items seat.new.receipts.items (I.remaining (device reader.old)) (I.remaining (device reader.new)) clock.old clock.new loader.old loader.new namespace conn) seat.old.count seat.new.count (length asks + 3) (O.contents (device writer.old)) (O.contents (device writer.new)) rest) }
     ensures count { seat.old.count ≤ seat.new.count }
     ensures read { IsErrOf result RunError.Read → HasFailed (failures reader.old) (failures reader.new) }
     ensures write { IsErrOf result RunError.Write → HasFailed (failures writer.old) (failures writer.new) }
+    ensures used_up { IsErrOf result RunError.UsedUp → HasFailed (failures writer.old) (failures writer.new) ⊎ HasUsedUp C.events seat.old.count seat.new.count }
     ensures moment { IsErrOf result RunError.Moment → HasToldLate K.reads clock.new }
     ensures loader { HasAsked D.loads loader.old loader.new }
 {

@@ -1,10 +1,13 @@
 //! One turn of a connection.
-ghost use Rattle.std.specs.Prelude.{◌≡◌, ◌≢◌, ◌≤◌, ◌+◌, ◌^◌, ◌∷◌, ℕ, List, [], true, Ok, IfOk, IfErr, OnOk, OnErr, IsErrOf};
+ghost use Rattle.std.specs.Prelude.{◌≡◌, ◌≢◌, ◌⊎◌, ◌≤◌, ◌+◌, ◌^◌, ◌∷◌, ℕ, List, [], true, Ok, IfOk, IfErr, OnOk, OnErr, IsErrOf};
 ghost use Rattle.cache_devices.specs.Failures.{HasFailed};
 ghost use Rattle.cache_devices.specs.Sent.{SentBut};
 ghost use Rattle.cache_devices.specs.Watched.{device, failures};
 ghost use Rattle.cache_run.specs.Turns.{HasToldLate};
 ghost use Rattle.cache_serve.specs.Asked.{Asks, AsksOrNot, Feeds, FeedsMost, HasAsked, feed_of};
+ghost use Rattle.cache_serve.specs.Full.{HasUsedUp};
+ghost use Rattle.cache_serve.specs.Out.{AreOut, HadGoneOut};
+ghost use Rattle.cache_serve.specs.Unfit.{IsUnfit};
 ghost use Rattle.cache_serve.specs.Written.{Answers, Breaks, Writes};
 ghost use Rattle.cache_shared.specs.Untaken.{WereUntaken};
 
@@ -44,6 +47,7 @@ fn feed_piece<L: Seating, C: Takings>(
     ensures err { OnErr result (seat.new.count ≤ seat.old.count + 1) }
     ensures count { seat.old.count ≤ seat.new.count }
     ensures moment { IsErrOf result RunError.Moment → 2 ^ 63 ≤ moment }
+    ensures used_up { IsErrOf result RunError.UsedUp → HasUsedUp C.events seat.old.count seat.new.count }
     ensures causes { IfErr result (λ e. (e ≢ RunError.Read) × (e ≢ RunError.Write)) }
     ensures asked { C.KEEPS ≡ true → result ≡ Ok Progress.More → Asks conn.namespace seat.old.receipts.items seat.new.receipts.items (feed_of conn (record { bytes = piece.now; moment = moment }) ∷ []) }
     ensures left { C.KEEPS ≡ true → AsksOrNot conn.namespace seat.old.receipts.items seat.new.receipts.items (feed_of conn (record { bytes = piece.now; moment = moment })) }
@@ -158,6 +162,7 @@ pub fn hand_in<L: Seating, C: Takings, K: Clock, T: Teller, R: Wait>(
     ensures count { seat.old.count ≤ seat.new.count }
     ensures over { result ≡ Ok Progress.Over → seat.new.count ≡ seat.old.count }
     ensures moment { IsErrOf result RunError.Moment → HasToldLate K.reads clock.new }
+    ensures used_up { IsErrOf result RunError.UsedUp → HasUsedUp C.events seat.old.count seat.new.count }
     ensures causes { IfErr result (λ e. (e ≢ RunError.Read) × (e ≢ RunError.Write)) }
     ensures told { (moment : ℕ) × K.reads clock.old moment clock.new × (C.KEEPS ≡ true → AsksOrNot conn.namespace seat.old.receipts.items seat.new.receipts.items (feed_of conn (record { bytes = piece.now; moment = moment }))) × (C.KEEPS ≡ true → result ≡ Ok Progress.More → Asks conn.namespace seat.old.receipts.items seat.new.receipts.items (feed_of conn (record { bytes = piece.now; moment = moment }) ∷ [])) }
 {
@@ -191,17 +196,20 @@ pub fn take_turn<
     loader: &mut D,
     teller: &mut T,
 ) -> Result<Progress, RunError>
+    requires out { AreOut C.service C.events conn.namespace taken.old.items }
+    ensures out { AreOut C.service C.events conn.namespace taken.new.items }
     ensures ok { OnOk result (Answers (λ text. ∥ WereUntaken C.service C.events C.untaken conn text ∥₁) seat.old.count seat.new.count (O.contents (device writer.old)) (O.contents (device writer.new))) }
     ensures err { OnErr result (Breaks (λ text. ∥ WereUntaken C.service C.events C.untaken conn text ∥₁) seat.old.count seat.new.count (O.contents (device writer.old)) (O.contents (device writer.new))) }
     ensures count { seat.old.count ≤ seat.new.count }
     ensures read { IsErrOf result RunError.Read → HasFailed (failures reader.old) (failures reader.new) }
     ensures write { IsErrOf result RunError.Write → HasFailed (failures writer.old) (failures writer.new) }
+    ensures used_up { IsErrOf result RunError.UsedUp → HasFailed (failures writer.old) (failures writer.new) ⊎ HasUsedUp C.events seat.old.count seat.new.count }
     ensures moment { IsErrOf result RunError.Moment → HasToldLate K.reads clock.new }
     ensures reads { failures reader.old ≤ failures reader.new }
     ensures writes { failures writer.old ≤ failures writer.new }
     ensures loader { HasAsked D.loads loader.old loader.new }
-    ensures asked { C.KEEPS ≡ true → result ≡ Ok Progress.More → Feeds K.reads D.loads seat.old.receipts.items seat.new.receipts.items (I.remaining (device reader.old)) (I.remaining (device reader.new)) clock.old clock.new loader.old loader.new conn [] [] }
-    ensures left { C.KEEPS ≡ true → FeedsMost K.reads D.loads seat.old.receipts.items seat.new.receipts.items (I.remaining (device reader.old)) (I.remaining (device reader.new)) clock.old clock.new loader.old loader.new conn }
+    ensures asked { C.KEEPS ≡ true → result ≡ Ok Progress.More → Feeds (HadGoneOut C.service C.events) (IsUnfit C.service C.events) K.reads D.loads seat.old.receipts.items seat.new.receipts.items (I.remaining (device reader.old)) (I.remaining (device reader.new)) clock.old clock.new loader.old loader.new conn [] [] }
+    ensures left { C.KEEPS ≡ true → FeedsMost (HadGoneOut C.service C.events) (IsUnfit C.service C.events) K.reads D.loads seat.old.receipts.items seat.new.receipts.items (I.remaining (device reader.old)) (I.remaining (device reader.new)) clock.old clock.new loader.old loader.new conn }
 {
     let count = match reader.read(buffer) {
         Ok(count) => count,

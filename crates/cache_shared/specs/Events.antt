@@ -20,8 +20,9 @@ use Rattle.cache_namespace.specs.Ordered.{OrdersSteps}
 use Rattle.cache_spaces.specs.Moves.{At, are_timely_in}
 use Rattle.cache_spaces.specs.Outputs.{output_after}
 use Rattle.cache_spaces.specs.Recorded.{RecordsAt, RefusedInput, namespace_of}
-use Rattle.cache_spaces.specs.Services.{Refuses}
+use Rattle.cache_spaces.specs.Services.{Refuses, spaces_of}
 use Rattle.cache_spaces.specs.Spaces.{Stands, config_of, connections_of, made_of, recency_of}
+use Rattle.cache_spaces.specs.declared.service.Service.{Service}
 use Rattle.cache_spaces.specs.declared.space.Space.{Space}
 use Rattle.cache_store.specs.Running.{is_bounded}
 
@@ -86,6 +87,13 @@ RefusesEvent i e events old new = ((e ≡ error.UsedUp) × (events ≡ 2 ^ 64 - 
 abbrev pub RefusesStep : Input → ServiceError → ℕ → ℕ → List Space → List Space → Type 0
 RefusesStep i e count events old new =
     ((e ≡ error.UsedUp) × (count ≡ 2 ^ 64 - 1) × (new ≡ old)) ⊎ (((e ≡ error.OutOfMemory) × (new ≡ old)) ⊎ RefusesEvent i e events old new)
+
+-- at some moment, in a service to which some journals that obey lead, the step was refused so
+pub record WasRefused {C : Type 0} (service : C → Service) (events : C → ℕ) (i : Input) (e : ServiceError) (count : ℕ) : Type 0 where
+  pub core : C
+  pub later : C
+  pub reached : ∥ Reached (spaces_of (service core)) (events core) ∥₁
+  pub refuses : RefusesStep i e count (events core) (spaces_of (service core)) (spaces_of (service later))
 
 -- it comes with a moment of 2 ^ 63 nanoseconds or more
 abbrev pub IsLate : Input → Type 0

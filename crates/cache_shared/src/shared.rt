@@ -1,7 +1,7 @@
 //! The shared form.
 ghost use Rattle.std.specs.Prelude.{◌≡◌, ℕ, ◌+◌, ◌≤◌, [], true, false, map, sum_by, vec_len, vec_capacity, IfOk, IfErr, IsSome, IsTrue, OnOk, OnErr};
 ghost use Rattle.std.specs.Arc.{arc_value};
-ghost use Rattle.cache_shared.specs.Events.{IsLate, Reached, WasUsedUp, is_output_for};
+ghost use Rattle.cache_shared.specs.Events.{IsLate, Reached, WasRefused, WasUsedUp, is_output_for};
 ghost use Rattle.cache_shared.specs.Seats.{AgreeAll, Gains, SameReceipts, receipt_for};
 ghost use Rattle.cache_spaces.specs.Recorded.{namespace_of};
 ghost use Rattle.cache_spaces.specs.Services.{spaces_of};
@@ -101,6 +101,7 @@ impl<L: Seating, C: Core> SharedService<L, C> {
         ensures uncounted { OnErr result (seat.new.count ≡ seat.old.count) }
         ensures same { OnErr result (SameReceipts seat.old.receipts.items seat.new.receipts.items) }
         ensures back { IfErr result (λ refusal. refusal.input ≡ input) }
+        ensures refused { IfErr result (λ refusal. ∥ WasRefused C.service C.events input refusal.error seat.old.count ∥₁) }
         ensures late { IfErr result (λ refusal. refusal.error ≡ ServiceError.Moment → IsLate input) }
         ensures output { IfOk result (λ output. IsTrue (is_output_for input output)) }
         ensures used_up { IfErr result (λ refusal. refusal.error ≡ ServiceError.UsedUp → WasUsedUp C.events seat.old.count) }
@@ -108,6 +109,7 @@ impl<L: Seating, C: Core> SharedService<L, C> {
         let inner = self.inner();
         let mut guard = inner.desk.lock(rt);
         let desk = &mut *guard;
+        desk.core.stands();
         let taken = desk.step(self.alloc, seat, input);
         drop(guard);
         inner.changed.notify_all();

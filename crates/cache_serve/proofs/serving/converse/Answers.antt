@@ -1,7 +1,12 @@
 use Rattle.std.proofs.Common.{refl, ap, ◌∙◌, Ok, arith}
 use Rattle.cache_run.proofs.Carrying.{same_consumes}
-use Rattle.cache_serve.proofs.Asking.{asked-more, asked-none, feeds-more, feeds-none, most-more, most-so}
-use Rattle.cache_serve.proofs.Writing.{answers-more, answers-none, breaks-more, breaks-so}
+use Rattle.cache_serve.specs.Out.{HadGoneOut}
+use Rattle.cache_serve.specs.Unfit.{IsUnfit}
+use Rattle.cache_serve.proofs.Asking.{asked-more, asked-none, feeds-more, feeds-none, most-more}
+use Rattle.cache_serve.proofs.Writing.{answers-more, answers-none, breaks-more}
+use Rattle.cache_run.proofs.Turning.{still-err}
+use Rattle.cache_run.specs.declared.errors.RunError.TheVariants.{UsedUp}
+use Rattle.cache_serve.proofs.Full.{stops-later}
 use Rattle.cache_serve.proofs.serving.converse.Goals as goal
 
 pub loop-turn-init : goal.loop-turn-init
@@ -11,7 +16,8 @@ loop-turn-init g c = record {
   writes = omega arith;
   wrote = answers-none _ _ _ _ refl;
   loader = asked-none g.D.Loader.loads _;
-  asked = λ keeps. feeds-none g.K.Clock.reads g.D.Loader.loads c.args.conn _ _ _ _ _ _ (λ n. refl) (same_consumes _);
+  asked = λ keeps. feeds-none (HadGoneOut g.C.Core.service g.C.Core.events) (IsUnfit g.C.Core.service g.C.Core.events) g.K.Clock.reads g.D.Loader.loads c.args.conn _ _ _ _ _ _ (λ n. refl) (same_consumes _);
+  out = c.requires.out;
 }
 
 pub loop-turn-preserved : goal.loop-turn-preserved
@@ -21,7 +27,8 @@ loop-turn-preserved g c = record {
   writes = let before = c.loop-turn.invariant.writes in let after = c.take_turn.ensures.writes in omega arith;
   wrote = answers-more _ _ _ _ _ _ _ c.loop-turn.invariant.wrote c.in-Ok-More.ensures.ok;
   loader = asked-more g.D.Loader.loads _ _ _ c.loop-turn.invariant.loader c.take_turn.ensures.loader;
-  asked = λ keeps. feeds-more g.K.Clock.reads g.D.Loader.loads c.args.conn _ _ _ _ _ _ _ _ _ _ _ _ _ _ (c.loop-turn.invariant.asked keeps) (c.take_turn.ensures.asked keeps (c.in-Ok-More.is ∙ ap Ok c.in-Ok-More.field-0-is));
+  asked = λ keeps. feeds-more (HadGoneOut g.C.Core.service g.C.Core.events) (IsUnfit g.C.Core.service g.C.Core.events) g.K.Clock.reads g.D.Loader.loads c.args.conn _ _ _ _ _ _ _ _ _ _ _ _ _ _ (c.loop-turn.invariant.asked keeps) (c.take_turn.ensures.asked keeps (c.in-Ok-More.is ∙ ap Ok c.in-Ok-More.field-0-is));
+  out = c.take_turn.ensures.out;
 }
 
 pub returns-in-Ok-Over-clause-ok : goal.returns-in-Ok-Over-clause-ok
@@ -37,13 +44,11 @@ pub returns-in-Err-clause-loader : goal.returns-in-Err-clause-loader
 returns-in-Err-clause-loader g c = asked-more g.D.Loader.loads _ _ _ c.loop-turn.invariant.loader c.take_turn.ensures.loader
 
 pub returns-in-Ok-Over-clause-asked : goal.returns-in-Ok-Over-clause-asked
-returns-in-Ok-Over-clause-asked g c = λ keeps. most-more g.K.Clock.reads g.D.Loader.loads c.args.conn _ _ _ _ _ _ _ _ _ _ _ _ (c.loop-turn.invariant.asked keeps) (c.take_turn.ensures.left keeps)
+returns-in-Ok-Over-clause-asked g c = λ keeps. most-more (HadGoneOut g.C.Core.service g.C.Core.events) (IsUnfit g.C.Core.service g.C.Core.events) g.K.Clock.reads g.D.Loader.loads c.args.conn _ _ _ _ _ _ _ _ _ _ _ _ (c.loop-turn.invariant.asked keeps) (c.take_turn.ensures.left keeps)
 
 pub returns-in-Err-clause-asked : goal.returns-in-Err-clause-asked
-returns-in-Err-clause-asked g c = λ keeps. most-more g.K.Clock.reads g.D.Loader.loads c.args.conn _ _ _ _ _ _ _ _ _ _ _ _ (c.loop-turn.invariant.asked keeps) (c.take_turn.ensures.left keeps)
+returns-in-Err-clause-asked g c = λ keeps. most-more (HadGoneOut g.C.Core.service g.C.Core.events) (IsUnfit g.C.Core.service g.C.Core.events) g.K.Clock.reads g.D.Loader.loads c.args.conn _ _ _ _ _ _ _ _ _ _ _ _ (c.loop-turn.invariant.asked keeps) (c.take_turn.ensures.left keeps)
 
-pub returns-clause-asked : goal.returns-clause-asked
-returns-clause-asked g c = λ keeps. most-so g.K.Clock.reads g.D.Loader.loads c.args.conn _ _ _ _ _ _ _ _ (c.loop-turn.invariant.asked keeps)
-
-pub returns-clause-err : goal.returns-clause-err
-returns-clause-err g c = breaks-so _ _ _ _ _ c.loop-turn.invariant.wrote
+pub returns-in-Err-clause-used_up : goal.returns-in-Err-clause-used_up
+returns-in-Err-clause-used_up g c = λ is.
+    stops-later g.C.Core.events _ _ _ _ _ _ c.loop-turn.invariant.writes c.in-Err.ensures.writes c.loop-turn.invariant.count (c.in-Err.ensures.used_up (still-err c.in-Err.error UsedUp is))
