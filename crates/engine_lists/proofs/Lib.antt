@@ -2,3 +2,4 @@ pub mod Dropped
 pub mod Looks
 pub mod Tickets
 pub mod Found
+pub mod Sums
