@@ -30,3 +30,25 @@ returns g c =
     let e = c.index_mut-found.result.now in
     let here = slice_get_read c.self.inside.records.items _ c.args.place e refl (omega (arith, ap (λ v. length v.records) c.self.view_is)) c.index_mut-found.ensures.value in
     (e, sym (ap (λ v. slice_get v.records c.args.place) c.self.view_is) ∙ here, rw (c.push_reserved.ensures.items, c.tell.ensures.items, c.replace-old.ensures.after, c.replace-old.ensures.value, ← c.self.view_is) refl)
+
+pub index_mut-found-requires : goal.index_mut-found-requires
+index_mut-found-requires g c = omega (arith, ap (λ v. length v.records) c.self.view_is)
+
+pub tell-requires : goal.tell-requires
+tell-requires g c = omega (arith, ap (λ v. v.reserved) c.self.view_is)
+
+pub push_reserved-requires : goal.push_reserved-requires
+push_reserved-requires g c = omega (arith, ap (λ v. v.reserved) c.self.view_is)
+
+pub overflow_add-found : goal.overflow_add-found
+overflow_add-found g c = 
+    let e = c.index_mut-found.result.now in
+    let here = slice_get_read c.self.inside.records.items _ c.args.place e refl (omega (arith, ap (λ v. length v.records) c.self.view_is)) c.index_mut-found.ensures.value in
+    let low = each-get (λ r. r.writes ≤ c.self.inside.next_ticket) c.self.inside.records.items c.args.place e here c.self.invariant.written in
+    omega (arith, low, ap (λ v. v.reserved) c.self.view_is)
+
+pub overflow_add-self : goal.overflow_add-self
+overflow_add-self g c = omega (arith, ap (λ v. v.reserved) c.self.view_is)
+
+pub overflow_sub-self : goal.overflow_sub-self
+overflow_sub-self g c = omega (arith, ap (λ v. v.reserved) c.self.view_is)
