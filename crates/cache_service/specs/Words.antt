@@ -1,5 +1,6 @@
 -- The words of the contracts of `Service`, `RecordedService`, `play` and `run`, for callers.
 pub use Rattle.cache_run.specs.Runs.{ServesWhole, ServesPartly}
+pub use Rattle.cache_run.specs.Accounts.{AddsNoLoads, pending_of}
 pub use Rattle.cache_spaces.specs.Journals.{LeadsSo, journals_of, service_of}
 pub use Rattle.cache_spaces.specs.Moves.{At}
 pub use Rattle.cache_spaces.specs.Outputs.{output_after, output_for}
