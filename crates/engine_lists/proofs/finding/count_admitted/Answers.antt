@@ -1,4 +1,4 @@
-use Rattle.std.proofs.Common.{◌≡◌, refl, ap, sym, ◌∙◌, ◌+◌, cond, arith}
+use Rattle.std.proofs.Common.{◌≡◌, ap, sym, ◌∙◌, ◌+◌, cond, arith}
 use Rattle.engine_lists.proofs.Sums.{count-next}
 use Rattle.engine_lists.proofs.finding.count_admitted.Goals.{then-is_some, else-is_some}
 use Rattle.engine_lists.proofs.finding.count_admitted.Goals as goal

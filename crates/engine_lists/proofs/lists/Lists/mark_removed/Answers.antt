@@ -38,7 +38,7 @@ pub push_reserved-requires : goal.push_reserved-requires
 push_reserved-requires g c = omega (arith, ap (λ v. v.reserved) c.self.view_is)
 
 pub overflow_add-found : goal.overflow_add-found
-overflow_add-found g c = 
+overflow_add-found g c =
     let e = c.index_mut-found.result.now in
     let here = slice_get_read c.self.inside.records.items _ c.args.place e refl (omega (arith, ap (λ v. length v.records) c.self.view_is)) c.index_mut-found.ensures.value in
     let low = each-get (λ r. r.writes ≤ c.self.inside.next_ticket) c.self.inside.records.items c.args.place e here c.self.invariant.written in

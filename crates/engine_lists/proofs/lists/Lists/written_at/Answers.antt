@@ -1,4 +1,4 @@
-use Rattle.std.proofs.Common.{◌≤◌, ◌<◌, refl, ap, sym, ◌∙◌, arith, length}
+use Rattle.std.proofs.Common.{◌<◌, refl, ap, sym, ◌∙◌, arith, length}
 use Rattle.std.specs.Prelude.{slice_get}
 use Rattle.std.proofs.lemmas.Option.{slice_get_read}
 use Rattle.engine_lists.proofs.Tickets.{each-get}
