@@ -2,7 +2,9 @@
 """Drives the proved server `cached --config` over loopback by clients of its own, and ends by itself.
 
     python3 benches/connections.py          requests a second, and the server's processor time a request, by connections and depth
+    python3 benches/connections.py redis    the same requests to `redis-server`, where that is on the path, to compare with
     python3 benches/connections.py soak     a million requests over 200 connections, with the server's memory on the way
+    python3 benches/connections.py memory   what the server holds for each of a million values
 
 Build the server first: in crates/cached, `rt run` leaves the program at out/cached. Half of the requests are SET, half GET, with
 keys of 16 bytes and values of 32. Each connection has keys of its own, so a GET answers what the same connection stored last, or
@@ -28,6 +30,33 @@ DEPTHS = {1: 60_000, 32: 600_000}
 SOAK_CONNECTIONS, SOAK_REQUESTS, SOAK_DEPTH = 200, 1_000_000, 8
 CLIENT_PROCESSES = 3
 ANSWER_SECONDS = 30
+HELD = 1_000_000
+
+
+class Lines:
+    """The service's own lines: a request, and for each line of its reply the texts that it may be."""
+
+    @staticmethod
+    def put(key, value):
+        return b"SET " + key + b" - " + value + b"\n", [(b"OK",)]
+
+    @staticmethod
+    def get(key, value):
+        return b"GET " + key + b"\n", [(b"NONE",) if value is None else (b"VAL " + value, b"NONE")]
+
+
+class Bulks:
+    """Those of Redis."""
+
+    @staticmethod
+    def put(key, value):
+        request = b"*3\r\n$3\r\nSET\r\n$%d\r\n%b\r\n$%d\r\n%b\r\n" % (len(key), key, len(value), value)
+        return request, [(b"+OK\r",)]
+
+    @staticmethod
+    def get(key, value):
+        request = b"*2\r\n$3\r\nGET\r\n$%d\r\n%b\r\n" % (len(key), key)
+        return request, [(b"$-1\r",)] if value is None else [(b"$%d\r" % len(value),), (value + b"\r",)]
 
 
 def free_port():
@@ -39,6 +68,8 @@ def free_port():
 
 class Server:
     """The program, serving one namespace of that capacity until it is stopped; what it prints is read and dropped."""
+
+    dialect = Lines
 
     def __init__(self, capacity):
         self.port = free_port()
@@ -70,10 +101,31 @@ class Server:
         self.folder.cleanup()
 
 
+class Redis(Server):
+    """`redis-server`, which keeps nothing on disk and evicts nothing."""
+
+    dialect = Bulks
+
+    def __init__(self, _capacity):
+        self.port = free_port()
+        self.folder = tempfile.TemporaryDirectory()
+        words = ["redis-server", "--port", str(self.port), "--bind", HOST, "--save", "", "--appendonly", "no", "--dir", self.folder.name]
+        self.process = subprocess.Popen(words, stdout=subprocess.PIPE, stdin=subprocess.DEVNULL)
+        threading.Thread(target=self.drop_output, daemon=True).start()
+        for _ in range(100):
+            try:
+                socket.create_connection((HOST, self.port)).close()
+                return
+            except ConnectionRefusedError:
+                time.sleep(0.05)
+        sys.exit("redis-server does not listen")
+
+
 class Client:
     """One connection: it sends so many requests at a time, and the next ones when each was answered."""
 
-    def __init__(self, port, number, keys, depth, batches):
+    def __init__(self, port, dialect, number, keys, depth, batches):
+        self.dialect = dialect
         self.socket = socket.create_connection((HOST, port), timeout=ANSWER_SECONDS)
         self.socket.setsockopt(socket.IPPROTO_TCP, socket.TCP_NODELAY, 1)
         self.draw = random.Random(number)
@@ -82,19 +134,19 @@ class Client:
 
     def send(self):
         """Sends the next requests, and notes which replies each may have."""
-        lines = []
+        requests = []
         for _ in range(self.depth):
             key = b"%04d-%011d" % (self.number, self.draw.randrange(self.keys))
             if self.count % 2 == 0:
                 self.stored[key] = b"value-%026d" % self.count
-                lines.append(b"SET " + key + b" - " + self.stored[key])
-                self.wanted.append((b"OK",))
+                request, replies = self.dialect.put(key, self.stored[key])
             else:
-                lines.append(b"GET " + key)
-                self.wanted.append((b"VAL " + self.stored[key], b"NONE") if key in self.stored else (b"NONE",))
+                request, replies = self.dialect.get(key, self.stored.get(key))
+            requests.append(request)
+            self.wanted += replies
             self.count += 1
         self.batches -= 1
-        self.socket.sendall(b"\n".join(lines) + b"\n")
+        self.socket.sendall(b"".join(requests))
 
     def receive(self):
         """Takes what came, and answers whether all that was sent is answered."""
@@ -102,7 +154,7 @@ class Client:
         if not piece:
             sys.exit("the server closed a connection")
         self.received += piece
-        if self.received.count(b"\n") < self.depth:
+        if self.received.count(b"\n") < len(self.wanted):
             return False
         for reply, allowed in zip(self.received.split(b"\n"), self.wanted):
             if reply not in allowed:
@@ -112,10 +164,10 @@ class Client:
         return True
 
 
-def drive(port, numbers, keys, depth, batches, started):
+def drive(port, dialect, numbers, keys, depth, batches, started):
     """Drives these connections until each has sent its batches."""
     poll = selectors.DefaultSelector()
-    clients = [Client(port, number, keys, depth, batches) for number in numbers]
+    clients = [Client(port, dialect, number, keys, depth, batches) for number in numbers]
     started.wait()
     for client in clients:
         poll.register(client.socket, selectors.EVENT_READ, client)
@@ -142,7 +194,9 @@ def run(server, connections, depth, requests, watch=None):
     started = multiprocessing.Event()
     keys = max(1, KEYS // connections)
     drivers = [
-        multiprocessing.Process(target=drive, args=(server.port, range(first, connections, processes), keys, depth, batches, started))
+        multiprocessing.Process(
+            target=drive, args=(server.port, server.dialect, range(first, connections, processes), keys, depth, batches, started)
+        )
         for first in range(processes)
     ]
     for driver in drivers:
@@ -161,11 +215,11 @@ def run(server, connections, depth, requests, watch=None):
     return connections * depth * batches, seconds, used
 
 
-def bench():
+def bench(make):
     print("connections  depth  requests a second  processor microseconds a request")
     for connections in CONNECTIONS:
         for depth, requests in DEPTHS.items():
-            server = Server(KEYS)
+            server = make(KEYS)
             done, seconds, used = run(server, connections, depth, requests)
             server.stop()
             print(f"{connections:11} {depth:6} {done / seconds:18.0f} {used / done * 1e6:33.2f}", flush=True)
@@ -182,5 +236,25 @@ def soak():
     sys.exit(last > quarter * 1.1)
 
 
+def memory():
+    """Holds so many values of 32 bytes by keys of 16, and tells what that takes above their bytes."""
+    server = Server(HELD)
+    before = server.resident_kibibytes()
+    with socket.create_connection((HOST, server.port), timeout=ANSWER_SECONDS) as client:
+        for first in range(0, HELD, 1000):
+            client.sendall(b"".join(Lines.put(b"key-%012d" % number, b"value-%026d" % number)[0] for number in range(first, first + 1000)))
+            left = 3000
+            while left:
+                left -= len(client.recv(left))
+        used = (server.resident_kibibytes() - before) * 1024
+    server.stop()
+    print(f"{HELD} values of 32 bytes by keys of 16: {used / HELD - 48:.0f} bytes a value above key and value")
+
+
 if __name__ == "__main__":
-    soak() if sys.argv[1:] == ["soak"] else bench()
+    if sys.argv[1:] == ["soak"]:
+        soak()
+    elif sys.argv[1:] == ["memory"]:
+        memory()
+    else:
+        bench(Redis if sys.argv[1:] == ["redis"] else Server)
