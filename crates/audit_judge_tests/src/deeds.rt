@@ -1,51 +1,159 @@
+//! What a step does to the values held, as tables of rows.
 use audit_held::{Held, Holding};
 use audit_judge::{Covering, Deed, do_deed, live};
 use audit_model::{Bytes, Config, EvictionPolicy, Note, RemovalCause, Seq, Weight};
 use std::alloc::{AllocError, Global};
 use std::test::Fail;
 
-fn config(capacity: Option<u64>, live_ms: Option<u64>) -> Config {
-    Config {
-        capacity,
-        policy: EvictionPolicy::Lru,
-        parts: 1,
-        weight: Weight::One,
-        live_ms,
-        idle_ms: None,
-        own_deadlines: false,
-    }
+/// A note.
+#[derive(Clone, Copy)]
+struct Told<'a> {
+    cause: RemovalCause,
+    key: &'a [u8],
+    value: &'a [u8],
 }
+
+/// What is done to the values held, and what has to come of it. Moments are in nanoseconds.
+#[derive(Clone, Copy)]
+enum Row<'a> {
+    /// A step accepts a value of a key at a moment with these notes, and whether they are true.
+    Accepts(u64, &'a [u8], &'a [u8], &'a [Told<'a>], bool),
+    /// A step that accepts nothing does that at a moment with these notes, and whether they are true.
+    Does(u64, Deed<'a>, &'a [Told<'a>], bool),
+    /// The bytes of a key's live value at a moment.
+    IsLive(u64, &'a [u8], Option<&'a [u8]>),
+    /// So many values are held.
+    Holds(usize),
+}
+
+/// Rows one behind the other, from nothing held on.
+#[derive(Clone, Copy)]
+struct Case<'a> {
+    config: &'a Config,
+    rows: &'a [Row<'a>],
+}
+
+/// Without capacity and times.
+const PLAIN: Config = Config {
+    capacity: None,
+    policy: EvictionPolicy::Lru,
+    parts: 1,
+    weight: Weight::One,
+    live_ms: None,
+    idle_ms: None,
+    own_deadlines: false,
+};
+
+/// Room for one value.
+const ONE_VALUE: Config = Config {
+    capacity: Some(1),
+    ..PLAIN
+};
+
+/// Values live for a millisecond.
+const BRIEF: Config = Config {
+    live_ms: Some(1),
+    ..PLAIN
+};
+
+/// What a step does that does nothing.
+const IDLE: Deed<'static> = Deed {
+    uses: None,
+    deletes: None,
+    covers: Covering::Nothing,
+    syncs: false,
+};
+
+/// What a step does that deletes `b`.
+const DELETES_B: Deed<'static> = Deed {
+    deletes: Some(b"b"),
+    ..IDLE
+};
+
+/// What a step does that runs all parts.
+const SYNCS: Deed<'static> = Deed {
+    syncs: true,
+    ..IDLE
+};
+
+const CLEARS: Deed<'static> = Deed {
+    covers: Covering::Everything,
+    ..IDLE
+};
+
+/// What a step does that drops a prefix.
+const DROPS_A: Deed<'static> = Deed {
+    covers: Covering::Prefixed(b"a"),
+    ..IDLE
+};
+
+const DROPS_B: Deed<'static> = Deed {
+    covers: Covering::Prefixed(b"b"),
+    ..IDLE
+};
+
+const DROPS_ABC: Deed<'static> = Deed {
+    covers: Covering::Prefixed(b"abc"),
+    ..IDLE
+};
+
+const REPLACED: Told<'static> = Told {
+    cause: RemovalCause::Replaced,
+    key: b"a",
+    value: b"1",
+};
+
+const OTHER_VALUE: Told<'static> = Told {
+    cause: RemovalCause::Replaced,
+    key: b"a",
+    value: b"2",
+};
+
+const EXPIRED: Told<'static> = Told {
+    cause: RemovalCause::Expired,
+    key: b"a",
+    value: b"1",
+};
+
+const SIZE: Told<'static> = Told {
+    cause: RemovalCause::Size,
+    key: b"a",
+    value: b"1",
+};
+
+const DELETED: Told<'static> = Told {
+    cause: RemovalCause::Explicit,
+    key: b"b",
+    value: b"2",
+};
+
+const COVERED: Told<'static> = Told {
+    cause: RemovalCause::Explicit,
+    key: b"ab",
+    value: b"1",
+};
 
 fn bytes(alloc: Global, text: &[u8]) -> Result<Bytes, AllocError> {
     Ok(Seq::from_vec(Vec::from_slice(alloc, text)?))
 }
 
-/// The notes that tell one value.
-fn one(
-    alloc: Global,
-    cause: RemovalCause,
-    key: &[u8],
-    value: &[u8],
-) -> Result<Vec<Note>, AllocError> {
-    let key = bytes(alloc, key)?;
-    let value = bytes(alloc, value)?;
+fn note_of(alloc: Global, told: &Told<'_>) -> Result<Note, AllocError> {
+    let key = bytes(alloc, told.key)?;
+    let value = bytes(alloc, told.value)?;
+    let cause = told.cause;
+    Ok(Note { cause, key, value })
+}
+
+fn notes_of(alloc: Global, told: &[Told<'_>]) -> Result<Vec<Note>, AllocError> {
     let mut notes = Vec::new(alloc);
-    notes.push(Note { cause, key, value })?;
+    for one in told {
+        notes.push(note_of(alloc, one)?)?;
+    }
     Ok(notes)
 }
 
-/// What a step does that does nothing.
-fn idle() -> Deed<'static> {
-    Deed {
-        uses: None,
-        deletes: None,
-        covers: Covering::Nothing,
-        syncs: false,
-    }
-}
-
 /// Judges a step that accepts a value.
-fn set(
+fn accept(
     alloc: Global,
     config: &Config,
     now: u64,
@@ -57,142 +165,243 @@ fn set(
     let key = bytes(alloc, key)?;
     let value = bytes(alloc, value)?;
     let newcomer = Held::accepted(key, value, 0, 1, now, None);
-    do_deed(alloc, config, now, held, &idle(), Some(newcomer), notes)
+    do_deed(alloc, config, now, held, &IDLE, Some(newcomer), notes)
 }
 
-/// Judges a step that accepts nothing.
-fn run(
+/// Whether these are the bytes of a key's live value.
+fn is_live(config: &Config, now: u64, held: &Holding, key: &[u8], wanted: Option<&[u8]>) -> bool {
+    match live(config, now, held, key) {
+        Some(seen) => wanted == Some(seen.bytes),
+        None => wanted.is_none(),
+    }
+}
+
+/// Does a row, and answers whether it came out so.
+fn comes_so(
     alloc: Global,
     config: &Config,
-    now: u64,
     held: &mut Holding,
-    deed: Deed<'_>,
-    notes: &[Note],
+    row: Row<'_>,
 ) -> Result<bool, AllocError> {
-    do_deed(alloc, config, now, held, &deed, None, notes)
+    match row {
+        Row::Accepts(now, key, value, told, right) => {
+            let notes = notes_of(alloc, told)?;
+            Ok(accept(alloc, config, now, held, key, value, &notes)? == right)
+        }
+        Row::Does(now, deed, told, right) => {
+            let notes = notes_of(alloc, told)?;
+            Ok(do_deed(alloc, config, now, held, &deed, None, &notes)? == right)
+        }
+        Row::IsLive(now, key, wanted) => Ok(is_live(config, now, held, key, wanted)),
+        Row::Holds(number) => Ok(held.len() == number),
+    }
 }
+
+/// Whether each row of a case comes out so.
+fn is_right(alloc: Global, case: &Case<'_>) -> Result<bool, AllocError> {
+    let mut held = Holding::new(alloc)?;
+    for row in case.rows {
+        if !comes_so(alloc, case.config, &mut held, *row)? {
+            return Ok(false);
+        }
+    }
+    Ok(true)
+}
+
+/// The place of the first case that does not come out so.
+fn first_wrong(alloc: Global, cases: &[Case<'_>]) -> Result<Option<usize>, AllocError> {
+    for (place, case) in cases.iter().enumerate() {
+        if !is_right(alloc, case)? {
+            return Ok(Some(place));
+        }
+    }
+    Ok(None)
+}
+
+const OLDER_VALUES: &[Case<'static>] = &[
+    Case {
+        config: &PLAIN,
+        rows: &[
+            Row::Accepts(5, b"a", b"1", &[], true),
+            Row::Accepts(6, b"a", b"2", &[], false),
+        ],
+    },
+    Case {
+        config: &PLAIN,
+        rows: &[
+            Row::Accepts(5, b"a", b"1", &[], true),
+            Row::Accepts(6, b"a", b"2", &[OTHER_VALUE], false),
+        ],
+    },
+    Case {
+        config: &PLAIN,
+        rows: &[
+            Row::Accepts(5, b"a", b"1", &[], true),
+            Row::Accepts(6, b"a", b"2", &[EXPIRED], false),
+        ],
+    },
+    Case {
+        config: &PLAIN,
+        rows: &[
+            Row::Accepts(5, b"a", b"1", &[], true),
+            Row::Accepts(6, b"b", b"2", &[REPLACED], false),
+        ],
+    },
+    Case {
+        config: &PLAIN,
+        rows: &[
+            Row::Accepts(5, b"a", b"1", &[], true),
+            Row::Accepts(6, b"a", b"2", &[REPLACED], true),
+        ],
+    },
+    Case {
+        config: &PLAIN,
+        rows: &[
+            Row::Accepts(5, b"a", b"1", &[], true),
+            Row::Accepts(6, b"a", b"2", &[REPLACED, REPLACED], false),
+        ],
+    },
+];
+
+const NEWER_VALUES: &[Case<'static>] = &[Case {
+    config: &PLAIN,
+    rows: &[
+        Row::Accepts(5, b"a", b"1", &[], true),
+        Row::Accepts(5, b"a", b"2", &[REPLACED], true),
+        Row::Holds(1),
+        Row::IsLive(5, b"a", Some(b"2")),
+    ],
+}];
+
+const SIZES: &[Case<'static>] = &[
+    Case {
+        config: &PLAIN,
+        rows: &[
+            Row::Accepts(1, b"a", b"1", &[], true),
+            Row::Accepts(1, b"b", b"2", &[SIZE], false),
+        ],
+    },
+    Case {
+        config: &ONE_VALUE,
+        rows: &[
+            Row::Accepts(1, b"a", b"1", &[], true),
+            Row::Accepts(1, b"b", b"2", &[SIZE], true),
+        ],
+    },
+    Case {
+        config: &ONE_VALUE,
+        rows: &[
+            Row::Accepts(1, b"a", b"1", &[], true),
+            Row::Accepts(1, b"b", b"2", &[], true),
+            Row::Does(2, DELETES_B, &[DELETED], true),
+            Row::Does(3, IDLE, &[], true),
+            Row::Does(4, IDLE, &[SIZE], true),
+        ],
+    },
+    Case {
+        config: &ONE_VALUE,
+        rows: &[
+            Row::Accepts(1, b"a", b"1", &[], true),
+            Row::Accepts(1, b"b", b"2", &[], true),
+            Row::Does(2, DELETES_B, &[DELETED], true),
+            Row::Does(3, SYNCS, &[], true),
+            Row::Does(4, IDLE, &[SIZE], false),
+        ],
+    },
+];
+
+const COVERED_VALUES: &[Case<'static>] = &[
+    Case {
+        config: &PLAIN,
+        rows: &[
+            Row::Accepts(1, b"ab", b"1", &[], true),
+            Row::Does(2, DROPS_A, &[], true),
+            Row::IsLive(2, b"ab", None),
+            Row::Does(3, IDLE, &[COVERED], true),
+        ],
+    },
+    Case {
+        config: &PLAIN,
+        rows: &[
+            Row::Accepts(1, b"ab", b"1", &[], true),
+            Row::Does(2, DROPS_B, &[], true),
+            Row::IsLive(2, b"ab", Some(b"1")),
+            Row::Does(3, IDLE, &[COVERED], false),
+        ],
+    },
+    Case {
+        config: &PLAIN,
+        rows: &[
+            Row::Accepts(1, b"ab", b"1", &[], true),
+            Row::Does(2, DROPS_ABC, &[], true),
+            Row::IsLive(2, b"ab", Some(b"1")),
+            Row::Does(3, IDLE, &[COVERED], false),
+        ],
+    },
+    Case {
+        config: &PLAIN,
+        rows: &[
+            Row::Accepts(1, b"ab", b"1", &[], true),
+            Row::Does(2, CLEARS, &[], true),
+            Row::Does(3, IDLE, &[COVERED], true),
+            Row::Holds(0),
+        ],
+    },
+];
+
+const DEADLINES: &[Case<'static>] = &[
+    Case {
+        config: &BRIEF,
+        rows: &[
+            Row::Accepts(0, b"a", b"1", &[], true),
+            Row::IsLive(999_999, b"a", Some(b"1")),
+            Row::Does(999_999, IDLE, &[EXPIRED], false),
+        ],
+    },
+    Case {
+        config: &BRIEF,
+        rows: &[
+            Row::Accepts(0, b"a", b"1", &[], true),
+            Row::IsLive(1_000_000, b"a", None),
+            Row::Does(1_000_000, IDLE, &[EXPIRED], true),
+        ],
+    },
+    Case {
+        config: &BRIEF,
+        rows: &[
+            Row::Accepts(0, b"a", b"1", &[], true),
+            Row::IsLive(u64::MAX, b"a", None),
+            Row::Does(u64::MAX, IDLE, &[EXPIRED], true),
+        ],
+    },
+];
 
 #[test]
 fn an_older_value_is_told_once(rt: HostRuntime) -> Result<(), Fail> {
-    let alloc = rt.alloc();
-    let config = config(None, None);
-    let right = one(alloc, RemovalCause::Replaced, b"a", b"1")?;
-    let other_value = one(alloc, RemovalCause::Replaced, b"a", b"2")?;
-    let other_cause = one(alloc, RemovalCause::Expired, b"a", b"1")?;
-    for case in 0..5u8 {
-        let mut held = Holding::new(alloc)?;
-        assert!(rt; set(alloc, &config, 5, &mut held, b"a", b"1", &[])?);
-        let told = match case {
-            0 => set(alloc, &config, 6, &mut held, b"a", b"2", &[])?,
-            1 => set(alloc, &config, 6, &mut held, b"a", b"2", &other_value)?,
-            2 => set(alloc, &config, 6, &mut held, b"a", b"2", &other_cause)?,
-            3 => set(alloc, &config, 6, &mut held, b"b", b"2", &right)?,
-            _ => set(alloc, &config, 6, &mut held, b"a", b"2", &right)?,
-        };
-        assert_eq!(rt; told, case == 4);
-    }
-    let mut held = Holding::new(alloc)?;
-    assert!(rt; set(alloc, &config, 5, &mut held, b"a", b"1", &[])?);
-    let mut twice = one(alloc, RemovalCause::Replaced, b"a", b"1")?;
-    twice.append(&mut one(alloc, RemovalCause::Replaced, b"a", b"1")?)?;
-    assert!(rt; !set(alloc, &config, 6, &mut held, b"a", b"2", &twice)?);
+    assert_eq!(rt; first_wrong(rt.alloc(), OLDER_VALUES)?, None);
     Ok(())
 }
 
 #[test]
 fn the_newer_value_is_live(rt: HostRuntime) -> Result<(), Fail> {
-    let alloc = rt.alloc();
-    let config = config(None, None);
-    let mut held = Holding::new(alloc)?;
-    let notes = one(alloc, RemovalCause::Replaced, b"a", b"1")?;
-    assert!(rt; set(alloc, &config, 5, &mut held, b"a", b"1", &[])?);
-    assert!(rt; set(alloc, &config, 5, &mut held, b"a", b"2", &notes)?);
-    assert_eq!(rt; held.len(), 1);
-    match live(&config, 5, &held, b"a") {
-        Some(h) => assert!(rt; h.bytes == b"2".as_slice()),
-        None => assert!(rt; false),
-    }
+    assert_eq!(rt; first_wrong(rt.alloc(), NEWER_VALUES)?, None);
     Ok(())
 }
 
 #[test]
 fn size_needs_a_capacity_and_a_point(rt: HostRuntime) -> Result<(), Fail> {
-    let alloc = rt.alloc();
-    let size = one(alloc, RemovalCause::Size, b"a", b"1")?;
-    let deleted = one(alloc, RemovalCause::Explicit, b"b", b"2")?;
-    let mut held = Holding::new(alloc)?;
-    let unbounded = config(None, None);
-    assert!(rt; set(alloc, &unbounded, 1, &mut held, b"a", b"1", &[])?);
-    assert!(rt; !set(alloc, &unbounded, 1, &mut held, b"b", b"2", &size)?);
-
-    let bounded = config(Some(1), None);
-    let mut held = Holding::new(alloc)?;
-    assert!(rt; set(alloc, &bounded, 1, &mut held, b"a", b"1", &[])?);
-    assert!(rt; set(alloc, &bounded, 1, &mut held, b"b", b"2", &size)?);
-
-    for syncs in [false, true] {
-        let mut held = Holding::new(alloc)?;
-        let deletes = Deed {
-            deletes: Some(b"b"),
-            ..idle()
-        };
-        assert!(rt; set(alloc, &bounded, 1, &mut held, b"a", b"1", &[])?);
-        assert!(rt; set(alloc, &bounded, 1, &mut held, b"b", b"2", &[])?);
-        assert!(rt; run(alloc, &bounded, 2, &mut held, deletes, &deleted)?);
-        assert!(rt; run(alloc, &bounded, 3, &mut held, Deed { syncs, ..idle() }, &[])?);
-        assert_eq!(rt; run(alloc, &bounded, 4, &mut held, idle(), &size)?, !syncs);
-    }
+    assert_eq!(rt; first_wrong(rt.alloc(), SIZES)?, None);
     Ok(())
 }
 
 #[test]
 fn covered_values_are_told_explicit(rt: HostRuntime) -> Result<(), Fail> {
-    let alloc = rt.alloc();
-    let config = config(None, None);
-    let explicit = one(alloc, RemovalCause::Explicit, b"ab", b"1")?;
-    let prefixes: [&[u8]; 3] = [b"a", b"b", b"abc"];
-    for prefix in prefixes {
-        let mut held = Holding::new(alloc)?;
-        let drops = Deed {
-            covers: Covering::Prefixed(prefix),
-            ..idle()
-        };
-        assert!(rt; set(alloc, &config, 1, &mut held, b"ab", b"1", &[])?);
-        assert!(rt; run(alloc, &config, 2, &mut held, drops, &[])?);
-        assert_eq!(rt;
-            live(&config, 2, &held, b"ab").is_none(),
-            prefix.len() == 1 && prefix[0] == b'a'
-        );
-        assert_eq!(rt;
-            run(alloc, &config, 3, &mut held, idle(), &explicit)?,
-            prefix.len() == 1 && prefix[0] == b'a'
-        );
-    }
-    let mut held = Holding::new(alloc)?;
-    let clears = Deed {
-        covers: Covering::Everything,
-        ..idle()
-    };
-    assert!(rt; set(alloc, &config, 1, &mut held, b"ab", b"1", &[])?);
-    assert!(rt; run(alloc, &config, 2, &mut held, clears, &[])?);
-    assert!(rt; run(alloc, &config, 3, &mut held, idle(), &explicit)?);
-    assert!(rt; held.len() == 0);
+    assert_eq!(rt; first_wrong(rt.alloc(), COVERED_VALUES)?, None);
     Ok(())
 }
 
 #[test]
 fn a_deadline_comes_at_its_moment(rt: HostRuntime) -> Result<(), Fail> {
-    let alloc = rt.alloc();
-    let config = config(None, Some(1));
-    let expired = one(alloc, RemovalCause::Expired, b"a", b"1")?;
-    for now in [999_999u64, 1_000_000, u64::MAX] {
-        let mut held = Holding::new(alloc)?;
-        assert!(rt; set(alloc, &config, 0, &mut held, b"a", b"1", &[])?);
-        assert_eq!(rt; live(&config, now, &held, b"a").is_some(), now == 999_999);
-        assert_eq!(rt;
-            run(alloc, &config, now, &mut held, idle(), &expired)?,
-            now != 999_999
-        );
-    }
+    assert_eq!(rt; first_wrong(rt.alloc(), DEADLINES)?, None);
     Ok(())
 }

@@ -1,7 +1,5 @@
-//! Tests of the judge of transcripts: what a step does to values, and the verdict on whole transcripts.
+//! Tests of the judge of transcripts: what a step does to values.
 #![tactic(auto)]
 
 #[cfg(test)]
 mod deeds;
-#[cfg(test)]
-mod transcripts;

@@ -21,6 +21,18 @@ const HOSTILE: &[Row] = &[
         breaks: 1,
     },
     Row {
+        lines: b"open 2\n",
+        breaks: 1,
+    },
+    Row {
+        lines: b"open 1\n",
+        breaks: 0,
+    },
+    Row {
+        lines: b"close 0\n",
+        breaks: 1,
+    },
+    Row {
         lines: b"open 1\nclose 1\nclose 1\n",
         breaks: 3,
     },
