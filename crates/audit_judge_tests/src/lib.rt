@@ -1,5 +1,0 @@
-//! Tests of the judge of transcripts: what a step does to values.
-#![tactic(auto)]
-
-#[cfg(test)]
-mod deeds;
