@@ -1,5 +1,5 @@
 //! What wrong services would have recorded, each beside what is right.
-use crate::rows::{BRIEF, FULL, OWN, PLAIN, Row, TWO_PARTS, first_wrong};
+use crate::rows::{BRIEF, FULL, OWN, PLAIN, Row, TWO_PARTS, expect_right};
 use std::test::Fail;
 
 /// Whatever the settings.
@@ -276,22 +276,19 @@ const ROOM: &[Row] = &[
 
 #[test]
 fn wrong_services(rt: HostRuntime) -> Result<(), Fail> {
-    assert_eq!(rt; first_wrong(rt.alloc(), PLAIN, WRONG), 0);
-    assert_eq!(rt; first_wrong(rt.alloc(), PLAIN, NOTES), 0);
-    Ok(())
+    expect_right(rt.alloc(), PLAIN, WRONG)?;
+    expect_right(rt.alloc(), PLAIN, NOTES)
 }
 
 #[test]
 fn wrong_lines(rt: HostRuntime) -> Result<(), Fail> {
-    assert_eq!(rt; first_wrong(rt.alloc(), PLAIN, LINES), 0);
-    Ok(())
+    expect_right(rt.alloc(), PLAIN, LINES)
 }
 
 #[test]
 fn wrong_services_by_settings(rt: HostRuntime) -> Result<(), Fail> {
-    assert_eq!(rt; first_wrong(rt.alloc(), BRIEF, LATE), 0);
-    assert_eq!(rt; first_wrong(rt.alloc(), OWN, DEADLINES), 0);
-    assert_eq!(rt; first_wrong(rt.alloc(), TWO_PARTS, PARTS), 0);
-    assert_eq!(rt; first_wrong(rt.alloc(), FULL, ROOM), 0);
-    Ok(())
+    expect_right(rt.alloc(), BRIEF, LATE)?;
+    expect_right(rt.alloc(), OWN, DEADLINES)?;
+    expect_right(rt.alloc(), TWO_PARTS, PARTS)?;
+    expect_right(rt.alloc(), FULL, ROOM)
 }
