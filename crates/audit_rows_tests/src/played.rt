@@ -1,5 +1,5 @@
 //! The rows played from a service, whole and byte by byte, and judged.
-use crate::rows::{Came, NOTHING, ROWS_OF_LIMITS, ROWS_OF_LINES, ROWS_OF_LOADS, Row};
+use crate::rows::{Came, NOTHING, Row, rows_of_limits, rows_of_lines, rows_of_loads};
 use audit_model::{
     Bytes, Config, Conn, Input, Instant, LoadId, Outcome, Seq, ServiceError, Transcript,
 };
@@ -41,6 +41,32 @@ fn feed(alloc: Global, number: u64, nanos: u64, piece: &[u8]) -> Result<Input, A
     })
 }
 
+/// Adds a piece for a connection at a moment, whole.
+fn push_whole(
+    alloc: Global,
+    inputs: &mut Vec<Input>,
+    conn: u64,
+    nanos: u64,
+    piece: &[u8],
+) -> Result<(), AllocError> {
+    inputs.push(feed(alloc, conn, nanos, piece)?)?;
+    Ok(())
+}
+
+/// Adds each byte for a connection at a moment.
+fn push_bytes(
+    alloc: Global,
+    inputs: &mut Vec<Input>,
+    conn: u64,
+    nanos: u64,
+    bytes: &[u8],
+) -> Result<(), AllocError> {
+    for byte in bytes {
+        push_whole(alloc, inputs, conn, nanos, &[*byte])?;
+    }
+    Ok(())
+}
+
 /// Adds a piece for a connection at a moment.
 fn push_piece(
     alloc: Global,
@@ -51,14 +77,9 @@ fn push_piece(
     piece: &[u8],
 ) -> Result<(), AllocError> {
     match cut {
-        Cut::Whole => inputs.push(feed(alloc, conn, nanos, piece)?)?,
-        Cut::ByteByByte => {
-            for byte in piece {
-                inputs.push(feed(alloc, conn, nanos, &[*byte])?)?;
-            }
-        }
+        Cut::Whole => push_whole(alloc, inputs, conn, nanos, piece),
+        Cut::ByteByByte => push_bytes(alloc, inputs, conn, nanos, piece),
     }
-    Ok(())
 }
 
 /// Adds so many bytes for a connection, and those behind them.
@@ -96,6 +117,34 @@ fn push_give_ups(inputs: &mut Vec<Input>, first: u64, last: u64) -> Result<(), A
     Ok(())
 }
 
+/// Adds the value of a load.
+fn push_value(
+    alloc: Global,
+    inputs: &mut Vec<Input>,
+    load: u64,
+    value: &[u8],
+) -> Result<(), AllocError> {
+    let value = bytes(alloc, value)?;
+    push_answer(inputs, load, Outcome::Value(value, None))
+}
+
+/// Adds the fault of a load.
+fn push_fault(
+    alloc: Global,
+    inputs: &mut Vec<Input>,
+    load: u64,
+    text: &[u8],
+) -> Result<(), AllocError> {
+    let text = bytes(alloc, text)?;
+    push_answer(inputs, load, Outcome::Fault(text))
+}
+
+/// Adds the opening of a connection.
+fn push_open(inputs: &mut Vec<Input>) -> Result<(), AllocError> {
+    inputs.push(Input::Open { namespace: 0 })?;
+    Ok(())
+}
+
 /// Adds what comes.
 fn push(
     alloc: Global,
@@ -104,17 +153,14 @@ fn push(
     came: Came<'_>,
 ) -> Result<(), AllocError> {
     match came {
-        Came::Open => inputs.push(Input::Open { namespace: 0 })?,
-        Came::Piece(conn, piece) => push_piece(alloc, inputs, cut, conn, 0, piece)?,
-        Came::At(conn, nanos, piece) => push_piece(alloc, inputs, cut, conn, nanos, piece)?,
-        Came::Filled(conn, many, behind) => push_filled(alloc, inputs, cut, conn, many, behind)?,
-        Came::Value(load, value) => {
-            push_answer(inputs, load, Outcome::Value(bytes(alloc, value)?, None))?
-        }
-        Came::Fault(load, text) => push_answer(inputs, load, Outcome::Fault(bytes(alloc, text)?))?,
-        Came::GiveUps(first, last) => push_give_ups(inputs, first, last)?,
+        Came::Open => push_open(inputs),
+        Came::Piece(conn, piece) => push_piece(alloc, inputs, cut, conn, 0, piece),
+        Came::At(conn, nanos, piece) => push_piece(alloc, inputs, cut, conn, nanos, piece),
+        Came::Filled(conn, many, behind) => push_filled(alloc, inputs, cut, conn, many, behind),
+        Came::Value(load, value) => push_value(alloc, inputs, load, value),
+        Came::Fault(load, text) => push_fault(alloc, inputs, load, text),
+        Came::GiveUps(first, last) => push_give_ups(inputs, first, last),
     }
-    Ok(())
 }
 
 /// All that comes.
@@ -184,18 +230,30 @@ fn has_replies(alloc: Global, transcript: &Transcript, row: &Row<'_>) -> Result<
     Ok(true)
 }
 
-/// The place of the first row that does not come out as it says, or is not judged to be right.
-fn first_wrong(alloc: Global, cut: Cut, rows: &[Row<'_>]) -> Result<Option<usize>, Fail> {
+/// The transcript that is played of a row.
+fn played(alloc: Global, cut: Cut, row: &Row<'_>) -> Result<Transcript, Fail> {
+    let inputs = inputs_of(alloc, cut, row.came)?;
+    last_of(play_row(alloc, row, &inputs)?)
+}
+
+/// Whether a transcript is judged to be right, and comes out as its row says.
+fn is_right(alloc: Global, transcript: &Transcript, row: &Row<'_>) -> Result<bool, AllocError> {
+    Ok(
+        audit(alloc, row.config, transcript) == Verdict::Yes
+            && loads_of(transcript) == row.loads
+            && has_replies(alloc, transcript, row)?,
+    )
+}
+
+/// Fails with the place of the first row that does not come out as it says, or is not judged to be right.
+fn expect_right(alloc: Global, cut: Cut, rows: &[Row<'_>]) -> Result<(), Fail> {
     for (place, row) in rows.iter().enumerate() {
-        let inputs = inputs_of(alloc, cut, row.came)?;
-        let transcript = last_of(play_row(alloc, row, &inputs)?)?;
-        let right = audit(alloc, row.config, &transcript) == Verdict::Yes;
-        let replied = has_replies(alloc, &transcript, row)?;
-        if !right || !replied || loads_of(&transcript) != row.loads {
-            return Ok(Some(place));
+        let transcript = played(alloc, cut, row)?;
+        if !is_right(alloc, &transcript, row)? {
+            return Err(Fail::new(format_args!("row {place}")));
         }
     }
-    Ok(None)
+    Ok(())
 }
 
 /// All that comes, whole, at the second try where memory is refused.
@@ -231,69 +289,52 @@ fn is_steady(alloc: Global, row: &Row<'_>, other: &Config) -> Result<bool, Fail>
     Ok(verdict_again(alloc, row.config, &transcript) == Verdict::Yes && first == second)
 }
 
-/// The place of the first row with another verdict where memory was refused once.
-fn first_unsteady(alloc: Global, rows: &[Row<'_>]) -> Result<Option<usize>, Fail> {
+/// Fails with the place of the first row with another verdict where memory was refused once.
+fn expect_steady(alloc: Global, rows: &[Row<'_>]) -> Result<(), Fail> {
     for (place, row) in rows.iter().enumerate() {
         if !is_steady(alloc, row, &NOTHING)? {
-            return Ok(Some(place));
+            return Err(Fail::new(format_args!("row {place}")));
         }
     }
-    Ok(None)
+    Ok(())
 }
 
 #[test]
 fn lines_with_memory_refused_once(rt: HostRuntime) -> Result<(), Fail> {
-    assert_eq!(rt; first_unsteady(rt.alloc(), ROWS_OF_LINES)?, None);
-    Ok(())
+    expect_steady(rt.alloc(), rows_of_lines())
 }
 
 #[test]
 fn loads_with_memory_refused_once(rt: HostRuntime) -> Result<(), Fail> {
-    assert_eq!(rt; first_unsteady(rt.alloc(), ROWS_OF_LOADS)?, None);
-    Ok(())
+    expect_steady(rt.alloc(), rows_of_loads())
 }
 
 #[test]
 fn lines_whole(rt: HostRuntime) -> Result<(), Fail> {
-    assert_eq!(rt; first_wrong(rt.alloc(), Cut::Whole, ROWS_OF_LINES)?, None);
-    Ok(())
+    expect_right(rt.alloc(), Cut::Whole, rows_of_lines())
 }
 
 #[test]
 fn lines_byte_by_byte(rt: HostRuntime) -> Result<(), Fail> {
-    assert_eq!(rt;
-        first_wrong(rt.alloc(), Cut::ByteByByte, ROWS_OF_LINES)?,
-        None
-    );
-    Ok(())
+    expect_right(rt.alloc(), Cut::ByteByByte, rows_of_lines())
 }
 
 #[test]
 fn loads_whole(rt: HostRuntime) -> Result<(), Fail> {
-    assert_eq!(rt; first_wrong(rt.alloc(), Cut::Whole, ROWS_OF_LOADS)?, None);
-    Ok(())
+    expect_right(rt.alloc(), Cut::Whole, rows_of_loads())
 }
 
 #[test]
 fn loads_byte_by_byte(rt: HostRuntime) -> Result<(), Fail> {
-    assert_eq!(rt;
-        first_wrong(rt.alloc(), Cut::ByteByByte, ROWS_OF_LOADS)?,
-        None
-    );
-    Ok(())
+    expect_right(rt.alloc(), Cut::ByteByByte, rows_of_loads())
 }
 
 #[test]
 fn limits_whole(rt: HostRuntime) -> Result<(), Fail> {
-    assert_eq!(rt; first_wrong(rt.alloc(), Cut::Whole, ROWS_OF_LIMITS)?, None);
-    Ok(())
+    expect_right(rt.alloc(), Cut::Whole, rows_of_limits())
 }
 
 #[test]
 fn limits_byte_by_byte(rt: HostRuntime) -> Result<(), Fail> {
-    assert_eq!(rt;
-        first_wrong(rt.alloc(), Cut::ByteByByte, ROWS_OF_LIMITS)?,
-        None
-    );
-    Ok(())
+    expect_right(rt.alloc(), Cut::ByteByByte, rows_of_limits())
 }

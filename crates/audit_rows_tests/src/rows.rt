@@ -76,7 +76,7 @@ const IDLE: Config = Config {
 };
 
 /// Rows of one connection that loads nothing.
-pub const ROWS_OF_LINES: &[Row<'static>] = &[
+const ROWS_OF_LINES: &[Row<'static>] = &[
     Row {
         config: &PLAIN,
         came: &[
@@ -224,7 +224,7 @@ pub const ROWS_OF_LINES: &[Row<'static>] = &[
 ];
 
 /// Rows of loads, their answers and give-ups.
-pub const ROWS_OF_LOADS: &[Row<'static>] = &[
+const ROWS_OF_LOADS: &[Row<'static>] = &[
     Row {
         config: &PLAIN,
         came: &[
@@ -290,7 +290,7 @@ pub const ROWS_OF_LOADS: &[Row<'static>] = &[
 ];
 
 /// Rows of many loads, and of lines and pieces as long as they may be.
-pub const ROWS_OF_LIMITS: &[Row<'static>] = &[
+const ROWS_OF_LIMITS: &[Row<'static>] = &[
     Row {
         config: &PLAIN,
         came: &[
@@ -332,3 +332,18 @@ pub const ROWS_OF_LIMITS: &[Row<'static>] = &[
         loads: 1,
     },
 ];
+
+/// Rows of one connection that loads nothing.
+pub fn rows_of_lines() -> &'static [Row<'static>] {
+    ROWS_OF_LINES
+}
+
+/// Rows of loads, their answers and give-ups.
+pub fn rows_of_loads() -> &'static [Row<'static>] {
+    ROWS_OF_LOADS
+}
+
+/// Rows of many loads, and of lines and pieces as long as they may be.
+pub fn rows_of_limits() -> &'static [Row<'static>] {
+    ROWS_OF_LIMITS
+}

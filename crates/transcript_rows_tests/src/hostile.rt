@@ -1,5 +1,5 @@
 //! What is no transcript of a service.
-use crate::rows::{PLAIN, Row, first_wrong};
+use crate::rows::{PLAIN, Row, expect_right};
 use std::test::Fail;
 
 /// Wrong numbers, lines, parts and moments.
@@ -18,6 +18,18 @@ const HOSTILE: &[Row] = &[
     },
     Row {
         lines: b"open 0\n",
+        breaks: 1,
+    },
+    Row {
+        lines: b"open 2\n",
+        breaks: 1,
+    },
+    Row {
+        lines: b"open 1\n",
+        breaks: 0,
+    },
+    Row {
+        lines: b"close 0\n",
         breaks: 1,
     },
     Row {
@@ -154,7 +166,6 @@ const MORE: &[Row] = &[
 
 #[test]
 fn hostile_transcripts(rt: HostRuntime) -> Result<(), Fail> {
-    assert_eq!(rt; first_wrong(rt.alloc(), PLAIN, HOSTILE), 0);
-    assert_eq!(rt; first_wrong(rt.alloc(), PLAIN, MORE), 0);
-    Ok(())
+    expect_right(rt.alloc(), PLAIN, HOSTILE)?;
+    expect_right(rt.alloc(), PLAIN, MORE)
 }

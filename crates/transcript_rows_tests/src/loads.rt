@@ -1,5 +1,5 @@
 //! Loads: those of the worked scripts, and what wrong services would have recorded of them.
-use crate::rows::{NOTHING, OWN, PLAIN, Row, first_wrong, verdict_again};
+use crate::rows::{NOTHING, OWN, PLAIN, Row, expect_right, verdict_again};
 use std::alloc::{AllocError, Global};
 use std::test::Fail;
 
@@ -177,79 +177,102 @@ const TIMED: &[Row] = &[
 
 #[test]
 fn loads(rt: HostRuntime) -> Result<(), Fail> {
-    assert_eq!(rt; first_wrong(rt.alloc(), PLAIN, LOADS), 0);
-    assert_eq!(rt; first_wrong(rt.alloc(), NOTHING, OFF), 0);
-    assert_eq!(rt; first_wrong(rt.alloc(), OWN, TIMED), 0);
+    expect_right(rt.alloc(), PLAIN, LOADS)?;
+    expect_right(rt.alloc(), NOTHING, OFF)?;
+    expect_right(rt.alloc(), OWN, TIMED)
+}
+
+/// Puts a give-up, behind which the next load is sent.
+fn put_give_up(alloc: Global, lines: &mut Vec<u8>, number: u64) -> Result<(), AllocError> {
+    let next = number.saturating_add(1);
+    let text = format!(in alloc; "giveup {number} 0\nstep 1 run 'LOAD_k - {next} -\n")?;
+    lines.extend_from_slice(text.as_bytes())
+}
+
+/// Puts a give-up that is the last, and a `LOAD` that comes then.
+fn put_last(alloc: Global, lines: &mut Vec<u8>, number: u64) -> Result<(), AllocError> {
+    let next = number.saturating_add(1);
+    let text = format!(in alloc;
+        "giveup {number} 0\nstep 1 run 'LOAD_k 'ERR_abandoned~ - -\nfeed 1 0 'LOAD_k~\nstep 1 run 'LOAD_k - {next} -\n"
+    )?;
+    lines.extend_from_slice(text.as_bytes())
+}
+
+/// Puts the give-ups that come before this one.
+fn put_earlier(alloc: Global, lines: &mut Vec<u8>, times: u64) -> Result<(), AllocError> {
+    for number in 1..times {
+        put_give_up(alloc, lines, number)?;
+    }
     Ok(())
 }
 
 /// The lines of a `LOAD` that is given up again and again, at each but the last time sending a load anew, and abandoned at the last.
 fn given_up(alloc: Global, times: u64) -> Result<Vec<u8>, AllocError> {
-    let mut lines = Vec::from_slice(
-        alloc,
-        b"open 1\nfeed 1 0 'LOAD_k~\nstep 1 run 'LOAD_k - 1 -\n",
-    )?;
-    for number in 1..times {
-        let next = number.saturating_add(1);
-        let text = format!(in alloc; "giveup {number} 0\nstep 1 run 'LOAD_k - {next} -\n")?;
-        lines.extend_from_slice(text.as_bytes())?;
-    }
-    let text = format!(in alloc; "giveup {times} 0\nstep 1 run 'LOAD_k 'ERR_abandoned~ - -\n")?;
-    lines.extend_from_slice(text.as_bytes())?;
-    let next = times.saturating_add(1);
-    let text = format!(in alloc; "feed 1 0 'LOAD_k~\nstep 1 run 'LOAD_k - {next} -\n")?;
-    lines.extend_from_slice(text.as_bytes())?;
+    let start = b"open 1\nfeed 1 0 'LOAD_k~\nstep 1 run 'LOAD_k - 1 -\n";
+    let mut lines = Vec::from_slice(alloc, start)?;
+    put_earlier(alloc, &mut lines, times)?;
+    put_last(alloc, &mut lines, times)?;
     Ok(lines)
+}
+
+/// Fails with how many give-ups are not judged to break a rule at that record.
+fn expect_given_up(alloc: Global, rows: &[(u64, u64)]) -> Result<(), Fail> {
+    for (times, breaks) in rows {
+        let lines = given_up(alloc, *times)?;
+        if verdict_again(alloc, PLAIN, &lines) != Some(*breaks) {
+            return Err(Fail::new(format_args!("given up {times} times")));
+        }
+    }
+    Ok(())
+}
+
+/// Puts so many bytes.
+fn put_bytes(lines: &mut Vec<u8>, count: u64) -> Result<(), AllocError> {
+    for _byte in 0..count {
+        lines.push(b'x')?;
+    }
+    Ok(())
 }
 
 /// The lines of a `LOAD` with that many bytes behind it, and its answer.
 fn behind(alloc: Global, count: u64, steps: &[u8]) -> Result<Vec<u8>, AllocError> {
     let mut lines = Vec::from_slice(alloc, b"open 1\nfeed 1 0 'LOAD_k~")?;
-    for _byte in 0..count {
-        lines.push(b'x')?;
-    }
+    put_bytes(&mut lines, count)?;
     lines.extend_from_slice(b"\nstep 1 run 'LOAD_k - 1 -\nanswer 1 0 none\n")?;
     lines.extend_from_slice(steps)?;
     Ok(lines)
 }
 
+/// Fails with how many bytes, with the steps behind the answer, are not judged to break a rule at that record.
+fn expect_behind(alloc: Global, rows: &[(u64, &[u8], u64)]) -> Result<(), Fail> {
+    for (count, steps, breaks) in rows {
+        let lines = behind(alloc, *count, steps)?;
+        if verdict_again(alloc, PLAIN, &lines) != Some(*breaks) {
+            return Err(Fail::new(format_args!("{count} bytes behind")));
+        }
+    }
+    Ok(())
+}
+
+/// How often a load is given up, and the record at which that breaks a rule, or 0.
+const GIVE_UPS: &[(u64, u64)] = &[(200, 0), (199, 201), (201, 202)];
+
+const TOLD: &[u8] = b"step 1 run 'LOAD_k 'NONE~ - -\n";
+
+/// How many bytes stand behind a `LOAD`, the steps of its answer, and the record at which that breaks a rule, or 0.
+const BEHIND: &[(u64, &[u8], u64)] = &[
+    (8192, TOLD, 0),
+    (8192, b"", 3),
+    (8193, b"", 0),
+    (8193, TOLD, 3),
+];
+
 #[test]
 fn the_200th_give_up_abandons(rt: HostRuntime) -> Result<(), Fail> {
-    let alloc = rt.alloc();
-    assert_eq!(rt;
-        verdict_again(alloc, PLAIN, &given_up(alloc, 200)?),
-        Some(0)
-    );
-    assert_eq!(rt;
-        verdict_again(alloc, PLAIN, &given_up(alloc, 199)?),
-        Some(201)
-    );
-    assert_eq!(rt;
-        verdict_again(alloc, PLAIN, &given_up(alloc, 201)?),
-        Some(202)
-    );
-    Ok(())
+    expect_given_up(rt.alloc(), GIVE_UPS)
 }
 
 #[test]
 fn bytes_behind_a_load(rt: HostRuntime) -> Result<(), Fail> {
-    let alloc = rt.alloc();
-    let told = b"step 1 run 'LOAD_k 'NONE~ - -\n";
-    assert_eq!(rt;
-        verdict_again(alloc, PLAIN, &behind(alloc, 8192, told)?),
-        Some(0)
-    );
-    assert_eq!(rt;
-        verdict_again(alloc, PLAIN, &behind(alloc, 8192, b"")?),
-        Some(3)
-    );
-    assert_eq!(rt;
-        verdict_again(alloc, PLAIN, &behind(alloc, 8193, b"")?),
-        Some(0)
-    );
-    assert_eq!(rt;
-        verdict_again(alloc, PLAIN, &behind(alloc, 8193, told)?),
-        Some(3)
-    );
-    Ok(())
+    expect_behind(rt.alloc(), BEHIND)
 }

@@ -1,8 +1,10 @@
 //! Transcripts in their text form as rows, and the verdicts on them.
 ghost use Rattle.std.specs.Prelude.{◌<◌};
 
+use audit_model::{Config, Transcript};
 use audit_records::{Verdict, audit};
 use std::alloc::{AllocError, Global};
+use std::test::Fail;
 use text_reader::read_transcript;
 
 /// Lines of a transcript behind its head, in which `'` begins bytes whose `_` is a space, whose `~` is a line feed and whose `^` is a
@@ -72,15 +74,35 @@ fn put_lines(text: &mut Vec<u8>, lines: &[u8]) -> Result<(), AllocError> {
     Ok(())
 }
 
-/// The verdict on a row: the record at which it breaks a rule, or 0. None where it is no text of a transcript, or memory is wanted.
-fn verdict_of(alloc: Global, head: &[u8], lines: &[u8]) -> Option<u64> {
-    let mut text = Vec::from_slice(alloc, head).ok()?;
-    put_lines(&mut text, lines).ok()?;
-    let (config, transcript) = read_transcript(alloc, text.as_slice()).ok()?;
-    match audit(alloc, &config, &transcript) {
+/// The text of a row.
+fn text_of(alloc: Global, head: &[u8], lines: &[u8]) -> Result<Vec<u8>, AllocError> {
+    let mut text = Vec::from_slice(alloc, head)?;
+    put_lines(&mut text, lines)?;
+    Ok(text)
+}
+
+/// The record at which a transcript breaks a rule, or 0. None where memory is wanted.
+fn breaks_at(alloc: Global, config: &Config, transcript: &Transcript) -> Option<u64> {
+    match audit(alloc, config, transcript) {
         Verdict::Yes => Some(0),
         Verdict::Breaks(number) => Some(number),
         Verdict::OutOfMemory => None,
+    }
+}
+
+/// The verdict on a text: the record at which it breaks a rule, or 0. None where it is no text of a transcript, or memory is wanted.
+fn verdict_on(alloc: Global, text: &[u8]) -> Option<u64> {
+    match read_transcript(alloc, text) {
+        Ok((config, transcript)) => breaks_at(alloc, &config, &transcript),
+        Err(_) => None,
+    }
+}
+
+/// The verdict on a row's lines.
+fn verdict_of(alloc: Global, head: &[u8], lines: &[u8]) -> Option<u64> {
+    match text_of(alloc, head, lines) {
+        Ok(text) => verdict_on(alloc, &text),
+        Err(_) => None,
     }
 }
 
@@ -97,12 +119,12 @@ fn is_right(alloc: Global, head: &[u8], row: &Row) -> bool {
     verdict_again(alloc, head, row.lines) == Some(row.breaks)
 }
 
-/// The number of the first row, counted from 1, whose verdict is another, or 0.
-pub fn first_wrong(alloc: Global, head: &[u8], rows: &[Row]) -> usize {
-    for (at, row) in rows.iter().enumerate() {
+/// Fails with the place of the first row whose verdict is another.
+pub fn expect_right(alloc: Global, head: &[u8], rows: &[Row]) -> Result<(), Fail> {
+    for (place, row) in rows.iter().enumerate() {
         if !is_right(alloc, head, row) {
-            return at.saturating_add(1);
+            return Err(Fail::new(format_args!("row {place}")));
         }
     }
-    0
+    Ok(())
 }

@@ -1,5 +1,5 @@
 //! What wrong services would have recorded, each beside what is right.
-use crate::rows::{BRIEF, FULL, OWN, PLAIN, Row, TWO_PARTS, first_wrong};
+use crate::rows::{BRIEF, FULL, OWN, PLAIN, Row, TWO_PARTS, expect_right};
 use std::test::Fail;
 
 /// Whatever the settings.
@@ -137,6 +137,55 @@ const NOTES: &[Row] = &[
     },
 ];
 
+/// Values deleted, told, counted and listed; identifiers.
+const LINES: &[Row] = &[
+    // Shows a value that a `DEL` told.
+    Row {
+        lines: b"open 1\nfeed 1 0 'SET_a_-_1~\nstep 1 run 'SET_a_-_1 'OK~ - 0\nfeed 1 0 'DEL_a~\nstep 1 run 'DEL_a 'OK~ - -\nnote Explicit 'a '1\nfeed 1 0 'GET_a~\nstep 1 run 'GET_a 'VAL_1~ - -\n",
+        breaks: 4,
+    },
+    // Shows it no more.
+    Row {
+        lines: b"open 1\nfeed 1 0 'SET_a_-_1~\nstep 1 run 'SET_a_-_1 'OK~ - 0\nfeed 1 0 'DEL_a~\nstep 1 run 'DEL_a 'OK~ - -\nnote Explicit 'a '1\nfeed 1 0 'GET_a~\nstep 1 run 'GET_a 'NONE~ - -\n",
+        breaks: 0,
+    },
+    // Refuses an identifier before one was taken.
+    Row {
+        lines: b"open 1\nfeed 1 0 'SET_a_-_1~\nstep 1 run 'SET_a_-_1 'OK~ - 0\nfeed 1 0 'DROPIF_z~\nstep 1 run 'DROPIF_z 'ERR_id~ - -\n",
+        breaks: 3,
+    },
+    // Refuses one after another was taken.
+    Row {
+        lines: b"open 1\nfeed 1 0 'DROPIF_z~\nstep 1 run 'DROPIF_z 'OK~ - -\nfeed 1 0 'DROPIF_z~\nstep 1 run 'DROPIF_z 'ERR_id~ - -\n",
+        breaks: 0,
+    },
+    // Replaces a value and does not tell it.
+    Row {
+        lines: b"open 1\nfeed 1 0 'SET_a_-_1~\nstep 1 run 'SET_a_-_1 'OK~ - 0\nfeed 1 0 'SET_a_-_2~\nstep 1 run 'SET_a_-_2 'OK~ - 0\n",
+        breaks: 3,
+    },
+    // Counts a value that a `CLEAR` covers and that is not told yet.
+    Row {
+        lines: b"open 1\nfeed 1 0 'SET_a_-_1~\nstep 1 run 'SET_a_-_1 'OK~ - 0\nfeed 1 0 'CLEAR~\nstep 1 run 'CLEAR 'OK~ - -\nfeed 1 0 'SYNC~\nstep 1 run 'SYNC 'SYNC_1_1~ - -\n",
+        breaks: 0,
+    },
+    // Lists keys in order.
+    Row {
+        lines: b"open 1\nfeed 1 0 'SET_b_-_7~\nstep 1 run 'SET_b_-_7 'OK~ - 0\nfeed 1 0 'SET_a_-_1~\nstep 1 run 'SET_a_-_1 'OK~ - 0\nfeed 1 0 'KEYS~\nstep 1 run 'KEYS 'KEYS_2~a~b~ - -\n",
+        breaks: 0,
+    },
+    // Lists them out of order.
+    Row {
+        lines: b"open 1\nfeed 1 0 'SET_b_-_7~\nstep 1 run 'SET_b_-_7 'OK~ - 0\nfeed 1 0 'SET_a_-_1~\nstep 1 run 'SET_a_-_1 'OK~ - 0\nfeed 1 0 'KEYS~\nstep 1 run 'KEYS 'KEYS_2~b~a~ - -\n",
+        breaks: 4,
+    },
+    // Replaces a value by its sum and does not tell it.
+    Row {
+        lines: b"open 1\nfeed 1 0 'SET_b_-_7~\nstep 1 run 'SET_b_-_7 'OK~ - 0\nfeed 1 0 'ADD_b_-_5~\nstep 1 run 'ADD_b_-_5 'VAL_12~ - 0\n",
+        breaks: 3,
+    },
+];
+
 /// A value is shown from its deadline on, and what is right.
 const LATE: &[Row] = &[
     Row {
@@ -227,16 +276,19 @@ const ROOM: &[Row] = &[
 
 #[test]
 fn wrong_services(rt: HostRuntime) -> Result<(), Fail> {
-    assert_eq!(rt; first_wrong(rt.alloc(), PLAIN, WRONG), 0);
-    assert_eq!(rt; first_wrong(rt.alloc(), PLAIN, NOTES), 0);
-    Ok(())
+    expect_right(rt.alloc(), PLAIN, WRONG)?;
+    expect_right(rt.alloc(), PLAIN, NOTES)
+}
+
+#[test]
+fn wrong_lines(rt: HostRuntime) -> Result<(), Fail> {
+    expect_right(rt.alloc(), PLAIN, LINES)
 }
 
 #[test]
 fn wrong_services_by_settings(rt: HostRuntime) -> Result<(), Fail> {
-    assert_eq!(rt; first_wrong(rt.alloc(), BRIEF, LATE), 0);
-    assert_eq!(rt; first_wrong(rt.alloc(), OWN, DEADLINES), 0);
-    assert_eq!(rt; first_wrong(rt.alloc(), TWO_PARTS, PARTS), 0);
-    assert_eq!(rt; first_wrong(rt.alloc(), FULL, ROOM), 0);
-    Ok(())
+    expect_right(rt.alloc(), BRIEF, LATE)?;
+    expect_right(rt.alloc(), OWN, DEADLINES)?;
+    expect_right(rt.alloc(), TWO_PARTS, PARTS)?;
+    expect_right(rt.alloc(), FULL, ROOM)
 }
