@@ -11,7 +11,7 @@ const TINY_LFU: Settings = Settings {
 };
 
 // Keys 0 and 1 are asked for before there is a table, then 2, 0 and 1 once each: 2 was used longest ago. Key 3 comes and is refused, and is asked for, twice.
-const REFUSED_TWICE: [Row<'static>; 23] = [
+const REFUSED_TWICE: &[Row<'static>] = &[
     Row::Puts(0, 5, 1),
     Row::Puts(1, 6, 2),
     Row::Shows(Look::Get, 0, Some(5)),
@@ -39,7 +39,7 @@ const REFUSED_TWICE: [Row<'static>; 23] = [
 ];
 
 // The same with weights, three times.
-const REFUSED_THRICE: [Row<'static>; 28] = [
+const REFUSED_THRICE: &[Row<'static>] = &[
     Row::Puts(0, 10, 1),
     Row::Puts(1, 15, 2),
     Row::Shows(Look::Get, 0, Some(10)),
@@ -70,14 +70,14 @@ const REFUSED_THRICE: [Row<'static>; 28] = [
     Row::Shows(Look::Get, 3, None),
 ];
 
-const CASES: [Case<'static>; 4] = [
+const CASES: &[Case<'static>] = &[
     // Weights of one: a newcomer comes in once it was asked for more often than the value used longest ago.
     Case {
         settings: Settings {
             capacity: Some(3),
             ..TINY_LFU
         },
-        before: &REFUSED_TWICE,
+        before: REFUSED_TWICE,
         rows: &[
             Row::Puts(3, 8, 6),
             Row::RunsWhole,
@@ -93,7 +93,7 @@ const CASES: [Case<'static>; 4] = [
             capacity: Some(3),
             ..TINY_LFU
         },
-        before: &REFUSED_TWICE,
+        before: REFUSED_TWICE,
         rows: &[
             Row::Clears(6),
             Row::RunsWhole,
@@ -118,7 +118,7 @@ const CASES: [Case<'static>; 4] = [
             ..TINY_LFU
         },
         weighs: ITSELF,
-        before: &REFUSED_THRICE,
+        before: REFUSED_THRICE,
         rows: &[
             Row::Puts(3, 15, 7),
             Row::RunsWhole,
@@ -158,5 +158,5 @@ const CASES: [Case<'static>; 4] = [
 
 #[test]
 fn frequencies_of_the_plain_engine(rt: HostRuntime) {
-    none_wrong(&rt, first_wrong::<Plain>(rt.alloc(), &CASES));
+    none_wrong(&rt, first_wrong::<Plain>(rt.alloc(), CASES));
 }

@@ -4,7 +4,7 @@ use crate::engine::Plain;
 use crate::script::{CASE, Case, Look, Row, SECOND, SETTINGS, first_wrong, none_wrong};
 use engine_reference::Settings;
 
-const CASES: [Case<'static>; 4] = [
+const CASES: &[Case<'static>] = &[
     // An empty cache shows nothing.
     Case {
         settings: Settings {
@@ -98,5 +98,5 @@ const CASES: [Case<'static>; 4] = [
 
 #[test]
 fn looks_of_the_plain_engine(rt: HostRuntime) {
-    none_wrong(&rt, first_wrong::<Plain>(rt.alloc(), &CASES));
+    none_wrong(&rt, first_wrong::<Plain>(rt.alloc(), CASES));
 }

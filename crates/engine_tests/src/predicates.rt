@@ -16,7 +16,7 @@ const ZEROS: u32 = 0;
 
 const ONES: u32 = u32::MAX;
 
-const CASES: [Case<'static>; 3] = [
+const CASES: &[Case<'static>] = &[
     // A generator of zeros gives one identifier. While that is registered a predicate is refused, and covers nothing; a run that it covers nothing after takes it away.
     Case {
         rows: &[
@@ -77,5 +77,5 @@ const CASES: [Case<'static>; 3] = [
 
 #[test]
 fn predicates_of_the_plain_engine(rt: HostRuntime) {
-    none_wrong(&rt, first_wrong::<Plain>(rt.alloc(), &CASES));
+    none_wrong(&rt, first_wrong::<Plain>(rt.alloc(), CASES));
 }

@@ -6,7 +6,7 @@ use crate::values::NOT_CLONED;
 use engine_plain::Refusal;
 use engine_reference::Settings;
 
-const CASES: [Case<'static>; 1] = [
+const CASES: &[Case<'static>] = &[
     // Look-ups and a removal answer that the clone is refused. The value is still there, was not used, and no ticket was given for it.
     Case {
         settings: Settings {
@@ -42,5 +42,5 @@ const CASES: [Case<'static>; 1] = [
 
 #[test]
 fn refusals_of_the_plain_engine(rt: HostRuntime) {
-    none_wrong(&rt, first_wrong::<Plain>(rt.alloc(), &CASES));
+    none_wrong(&rt, first_wrong::<Plain>(rt.alloc(), CASES));
 }

@@ -6,7 +6,7 @@ use engine_plain::Refusal;
 use engine_reference::Settings;
 use engine_rules::RemovalCause;
 
-const CASES: [Case<'static>; 9] = [
+const CASES: &[Case<'static>] = &[
     // Live 16 s, idle 7 s, and a second of its own from its creation on: the earliest of them ends a value.
     Case {
         settings: Settings {
@@ -215,5 +215,5 @@ const CASES: [Case<'static>; 9] = [
 
 #[test]
 fn writes_of_the_plain_engine(rt: HostRuntime) {
-    none_wrong(&rt, first_wrong::<Plain>(rt.alloc(), &CASES));
+    none_wrong(&rt, first_wrong::<Plain>(rt.alloc(), CASES));
 }

@@ -218,7 +218,7 @@ fn first_wrong(alloc: Global, cases: &[&[Act]]) -> Option<(usize, usize)> {
     None
 }
 
-const CASES: [&'static [Act]; 6] = [
+const CASES: &[&[Act]] = &[
     // a walk goes past nodes that move
     &[
         Act::Push(0),
@@ -284,5 +284,5 @@ const CASES: [&'static [Act]; 6] = [
 
 #[test]
 fn queues_keep_their_order(rt: HostRuntime) {
-    none_wrong(&rt, first_wrong(rt.alloc(), &CASES));
+    none_wrong(&rt, first_wrong(rt.alloc(), CASES));
 }

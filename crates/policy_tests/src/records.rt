@@ -110,7 +110,7 @@ fn first_wrong(alloc: Global, acts: &[Act]) -> Option<Option<usize>> {
     }
 }
 
-const OWN_EXPIRATIONS: [Act; 7] = [
+const OWN_EXPIRATIONS: &[Act] = &[
     Act::Set(Some(5000), Some(4096)),
     Act::Set(Some(4095), Some(0)),
     Act::Set(Some(18446744073709551614), Some(18446744073709543424)),
@@ -122,7 +122,7 @@ const OWN_EXPIRATIONS: [Act; 7] = [
 
 #[test]
 fn own_expirations_are_rounded_down(rt: HostRuntime) {
-    let wrong = first_wrong(rt.alloc(), &OWN_EXPIRATIONS);
+    let wrong = first_wrong(rt.alloc(), OWN_EXPIRATIONS);
     assert_eq!(rt; wrong, Some(None));
 }
 

@@ -260,7 +260,7 @@ fn first_wrong(alloc: Global, cases: &[&[Act]]) -> Option<(usize, usize)> {
     None
 }
 
-const CASES: [&'static [Act]; 7] = [
+const CASES: &[&[Act]] = &[
     // entries in order of use
     &[
         Act::Add(0),
@@ -347,5 +347,5 @@ const CASES: [&'static [Act]; 7] = [
 
 #[test]
 fn entries_keep_both_orders(rt: HostRuntime) {
-    none_wrong(&rt, first_wrong(rt.alloc(), &CASES));
+    none_wrong(&rt, first_wrong(rt.alloc(), CASES));
 }

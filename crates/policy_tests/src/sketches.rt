@@ -64,7 +64,7 @@ fn first_wrong(alloc: Global, cases: &[&[Act]]) -> Option<(usize, usize)> {
     None
 }
 
-const CASES: [&'static [Act]; 3] = [
+const CASES: &[&[Act]] = &[
     // it counts up to fifteen
     &[
         Act::Count(1),
@@ -99,5 +99,5 @@ const CASES: [&'static [Act]; 3] = [
 
 #[test]
 fn sketches_count(rt: HostRuntime) {
-    none_wrong(&rt, first_wrong(rt.alloc(), &CASES));
+    none_wrong(&rt, first_wrong(rt.alloc(), CASES));
 }

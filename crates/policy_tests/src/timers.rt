@@ -216,7 +216,7 @@ fn first_wrong(alloc: Global, cases: &[&[Act]]) -> Option<(usize, usize)> {
     None
 }
 
-const CASES: [&'static [Act]; 4] = [
+const CASES: &[&[Act]] = &[
     // due timers expire
     &[
         Act::Schedule(TICK),
@@ -251,5 +251,5 @@ const CASES: [&'static [Act]; 4] = [
 
 #[test]
 fn timers_expire_when_they_are_due(rt: HostRuntime) {
-    none_wrong(&rt, first_wrong(rt.alloc(), &CASES));
+    none_wrong(&rt, first_wrong(rt.alloc(), CASES));
 }
