@@ -9,13 +9,13 @@ use Rattle.engine_reference.specs.Calls.{sent}
 use Rattle.engine_reference.specs.Runs.{RunsToEnd, writes, leaves, evicts, first_of}
 use Rattle.engine_reference.specs.Times.{has_come, end_of, is_reached}
 use Rattle.engine_reference.specs.Visible.{is_covered}
-use Rattle.engine_reference_tests.specs.Playing.{Small, small_answers, new_small, put, put_unsent}
+use Rattle.engine_laws_tests.specs.Playing.{Small, small_answers, new_small, put, put_unsent}
 use Rattle.engine_laws.specs.Points.{IsInOrder}
 use Rattle.engine_laws.specs.Sweeping.{order_after, admitted_in, IsTimely, IsSwept}
 use Rattle.engine_laws.proofs.Fronting.{each-at}
 use Rattle.engine_laws.proofs.Ordering.{calls_stay_in_order, runs_stay_in_order}
 use Rattle.engine_laws.proofs.Swept.{calls_stay_timely, swept_runs_leave_none_due}
-use Rattle.engine_laws_tests.specs.Rows.{applied_one, ended, full, written_all, evicted, two, both_written, swept, RowsOfPoints, RowsOfFronts, RowsOfSweeping}
+use Rattle.engine_laws_tests.specs.Runs.{applied_one, ended, full, written_all, evicted, two, both_written, swept, RowsOfPoints, RowsOfFronts, RowsOfSweeping}
 
 of_some : {X : Type 0} (f : X → Bool) (o : Option X) (x : X) → option_map f o ≡ Some false → o ≡ Some x → f x ≡ false
 of_some f o x h e = let both : Some (f x) ≡ Some false = sym (ap (λ p. option_map f p) e) ∙ h in cc

@@ -8,15 +8,17 @@ mod frequencies;
 #[cfg(test)]
 mod generators;
 #[cfg(test)]
+mod hashes;
+#[cfg(test)]
 mod looks;
 #[cfg(test)]
 mod predicates;
 #[cfg(test)]
 mod refusals;
 #[cfg(test)]
-mod rows;
-#[cfg(test)]
 mod rules;
+#[cfg(test)]
+mod script;
 #[cfg(test)]
 mod values;
 #[cfg(test)]

@@ -2,6 +2,8 @@
 #![tactic(auto)]
 
 #[cfg(test)]
+mod outcome;
+#[cfg(test)]
 mod queues;
 #[cfg(test)]
 mod records;

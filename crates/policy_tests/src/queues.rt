@@ -1,9 +1,9 @@
 //! Queues. A push whose memory is refused is tried once more, and has changed nothing; so the tests pass with any one allocation
 //! refused.
+use crate::outcome::none_wrong;
 use moka_policy::{CacheRegion, Deque, NodeId, PushError, ReserveError};
 use policy_queue::places_of;
 use std::alloc::Global;
-use std::test::Fail;
 
 /// A queue, and the names of its nodes in the order of their pushes.
 #[derive(Drop)]
@@ -17,18 +17,29 @@ struct Queue {
 enum Act {
     Push(u64),
     Reserve(usize),
+    /// Pushes 0, 1, 2, .. up to that, which is not among them.
+    PushUpTo(u64),
     /// A push for which there is room already.
     PushReserved(u64),
+    /// So many of them: of 0, 1, 2, ..
+    PushReservedUpTo(u64),
     /// Whether there was such a node to move.
     Move(usize, bool),
+    /// The nodes 0, 1, 2, .. are there, and are moved one after the other.
+    MoveUpTo(usize),
     /// Whether there was such a node to unlink.
     Unlink(usize, bool),
-    MoveFront,
+    /// The first node is moved so often.
+    MoveFront(u32),
     Next(Option<u64>),
     Pop(Option<u64>),
+    /// Pops 0, 1, 2, .. up to that, which is not among them.
+    PopUpTo(u64),
     Front(Option<u64>),
     Back(Option<u64>),
     Len(usize),
+    /// The element at a place of the array, if there is one, and nothing behind its end.
+    Place(usize, Option<Option<u64>>),
 }
 
 fn new_queue(alloc: Global) -> Queue {
@@ -97,41 +108,119 @@ fn unlink_node(queue: &mut Queue, number: usize) -> bool {
     }
 }
 
-/// Does it, and answers whether it came out so.
-fn comes_so(queue: &mut Queue, act: Act) -> bool {
-    match act {
-        Act::Push(element) => keep_pushed(&mut queue.names, push(&mut queue.deque, element)),
-        Act::Reserve(n) => reserve(&mut queue.deque, n),
-        Act::PushReserved(element) => {
-            keep_pushed(&mut queue.names, queue.deque.push_back(element).ok())
+/// Pushes within a reservation.
+fn push_reserved(queue: &mut Queue, element: u64) -> bool {
+    keep_pushed(&mut queue.names, queue.deque.push_back(element).ok())
+}
+
+fn push_up_to(queue: &mut Queue, end: u64) -> bool {
+    for element in 0..end {
+        if !keep_pushed(&mut queue.names, push(&mut queue.deque, element)) {
+            return false;
         }
-        Act::Move(number, was_there) => move_node(queue, number) == was_there,
-        Act::Unlink(number, was_there) => unlink_node(queue, number) == was_there,
-        Act::MoveFront => {
-            queue.deque.move_front_to_back();
-            true
+    }
+    true
+}
+
+fn push_reserved_up_to(queue: &mut Queue, end: u64) -> bool {
+    for element in 0..end {
+        if !push_reserved(queue, element) {
+            return false;
         }
-        Act::Next(wanted) => queue.deque.next().copied() == wanted,
-        Act::Pop(wanted) => queue.deque.pop_front() == wanted,
-        Act::Front(wanted) => queue.deque.peek_front().copied() == wanted,
-        Act::Back(wanted) => queue.deque.peek_back().copied() == wanted,
-        Act::Len(wanted) => queue.deque.len() == wanted,
+    }
+    true
+}
+
+fn move_up_to(queue: &mut Queue, end: usize) -> bool {
+    for number in 0..end {
+        if !move_node(queue, number) {
+            return false;
+        }
+    }
+    true
+}
+
+fn move_front(deque: &mut Deque<u64>, times: u32) {
+    for _ in 0..times {
+        deque.move_front_to_back();
     }
 }
 
-/// Does one after another, and answers the place of the first that did not come out so.
-fn first_wrong(queue: &mut Queue, acts: &[Act]) -> Option<usize> {
+fn pop_up_to(deque: &mut Deque<u64>, end: u64) -> bool {
+    for element in 0..end {
+        if deque.pop_front() != Some(element) {
+            return false;
+        }
+    }
+    true
+}
+
+/// The element at a place of the array, if there is one; `None` behind its end.
+fn element_at(deque: &Deque<u64>, place: usize) -> Option<Option<u64>> {
+    match places_of(deque).get(place) {
+        Some(Some(node)) => Some(Some(node.element)),
+        Some(None) => Some(None),
+        None => None,
+    }
+}
+
+/// Changes a queue, and answers whether it came out so.
+fn changes_so(queue: &mut Queue, act: Act) -> bool {
+    match act {
+        Act::Push(element) => keep_pushed(&mut queue.names, push(&mut queue.deque, element)),
+        Act::PushUpTo(end) => push_up_to(queue, end),
+        Act::Reserve(n) => reserve(&mut queue.deque, n),
+        Act::PushReserved(element) => push_reserved(queue, element),
+        Act::PushReservedUpTo(end) => push_reserved_up_to(queue, end),
+        Act::Move(number, was_there) => move_node(queue, number) == was_there,
+        Act::MoveUpTo(end) => move_up_to(queue, end),
+        Act::Unlink(number, was_there) => unlink_node(queue, number) == was_there,
+        Act::MoveFront(times) => {
+            move_front(&mut queue.deque, times);
+            true
+        }
+        act => shows_so(&mut queue.deque, act),
+    }
+}
+
+/// Looks or walks, and answers whether it came out so.
+fn shows_so(deque: &mut Deque<u64>, act: Act) -> bool {
+    match act {
+        Act::Next(wanted) => deque.next().copied() == wanted,
+        Act::Pop(wanted) => deque.pop_front() == wanted,
+        Act::PopUpTo(end) => pop_up_to(deque, end),
+        Act::Front(wanted) => deque.peek_front().copied() == wanted,
+        Act::Back(wanted) => deque.peek_back().copied() == wanted,
+        Act::Len(wanted) => deque.len() == wanted,
+        Act::Place(place, wanted) => element_at(deque, place) == wanted,
+        _ => false,
+    }
+}
+
+/// Does one after another on a new queue, and answers the place of the first that did not come out so.
+fn wrong_row(alloc: Global, acts: &[Act]) -> Option<usize> {
+    let mut queue = new_queue(alloc);
     for (place, act) in acts.iter().enumerate() {
-        if !comes_so(queue, *act) {
+        if !changes_so(&mut queue, *act) {
             return Some(place);
         }
     }
     None
 }
 
-#[test]
-fn walks_past_nodes_that_move_or_leave(rt: HostRuntime) -> Result<(), Fail> {
-    let acts = [
+/// Plays these cases, each on a new queue, and answers the first that did not come out so, and the place of its first row that did not.
+fn first_wrong(alloc: Global, cases: &[&[Act]]) -> Option<(usize, usize)> {
+    for (number, acts) in cases.iter().enumerate() {
+        if let Some(place) = wrong_row(alloc, acts) {
+            return Some((number, place));
+        }
+    }
+    None
+}
+
+const CASES: &[&[Act]] = &[
+    // a walk goes past nodes that move
+    &[
         Act::Push(0),
         Act::Push(1),
         Act::Push(2),
@@ -143,14 +232,9 @@ fn walks_past_nodes_that_move_or_leave(rt: HostRuntime) -> Result<(), Fail> {
         Act::Next(None),
         Act::Next(Some(0)),
         Act::Back(Some(1)),
-    ];
-    assert_eq!(rt; first_wrong(&mut new_queue(rt.alloc()), &acts), None);
-    Ok(())
-}
-
-#[test]
-fn a_node_that_left_is_stale(rt: HostRuntime) -> Result<(), Fail> {
-    let acts = [
+    ],
+    // and past nodes that leave; a node that left is stale
+    &[
         Act::Push(0),
         Act::Push(1),
         Act::Push(2),
@@ -161,103 +245,44 @@ fn a_node_that_left_is_stale(rt: HostRuntime) -> Result<(), Fail> {
         Act::Unlink(1, false),
         Act::Move(1, false),
         Act::Len(2),
-    ];
-    assert_eq!(rt; first_wrong(&mut new_queue(rt.alloc()), &acts), None);
-    Ok(())
-}
-
-#[test]
-fn two_pushes_within_a_reservation(rt: HostRuntime) -> Result<(), Fail> {
-    let acts = [
+    ],
+    // two pushes within a reservation
+    &[
         Act::Reserve(2),
         Act::PushReserved(1),
         Act::PushReserved(2),
         Act::Pop(Some(1)),
         Act::Pop(Some(2)),
         Act::Pop(None),
-    ];
-    assert_eq!(rt; first_wrong(&mut new_queue(rt.alloc()), &acts), None);
-    Ok(())
-}
-
-/// Pushes 0, 1, 2, .. within a reservation.
-fn filled(alloc: Global, number: usize) -> Option<Queue> {
-    let mut queue = new_queue(alloc);
-    if !reserve(&mut queue.deque, number) {
-        return None;
-    }
-    for element in 0..number as u64 {
-        if !comes_so(&mut queue, Act::PushReserved(element)) {
-            return None;
-        }
-    }
-    Some(queue)
-}
-
-#[test]
-fn forty_pushes(rt: HostRuntime) -> Result<(), Fail> {
-    let mut queue = new_queue(rt.alloc());
-    for element in 0..40u64 {
-        assert!(rt; comes_so(&mut queue, Act::Push(element)));
-    }
-    for element in 0..40u64 {
-        assert!(rt; comes_so(&mut queue, Act::Pop(Some(element))));
-    }
-    assert!(rt; comes_so(&mut queue, Act::Pop(None)));
-    Ok(())
-}
-
-#[test]
-fn a_thousand_nodes_moved_ten_thousand_times(rt: HostRuntime) -> Result<(), Fail> {
-    let Some(queue) = filled(rt.alloc(), 1000) else {
-        return Err(Fail::new("no room"));
-    };
-    let mut queue = queue;
-    for _ in 0..10000 {
-        assert!(rt; comes_so(&mut queue, Act::MoveFront));
-    }
-    assert_eq!(rt;
-        first_wrong(&mut queue, &[Act::Front(Some(0)), Act::Len(1000)]),
-        None
-    );
-    for number in 0..1000 {
-        assert!(rt; comes_so(&mut queue, Act::Move(number, true)));
-    }
-    assert!(rt; comes_so(&mut queue, Act::Front(Some(0))));
-    Ok(())
-}
-
-/// The element at a place of the array, if there is one; `None` behind its end.
-fn element_at(queue: &Queue, place: usize) -> Option<Option<u64>> {
-    match places_of(&queue.deque).get(place) {
-        Some(Some(node)) => Some(Some(node.element)),
-        Some(None) => Some(None),
-        None => None,
-    }
-}
-
-#[test]
-fn a_move_empties_one_place_and_takes_another(rt: HostRuntime) -> Result<(), Fail> {
-    let mut queue = new_queue(rt.alloc());
-    let acts = [
+    ],
+    // forty pushes
+    &[Act::PushUpTo(40), Act::PopUpTo(40), Act::Pop(None)],
+    // a thousand nodes are moved ten thousand times
+    &[
+        Act::Reserve(1000),
+        Act::PushReservedUpTo(1000),
+        Act::MoveFront(10000),
+        Act::Front(Some(0)),
+        Act::Len(1000),
+        Act::MoveUpTo(1000),
+        Act::Front(Some(0)),
+    ],
+    // a move empties one place and takes another
+    &[
         Act::Reserve(4),
         Act::Push(0),
         Act::Push(1),
         Act::Push(2),
-        Act::MoveFront,
-    ];
-    assert_eq!(rt; first_wrong(&mut queue, &acts), None);
-    for (place, wanted) in [
-        Some(None),
-        Some(Some(1)),
-        Some(Some(2)),
-        Some(Some(0)),
-        None,
-    ]
-    .iter()
-    .enumerate()
-    {
-        assert_eq!(rt; element_at(&queue, place), *wanted);
-    }
-    Ok(())
+        Act::MoveFront(1),
+        Act::Place(0, Some(None)),
+        Act::Place(1, Some(Some(1))),
+        Act::Place(2, Some(Some(2))),
+        Act::Place(3, Some(Some(0))),
+        Act::Place(4, None),
+    ],
+];
+
+#[test]
+fn queues_keep_their_order(rt: HostRuntime) {
+    none_wrong(&rt, first_wrong(rt.alloc(), CASES));
 }

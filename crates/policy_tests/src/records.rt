@@ -2,73 +2,170 @@
 use moka_policy::{
     CacheRegion, EntryInfo, HousekeeperConfig, Instant, KeyHash, MAX_NANOS, sketch_capacity,
 };
+use std::alloc::Global;
 use std::sync::Arc;
-use std::test::Fail;
 use std::time::Duration;
 
-#[test]
-fn moments_saturate(rt: HostRuntime) {
-    let last = Instant::from_nanos(MAX_NANOS);
-    assert_eq!(rt;
-        last.saturating_add(Duration::from_nanos(1)).as_nanos(),
-        18446744073709551614
-    );
-    assert_eq!(rt;
-        Instant::from_nanos(5)
-            .saturating_add(Duration::from_nanos(7))
-            .as_nanos(),
-        12
-    );
-    assert_eq!(rt;
-        Instant::from_nanos(5).saturating_duration_since(Instant::from_nanos(7)),
-        Duration::ZERO
-    );
+/// What is done with the own expiration of an entry, and what has to come of it.
+#[derive(Clone, Copy)]
+enum Act {
+    /// It is set to a moment, if to any, and reads so.
+    Set(Option<u64>, Option<u64>),
+    /// It is taken away so often.
+    TakeAway(u32),
+    /// How often it was changed, of 4096.
+    Changes(u16),
+}
+
+fn moment(nanos: u64) -> Instant {
+    Instant::from_nanos(nanos.min(MAX_NANOS))
+}
+
+/// So many nanoseconds, and so many more.
+fn added(nanos: u64, more: u64) -> u64 {
+    moment(nanos)
+        .saturating_add(Duration::from_nanos(more))
+        .as_nanos()
+}
+
+/// How long a moment is after another.
+fn since(nanos: u64, earlier: u64) -> Duration {
+    moment(nanos).saturating_duration_since(moment(earlier))
 }
 
 #[test]
-fn own_expirations_are_rounded_down(rt: HostRuntime) -> Result<(), Fail> {
-    let key = match Arc::new(rt.alloc(), 1u8) {
-        Ok(key) => key,
-        Err(_) => Arc::new(rt.alloc(), 1u8)?,
-    };
-    let mut entry = EntryInfo::new(KeyHash::new(key, 7), Instant::from_nanos(3), 1);
-    for (set, read) in [
-        (5000u64, 4096u64),
-        (4095, 0),
-        (18446744073709551614, 18446744073709543424),
-    ] {
-        let moment = if set <= MAX_NANOS { set } else { 0 };
-        entry.set_expiration_time(Some(Instant::from_nanos(moment)));
-        assert_eq!(rt;
-            entry.expiration_time().map(|time| time.as_nanos()),
-            Some(read)
-        );
+fn moments_saturate(rt: HostRuntime) {
+    assert_eq!(rt;
+        (added(MAX_NANOS, 1), added(5, 7), since(5, 7)),
+        (18446744073709551614, 12, Duration::ZERO)
+    );
+}
+
+/// A key, at the second try where memory is refused.
+fn key(alloc: Global) -> Option<Arc<u8>> {
+    match Arc::new(alloc, 1u8) {
+        Ok(key) => Some(key),
+        Err(_) => Arc::new(alloc, 1u8).ok(),
     }
-    entry.set_expiration_time(None);
-    assert_eq!(rt; entry.expiration_time().is_none(), true);
-    assert_eq!(rt; entry.expiration_state().1, 4);
-    for _ in 0..4092 {
+}
+
+fn new_entry(alloc: Global) -> Option<EntryInfo<u8>> {
+    match key(alloc) {
+        Some(key) => Some(EntryInfo::new(KeyHash::new(key, 7), moment(3), 1)),
+        None => None,
+    }
+}
+
+fn set(entry: &mut EntryInfo<u8>, nanos: Option<u64>) {
+    match nanos {
+        Some(nanos) => entry.set_expiration_time(Some(moment(nanos))),
+        None => entry.set_expiration_time(None),
+    }
+}
+
+fn take_away(entry: &mut EntryInfo<u8>, times: u32) {
+    for _ in 0..times {
         entry.set_expiration_time(None);
     }
-    assert_eq!(rt; entry.expiration_state().1, 0);
-    Ok(())
+}
+
+/// What the own expiration reads.
+fn expiration(entry: &EntryInfo<u8>) -> Option<u64> {
+    match entry.expiration_time() {
+        Some(time) => Some(time.as_nanos()),
+        None => None,
+    }
+}
+
+/// Does it, and answers whether it came out so.
+fn comes_so(entry: &mut EntryInfo<u8>, act: Act) -> bool {
+    match act {
+        Act::Set(nanos, wanted) => {
+            set(entry, nanos);
+            expiration(entry) == wanted
+        }
+        Act::TakeAway(times) => {
+            take_away(entry, times);
+            true
+        }
+        Act::Changes(wanted) => entry.expiration_state().1 == wanted,
+    }
+}
+
+/// Does one after another, and answers the place of the first that did not come out so.
+fn wrong_act(entry: &mut EntryInfo<u8>, acts: &[Act]) -> Option<usize> {
+    for (place, act) in acts.iter().enumerate() {
+        if !comes_so(entry, *act) {
+            return Some(place);
+        }
+    }
+    None
+}
+
+/// The same with a new entry, if there is memory for one.
+fn first_wrong(alloc: Global, acts: &[Act]) -> Option<Option<usize>> {
+    match new_entry(alloc) {
+        Some(mut entry) => Some(wrong_act(&mut entry, acts)),
+        None => None,
+    }
+}
+
+const OWN_EXPIRATIONS: &[Act] = &[
+    Act::Set(Some(5000), Some(4096)),
+    Act::Set(Some(4095), Some(0)),
+    Act::Set(Some(18446744073709551614), Some(18446744073709543424)),
+    Act::Set(None, None),
+    Act::Changes(4),
+    Act::TakeAway(4092),
+    Act::Changes(0),
+];
+
+#[test]
+fn own_expirations_are_rounded_down(rt: HostRuntime) {
+    let wrong = first_wrong(rt.alloc(), OWN_EXPIRATIONS);
+    assert_eq!(rt; wrong, Some(None));
+}
+
+fn names() -> [&'static str; 4] {
+    [
+        CacheRegion::from_number(0).name(),
+        CacheRegion::from_number(1).name(),
+        CacheRegion::from_number(2).name(),
+        CacheRegion::from_number(3).name(),
+    ]
 }
 
 #[test]
 fn regions_have_names(rt: HostRuntime) {
-    assert_eq!(rt; CacheRegion::from_number(0).name(), "window");
-    assert_eq!(rt; CacheRegion::from_number(1).name(), "main probation");
-    assert_eq!(rt; CacheRegion::from_number(2).name(), "main protected");
-    assert_eq!(rt; CacheRegion::from_number(3).name(), "other");
+    assert_eq!(rt;
+        names(),
+        ["window", "main probation", "main protected", "other"]
+    );
+}
+
+/// What a configuration is made with: how long a run lasts at most, how often it repeats, and how many it evicts at a time.
+fn configuration() -> (Duration, u32, u32) {
+    let config = HousekeeperConfig::default();
+    (
+        config.maintenance_task_timeout,
+        config.max_log_sync_repeats,
+        config.eviction_batch_size,
+    )
 }
 
 #[test]
 fn configurations(rt: HostRuntime) {
-    let config = HousekeeperConfig::default();
-    assert_eq!(rt; config.maintenance_task_timeout, Duration::from_millis(100));
-    assert_eq!(rt; config.max_log_sync_repeats, 4);
-    assert_eq!(rt; config.eviction_batch_size, 500);
-    assert_eq!(rt; sketch_capacity(0), 128);
-    assert_eq!(rt; sketch_capacity(128), 128);
-    assert_eq!(rt; sketch_capacity(8589934592), 4294967295);
+    assert_eq!(rt; configuration(), (Duration::from_millis(100), 4, 500));
+}
+
+#[test]
+fn capacities_of_sketches(rt: HostRuntime) {
+    assert_eq!(rt;
+        [
+            sketch_capacity(0),
+            sketch_capacity(128),
+            sketch_capacity(8589934592)
+        ],
+        [128, 128, 4294967295]
+    );
 }

@@ -1,12 +1,12 @@
 //! The queues of a cache's entries. What is refused for memory is tried once more, and has changed nothing; so the tests pass with any
 //! one allocation refused.
+use crate::outcome::none_wrong;
 use moka_policy::{
     CacheRegion, Deques, EntryInfo, Instant, KeyHash, KeyHashDate, NodeId, PushError, Slot, Stale,
 };
 use slab::Slab;
 use std::alloc::Global;
 use std::sync::Arc;
-use std::test::Fail;
 
 /// Entries in the queues in order of use and in order of writes.
 #[derive(Drop)]
@@ -21,6 +21,10 @@ struct Cache {
 enum Act {
     /// Adds the entry of that number behind all others, in both orders.
     Add(usize),
+    /// Makes room for so many in each queue.
+    Reserve(usize),
+    /// Adds the entry of that number behind all others in order of writes, where there is room for it already.
+    AddWritten(usize),
     Use(usize, Result<(), Stale>),
     Write(usize, Result<(), Stale>),
     UnlinkUsed(usize, Result<(), Stale>),
@@ -130,6 +134,20 @@ fn add(cache: &mut Cache, number: usize) -> bool {
     }
 }
 
+/// Makes room, at the second try where memory is refused.
+fn reserve(deques: &mut Deques<u8>, n: usize) -> bool {
+    deques.reserve(n).is_ok() || deques.reserve(n).is_ok()
+}
+
+/// Adds an entry in order of writes within a reservation, and answers whether it has that number.
+fn add_written(cache: &mut Cache, number: usize) -> bool {
+    insert(cache) == Some(number)
+        && cache
+            .deques
+            .push_back_wo(KeyHashDate::new(number), &mut cache.entries)
+            .is_ok()
+}
+
 /// The entry's node in order of writes.
 fn written_node(cache: &Cache, entry: usize) -> Option<NodeId> {
     match cache.entries.get(entry) {
@@ -176,6 +194,8 @@ fn unlink_written_in_deque(cache: &mut Cache, entry: usize) -> Result<(), Stale>
 fn changes_so(cache: &mut Cache, act: Act) -> bool {
     match act {
         Act::Add(number) => add(cache, number),
+        Act::Reserve(n) => reserve(&mut cache.deques, n),
+        Act::AddWritten(number) => add_written(cache, number),
         Act::Use(entry, wanted) => cache.deques.move_to_back_ao(entry, &cache.entries) == wanted,
         Act::Write(entry, wanted) => cache.deques.move_to_back_wo(entry, &cache.entries) == wanted,
         Act::UnlinkUsed(entry, wanted) => {
@@ -219,8 +239,8 @@ fn shows_so(cache: &mut Cache, act: Act) -> bool {
     }
 }
 
-/// Does one after another, and answers the place of the first that did not come out so.
-fn first_wrong(alloc: Global, acts: &[Act]) -> Option<usize> {
+/// Does one after another on new queues, and answers the place of the first that did not come out so.
+fn wrong_row(alloc: Global, acts: &[Act]) -> Option<usize> {
     let mut cache = new_cache(alloc);
     for (place, act) in acts.iter().enumerate() {
         if !changes_so(&mut cache, *act) {
@@ -230,9 +250,19 @@ fn first_wrong(alloc: Global, acts: &[Act]) -> Option<usize> {
     None
 }
 
-#[test]
-fn entries_in_order_of_use(rt: HostRuntime) -> Result<(), Fail> {
-    let acts = [
+/// Plays these cases, each on new queues, and answers the first that did not come out so, and the place of its first row that did not.
+fn first_wrong(alloc: Global, cases: &[&[Act]]) -> Option<(usize, usize)> {
+    for (number, acts) in cases.iter().enumerate() {
+        if let Some(place) = wrong_row(alloc, acts) {
+            return Some((number, place));
+        }
+    }
+    None
+}
+
+const CASES: &[&[Act]] = &[
+    // entries in order of use
+    &[
         Act::Add(0),
         Act::Add(1),
         Act::Add(2),
@@ -242,14 +272,9 @@ fn entries_in_order_of_use(rt: HostRuntime) -> Result<(), Fail> {
         Act::Front(WRITTEN, Some(0)),
         Act::Len(CacheRegion::Window, 0),
         Act::Front(CacheRegion::Window, None),
-    ];
-    assert_eq!(rt; first_wrong(rt.alloc(), &acts), None);
-    Ok(())
-}
-
-#[test]
-fn entries_in_order_of_writes(rt: HostRuntime) -> Result<(), Fail> {
-    let acts = [
+    ],
+    // entries in order of writes
+    &[
         Act::Add(0),
         Act::Add(1),
         Act::Add(2),
@@ -261,14 +286,9 @@ fn entries_in_order_of_writes(rt: HostRuntime) -> Result<(), Fail> {
         Act::Next(WRITTEN, Some(0)),
         Act::ResetCursor,
         Act::Next(WRITTEN, Some(0)),
-    ];
-    assert_eq!(rt; first_wrong(rt.alloc(), &acts), None);
-    Ok(())
-}
-
-#[test]
-fn an_entry_that_left_one_order_stays_in_the_other(rt: HostRuntime) -> Result<(), Fail> {
-    let acts = [
+    ],
+    // an entry that left one order stays in the other
+    &[
         Act::Add(0),
         Act::Add(1),
         Act::Add(2),
@@ -278,40 +298,25 @@ fn an_entry_that_left_one_order_stays_in_the_other(rt: HostRuntime) -> Result<()
         Act::Len(WRITTEN, 3),
         Act::Use(1, Ok(())),
         Act::Back(PROBATION, Some(2)),
-    ];
-    assert_eq!(rt; first_wrong(rt.alloc(), &acts), None);
-    Ok(())
-}
-
-#[test]
-fn nodes_of_another_queue_are_stale(rt: HostRuntime) -> Result<(), Fail> {
-    let acts = [
+    ],
+    // nodes of another queue are stale
+    &[
         Act::Add(0),
         Act::Add(1),
         Act::UnlinkWrittenAsUsed(0, Some(Err(Stale))),
         Act::Len(WRITTEN, 2),
-    ];
-    assert_eq!(rt; first_wrong(rt.alloc(), &acts), None);
-    Ok(())
-}
-
-#[test]
-fn a_popped_node_is_stale(rt: HostRuntime) -> Result<(), Fail> {
-    let acts = [
+    ],
+    // a popped node is stale
+    &[
         Act::Add(0),
         Act::Add(1),
         Act::Pop(PROBATION, Some(0)),
         Act::Use(0, Err(Stale)),
         Act::UnlinkUsed(0, Err(Stale)),
         Act::Front(PROBATION, Some(1)),
-    ];
-    assert_eq!(rt; first_wrong(rt.alloc(), &acts), None);
-    Ok(())
-}
-
-#[test]
-fn calls_on_one_queue(rt: HostRuntime) -> Result<(), Fail> {
-    let acts = [
+    ],
+    // calls on one queue
+    &[
         Act::Add(0),
         Act::Add(1),
         Act::UseInDeque(0, Ok(())),
@@ -323,22 +328,24 @@ fn calls_on_one_queue(rt: HostRuntime) -> Result<(), Fail> {
         Act::UnlinkWrittenInDeque(1, Ok(())),
         Act::UnlinkWrittenNode(0, Some(Ok(()))),
         Act::Len(WRITTEN, 0),
-    ];
-    assert_eq!(rt; first_wrong(rt.alloc(), &acts), None);
-    Ok(())
-}
+    ],
+    // entries within a reservation
+    &[
+        Act::Reserve(9),
+        Act::AddWritten(0),
+        Act::AddWritten(1),
+        Act::AddWritten(2),
+        Act::AddWritten(3),
+        Act::AddWritten(4),
+        Act::AddWritten(5),
+        Act::AddWritten(6),
+        Act::AddWritten(7),
+        Act::AddWritten(8),
+        Act::Len(WRITTEN, 9),
+    ],
+];
 
 #[test]
-fn entries_within_a_reservation(rt: HostRuntime) -> Result<(), Fail> {
-    let mut cache = new_cache(rt.alloc());
-    assert!(rt; cache.deques.reserve(9).is_ok() || cache.deques.reserve(9).is_ok());
-    for number in 0..9 {
-        assert_eq!(rt; insert(&mut cache), Some(number));
-        let pushed = cache
-            .deques
-            .push_back_wo(KeyHashDate::new(number), &mut cache.entries);
-        assert!(rt; pushed.is_ok());
-    }
-    assert_eq!(rt; cache.deques.len(WRITTEN), 9);
-    Ok(())
+fn entries_keep_both_orders(rt: HostRuntime) {
+    none_wrong(&rt, first_wrong(rt.alloc(), CASES));
 }

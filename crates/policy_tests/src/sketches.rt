@@ -1,8 +1,8 @@
 //! The frequency sketch. A table that is refused for memory is asked for once more, and the sketch is as it was; so the tests pass with
 //! any one allocation refused.
+use crate::outcome::none_wrong;
 use moka_policy::FrequencySketch;
 use std::alloc::Global;
-use std::test::Fail;
 
 /// What is done with a sketch.
 #[derive(Clone, Copy)]
@@ -43,8 +43,8 @@ fn comes_so(sketch: &mut FrequencySketch, act: Act) -> bool {
     }
 }
 
-/// Does one after another, and answers the place of the first that did not come out so.
-fn first_wrong(alloc: Global, acts: &[Act]) -> Option<usize> {
+/// Does one after another on a new sketch, and answers the place of the first that did not come out so.
+fn wrong_row(alloc: Global, acts: &[Act]) -> Option<usize> {
     let mut sketch = FrequencySketch::default(alloc);
     for (place, act) in acts.iter().enumerate() {
         if !comes_so(&mut sketch, *act) {
@@ -54,9 +54,19 @@ fn first_wrong(alloc: Global, acts: &[Act]) -> Option<usize> {
     None
 }
 
-#[test]
-fn counts_up_to_fifteen(rt: HostRuntime) -> Result<(), Fail> {
-    let acts = [
+/// Plays these cases, each on a new sketch, and answers the first that did not come out so, and the place of its first row that did not.
+fn first_wrong(alloc: Global, cases: &[&[Act]]) -> Option<(usize, usize)> {
+    for (number, acts) in cases.iter().enumerate() {
+        if let Some(place) = wrong_row(alloc, acts) {
+            return Some((number, place));
+        }
+    }
+    None
+}
+
+const CASES: &[&[Act]] = &[
+    // it counts up to fifteen
+    &[
         Act::Count(1),
         Act::Frequency(0),
         Act::Grow(512),
@@ -64,14 +74,9 @@ fn counts_up_to_fifteen(rt: HostRuntime) -> Result<(), Fail> {
         Act::Frequency(15),
         Act::Grow(100),
         Act::Frequency(15),
-    ];
-    assert_eq!(rt; first_wrong(rt.alloc(), &acts), None);
-    Ok(())
-}
-
-#[test]
-fn ages_at_the_sample(rt: HostRuntime) -> Result<(), Fail> {
-    let acts = [
+    ],
+    // it ages at the sample
+    &[
         Act::Grow(1),
         Act::Count(9),
         Act::Frequency(9),
@@ -81,20 +86,18 @@ fn ages_at_the_sample(rt: HostRuntime) -> Result<(), Fail> {
         Act::Frequency(9),
         Act::Count(1),
         Act::Frequency(5),
-    ];
-    assert_eq!(rt; first_wrong(rt.alloc(), &acts), None);
-    Ok(())
-}
-
-#[test]
-fn a_larger_table_begins_anew(rt: HostRuntime) -> Result<(), Fail> {
-    let acts = [
+    ],
+    // a larger table begins anew
+    &[
         Act::Grow(64),
         Act::Count(7),
         Act::Frequency(7),
         Act::Grow(512),
         Act::Frequency(0),
-    ];
-    assert_eq!(rt; first_wrong(rt.alloc(), &acts), None);
-    Ok(())
+    ],
+];
+
+#[test]
+fn sketches_count(rt: HostRuntime) {
+    none_wrong(&rt, first_wrong(rt.alloc(), CASES));
 }

@@ -1,9 +1,9 @@
 //! Timers. What is refused for memory is tried once more, and has changed nothing; so the tests pass with any one allocation refused.
+use crate::outcome::none_wrong;
 use moka_policy::{EntryInfo, Instant, KeyHash, ScheduleError, Slot, TimerEvent, TimerWheel};
 use slab::Slab;
 use std::alloc::Global;
 use std::sync::Arc;
-use std::test::Fail;
 
 const TICK: u64 = 1073741824;
 
@@ -20,8 +20,18 @@ struct Timers {
 enum Act {
     /// A new entry that is due at that moment gets a timer.
     Schedule(u64),
+    /// A thousand new entries, due at the thousandth tick, the one before it, and so on to the first.
+    ScheduleThousand,
+    /// Room is made for so many timers.
+    Reserve(usize),
+    /// So many new entries that are due at that moment get timers within the reservation.
+    ScheduleReserved(u64, u32),
     /// A timer of those that are due at that moment expires.
     Expires(u64),
+    /// So many timers of those that are due at that moment expire.
+    ExpiresOften(u64, u32),
+    /// At each tick of a thousand one timer expires, and no other.
+    ExpiresAtEachTick,
     /// No timer expires at that moment.
     Waits(u64),
     Len(usize),
@@ -108,30 +118,107 @@ fn is_expired(event: Option<TimerEvent>) -> bool {
     }
 }
 
-/// Does it, and answers whether it came out so.
-fn comes_so(timers: &mut Timers, act: Act) -> bool {
-    match act {
-        Act::Schedule(time) => schedule(timers, time),
-        Act::Expires(now) => is_expired(next_event(timers, now)),
-        Act::Waits(now) => next_event(timers, now).is_none(),
-        Act::Len(wanted) => timers.wheel.len() == wanted,
-        Act::Moment(wanted) => timers.wheel.moment().as_nanos() == wanted,
+/// Schedules at the thousandth tick, at the one before it, and so on to the first.
+fn schedule_thousand(timers: &mut Timers) -> bool {
+    for k in 0..1000u64 {
+        if !schedule(timers, (1000 - k) * TICK) {
+            return false;
+        }
+    }
+    true
+}
+
+/// Makes room, at the second try where memory is refused.
+fn reserve(wheel: &mut TimerWheel<u8>, n: usize) -> bool {
+    wheel.reserve(n).is_ok() || wheel.reserve(n).is_ok()
+}
+
+/// Schedules within a reservation.
+fn schedule_reserved(timers: &mut Timers, time: u64) -> bool {
+    match insert(timers, time) {
+        Some(entry) => place(timers, entry).is_ok(),
+        None => false,
     }
 }
 
-/// Does one after another, and answers the place of the first that did not come out so.
-fn first_wrong(timers: &mut Timers, acts: &[Act]) -> Option<usize> {
+fn schedule_reserved_often(timers: &mut Timers, time: u64, times: u32) -> bool {
+    for _ in 0..times {
+        if !schedule_reserved(timers, time) {
+            return false;
+        }
+    }
+    true
+}
+
+fn expires_often(timers: &mut Timers, now: u64, times: u32) -> bool {
+    for _ in 0..times {
+        if !is_expired(next_event(timers, now)) {
+            return false;
+        }
+    }
+    true
+}
+
+/// Whether at each tick of a thousand one timer expires, and no other.
+fn expires_at_each_tick(timers: &mut Timers) -> bool {
+    for tick in 1..1001u64 {
+        if !is_expired(next_event(timers, tick * TICK))
+            || next_event(timers, tick * TICK).is_some()
+        {
+            return false;
+        }
+    }
+    true
+}
+
+/// Schedules, and answers whether it came out so.
+fn comes_so(timers: &mut Timers, act: Act) -> bool {
+    match act {
+        Act::Schedule(time) => schedule(timers, time),
+        Act::ScheduleThousand => schedule_thousand(timers),
+        Act::Reserve(n) => reserve(&mut timers.wheel, n),
+        Act::ScheduleReserved(time, times) => schedule_reserved_often(timers, time, times),
+        act => shows_so(timers, act),
+    }
+}
+
+/// Advances or looks, and answers whether it came out so.
+fn shows_so(timers: &mut Timers, act: Act) -> bool {
+    match act {
+        Act::Expires(now) => is_expired(next_event(timers, now)),
+        Act::ExpiresOften(now, times) => expires_often(timers, now, times),
+        Act::ExpiresAtEachTick => expires_at_each_tick(timers),
+        Act::Waits(now) => next_event(timers, now).is_none(),
+        Act::Len(wanted) => timers.wheel.len() == wanted,
+        Act::Moment(wanted) => timers.wheel.moment().as_nanos() == wanted,
+        _ => false,
+    }
+}
+
+/// Does one after another with new timers, and answers the place of the first that did not come out so.
+fn wrong_row(alloc: Global, acts: &[Act]) -> Option<usize> {
+    let mut timers = new_timers(alloc);
     for (place, act) in acts.iter().enumerate() {
-        if !comes_so(timers, *act) {
+        if !comes_so(&mut timers, *act) {
             return Some(place);
         }
     }
     None
 }
 
-#[test]
-fn due_timers_expire(rt: HostRuntime) -> Result<(), Fail> {
-    let acts = [
+/// Plays these cases, each with new timers, and answers the first that did not come out so, and the place of its first row that did not.
+fn first_wrong(alloc: Global, cases: &[&[Act]]) -> Option<(usize, usize)> {
+    for (number, acts) in cases.iter().enumerate() {
+        if let Some(place) = wrong_row(alloc, acts) {
+            return Some((number, place));
+        }
+    }
+    None
+}
+
+const CASES: &[&[Act]] = &[
+    // due timers expire
+    &[
         Act::Schedule(TICK),
         Act::Schedule(TICK - 4096),
         Act::Schedule(TICK + 4096),
@@ -141,52 +228,28 @@ fn due_timers_expire(rt: HostRuntime) -> Result<(), Fail> {
         Act::Waits(TICK),
         Act::Len(1),
         Act::Moment(TICK),
-    ];
-    assert_eq!(rt; first_wrong(&mut new_timers(rt.alloc()), &acts), None);
-    Ok(())
-}
-
-#[test]
-fn a_dropped_iterator_leaves_the_moment(rt: HostRuntime) -> Result<(), Fail> {
-    let acts = [
+    ],
+    // a dropped iterator leaves the moment
+    &[
         Act::Schedule(TICK - 4096),
         Act::Schedule(TICK),
         Act::Expires(TICK),
         Act::Moment(0),
         Act::Expires(TICK),
         Act::Len(0),
-    ];
-    assert_eq!(rt; first_wrong(&mut new_timers(rt.alloc()), &acts), None);
-    Ok(())
-}
+    ],
+    // a thousand timers in falling order
+    &[Act::ScheduleThousand, Act::ExpiresAtEachTick, Act::Len(0)],
+    // timers within a reservation
+    &[
+        Act::Reserve(20),
+        Act::ScheduleReserved(TICK, 20),
+        Act::ExpiresOften(TICK, 20),
+        Act::Len(0),
+    ],
+];
 
 #[test]
-fn a_thousand_timers_in_falling_order(rt: HostRuntime) -> Result<(), Fail> {
-    let mut timers = new_timers(rt.alloc());
-    for k in 0..1000u64 {
-        assert!(rt; comes_so(&mut timers, Act::Schedule((1000 - k) * TICK)));
-    }
-    for tick in 1..1001u64 {
-        assert!(rt; comes_so(&mut timers, Act::Expires(tick * TICK)));
-        assert!(rt; comes_so(&mut timers, Act::Waits(tick * TICK)));
-    }
-    assert!(rt; comes_so(&mut timers, Act::Len(0)));
-    Ok(())
-}
-
-#[test]
-fn timers_within_a_reservation(rt: HostRuntime) -> Result<(), Fail> {
-    let mut timers = new_timers(rt.alloc());
-    assert!(rt; timers.wheel.reserve(20).is_ok() || timers.wheel.reserve(20).is_ok());
-    for _ in 0..20 {
-        let Some(entry) = insert(&mut timers, TICK) else {
-            return Err(Fail::new("no room"));
-        };
-        assert!(rt; place(&mut timers, entry).is_ok());
-    }
-    for _ in 0..20 {
-        assert!(rt; comes_so(&mut timers, Act::Expires(TICK)));
-    }
-    assert!(rt; comes_so(&mut timers, Act::Len(0)));
-    Ok(())
+fn timers_expire_when_they_are_due(rt: HostRuntime) {
+    none_wrong(&rt, first_wrong(rt.alloc(), CASES));
 }

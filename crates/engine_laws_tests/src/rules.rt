@@ -5,7 +5,6 @@ use engine_rules::{
     Bundle, Expiration, Expiry, NoExpiry, NoPredicate, Predicate, Rules, WeighOne, Weigher,
 };
 use policy_base::Instant;
-use std::test::Fail;
 use std::time::Duration;
 
 /// A value lives a second from its creation on, and as long again as it had left from each read on.
@@ -98,40 +97,6 @@ fn read<R: Rules<u8, u32>>(rules: &R, value: u32) -> Expiration {
     )
 }
 
-#[test]
-fn a_bundle_asks_its_parts(rt: HostRuntime) {
-    let rules: Bundle<OneSecond, WeighValue, Below, u8> = Bundle::new(OneSecond, WeighValue);
-    assert_eq!(rt; rules.weight(&1, &30), 30);
-    assert_eq!(rt; rules.is_covered(&Below { limit: 10 }, &1, &9), true);
-    assert_eq!(rt; rules.is_covered(&Below { limit: 10 }, &1, &10), false);
-    assert_eq!(rt;
-        rules.created_expiration(&1, &30, Instant::from_nanos(5)),
-        Some(Duration::from_secs(1))
-    );
-}
-
-#[test]
-fn an_answer_of_what_is_left_changes_nothing(rt: HostRuntime) {
-    let rules: Bundle<OneSecond, WeighValue, Below, u8> = Bundle::new(OneSecond, WeighValue);
-    assert_eq!(rt; updated(&rules, 30), Expiration::Keep);
-    assert_eq!(rt; read(&rules, 30), Expiration::Keep);
-    assert_eq!(rt;
-        rules.updated_expiration(&1, &30, Instant::from_nanos(5), None),
-        Expiration::Set(Some(Duration::from_secs(1)))
-    );
-}
-
-#[test]
-fn the_plain_parts(rt: HostRuntime) {
-    let rules: Bundle<NoExpiry, WeighOne, NoPredicate, u8> = Bundle::new(NoExpiry, WeighOne);
-    assert_eq!(rt; updated(&rules, 30), Expiration::Keep);
-    assert_eq!(rt; read(&rules, 30), Expiration::Keep);
-    let weight = weight_of(&rules, 30);
-    assert_eq!(rt; weight, 1);
-    assert_eq!(rt; is_covered(&rules, &NoPredicate, 30), false);
-    assert_eq!(rt; created(&rules, 30), None);
-}
-
 fn weight_of<R: Rules<u8, u32>>(rules: &R, value: u32) -> u32 {
     rules.weight(&1, &value)
 }
@@ -142,4 +107,75 @@ fn is_covered<R: Rules<u8, u32>>(rules: &R, predicate: &R::Predicate, value: u32
 
 fn created<R: Rules<u8, u32>>(rules: &R, value: u32) -> Option<Duration> {
     rules.created_expiration(&1, &value, Instant::from_nanos(5))
+}
+
+/// What rules say of a value that is updated and had no expiration.
+fn updated_from_none<R: Rules<u8, u32>>(rules: &R, value: u32) -> Expiration {
+    rules.updated_expiration(&1, &value, Instant::from_nanos(5), None)
+}
+
+type Parts = Bundle<OneSecond, WeighValue, Below, u8>;
+
+fn parts() -> Parts {
+    Bundle::new(OneSecond, WeighValue)
+}
+
+fn covered_below_ten(value: u32) -> bool {
+    is_covered(&parts(), &Below { limit: 10 }, value)
+}
+
+#[test]
+fn a_bundle_asks_its_parts(rt: HostRuntime) {
+    assert_eq!(rt;
+        (
+            weight_of(&parts(), 30),
+            covered_below_ten(9),
+            covered_below_ten(10),
+            created(&parts(), 30)
+        ),
+        (30, true, false, Some(Duration::from_secs(1)))
+    );
+}
+
+#[test]
+fn an_answer_of_what_is_left_changes_nothing(rt: HostRuntime) {
+    assert_eq!(rt;
+        (
+            updated(&parts(), 30),
+            read(&parts(), 30),
+            updated_from_none(&parts(), 30)
+        ),
+        (
+            Expiration::Keep,
+            Expiration::Keep,
+            Expiration::Set(Some(Duration::from_secs(1)))
+        )
+    );
+}
+
+fn plain_parts() -> Bundle<NoExpiry, WeighOne, NoPredicate, u8> {
+    Bundle::new(NoExpiry, WeighOne)
+}
+
+#[test]
+fn the_plain_parts_expire_nothing(rt: HostRuntime) {
+    assert_eq!(rt;
+        (
+            updated(&plain_parts(), 30),
+            read(&plain_parts(), 30),
+            created(&plain_parts(), 30)
+        ),
+        (Expiration::Keep, Expiration::Keep, None)
+    );
+}
+
+#[test]
+fn the_plain_parts_weigh_one_and_cover_nothing(rt: HostRuntime) {
+    assert_eq!(rt;
+        (
+            weight_of(&plain_parts(), 30),
+            is_covered(&plain_parts(), &NoPredicate, 30)
+        ),
+        (1, false)
+    );
 }

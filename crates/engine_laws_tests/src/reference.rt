@@ -1,7 +1,6 @@
 //! Worked rows of the reference cache, as computed checks: a small cache is played through the definitions, and what it tells, holds and shows is compared.
-#![tactic(auto)]
 
-ghost use Rattle.engine_reference_tests.specs.Rows.{RowsOfTimes, RowsOfCoverage, RowsOfLeastRecentlyUsed, RowsOfFrequencies, RowsOfSending};
+ghost use Rattle.engine_laws_tests.specs.Rows.{RowsOfTimes, RowsOfCoverage, RowsOfLeastRecentlyUsed, RowsOfFrequencies, RowsOfSending};
 
 /// Live and idle times and own expirations end at the very moment; what a write tells of a dead value.
 pub fn rows_of_times()

@@ -1,5 +1,0 @@
-//! Tests of the plain engine at concrete types.
-#![tactic(auto)]
-
-#[cfg(test)]
-mod hashes;
