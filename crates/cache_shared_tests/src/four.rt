@@ -105,10 +105,7 @@ fn refused<L: Seating>(
 ) -> Option<(SharedService<L>, Vec<Seat<L>>)>
     requires ledger { L.all ≡ L.parts }
 {
-    match shared.finish(seats) {
-        Ok(_) => None,
-        Err(back) => Some(back),
-    }
+    shared.finish(seats).err()
 }
 
 /// The same, while there is a clone.

@@ -6,7 +6,8 @@ use cache_reading::ReadService;
 use cache_shared::{Core, Takings};
 use moka_audit::{Verdict, audit};
 use std::alloc::Global;
-use std::test::Fail;
+use std::sync::Wait;
+use std::thread::Threads;
 
 /// Hands a piece in. Answers whether it was taken.
 fn feeds(alloc: Global, service: &mut ReadService, number: u64, text: &[u8]) -> bool {
@@ -60,16 +61,6 @@ const TAKINGS: &[(u64, &[u8], u64, &[u8])] = &[
     (2, b"QUIT\n", 2, b"OK\n"),
 ];
 
-/// The place of the first row that does not come out so.
-fn first_wrong_taking(alloc: Global, service: &mut ReadService) -> Option<usize> {
-    for (place, (from, text, to, wanted)) in TAKINGS.iter().enumerate() {
-        if !feeds(alloc, service, *from, text) || !takes(service, *to, wanted) {
-            return Some(place);
-        }
-    }
-    None
-}
-
 /// Whether nothing is taken from connections that are not there.
 fn takes_nowhere(service: &mut ReadService) -> bool {
     let elsewhere = Conn {
@@ -80,12 +71,29 @@ fn takes_nowhere(service: &mut ReadService) -> bool {
         && is_taking_refused(service, elsewhere, ServiceError::NoNamespace)
 }
 
+/// The place of the first row that does not come out so, or their number where something is taken from connections that are not there.
+fn first_wrong_taking(alloc: Global, service: &mut ReadService) -> Option<usize> {
+    for (place, (from, text, to, wanted)) in TAKINGS.iter().enumerate() {
+        if !feeds(alloc, service, *from, text) || !takes(service, *to, wanted) {
+            return Some(place);
+        }
+    }
+    if takes_nowhere(service) {
+        None
+    } else {
+        Some(TAKINGS.len())
+    }
+}
+
+/// The same of a new service, where it can be made.
+fn takings_of_new(alloc: Global) -> Option<Option<usize>> {
+    let mut service = make_open(alloc)?;
+    Some(first_wrong_taking(alloc, &mut service))
+}
+
 #[test]
-fn takings_go_on_where_they_ended(rt: HostRuntime) -> Result<(), Fail> {
-    let mut service = make_open(rt.alloc()).ok_or("not made")?;
-    assert_eq!(rt; first_wrong_taking(rt.alloc(), &mut service), None);
-    assert!(rt; takes_nowhere(&mut service));
-    Ok(())
+fn takings_go_on_where_they_ended(rt: HostRuntime) {
+    assert_eq!(rt; takings_of_new(rt.alloc()), Some(None));
 }
 
 /// What the first connection is fed, and the note that is then told.
@@ -120,16 +128,6 @@ fn tells(service: &mut ReadService, wanted: Option<(RemovalCause, &[u8])>) -> bo
     }
 }
 
-/// The place of the first row that does not come out so.
-fn first_wrong_note(alloc: Global, service: &mut ReadService) -> Option<usize> {
-    for (place, (text, wanted)) in NOTES.iter().enumerate() {
-        if !feeds(alloc, service, 1, text) || !tells(service, *wanted) {
-            return Some(place);
-        }
-    }
-    None
-}
-
 /// Whether no note is told of a namespace that is not there.
 fn tells_nowhere(service: &mut ReadService) -> bool {
     match service.next_notice(1) {
@@ -138,12 +136,29 @@ fn tells_nowhere(service: &mut ReadService) -> bool {
     }
 }
 
+/// The place of the first row that does not come out so, or their number where a note is told of a namespace that is not there.
+fn first_wrong_note(alloc: Global, service: &mut ReadService) -> Option<usize> {
+    for (place, (text, wanted)) in NOTES.iter().enumerate() {
+        if !feeds(alloc, service, 1, text) || !tells(service, *wanted) {
+            return Some(place);
+        }
+    }
+    if tells_nowhere(service) {
+        None
+    } else {
+        Some(NOTES.len())
+    }
+}
+
+/// The same of a new service, where it can be made.
+fn notes_of_new(alloc: Global) -> Option<Option<usize>> {
+    let mut service = make_open(alloc)?;
+    Some(first_wrong_note(alloc, &mut service))
+}
+
 #[test]
-fn each_note_comes_once(rt: HostRuntime) -> Result<(), Fail> {
-    let mut service = make_open(rt.alloc()).ok_or("not made")?;
-    assert_eq!(rt; first_wrong_note(rt.alloc(), &mut service), None);
-    assert!(rt; tells_nowhere(&mut service));
-    Ok(())
+fn each_note_comes_once(rt: HostRuntime) {
+    assert_eq!(rt; notes_of_new(rt.alloc()), Some(None));
 }
 
 /// Whether the one journal has five records and is judged to obey.
@@ -161,16 +176,21 @@ fn is_served(served: &Served) -> bool {
         && served.counts == (3, 2)
 }
 
-#[test]
-fn two_connections_are_served(rt: HostRuntime) -> Result<(), Fail> {
+/// Whether two connections are served, and their journal obeys.
+fn are_both_served<R: Threads + Wait + Sync>(rt: &R, alloc: Global) -> bool {
     let texts = (
         b"SET a - 1\nGET a\nSET a - 2\nGET a\n".as_slice(),
         b"SET b - 1\nGET b\nQUIT\nGET b\n".as_slice(),
     );
-    let served = serve_both(&rt, rt.alloc(), texts).ok_or("not served")?;
-    assert!(rt; is_served(&served));
-    assert!(rt; is_journal(rt.alloc(), &served));
-    Ok(())
+    match serve_both(rt, alloc, texts) {
+        Some(served) => is_served(&served) && is_journal(alloc, &served),
+        None => false,
+    }
+}
+
+#[test]
+fn two_connections_are_served(rt: HostRuntime) {
+    assert!(rt; are_both_served(&rt, rt.alloc()));
 }
 
 /// The load of `k`, where it is the one load that was not taken.
@@ -215,9 +235,13 @@ fn is_load_taken_once(alloc: Global, service: &mut ReadService) -> Option<bool> 
     )
 }
 
+/// The same of a new service, where it can be made.
+fn load_of_new(alloc: Global) -> Option<bool> {
+    let mut service = make_open(alloc)?;
+    is_load_taken_once(alloc, &mut service)
+}
+
 #[test]
-fn loads_are_taken_once(rt: HostRuntime) -> Result<(), Fail> {
-    let mut service = make_open(rt.alloc()).ok_or("not made")?;
-    assert_eq!(rt; is_load_taken_once(rt.alloc(), &mut service), Some(true));
-    Ok(())
+fn loads_are_taken_once(rt: HostRuntime) {
+    assert_eq!(rt; load_of_new(rt.alloc()), Some(true));
 }
