@@ -15,16 +15,14 @@ fn is_served(served: &Served) -> bool {
 }
 
 #[test]
-fn two_clients(rt: HostRuntime) -> Result<(), Fail> {
+fn two_clients(rt: HostRuntime) {
     let served = serve_two(
         rt,
         rt.alloc(),
         b"SET a - 1\nGET a\nSET a - 2\nQUIT\n",
         b"GET a\nGET b\nQUIT\n",
-    )
-    .ok_or("not served")?;
-    assert!(rt; is_served(&served));
-    Ok(())
+    );
+    assert!(rt; matches!(&served, Some(served) if is_served(served)));
 }
 
 /// One connection that sends nothing beside one that loads, with room for all that is written.
@@ -102,8 +100,7 @@ fn two_connections_that_load(rt: HostRuntime) {
 }
 
 #[test]
-fn one_awaits_what_another_answers(rt: HostRuntime) -> Result<(), Fail> {
-    let text = await_other(&rt, rt.alloc()).ok_or("not awaited")?;
-    assert!(rt; text.as_slice() == b"VAL v\n".as_slice());
-    Ok(())
+fn one_awaits_what_another_answers(rt: HostRuntime) {
+    let text = await_other(&rt, rt.alloc());
+    assert!(rt; matches!(&text, Some(text) if text.as_slice() == b"VAL v\n".as_slice()));
 }
