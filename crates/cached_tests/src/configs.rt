@@ -2,7 +2,6 @@
 use audit_model::{Config, EvictionPolicy, Weight};
 use cached_config::{ConfigError, Hosted, Listed, read_config};
 use std::alloc::{AllocError, Global};
-use std::test::Fail;
 
 const SAMPLE: &str =
     "[[namespace]]\nname = \"main\"\nport = 7411\ncapacity = 1000\n[namespace.loads]\nk = \"v\"\n";
@@ -222,22 +221,24 @@ fn many(alloc: Global, count: u16) -> Result<String, AllocError> {
 }
 
 /// Whether so many namespaces are read.
-fn are_read(alloc: Global, count: u16) -> bool {
-    match many(alloc, count) {
-        Ok(text) => match read_config(alloc, text.as_str()) {
-            Ok(spaces) => spaces.len() == count as usize,
-            Err(_) => false,
-        },
-        Err(_) => false,
+fn are_read(alloc: Global, count: u16) -> Result<bool, AllocError> {
+    let text = many(alloc, count)?;
+    match read_config(alloc, text.as_str()) {
+        Ok(spaces) => Ok(spaces.len() == count as usize),
+        Err(_) => Ok(false),
     }
 }
 
+/// Whether so many namespaces are a bad configuration.
+fn are_bad(alloc: Global, count: u16) -> Result<bool, AllocError> {
+    let text = many(alloc, count)?;
+    Ok(is_bad(alloc, text.as_str()))
+}
+
 #[test]
-fn at_most_sixteen(rt: HostRuntime) -> Result<(), Fail> {
-    assert!(rt; are_read(rt.alloc(), 16));
-    let seventeen = many(rt.alloc(), 17)?;
-    assert!(rt; is_bad(rt.alloc(), seventeen.as_str()));
-    Ok(())
+fn at_most_sixteen(rt: HostRuntime) {
+    assert_eq!(rt; are_read(rt.alloc(), 16), Ok(true));
+    assert_eq!(rt; are_bad(rt.alloc(), 17), Ok(true));
 }
 
 /// A load of a value of so many bytes.

@@ -2,9 +2,8 @@
 use crate::streams::make_pieces;
 use cache_devices::Watched;
 use cached_program::run_script;
-use std::alloc::Global;
+use std::alloc::{AllocError, Global};
 use std::io::Read;
-use std::test::Fail;
 
 /// Whether the script that a reader gives is served with status 0, and writes this.
 fn writes<R: Read + Drop>(alloc: Global, input: R, output: &[u8], errors: &[u8]) -> bool {
@@ -66,17 +65,25 @@ fn lines_cut_into_pieces(rt: HostRuntime) {
     assert!(rt; writes(rt.alloc(), input, b"OK\nVAL 1\nNONE\n", b""));
 }
 
-#[test]
-fn the_longest_line(rt: HostRuntime) -> Result<(), Fail> {
-    let mut input = vec![in rt.alloc(); b'x'; 8192]?;
-    input.push(b'\n')?;
-    assert!(rt; writes(rt.alloc(), input.as_slice(), b"ERR command\n", b""));
-    Ok(())
+/// Whether a line of so many bytes, with this behind it, writes this and tells nothing.
+fn long_line_writes(
+    alloc: Global,
+    count: usize,
+    end: &[u8],
+    output: &[u8],
+) -> Result<bool, AllocError> {
+    let mut input = vec![in alloc; b'x'; count]?;
+    input.extend_from_slice(end)?;
+    Ok(writes(alloc, input.as_slice(), output, b""))
 }
 
 #[test]
-fn too_long_a_line(rt: HostRuntime) -> Result<(), Fail> {
-    let input = vec![in rt.alloc(); b'x'; 8193]?;
-    assert!(rt; writes(rt.alloc(), input.as_slice(), b"", b""));
-    Ok(())
+fn the_longest_line(rt: HostRuntime) {
+    let longest = long_line_writes(rt.alloc(), 8192, b"\n", b"ERR command\n");
+    assert_eq!(rt; longest, Ok(true));
+}
+
+#[test]
+fn too_long_a_line(rt: HostRuntime) {
+    assert_eq!(rt; long_line_writes(rt.alloc(), 8193, b"", b""), Ok(true));
 }

@@ -25,14 +25,30 @@ struct Row<'a> {
     notes: &'a str,
 }
 
+/// The port of the namespace at a place.
+fn port_at(ports: (u16, u16), place: usize) -> u16 {
+    if place == 0 { ports.0 } else { ports.1 }
+}
+
+/// The lines of a namespace on a port.
+fn space_text(alloc: Global, space: Space, port: u16) -> Result<String, AllocError> {
+    let (name, lines) = space;
+    format!(in alloc; "[[namespace]]\nname = \"{name}\"\nport = {port}\n{lines}")
+}
+
 /// The configuration of namespaces on two ports.
 fn config_of(alloc: Global, spaces: &[Space], ports: (u16, u16)) -> Result<String, AllocError> {
     let mut text = String::new(alloc);
-    for ((name, lines), port) in spaces.iter().zip([ports.0, ports.1]) {
-        let one = format!(in alloc; "[[namespace]]\nname = \"{name}\"\nport = {port}\n{lines}")?;
+    for (place, space) in spaces.iter().enumerate() {
+        let one = space_text(alloc, *space, port_at(ports, place))?;
         text.push_str(one.as_str())?;
     }
     Ok(text)
+}
+
+/// The line of a namespace to which a server listens.
+fn listening(alloc: Global, name: &str, port: u16) -> Result<String, AllocError> {
+    format!(in alloc; "listening {name} 127.0.0.1:{port}\n")
 }
 
 /// What a server of namespaces on two ports writes: that it listens to each, and the notes.
@@ -43,8 +59,8 @@ fn shown_of(
     notes: &str,
 ) -> Result<String, AllocError> {
     let mut text = String::new(alloc);
-    for ((name, _), port) in spaces.iter().zip([ports.0, ports.1]) {
-        let one = format!(in alloc; "listening {name} 127.0.0.1:{port}\n")?;
+    for (place, (name, _)) in spaces.iter().enumerate() {
+        let one = listening(alloc, name, port_at(ports, place))?;
         text.push_str(one.as_str())?;
     }
     text.push_str(notes)?;
@@ -219,21 +235,31 @@ where
     Ok(served.ended == Err(fault) && served.shown.as_slice() == shown)
 }
 
+/// Whether a server ends whose second port is taken, with nothing written.
+fn ends_at_a_port<R>(rt: R, alloc: Global, first: u16) -> bool
+where
+    R: Net<Listener = TcpListener, Stream = TcpStream>
+        + Clock
+        + Threads
+        + Wait
+        + Copy
+        + Send
+        + Sync
+        + 'static,
+{
+    match take_port(&rt) {
+        Ok((_taken, second)) => {
+            let spaces: &[Space] = &[("b", ""), ("a", "")];
+            let fault = Fault::CannotListen;
+            fails_so(rt, alloc, spaces, (first, second), AMPLE, fault, b"") == Ok(true)
+        }
+        Err(_) => false,
+    }
+}
+
 #[test]
-fn a_port_is_taken(rt: HostRuntime) -> Result<(), Fail> {
-    let (first, _) = free_ports(&rt)?;
-    let (_taken, second) = take_port(&rt)?;
-    let failed = fails_so(
-        rt,
-        rt.alloc(),
-        &[("b", ""), ("a", "")],
-        (first, second),
-        AMPLE,
-        Fault::CannotListen,
-        b"",
-    );
-    assert_eq!(rt; failed, Ok(true));
-    Ok(())
+fn a_port_is_taken(rt: HostRuntime) {
+    assert!(rt; matches!(free_ports(&rt), Ok((first, _)) if ends_at_a_port(rt, rt.alloc(), first)));
 }
 
 /// Whether a server goes on whose writer fails within its first note.
@@ -264,11 +290,24 @@ where
     Ok(is_so(&served, replies, shown.as_bytes()))
 }
 
+/// Whether a server ends whose writer fails at once, and another goes on whose writer fails within its first note.
+fn fails_and_goes_on<R>(rt: R, alloc: Global, ports: (u16, u16)) -> bool
+where
+    R: Net<Listener = TcpListener, Stream = TcpStream>
+        + Clock
+        + Threads
+        + Wait
+        + Copy
+        + Send
+        + Sync
+        + 'static,
+{
+    let spaces: &[Space] = &[("m", "")];
+    fails_so(rt, alloc, spaces, ports, 3, Fault::Write, b"lis") == Ok(true)
+        && goes_on(rt, alloc, spaces, ports) == Ok(true)
+}
+
 #[test]
-fn a_writer_that_fails(rt: HostRuntime) -> Result<(), Fail> {
-    let ports = free_ports(&rt)?;
-    let early = fails_so(rt, rt.alloc(), &[("m", "")], ports, 3, Fault::Write, b"lis");
-    assert_eq!(rt; early, Ok(true));
-    assert_eq!(rt; goes_on(rt, rt.alloc(), &[("m", "")], ports), Ok(true));
-    Ok(())
+fn a_writer_that_fails(rt: HostRuntime) {
+    assert!(rt; matches!(free_ports(&rt), Ok(ports) if fails_and_goes_on(rt, rt.alloc(), ports)));
 }
