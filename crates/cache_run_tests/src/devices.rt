@@ -1,5 +1,7 @@
 //! Devices of memory, and one run over them.
-use audit_model::{Bytes, Closing, Config, Conn, EvictionPolicy, Instant, Outcome, Seq, Weight};
+use audit_model::{
+    Bytes, Closing, Config, Conn, EvictionPolicy, Instant, Outcome, Seq, ServiceError, Weight,
+};
 use cache_devices::{Clock, Loader, Watched};
 use cache_run::{RunError, run};
 use cache_spaces::Service;
@@ -188,16 +190,70 @@ pub const SOUND: Setting = Setting {
     late: 0,
 };
 
-/// What came of a run.
-#[derive(Drop)]
-pub struct Ran {
-    pub result: Result<(), RunError>,
-    pub replies: Vec<u8>,
+/// What a run left in its service.
+#[derive(Clone, Copy, Drop)]
+pub struct Left {
     pub closed: Option<Closing>,
     pub loads_open: u64,
     pub loads_left: usize,
-    pub asked: u64,
-    pub keys: Vec<u8>,
+}
+
+/// What came of a run: how it ended, what it left, its writer and its loader.
+#[derive(Drop)]
+pub struct Ran {
+    pub result: Result<(), RunError>,
+    pub left: Left,
+    writer: Watched<Faulty>,
+    pub loader: Script,
+}
+
+impl Ran {
+    /// What was written.
+    pub fn replies(&self) -> &[u8] {
+        self.writer.inner().held.as_slice()
+    }
+}
+
+/// What a run left of its connection.
+fn left_of(service: &mut Service) -> Result<Left, ServiceError> {
+    let conn = Conn {
+        namespace: 0,
+        number: 1,
+    };
+    let loads_left = service.take_loads(0)?.len();
+    let closed = service.closed(conn)?;
+    let loads_open = service.loads_open(0)?;
+    Ok(Left {
+        closed,
+        loads_open,
+        loads_left,
+    })
+}
+
+/// The devices of a run.
+#[derive(Drop)]
+struct Devices<'a> {
+    reader: Watched<Cuts<'a>>,
+    writer: Watched<Faulty>,
+    clock: Ticks,
+    loader: Script,
+}
+
+fn make_devices<'a>(
+    alloc: Global,
+    input: &'a [u8],
+    sayings: &'static [Saying],
+    setting: Setting,
+) -> Devices<'a> {
+    Devices {
+        reader: Watched::new(make_cuts(input, setting.size, setting.read_fails)),
+        writer: Watched::new(make_faulty(alloc, setting.size, setting.write_fails)),
+        clock: Ticks {
+            count: 0,
+            late_at: setting.late,
+        },
+        loader: make_script(alloc, sayings),
+    }
 }
 
 /// One run in a new service; none where that has no memory.
@@ -213,13 +269,12 @@ pub fn run_over(
         Ok(service) => service,
         Err(_) => return None,
     };
-    let mut reader = Watched::new(make_cuts(input, setting.size, setting.read_fails));
-    let mut writer = Watched::new(make_faulty(alloc, setting.size, setting.write_fails));
-    let mut clock = Ticks {
-        count: 0,
-        late_at: setting.late,
-    };
-    let mut loader = make_script(alloc, sayings);
+    let Devices {
+        mut reader,
+        mut writer,
+        mut clock,
+        mut loader,
+    } = make_devices(alloc, input, sayings, setting);
     let result = run(
         &mut service,
         alloc,
@@ -229,23 +284,13 @@ pub fn run_over(
         &mut clock,
         &mut loader,
     );
-    let conn = Conn {
-        namespace: 0,
-        number: 1,
-    };
-    let loads_left = match service.take_loads(0) {
-        Ok(loads) => loads.len(),
-        Err(_) => return None,
-    };
-    let replies = Vec::from_slice(alloc, writer.inner().held.as_slice()).ok()?;
-    let keys = Vec::from_slice(alloc, loader.keys.as_slice()).ok()?;
-    Some(Ran {
-        result,
-        replies,
-        closed: service.closed(conn).ok()?,
-        loads_open: service.loads_open(0).ok()?,
-        loads_left,
-        asked: loader.asked,
-        keys,
-    })
+    match left_of(&mut service) {
+        Ok(left) => Some(Ran {
+            result,
+            left,
+            writer,
+            loader,
+        }),
+        Err(_) => None,
+    }
 }

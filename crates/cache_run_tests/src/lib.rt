@@ -1,4 +1,4 @@
-//! Tests of runs whose connections load.
+//! Tests of devices, and of runs whose connections load.
 #![tactic(auto)]
 
 #[cfg(test)]
@@ -7,3 +7,7 @@ mod devices;
 mod failures;
 #[cfg(test)]
 mod loads;
+#[cfg(test)]
+mod sources;
+#[cfg(test)]
+mod writers;

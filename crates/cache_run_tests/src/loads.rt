@@ -1,8 +1,7 @@
 //! What a connection is replied whose lines load.
-use crate::devices::{PLAIN, SOUND, Saying, Setting, run_over};
+use crate::devices::{PLAIN, Ran, SOUND, Saying, Setting, run_over};
 use audit_model::{Closing, Config};
 use std::alloc::Global;
-use std::test::Fail;
 
 /// A configuration, an input, what the loader says, the replies, and how often the loader is asked.
 struct Row {
@@ -109,52 +108,60 @@ const ROWS: &[Row] = &[
     },
 ];
 
+/// Whether a run ended well, left no load and was told these replies.
+fn is_whole(ran: &Ran, replies: &[u8]) -> bool {
+    ran.result.is_ok()
+        && ran.replies() == replies
+        && ran.left.loads_open == 0
+        && ran.left.loads_left == 0
+}
+
 /// Whether a run comes out as its row says, with pieces of that size.
 fn is_right(alloc: Global, row: &Row, size: usize) -> bool {
     let setting = Setting { size, ..SOUND };
     match run_over(alloc, row.config, row.input, row.sayings, setting) {
+        Some(ran) => is_whole(&ran, row.replies) && ran.loader.asked == row.asked,
+        None => false,
+    }
+}
+
+/// The place of the first row that does not come out so, with pieces of that size.
+fn first_wrong(alloc: Global, size: usize) -> Option<usize> {
+    for (place, row) in ROWS.iter().enumerate() {
+        if !is_right(alloc, row, size) {
+            return Some(place);
+        }
+    }
+    None
+}
+
+#[test]
+fn rows_of_loads(rt: HostRuntime) {
+    assert_eq!(rt; first_wrong(rt.alloc(), 8192), None);
+}
+
+#[test]
+fn cut_at_each_byte(rt: HostRuntime) {
+    for size in 1..9usize {
+        assert_eq!(rt; first_wrong(rt.alloc(), size), None);
+    }
+}
+
+/// Whether the loader is asked for these keys, one behind the other.
+fn is_asked_by_key(alloc: Global, keys: &[u8]) -> bool {
+    const SAYINGS: &[Saying] = &[Saying::Refusal, Saying::Nothing];
+    let input = b"LOAD one\nLOAD two\nSET three - 3\nLOAD three\nLOAD one\n";
+    match run_over(alloc, PLAIN, input, SAYINGS, SOUND) {
         Some(ran) => {
-            ran.result.is_ok()
-                && ran.replies.as_slice() == row.replies
-                && ran.asked == row.asked
-                && ran.loads_open == 0
-                && ran.loads_left == 0
+            ran.loader.keys.as_slice() == keys && is_whole(&ran, b"NONE\nNONE\nOK\nVAL 3\nNONE\n")
         }
         None => false,
     }
 }
 
 #[test]
-fn rows_of_loads(rt: HostRuntime) -> Result<(), Fail> {
-    for row in ROWS {
-        assert!(rt; is_right(rt.alloc(), row, 8192));
-    }
-    Ok(())
-}
-
-#[test]
-fn cut_at_each_byte(rt: HostRuntime) -> Result<(), Fail> {
-    for row in ROWS {
-        for size in 1..9usize {
-            assert!(rt; is_right(rt.alloc(), row, size));
-        }
-    }
-    Ok(())
-}
-
-#[test]
-fn the_loader_is_asked_by_the_key(rt: HostRuntime) -> Result<(), Fail> {
-    const SAYINGS: &[Saying] = &[Saying::Refusal, Saying::Nothing];
-    let input = b"LOAD one\nLOAD two\nSET three - 3\nLOAD three\nLOAD one\n";
-    let Some(ran) = run_over(rt.alloc(), PLAIN, input, SAYINGS, SOUND) else {
-        return Err(Fail::new("no service"));
-    };
-    assert_eq!(rt; ran.keys.as_slice(), b"oneonetwoone".as_slice());
-    assert_eq!(rt;
-        ran.replies.as_slice(),
-        b"NONE\nNONE\nOK\nVAL 3\nNONE\n".as_slice()
-    );
-    Ok(())
+fn the_loader_is_asked_by_the_key(rt: HostRuntime) {
+    assert!(rt; is_asked_by_key(rt.alloc(), b"oneonetwoone"));
 }
 
 /// A `LOAD` with so many bytes behind it, in the piece of the `LOAD` and the next one.
@@ -166,19 +173,15 @@ fn behind(alloc: Global, count: usize) -> Option<Vec<u8>> {
     Some(input)
 }
 
-#[test]
-fn bytes_behind_a_load(rt: HostRuntime) -> Result<(), Fail> {
-    let alloc = rt.alloc();
+/// Whether a `LOAD` of nothing with so many bytes behind it is answered, and its owner then asks that the connection be closed.
+fn is_answered_before(alloc: Global, count: usize) -> Option<bool> {
     const SAYINGS: &[Saying] = &[Saying::Nothing];
-    let Some(input) = behind(alloc, 8185) else {
-        return Err(Fail::new("no memory"));
-    };
-    let Some(ran) = run_over(alloc, PLAIN, input.as_slice(), SAYINGS, SOUND) else {
-        return Err(Fail::new("no service"));
-    };
-    assert!(rt; ran.result.is_ok());
-    assert_eq!(rt; ran.replies.as_slice(), b"NONE\n".as_slice());
-    assert_eq!(rt; ran.closed, Some(Closing::Asked));
-    assert_eq!(rt; ran.loads_open, 0);
-    Ok(())
+    let input = behind(alloc, count)?;
+    let ran = run_over(alloc, PLAIN, input.as_slice(), SAYINGS, SOUND)?;
+    Some(is_whole(&ran, b"NONE\n") && ran.left.closed == Some(Closing::Asked))
+}
+
+#[test]
+fn bytes_behind_a_load(rt: HostRuntime) {
+    assert_eq!(rt; is_answered_before(rt.alloc(), 8185), Some(true));
 }

@@ -1,7 +1,12 @@
 //! Devices for tests.
-use audit_model::{Config, EvictionPolicy, Note, Outcome, Weight};
+ghost use Rattle.std.specs.Prelude.{◌≡◌, IfSome};
+
+use audit_model::{Config, EvictionPolicy, Instant, Note, Outcome, Weight};
 use cache_devices::{Clock, Loader};
+use cache_live::LiveService;
 use cache_serve::{Devices, Teller};
+use rand_core::SeedableRng;
+use rand_xoshiro::Xoshiro256PlusPlus;
 use std::alloc::Global;
 use std::sync::atomic::{AtomicU64, Ordering};
 use std::sync::{Arc, Wait};
@@ -16,6 +21,21 @@ pub const PLAIN: Config = Config {
     idle_ms: None,
     own_deadlines: false,
 };
+
+/// A new service of one plain namespace.
+pub fn make_core(alloc: Global) -> Option<LiveService>
+    ensures { IfSome result (λ core. core.events ≡ 0) }
+{
+    match LiveService::new(
+        alloc,
+        &[PLAIN],
+        Xoshiro256PlusPlus::seed_from_u64(1),
+        Instant { nanos: 0 },
+    ) {
+        Ok(core) => Some(core),
+        Err(_) => None,
+    }
+}
 
 /// A clock that stands at 0.
 #[derive(Clone, Copy, Drop)]

@@ -83,27 +83,41 @@ fn text_of(alloc: Global, bytes: &[u8]) -> Option<Bytes> {
     Some(Seq::from_vec(Vec::from_slice(alloc, bytes).ok()?))
 }
 
+/// A value with this text.
+pub fn value_of(alloc: Global, bytes: &[u8]) -> Option<Outcome> {
+    Some(Outcome::Value(text_of(alloc, bytes)?, None))
+}
+
+/// A fault that says this text.
+fn fault_of(alloc: Global, bytes: &[u8]) -> Option<Outcome> {
+    Some(Outcome::Fault(text_of(alloc, bytes)?))
+}
+
+/// What is found for a key by a loader that was asked so often before.
+fn found(alloc: Global, key: &[u8], asked: u64) -> Option<Outcome> {
+    if key == b"n".as_slice() {
+        Some(Outcome::None)
+    } else if key == b"f".as_slice() {
+        fault_of(alloc, b"down")
+    } else if key == b"g".as_slice() {
+        None
+    } else if key == b"b".as_slice() && asked == 0 {
+        value_of(alloc, b"x\ny")
+    } else {
+        value_of(alloc, b"v")
+    }
+}
+
 impl<L: Seating, R: Wait + Clock + Copy> Loader for Held<L, R> {
     ghost loads = { λ c key answer d. Unit {0} };
 
     fn load(&mut self, key: &[u8]) -> Option<Outcome> {
         let asked = self.news.asked.fetch_add(1, Ordering::SeqCst);
-        if !self.is_in_time() {
-            return Some(Outcome::Fault(text_of(self.alloc, b"late")?));
+        if self.is_in_time() {
+            found(self.alloc, key, asked)
+        } else {
+            fault_of(self.alloc, b"late")
         }
-        if key == b"n".as_slice() {
-            return Some(Outcome::None);
-        }
-        if key == b"f".as_slice() {
-            return Some(Outcome::Fault(text_of(self.alloc, b"down")?));
-        }
-        if key == b"g".as_slice() {
-            return None;
-        }
-        if key == b"b".as_slice() && asked == 0 {
-            return Some(Outcome::Value(text_of(self.alloc, b"x\ny")?, None));
-        }
-        Some(Outcome::Value(text_of(self.alloc, b"v")?, None))
     }
 }
 

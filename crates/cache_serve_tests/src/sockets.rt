@@ -1,13 +1,10 @@
 //! Clients and a host on this machine.
 ghost use Rattle.std.specs.Prelude.{◌≡◌, ◌+◌, ◌<◌};
 
-use crate::devices::{PLAIN, Plain};
-use audit_model::Instant;
+use crate::devices::{Plain, make_core};
 use cache_live::LiveService;
 use cache_serve::{Hosted, host};
 use cache_shared::{Seating, SharedService};
-use rand_core::SeedableRng;
-use rand_xoshiro::Xoshiro256PlusPlus;
 use std::alloc::Global;
 use std::io::{Read, Write};
 use std::marker::Brand;
@@ -68,6 +65,63 @@ fn clients<R: Net<Listener = TcpListener, Stream = TcpStream>>(
     )
 }
 
+/// A listener of this machine, and its address.
+fn listen<R: Net<Listener = TcpListener, Stream = TcpStream>>(
+    rt: &R,
+) -> io::Result<(TcpListener, SocketAddr)> {
+    let listener = TcpListener::bind(rt, SocketAddr::from((Ipv4Addr::LOCALHOST, 0)))?;
+    let addr = listener.local_addr()?;
+    Ok((listener, addr))
+}
+
+/// Hosts two clients. Answers what they read, and what the host leaves.
+fn join_both<L, R>(
+    rt: R,
+    alloc: Global,
+    shared: &SharedService<L, LiveService>,
+    devices: &Plain,
+    first: &[u8],
+    second: &[u8],
+) -> io::Result<((Vec<u8>, Vec<u8>), Hosted<L>)>
+where
+    L: Seating + Send + Sync + 'static,
+    R: Net<Listener = TcpListener, Stream = TcpStream>
+        + Threads
+        + Wait
+        + Copy
+        + Send
+        + Sync
+        + 'static,
+{
+    let (listener, addr) = listen(&rt)?;
+    let lent = &rt;
+    Ok(thread::join(
+        lent,
+        move || clients(lent, alloc, addr, first, second),
+        || host(rt, alloc, shared, 0, &listener, devices, Some(2)),
+    ))
+}
+
+/// How many events there were, where all went well.
+fn count_events<L: Seating>(shared: SharedService<L, LiveService>, hosted: Hosted<L>) -> Option<u64>
+    requires ledger { L.all ≡ L.parts }
+{
+    let Hosted { seats, failed } = hosted;
+    if failed {
+        return None;
+    }
+    match shared.finish(seats) {
+        Ok(finished) => Some(finished.service.events()),
+        Err(_) => None,
+    }
+}
+
+/// Devices of a count that stands at 0.
+fn make_devices(alloc: Global) -> Option<Plain> {
+    let told = Arc::new(alloc, AtomicU64::new(0)).ok()?;
+    Some(Plain { told })
+}
+
 fn run<L, R>(
     rt: R,
     alloc: Global,
@@ -90,28 +144,14 @@ where
     requires name { blank.name ≡ L.name }
     requires parts { (blank.parts ≡ L.parts) × (L.all ≡ L.parts) × (parts ≡ L.parts) }
 {
+    let devices = make_devices(alloc)?;
     let shared: SharedService<L, LiveService> = SharedService::new(alloc, core, blank, parts).ok()?;
-    let listener = TcpListener::bind(&rt, SocketAddr::from((Ipv4Addr::LOCALHOST, 0))).ok()?;
-    let addr = listener.local_addr().ok()?;
-    let told = Arc::new(alloc, AtomicU64::new(0)).ok()?;
-    let devices = Plain {
-        told: Arc::try_clone(&told).ok()?,
-    };
-    let lent = &rt;
-    let (replies, hosted) = thread::join(
-        lent,
-        move || clients(lent, alloc, addr, first, second),
-        || host(rt, alloc, &shared, 0, &listener, &devices, Some(2)),
-    );
-    let Hosted { seats, failed } = hosted;
-    if failed {
-        return None;
-    }
-    let finished = shared.finish(seats).ok()?;
+    let (replies, hosted) = join_both(rt, alloc, &shared, &devices, first, second).ok()?;
+    let events = count_events(shared, hosted)?;
     Some(Served {
         replies,
-        events: finished.service.events(),
-        told: told.load(Ordering::SeqCst),
+        events,
+        told: devices.told.load(Ordering::SeqCst),
     })
 }
 
@@ -126,14 +166,6 @@ where
         + Sync
         + 'static,
 {
-    let core = match LiveService::new(
-        alloc,
-        &[PLAIN],
-        Xoshiro256PlusPlus::seed_from_u64(1),
-        Instant { nanos: 0 },
-    ) {
-        Ok(core) => core,
-        Err(_) => return None,
-    };
+    let core = make_core(alloc)?;
     run::<Brand, R>(rt, alloc, core, Blank::new(5), 5, first, second)
 }

@@ -3,13 +3,12 @@ ghost use Rattle.std.specs.Prelude.{◌≡◌, ℕ};
 ghost use Rattle.cache_shared.specs.Events.{record_count};
 ghost use Rattle.cache_spaces.specs.Journals.{journals_of};
 
-use crate::inputs::{PLAIN, feed};
-use audit_model::{Conn, Input, Instant};
+use crate::inputs::{conn, make_core};
+use crate::seats::{feed_once, list_of, open, two_seats};
+use audit_model::{Conn, Input};
 use audit_receipts::Receipt;
-use cache_shared::{Seat, Seating, SharedService};
-use cache_spaces::{Output, RecordedService};
-use rand_core::SeedableRng;
-use rand_xoshiro::Xoshiro256PlusPlus;
+use cache_shared::{Finished, Seat, Seating, SharedService};
+use cache_spaces::RecordedService;
 use std::alloc::Global;
 use std::marker::Brand;
 use std::sync::Wait;
@@ -27,36 +26,169 @@ pub struct Outcome {
     pub is_clone_refused: bool,
 }
 
+/// 25 times a `SET` and a `GET` in two feeds.
+fn take_turns<L: Seating, R: Wait>(
+    rt: &R,
+    alloc: Global,
+    shared: &SharedService<L>,
+    seat: &mut Seat<L>,
+    conn: Conn,
+    texts: (&[u8], &[u8]),
+) {
+    for _ in 0..25u32 {
+        feed_once(rt, alloc, shared, seat, conn, texts.0);
+        feed_once(rt, alloc, shared, seat, conn, texts.1);
+    }
+}
+
+/// Whether the closing of an unknown connection is refused.
+fn is_close_refused<L: Seating, R: Wait>(
+    rt: &R,
+    shared: &SharedService<L>,
+    seat: &mut Seat<L>,
+) -> bool {
+    shared
+        .step(rt, seat, Input::Close { conn: conn(1000) })
+        .is_err()
+}
+
 /// One thread's events: an open, 25 times a `SET` and a `GET` in two feeds, a close. Before them one that is refused.
 fn work<L: Seating, R: Wait>(
     rt: &R,
     alloc: Global,
     shared: &SharedService<L>,
-    mut seat: Seat<L>,
-    set: &[u8],
-    get: &[u8],
-) -> Seat<L> {
-    let unknown = Conn {
-        namespace: 0,
-        number: 1000,
-    };
-    let Err(_) = shared.step(rt, &mut seat, Input::Close { conn: unknown }) else {
-        return seat;
-    };
-    let Ok(Output::Opened { conn }) = shared.step(rt, &mut seat, Input::Open { namespace: 0 })
-    else {
-        return seat;
-    };
-    for _ in 0..25u32 {
-        if let Ok(input) = feed(alloc, conn, set) {
-            let _ = shared.step(rt, &mut seat, input);
-        }
-        if let Ok(input) = feed(alloc, conn, get) {
-            let _ = shared.step(rt, &mut seat, input);
+    seat: &mut Seat<L>,
+    texts: (&[u8], &[u8]),
+) {
+    if is_close_refused(rt, shared, seat) {
+        if let Some(conn) = open(rt, shared, seat) {
+            take_turns(rt, alloc, shared, seat, conn, texts);
+            let _ = shared.step(rt, seat, Input::Close { conn });
         }
     }
-    let _ = shared.step(rt, &mut seat, Input::Close { conn });
-    seat
+}
+
+/// Two threads of `work`.
+fn work_both<L: Seating + Send + Sync, R: Threads + Wait + Sync>(
+    rt: &R,
+    alloc: Global,
+    shared: &SharedService<L>,
+    seats: &mut (Seat<L>, Seat<L>),
+) {
+    let (one, two) = seats;
+    thread::join(
+        rt,
+        || work(rt, alloc, shared, one, (b"SET a - 1\n", b"GET a\n")),
+        || work(rt, alloc, shared, two, (b"SET b - 2\n", b"GET b\n")),
+    );
+}
+
+/// Four threads of `work`.
+fn work_all<L: Seating + Send + Sync, R: Threads + Wait + Sync>(
+    rt: &R,
+    alloc: Global,
+    shared: &SharedService<L>,
+    front: &mut (Seat<L>, Seat<L>),
+    back: &mut (Seat<L>, Seat<L>),
+) {
+    thread::join(
+        rt,
+        || work_both(rt, alloc, shared, front),
+        || work_both(rt, alloc, shared, back),
+    );
+}
+
+/// The service and the seats back, where it is not to be had with these seats.
+fn refused<L: Seating>(
+    shared: SharedService<L>,
+    seats: Vec<Seat<L>>,
+) -> Option<(SharedService<L>, Vec<Seat<L>>)>
+    requires ledger { L.all ≡ L.parts }
+{
+    shared.finish(seats).err()
+}
+
+/// The same, while there is a clone.
+fn refused_beside_clone<L: Seating>(
+    shared: SharedService<L>,
+    seats: Vec<Seat<L>>,
+) -> Option<(SharedService<L>, Vec<Seat<L>>)>
+    requires ledger { L.all ≡ L.parts }
+{
+    let other = shared.clone().ok()?;
+    let back = refused(shared, seats);
+    drop(other);
+    back
+}
+
+/// What three seats and then the last one leave, whether the service was not to be had with three, and whether it was not with all beside
+/// a clone.
+fn finish_at_last<L: Seating>(
+    shared: SharedService<L>,
+    seats: Vec<Seat<L>>,
+    last: Seat<L>,
+) -> Option<(Finished<RecordedService>, (bool, bool))>
+    requires ledger { L.all ≡ L.parts }
+{
+    let (shared, mut seats) = refused(shared, seats)?;
+    let is_missing_seat_refused = seats.len() == 3;
+    seats.push(last).ok()?;
+    let (shared, seats) = refused_beside_clone(shared, seats)?;
+    let is_clone_refused = seats.len() == 4;
+    match shared.finish(seats) {
+        Ok(finished) => Some((finished, (is_missing_seat_refused, is_clone_refused))),
+        Err(_) => None,
+    }
+}
+
+/// How many receipts there are in all lists.
+fn receipt_count(seats: &[Vec<Vec<Receipt>>]) -> usize {
+    let mut count: usize = 0;
+    for lists in seats {
+        for list in lists {
+            count = count.saturating_add(list.len());
+        }
+    }
+    count
+}
+
+/// What is seen of a service that four threads leave.
+fn seen(
+    finished: &Finished<RecordedService>,
+    counts: u64,
+    are_refused: (bool, bool),
+) -> Option<Outcome> {
+    match finished.service.journal(0) {
+        Ok(journal) => Some(Outcome {
+            records: journal.records.len(),
+            counts,
+            receipts: receipt_count(&finished.receipts),
+            is_missing_seat_refused: are_refused.0,
+            is_clone_refused: are_refused.1,
+        }),
+        Err(_) => None,
+    }
+}
+
+/// How many inputs two seats count.
+fn count_of<L: Seating>(seats: &(Seat<L>, Seat<L>)) -> u64 {
+    seats.0.count().saturating_add(seats.1.count())
+}
+
+/// What four seats leave.
+fn finish_four<L: Seating>(
+    alloc: Global,
+    shared: SharedService<L>,
+    front: (Seat<L>, Seat<L>),
+    back: (Seat<L>, Seat<L>),
+) -> Option<Outcome>
+    requires ledger { L.all ≡ L.parts }
+{
+    let counts = count_of(&front).saturating_add(count_of(&back));
+    let mut seats = list_of(alloc, front.0, front.1)?;
+    seats.push(back.0).ok()?;
+    let (finished, are_refused) = finish_at_last(shared, seats, back.1)?;
+    seen(&finished, counts, are_refused)
 }
 
 fn run<L: Seating + Send + Sync, R: Threads + Wait + Sync>(
@@ -71,88 +203,14 @@ fn run<L: Seating + Send + Sync, R: Threads + Wait + Sync>(
     requires parts { (blank.parts ≡ L.parts) × (L.all ≡ L.parts) × (parts ≡ L.parts) }
 {
     let shared: SharedService<L> = SharedService::new(alloc, core, blank, parts).ok()?;
-    let a = shared.seat(rt).ok()?;
-    let b = shared.seat(rt).ok()?;
-    let c = shared.seat(rt).ok()?;
-    let d = shared.seat(rt).ok()?;
-    let lent = &shared;
-    let ((a, b), (c, d)) = thread::join(
-        rt,
-        move || two(rt, alloc, lent, a, b),
-        move || two(rt, alloc, lent, c, d),
-    );
-    let counts = a
-        .count()
-        .saturating_add(b.count())
-        .saturating_add(c.count())
-        .saturating_add(d.count());
-    let mut seats = Vec::with_capacity(alloc, 4).ok()?;
-    seats.push(a).ok()?;
-    seats.push(b).ok()?;
-    seats.push(c).ok()?;
-    let (shared, mut seats) = match shared.finish(seats) {
-        Ok(_) => return None,
-        Err(back) => back,
-    };
-    let is_missing_seat_refused = seats.len() == 3;
-    seats.push(d).ok()?;
-    let other = shared.clone().ok()?;
-    let (shared, seats) = match shared.finish(seats) {
-        Ok(_) => return None,
-        Err(back) => back,
-    };
-    let is_clone_refused = seats.len() == 4;
-    drop(other);
-    let finished = shared.finish(seats).ok()?;
-    let records = match finished.service.journal(0) {
-        Ok(journal) => journal.records.len(),
-        Err(_) => return None,
-    };
-    Some(Outcome {
-        records,
-        counts,
-        receipts: receipt_count(&finished.receipts),
-        is_missing_seat_refused,
-        is_clone_refused,
-    })
-}
-
-/// How many receipts there are in all lists.
-fn receipt_count(seats: &[Vec<Vec<Receipt>>]) -> usize {
-    let mut count: usize = 0;
-    for lists in seats {
-        for list in lists {
-            count = count.saturating_add(list.len());
-        }
-    }
-    count
-}
-
-/// Two threads of `work`.
-fn two<L: Seating + Send + Sync, R: Threads + Wait + Sync>(
-    rt: &R,
-    alloc: Global,
-    shared: &SharedService<L>,
-    first: Seat<L>,
-    second: Seat<L>,
-) -> (Seat<L>, Seat<L>) {
-    thread::join(
-        rt,
-        move || work(rt, alloc, shared, first, b"SET a - 1\n", b"GET a\n"),
-        move || work(rt, alloc, shared, second, b"SET b - 2\n", b"GET b\n"),
-    )
+    let mut front = two_seats(rt, &shared)?;
+    let mut back = two_seats(rt, &shared)?;
+    work_all(rt, alloc, &shared, &mut front, &mut back);
+    finish_four(alloc, shared, front, back)
 }
 
 /// Runs four threads over a service of no events, with a ledger of so many parts.
 pub fn four<R: Threads + Wait + Sync>(rt: &R, alloc: Global, parts: u64) -> Option<Outcome> {
-    let core = match RecordedService::new(
-        alloc,
-        &[PLAIN],
-        Xoshiro256PlusPlus::seed_from_u64(1),
-        Instant { nanos: 0 },
-    ) {
-        Ok(core) => core,
-        Err(_) => return None,
-    };
+    let core = make_core(alloc)?;
     run::<Brand, R>(rt, alloc, core, Blank::new(parts), parts)
 }

@@ -1,5 +1,12 @@
-//! Configurations and inputs.
+//! A service, and inputs of it.
+ghost use Rattle.std.specs.Prelude.{◌≡◌, IfSome};
+ghost use Rattle.cache_shared.specs.Events.{record_count};
+ghost use Rattle.cache_spaces.specs.Journals.{journals_of};
+
 use audit_model::{Config, Conn, EvictionPolicy, Input, Instant, Seq, Weight};
+use cache_spaces::RecordedService;
+use rand_core::SeedableRng;
+use rand_xoshiro::Xoshiro256PlusPlus;
 use std::alloc::{AllocError, Global};
 
 /// A plain namespace.
@@ -13,6 +20,17 @@ pub const PLAIN: Config = Config {
     own_deadlines: false,
 };
 
+/// A new service of one plain namespace.
+pub fn make_core(alloc: Global) -> Option<RecordedService>
+    ensures { IfSome result (λ core. record_count (journals_of core) ≡ 0) }
+{
+    let generator = Xoshiro256PlusPlus::seed_from_u64(1);
+    match RecordedService::new(alloc, &[PLAIN], generator, Instant { nanos: 0 }) {
+        Ok(core) => Some(core),
+        Err(_) => None,
+    }
+}
+
 /// A feed of these bytes at moment 0.
 pub fn feed(alloc: Global, conn: Conn, bytes: &[u8]) -> Result<Input, AllocError> {
     let piece = Vec::from_slice(alloc, bytes)?;
@@ -21,4 +39,12 @@ pub fn feed(alloc: Global, conn: Conn, bytes: &[u8]) -> Result<Input, AllocError
         piece: Seq::from_vec(piece),
         moment: Instant { nanos: 0 },
     })
+}
+
+/// A connection of the first namespace.
+pub fn conn(number: u64) -> Conn {
+    Conn {
+        namespace: 0,
+        number,
+    }
 }

@@ -3,13 +3,12 @@ ghost use Rattle.std.specs.Prelude.{◌≡◌, ℕ};
 ghost use Rattle.cache_shared.specs.Events.{record_count};
 ghost use Rattle.cache_spaces.specs.Journals.{journals_of};
 
-use crate::inputs::{PLAIN, feed};
-use audit_model::{Conn, Input, Instant, ServiceError, Transcript};
-use audit_receipts::{Output, Receipt, receipts_stand};
+use crate::inputs::{conn, feed, make_core};
+use crate::seats::{feed_once, list_of, open, two_seats};
+use audit_model::{Input, ServiceError, Transcript};
+use audit_receipts::{Receipt, receipts_stand};
 use cache_shared::{Finished, Seat, Seating, SharedService};
 use cache_spaces::{RecordedService, Refusal};
-use rand_core::SeedableRng;
-use rand_xoshiro::Xoshiro256PlusPlus;
 use std::alloc::Global;
 use std::marker::Brand;
 use std::sync::Wait;
@@ -33,15 +32,40 @@ fn talk<L: Seating, R: Wait>(
     rt: &R,
     alloc: Global,
     shared: &SharedService<L>,
-    mut seat: Seat<L>,
+    seat: &mut Seat<L>,
     bytes: &[u8],
-) -> Seat<L> {
-    if let Ok(Output::Opened { conn }) = shared.step(rt, &mut seat, Input::Open { namespace: 0 }) {
-        if let Ok(input) = feed(alloc, conn, bytes) {
-            let _ = shared.step(rt, &mut seat, input);
-        }
+) {
+    if let Some(conn) = open(rt, shared, seat) {
+        feed_once(rt, alloc, shared, seat, conn, bytes);
     }
-    seat
+}
+
+/// Two threads that talk.
+fn talk_both<L: Seating + Send + Sync, R: Threads + Wait + Sync>(
+    rt: &R,
+    alloc: Global,
+    shared: &SharedService<L>,
+    seats: &mut (Seat<L>, Seat<L>),
+) {
+    let (one, two) = seats;
+    thread::join(
+        rt,
+        || talk(rt, alloc, shared, one, b"SET a - 1\n"),
+        || talk(rt, alloc, shared, two, b"GET a\n"),
+    );
+}
+
+/// Whether an input is refused for its unknown connection.
+fn is_refused<L: Seating, R: Wait>(
+    rt: &R,
+    shared: &SharedService<L>,
+    seat: &mut Seat<L>,
+    input: Input,
+) -> bool {
+    match shared.step(rt, seat, input) {
+        Ok(_) => false,
+        Err(Refusal { error, .. }) => error == ServiceError::NoConnection,
+    }
 }
 
 /// Whether a feed to an unknown connection is refused, and leaves no receipt.
@@ -51,21 +75,14 @@ fn leaves_none<L: Seating, R: Wait>(
     shared: &SharedService<L>,
     seat: &mut Seat<L>,
 ) -> bool {
-    let unknown = Conn {
-        namespace: 0,
-        number: 9,
-    };
     let before = seat.receipts(0).len();
-    let Ok(input) = feed(alloc, unknown, b"GET a\n") else {
-        return false;
-    };
-    match shared.step(rt, seat, input) {
-        Ok(_) => false,
-        Err(Refusal { error, .. }) => {
-            error == ServiceError::NoConnection
+    match feed(alloc, conn(9), b"GET a\n") {
+        Ok(input) => {
+            is_refused(rt, shared, seat, input)
                 && seat.receipts(0).len() == before
                 && seat.count() == 2
         }
+        Err(_) => false,
     }
 }
 
@@ -90,6 +107,34 @@ fn mark(seen: &mut [u8; 5], number: u64) {
     }
 }
 
+/// A receipt with another input: another feed for a feed, and else a closing.
+fn change(alloc: Global, receipt: Receipt) -> Option<Receipt> {
+    let input = match receipt.input {
+        Input::Feed { conn, .. } => feed(alloc, conn, b"GET b\n").ok()?,
+        _ => Input::Close { conn: conn(1) },
+    };
+    Some(Receipt {
+        namespace: receipt.namespace,
+        number: receipt.number,
+        input,
+        output: receipt.output,
+    })
+}
+
+/// Whether receipts stand once the last one is changed.
+fn stand_changed(alloc: Global, journal: &Transcript, mut receipts: Vec<Receipt>) -> Option<bool> {
+    let last = receipts.pop()?;
+    let changed = change(alloc, last)?;
+    receipts.push(changed).ok()?;
+    Some(receipts_stand(journal, receipts.as_slice()))
+}
+
+/// Whether receipts stand in the order turned round.
+fn stand_reversed(journal: &Transcript, mut receipts: Vec<Receipt>) -> bool {
+    receipts.reverse();
+    receipts_stand(journal, receipts.as_slice())
+}
+
 /// What is seen of the receipts of two seats.
 fn judged(
     alloc: Global,
@@ -104,41 +149,42 @@ fn judged(
         receipts_stand(journal, first.as_slice()),
         receipts_stand(journal, second.as_slice()),
     );
-    let mut first = first;
-    first.reverse();
-    let stands_reversed = receipts_stand(journal, first.as_slice());
-    let mut second = second;
-    let fed = second.pop()?;
-    let conn = Conn {
-        namespace: 0,
-        number: 1,
-    };
-    let changed = match fed.input {
-        Input::Feed { conn, .. } => feed(alloc, conn, b"GET b\n").ok()?,
-        _ => Input::Close { conn },
-    };
-    second
-        .push(Receipt {
-            namespace: fed.namespace,
-            number: fed.number,
-            input: changed,
-            output: fed.output,
-        })
-        .ok()?;
-    Some(Pair {
-        counts,
-        are_once,
-        stand,
-        stands_reversed,
-        stands_changed: receipts_stand(journal, second.as_slice()),
-        is_unknown_left_out,
-    })
+    let stands_reversed = stand_reversed(journal, first);
+    match stand_changed(alloc, journal, second) {
+        Some(stands_changed) => Some(Pair {
+            counts,
+            are_once,
+            stand,
+            stands_reversed,
+            stands_changed,
+            is_unknown_left_out,
+        }),
+        None => None,
+    }
 }
 
 /// The first list of the receipts of the last seat.
 fn last_list(receipts: &mut Vec<Vec<Vec<Receipt>>>) -> Option<Vec<Receipt>> {
     let mut lists = receipts.pop()?;
     lists.pop()
+}
+
+/// What is seen of a service that two threads leave.
+fn seen(
+    alloc: Global,
+    finished: Finished<RecordedService>,
+    is_unknown_left_out: bool,
+) -> Option<Pair> {
+    let Finished {
+        service,
+        mut receipts,
+    } = finished;
+    let second = last_list(&mut receipts)?;
+    let first = last_list(&mut receipts)?;
+    match service.journal(0) {
+        Ok(journal) => judged(alloc, journal, first, second, is_unknown_left_out),
+        Err(_) => None,
+    }
 }
 
 fn run<L: Seating + Send + Sync, R: Threads + Wait + Sync>(
@@ -153,40 +199,18 @@ fn run<L: Seating + Send + Sync, R: Threads + Wait + Sync>(
     requires parts { (blank.parts ≡ L.parts) × (L.all ≡ L.parts) × (parts ≡ L.parts) }
 {
     let shared: SharedService<L> = SharedService::new(alloc, core, blank, parts).ok()?;
-    let first = shared.seat(rt).ok()?;
-    let second = shared.seat(rt).ok()?;
-    let lent = &shared;
-    let (mut first, second) = thread::join(
-        rt,
-        move || talk(rt, alloc, lent, first, b"SET a - 1\n"),
-        move || talk(rt, alloc, lent, second, b"GET a\n"),
-    );
-    let is_unknown_left_out = leaves_none(rt, alloc, &shared, &mut first);
-    let mut seats = Vec::with_capacity(alloc, 2).ok()?;
-    seats.push(first).ok()?;
-    seats.push(second).ok()?;
-    let Finished {
-        service,
-        mut receipts,
-    } = shared.finish(seats).ok()?;
-    let second = last_list(&mut receipts)?;
-    let first = last_list(&mut receipts)?;
-    match service.journal(0) {
-        Ok(journal) => judged(alloc, journal, first, second, is_unknown_left_out),
+    let mut both = two_seats(rt, &shared)?;
+    talk_both(rt, alloc, &shared, &mut both);
+    let is_unknown_left_out = leaves_none(rt, alloc, &shared, &mut both.0);
+    let seats = list_of(alloc, both.0, both.1)?;
+    match shared.finish(seats) {
+        Ok(finished) => seen(alloc, finished, is_unknown_left_out),
         Err(_) => None,
     }
 }
 
 /// Two threads, each with a connection of its own, and what is seen of their receipts.
 pub fn judge_pair<R: Threads + Wait + Sync>(rt: &R, alloc: Global) -> Option<Pair> {
-    let core = match RecordedService::new(
-        alloc,
-        &[PLAIN],
-        Xoshiro256PlusPlus::seed_from_u64(1),
-        Instant { nanos: 0 },
-    ) {
-        Ok(core) => core,
-        Err(_) => return None,
-    };
+    let core = make_core(alloc)?;
     run::<Brand, R>(rt, alloc, core, Blank::new(3), 3)
 }

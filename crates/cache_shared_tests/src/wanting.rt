@@ -3,13 +3,11 @@ ghost use Rattle.std.specs.Prelude.{◌≡◌, ℕ};
 ghost use Rattle.cache_shared.specs.Events.{record_count};
 ghost use Rattle.cache_spaces.specs.Journals.{journals_of};
 
-use crate::inputs::{PLAIN, feed};
-use audit_model::{Conn, Input, Instant};
+use crate::inputs::{feed, make_core};
+use audit_model::{Conn, Input};
 use audit_receipts::Output;
-use cache_shared::{Finished, Seat, Seating, SharedService};
+use cache_shared::{Seat, Seating, SharedService};
 use cache_spaces::{RecordedService, Refusal};
-use rand_core::SeedableRng;
-use rand_xoshiro::Xoshiro256PlusPlus;
 use std::alloc::{AllocError, Global};
 use std::marker::Brand;
 use std::sync::Wait;
@@ -52,6 +50,75 @@ fn one_seat<L: Seating>(alloc: Global, seat: Seat<L>) -> Option<Vec<Seat<L>>> {
     Some(seats)
 }
 
+/// Takes a feed at last.
+fn feed_and_step<L: Seating, R: Wait>(
+    rt: &R,
+    alloc: Global,
+    shared: &SharedService<L>,
+    seat: &mut Seat<L>,
+    conn: Conn,
+    bytes: &[u8],
+) -> Option<Output> {
+    let input = feed_at_last(alloc, conn, bytes).ok()?;
+    step_at_last(rt, shared, seat, input)
+}
+
+/// Opens a connection at last.
+fn open_at_last<L: Seating, R: Wait>(
+    rt: &R,
+    shared: &SharedService<L>,
+    seat: &mut Seat<L>,
+) -> Option<Conn> {
+    match step_at_last(rt, shared, seat, Input::Open { namespace: 0 }) {
+        Some(Output::Opened { conn }) => Some(conn),
+        _ => None,
+    }
+}
+
+/// Takes the four inputs at last: an open, a `SET`, a `GET` and a close.
+fn take_four<L: Seating, R: Wait>(
+    rt: &R,
+    alloc: Global,
+    shared: &SharedService<L>,
+    seat: &mut Seat<L>,
+) -> Option<Output> {
+    let conn = open_at_last(rt, shared, seat)?;
+    let _ = feed_and_step(rt, alloc, shared, seat, conn, b"SET a - 1\n")?;
+    let _ = feed_and_step(rt, alloc, shared, seat, conn, b"GET a\n")?;
+    step_at_last(rt, shared, seat, Input::Close { conn })
+}
+
+/// A shared form, at the second try where memory is refused.
+fn share_at_last<L: Seating>(
+    alloc: Global,
+    core: RecordedService,
+    blank: Blank,
+    parts: u64,
+) -> Option<SharedService<L>>
+    requires empty { record_count (journals_of core) ≡ 0 }
+    requires name { blank.name ≡ L.name }
+    requires parts { (blank.parts ≡ L.parts) × (L.all ≡ L.parts) × (parts ≡ L.parts) }
+{
+    match SharedService::new(alloc, core, blank, parts) {
+        Ok(shared) => Some(shared),
+        Err((core, blank)) => SharedService::new(alloc, core, blank, parts).ok(),
+    }
+}
+
+/// Whether a service has a record of each of four inputs that one seat leaves, at the second try where memory is refused.
+fn leaves_four<L: Seating>(shared: SharedService<L>, seats: Vec<Seat<L>>) -> Option<bool>
+    requires ledger { L.all ≡ L.parts }
+{
+    let finished = match shared.finish(seats) {
+        Ok(finished) => finished,
+        Err((shared, seats)) => shared.finish(seats).ok()?,
+    };
+    match finished.service.journal(0) {
+        Ok(journal) => Some(journal.records.len() == 4),
+        Err(_) => None,
+    }
+}
+
 fn run<L: Seating, R: Wait>(
     rt: &R,
     alloc: Global,
@@ -63,34 +130,12 @@ fn run<L: Seating, R: Wait>(
     requires name { blank.name ≡ L.name }
     requires parts { (blank.parts ≡ L.parts) × (L.all ≡ L.parts) × (parts ≡ L.parts) }
 {
-    let shared: SharedService<L> = match SharedService::new(alloc, core, blank, parts) {
-        Ok(shared) => shared,
-        Err((core, blank)) => SharedService::new(alloc, core, blank, parts).ok()?,
-    };
+    let shared: SharedService<L> = share_at_last(alloc, core, blank, parts)?;
     let mut seat = shared.seat(rt).ok()?;
-    let Some(Output::Opened { conn }) = step_at_last(
-        rt,
-        &shared,
-        &mut seat,
-        Input::Open { namespace: 0 },
-    ) else {
-        return None;
-    };
-    let set = feed_at_last(alloc, conn, b"SET a - 1\n").ok()?;
-    let _ = step_at_last(rt, &shared, &mut seat, set)?;
-    let get = feed_at_last(alloc, conn, b"GET a\n").ok()?;
-    let _ = step_at_last(rt, &shared, &mut seat, get)?;
-    let _ = step_at_last(rt, &shared, &mut seat, Input::Close { conn })?;
-    let counts = (seat.count(), seat.receipts(0).len());
+    let _ = take_four(rt, alloc, &shared, &mut seat)?;
+    let are_counted = seat.count() == 4 && seat.receipts(0).len() == 4;
     let seats = one_seat(alloc, seat)?;
-    let Finished { service, .. } = match shared.finish(seats) {
-        Ok(finished) => finished,
-        Err((shared, seats)) => shared.finish(seats).ok()?,
-    };
-    match service.journal(0) {
-        Ok(journal) => Some(journal.records.len() == 4 && counts == (4, 4)),
-        Err(_) => None,
-    }
+    Some(leaves_four(shared, seats)? && are_counted)
 }
 
 /// Whether four inputs were taken and have four receipts, whatever was refused for memory once.
@@ -103,15 +148,7 @@ pub fn want<R: Wait>(rt: &R, alloc: Global) -> Option<bool> {
 
 /// The same, or `None` where the service could not be made.
 fn want_once<R: Wait>(rt: &R, alloc: Global) -> Option<bool> {
-    let core = match RecordedService::new(
-        alloc,
-        &[PLAIN],
-        Xoshiro256PlusPlus::seed_from_u64(1),
-        Instant { nanos: 0 },
-    ) {
-        Ok(core) => core,
-        Err(_) => return None,
-    };
+    let core = make_core(alloc)?;
     match run::<Brand, R>(rt, alloc, core, Blank::new(1), 1) {
         Some(done) => Some(done),
         None => Some(false),

@@ -1,17 +1,6 @@
 //! Devices for tests.
-use audit_model::{Config, EvictionPolicy, Outcome, Weight};
+use audit_model::Outcome;
 use cache_devices::{Clock, Loader};
-
-/// A plain namespace.
-pub const PLAIN: Config = Config {
-    capacity: None,
-    policy: EvictionPolicy::Lru,
-    parts: 1,
-    weight: Weight::One,
-    live_ms: None,
-    idle_ms: None,
-    own_deadlines: false,
-};
 
 /// A clock that stands at 0.
 #[derive(Clone, Copy, Drop)]

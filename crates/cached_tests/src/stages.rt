@@ -1,11 +1,11 @@
 //! Servers, each with its clients, to its end.
 use crate::clients::{connect, read_all, send_only, talk, use_up};
-use crate::sinks::{Sink, Written, read_back};
+use crate::sinks::{Sink, make_sink, read_back};
 use cached_program::Fault;
 use cached_server::serve_text;
 use std::alloc::{AllocError, Global};
 use std::net::{Net, TcpListener, TcpStream};
-use std::sync::{Arc, Mutex, Wait};
+use std::sync::Wait;
 use std::thread;
 use std::thread::Threads;
 use std::time::{Clock, Instant};
@@ -98,6 +98,24 @@ fn play_badly<R: Net<Listener = TcpListener, Stream = TcpStream> + Clock>(
     }
 }
 
+/// Serves what a text configures, each namespace so often as the clients need.
+fn serve_cast<R>(rt: R, alloc: Global, config: &str, cast: Cast, sink: Sink<R>) -> Result<(), Fault>
+where
+    R: Net<Listener = TcpListener, Stream = TcpStream>
+        + Clock
+        + Threads
+        + Wait
+        + Copy
+        + Send
+        + Sync
+        + 'static,
+{
+    match Instant::now(&rt) {
+        Ok(begun) => serve_text(rt, alloc, config, begun, sink, Some(count_of(cast))),
+        Err(_) => Err(Fault::Read),
+    }
+}
+
 /// Serves what a text configures, with clients on two ports. The server's writer takes so many bytes.
 pub fn stage<R>(
     rt: R,
@@ -118,20 +136,12 @@ where
         + Sync
         + 'static,
 {
-    let written: Written = Arc::new(alloc, Mutex::new(Vec::new(alloc)))?;
-    let sink = Sink {
-        rt,
-        written: Arc::try_clone(&written)?,
-        room,
-    };
+    let (sink, written) = make_sink(rt, alloc, room)?;
     let lent = &rt;
     let (replies, ended) = thread::join(
         lent,
         move || play(lent, alloc, cast, ports, texts),
-        || match Instant::now(lent) {
-            Ok(begun) => serve_text(rt, alloc, config, begun, sink, Some(count_of(cast))),
-            Err(_) => Err(Fault::Read),
-        },
+        move || serve_cast(rt, alloc, config, cast, sink),
     );
     let shown = read_back(&rt, alloc, &written);
     Ok(Served {

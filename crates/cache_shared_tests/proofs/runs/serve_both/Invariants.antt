@@ -1,4 +1,4 @@
-use Rattle.cache_reading_tests.proofs.runs.serve_both.Given as goal
+use Rattle.cache_shared_tests.proofs.runs.serve_both.Given as goal
 
 abbrev pub ghosts-run-L-Seating : goal.ghosts-run-L-Seating
 ghosts-run-L-Seating g a = record { all = a.blank.parts }

@@ -87,3 +87,12 @@ pub fn free_ports<R: Net<Listener = TcpListener, Stream = TcpStream>>(
     let second = TcpListener::bind(rt, address(0))?;
     Ok((first.local_addr()?.port(), second.local_addr()?.port()))
 }
+
+/// A listener on a port of this machine, and that port.
+pub fn take_port<R: Net<Listener = TcpListener, Stream = TcpStream>>(
+    rt: &R,
+) -> io::Result<(TcpListener, u16)> {
+    let listener = TcpListener::bind(rt, address(0))?;
+    let port = listener.local_addr()?.port();
+    Ok((listener, port))
+}

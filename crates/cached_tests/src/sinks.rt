@@ -1,5 +1,5 @@
 //! Writers that a test reads back.
-use std::alloc::Global;
+use std::alloc::{AllocError, Global};
 use std::io;
 use std::io::{ErrorKind, Write};
 use std::sync::{Arc, Mutex, Wait};
@@ -32,6 +32,22 @@ impl<R: Wait + Copy> Write for Sink<R> {
     fn flush(&mut self) -> io::Result<()> {
         Ok(())
     }
+}
+
+/// A writer of so much room, and what is written to it.
+pub fn make_sink<R: Wait + Copy>(
+    rt: R,
+    alloc: Global,
+    room: usize,
+) -> Result<(Sink<R>, Written), AllocError> {
+    let written: Written = Arc::new(alloc, Mutex::new(Vec::new(alloc)))?;
+    let mine = Arc::try_clone(&written)?;
+    let sink = Sink {
+        rt,
+        written: mine,
+        room,
+    };
+    Ok((sink, written))
 }
 
 /// A copy of what was written.

@@ -1,0 +1,51 @@
+//! Seats, and steps of them.
+use crate::inputs::feed;
+use audit_model::{Conn, Input};
+use cache_shared::{Core, Seat, Seating, SharedService};
+use cache_spaces::Output;
+use std::alloc::Global;
+use std::sync::Wait;
+
+/// Two seats of a shared service.
+pub fn two_seats<L: Seating, C: Core>(
+    rt: &impl Wait,
+    shared: &SharedService<L, C>,
+) -> Option<(Seat<L>, Seat<L>)> {
+    let one = shared.seat(rt).ok()?;
+    let two = shared.seat(rt).ok()?;
+    Some((one, two))
+}
+
+/// A list of two seats.
+pub fn list_of<L: Seating>(alloc: Global, one: Seat<L>, two: Seat<L>) -> Option<Vec<Seat<L>>> {
+    let mut seats = Vec::with_capacity(alloc, 2).ok()?;
+    seats.push(one).ok()?;
+    seats.push(two).ok()?;
+    Some(seats)
+}
+
+/// Opens a connection.
+pub fn open<L: Seating, R: Wait>(
+    rt: &R,
+    shared: &SharedService<L>,
+    seat: &mut Seat<L>,
+) -> Option<Conn> {
+    match shared.step(rt, seat, Input::Open { namespace: 0 }) {
+        Ok(Output::Opened { conn }) => Some(conn),
+        _ => None,
+    }
+}
+
+/// Feeds a connection these bytes, where there is memory.
+pub fn feed_once<L: Seating, R: Wait>(
+    rt: &R,
+    alloc: Global,
+    shared: &SharedService<L>,
+    seat: &mut Seat<L>,
+    conn: Conn,
+    bytes: &[u8],
+) {
+    if let Ok(input) = feed(alloc, conn, bytes) {
+        let _ = shared.step(rt, seat, input);
+    }
+}

@@ -1,5 +1,0 @@
-//! Configuration files, good and bad.
-#![tactic(auto)]
-
-#[cfg(test)]
-mod tests;
