@@ -63,96 +63,103 @@ fn first_wrong(alloc: Global, rows: &[Row<'_>]) -> Option<usize> {
     None
 }
 
+const PIECES: &[Row<'static>] = &[
+    Row::Holds(0),
+    Row::Feeds(b"ab"),
+    Row::Says(Next::More),
+    Row::Feeds(b"c\r"),
+    Row::Says(Next::More),
+    Row::Feeds(b"\nde\nf"),
+    Row::Takes(b"abc"),
+    Row::Takes(b"de"),
+    Row::Says(Next::More),
+    Row::Holds(1),
+    Row::Feeds(b"g\n"),
+    Row::Takes(b"fg"),
+    Row::Holds(0),
+];
+
 #[test]
 fn a_line_in_pieces(rt: HostRuntime) -> Result<(), Fail> {
-    let rows = [
-        Row::Holds(0),
-        Row::Feeds(b"ab"),
-        Row::Says(Next::More),
-        Row::Feeds(b"c\r"),
-        Row::Says(Next::More),
-        Row::Feeds(b"\nde\nf"),
-        Row::Takes(b"abc"),
-        Row::Takes(b"de"),
-        Row::Says(Next::More),
-        Row::Holds(1),
-        Row::Feeds(b"g\n"),
-        Row::Takes(b"fg"),
-        Row::Holds(0),
-    ];
-    assert_eq!(rt; first_wrong(rt.alloc(), &rows), None);
+    assert_eq!(rt; first_wrong(rt.alloc(), PIECES), None);
     Ok(())
 }
+
+const CARRIAGE_RETURNS: &[Row<'static>] = &[
+    Row::Feeds(b"a\r\r\n\r\n\nb\rc\n"),
+    Row::Takes(b"a\r"),
+    Row::Takes(b""),
+    Row::Takes(b""),
+    Row::Takes(b"b\rc"),
+];
 
 #[test]
 fn one_carriage_return_is_dropped(rt: HostRuntime) -> Result<(), Fail> {
-    let rows = [
-        Row::Feeds(b"a\r\r\n\r\n\nb\rc\n"),
-        Row::Takes(b"a\r"),
-        Row::Takes(b""),
-        Row::Takes(b""),
-        Row::Takes(b"b\rc"),
-    ];
-    assert_eq!(rt; first_wrong(rt.alloc(), &rows), None);
+    assert_eq!(rt; first_wrong(rt.alloc(), CARRIAGE_RETURNS), None);
     Ok(())
 }
+
+const LONGEST_LINE: &[Row<'static>] = &[
+    Row::Feeds(&[b'a'; MAX_LINE]),
+    Row::Says(Next::More),
+    Row::Feeds(b"\n"),
+    Row::Says(Next::Line(8192)),
+];
 
 #[test]
 fn the_longest_line(rt: HostRuntime) -> Result<(), Fail> {
-    let rows = [
-        Row::Feeds(&[b'a'; MAX_LINE]),
-        Row::Says(Next::More),
-        Row::Feeds(b"\n"),
-        Row::Says(Next::Line(8192)),
-    ];
-    assert_eq!(rt; first_wrong(rt.alloc(), &rows), None);
+    assert_eq!(rt; first_wrong(rt.alloc(), LONGEST_LINE), None);
     Ok(())
 }
+
+const LINE_TOO_LONG: &[Row<'static>] = &[
+    Row::Feeds(&[b'a'; 8193]),
+    Row::Says(Next::TooLong),
+    Row::Feeds(b"\n"),
+    Row::Says(Next::TooLong),
+    Row::Clears,
+    Row::Holds(0),
+    Row::Says(Next::More),
+];
 
 #[test]
 fn a_line_too_long(rt: HostRuntime) -> Result<(), Fail> {
-    let rows = [
-        Row::Feeds(&[b'a'; 8193]),
-        Row::Says(Next::TooLong),
-        Row::Feeds(b"\n"),
-        Row::Says(Next::TooLong),
-        Row::Clears,
-        Row::Holds(0),
-        Row::Says(Next::More),
-    ];
-    assert_eq!(rt; first_wrong(rt.alloc(), &rows), None);
+    assert_eq!(rt; first_wrong(rt.alloc(), LINE_TOO_LONG), None);
     Ok(())
 }
+
+const LONGEST_VALUE: &[Row<'static>] = &[
+    Row::Feeds(b"SET a - "),
+    Row::Feeds(&[b'v'; 8184]),
+    Row::Feeds(b"\n"),
+    Row::Says(Next::Line(8192)),
+];
+
+const VALUE_TOO_LONG: &[Row<'static>] = &[
+    Row::Feeds(b"SET a - "),
+    Row::Feeds(&[b'v'; 8185]),
+    Row::Feeds(b"\n"),
+    Row::Says(Next::TooLong),
+];
 
 #[test]
 fn a_value_of_8184_bytes_and_one_of_8185(rt: HostRuntime) -> Result<(), Fail> {
-    let longest = [
-        Row::Feeds(b"SET a - "),
-        Row::Feeds(&[b'v'; 8184]),
-        Row::Feeds(b"\n"),
-        Row::Says(Next::Line(8192)),
-    ];
-    assert_eq!(rt; first_wrong(rt.alloc(), &longest), None);
-    let too_long = [
-        Row::Feeds(b"SET a - "),
-        Row::Feeds(&[b'v'; 8185]),
-        Row::Feeds(b"\n"),
-        Row::Says(Next::TooLong),
-    ];
-    assert_eq!(rt; first_wrong(rt.alloc(), &too_long), None);
+    assert_eq!(rt; first_wrong(rt.alloc(), LONGEST_VALUE), None);
+    assert_eq!(rt; first_wrong(rt.alloc(), VALUE_TOO_LONG), None);
     Ok(())
 }
 
+const AFTER_A_REFUSAL: &[Row<'static>] = &[
+    Row::Feeds(b"one\ntw"),
+    Row::Takes(b"one"),
+    Row::FindsNoRoom,
+    Row::Holds(2),
+    Row::Feeds(b"o\n"),
+    Row::Takes(b"two"),
+];
+
 #[test]
 fn a_piece_after_a_refusal(rt: HostRuntime) -> Result<(), Fail> {
-    let rows = [
-        Row::Feeds(b"one\ntw"),
-        Row::Takes(b"one"),
-        Row::FindsNoRoom,
-        Row::Holds(2),
-        Row::Feeds(b"o\n"),
-        Row::Takes(b"two"),
-    ];
-    assert_eq!(rt; first_wrong(rt.alloc(), &rows), None);
+    assert_eq!(rt; first_wrong(rt.alloc(), AFTER_A_REFUSAL), None);
     Ok(())
 }

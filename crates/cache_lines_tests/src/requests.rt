@@ -78,109 +78,113 @@ fn first_wrong(rows: &[Row<'_>]) -> Option<usize> {
     None
 }
 
+const COMMANDS: &[Row<'static>] = &[
+    Row(
+        b"SET a - some value ",
+        false,
+        Wanted::Set(b"a", None, b"some value "),
+    ),
+    Row(b"GET a", false, Wanted::Get(b"a")),
+    Row(b"DEL ab", false, Wanted::Del(b"ab")),
+    Row(b"HAS ab", false, Wanted::Has(b"ab")),
+    Row(b"LOAD ab", false, Wanted::Load(b"ab")),
+    Row(b"ADD n - 7", false, Wanted::Add(b"n", None, 7)),
+    Row(b"DROPIF ab", false, Wanted::DropIf(b"ab")),
+    Row(b"CLEAR", false, Wanted::Clear),
+    Row(b"KEYS", false, Wanted::Keys),
+    Row(b"SYNC", false, Wanted::Sync),
+    Row(b"QUIT", false, Wanted::Quit),
+];
+
 #[test]
 fn each_command(rt: HostRuntime) -> Result<(), Fail> {
-    let rows = [
-        Row(
-            b"SET a - some value ",
-            false,
-            Wanted::Set(b"a", None, b"some value "),
-        ),
-        Row(b"GET a", false, Wanted::Get(b"a")),
-        Row(b"DEL ab", false, Wanted::Del(b"ab")),
-        Row(b"HAS ab", false, Wanted::Has(b"ab")),
-        Row(b"LOAD ab", false, Wanted::Load(b"ab")),
-        Row(b"ADD n - 7", false, Wanted::Add(b"n", None, 7)),
-        Row(b"DROPIF ab", false, Wanted::DropIf(b"ab")),
-        Row(b"CLEAR", false, Wanted::Clear),
-        Row(b"KEYS", false, Wanted::Keys),
-        Row(b"SYNC", false, Wanted::Sync),
-        Row(b"QUIT", false, Wanted::Quit),
-    ];
-    assert_eq!(rt; first_wrong(&rows), None);
+    assert_eq!(rt; first_wrong(COMMANDS), None);
     Ok(())
 }
+
+const EMPTY_VALUES: &[Row<'static>] = &[
+    Row(b"SET a - ", false, Wanted::Set(b"a", None, b"")),
+    Row(b"SET a -", false, Wanted::Fault(LineError::Syntax)),
+];
 
 #[test]
 fn an_empty_value(rt: HostRuntime) -> Result<(), Fail> {
-    let rows = [
-        Row(b"SET a - ", false, Wanted::Set(b"a", None, b"")),
-        Row(b"SET a -", false, Wanted::Fault(LineError::Syntax)),
-    ];
-    assert_eq!(rt; first_wrong(&rows), None);
+    assert_eq!(rt; first_wrong(EMPTY_VALUES), None);
     Ok(())
 }
+
+const DEADLINES: &[Row<'static>] = &[
+    Row(b"SET a 5 x", true, Wanted::Set(b"a", Some(5), b"x")),
+    Row(b"SET a 5 x", false, Wanted::Fault(LineError::Deadline)),
+    Row(b"SET a - x", true, Wanted::Set(b"a", None, b"x")),
+    Row(
+        b"SET a 999999999999 x",
+        true,
+        Wanted::Set(b"a", Some(999_999_999_999), b"x"),
+    ),
+    Row(
+        b"SET a 000000000007 x",
+        true,
+        Wanted::Set(b"a", Some(7), b"x"),
+    ),
+    Row(
+        b"SET a 0000000000007 x",
+        true,
+        Wanted::Fault(LineError::Deadline),
+    ),
+    Row(b"SET a  x", true, Wanted::Fault(LineError::Deadline)),
+    Row(b"SET a 5\r x", true, Wanted::Fault(LineError::Deadline)),
+    Row(b"SET a 5 \r", true, Wanted::Fault(LineError::Syntax)),
+];
 
 #[test]
 fn deadlines(rt: HostRuntime) -> Result<(), Fail> {
-    let rows = [
-        Row(b"SET a 5 x", true, Wanted::Set(b"a", Some(5), b"x")),
-        Row(b"SET a 5 x", false, Wanted::Fault(LineError::Deadline)),
-        Row(b"SET a - x", true, Wanted::Set(b"a", None, b"x")),
-        Row(
-            b"SET a 999999999999 x",
-            true,
-            Wanted::Set(b"a", Some(999_999_999_999), b"x"),
-        ),
-        Row(
-            b"SET a 000000000007 x",
-            true,
-            Wanted::Set(b"a", Some(7), b"x"),
-        ),
-        Row(
-            b"SET a 0000000000007 x",
-            true,
-            Wanted::Fault(LineError::Deadline),
-        ),
-        Row(b"SET a  x", true, Wanted::Fault(LineError::Deadline)),
-        Row(b"SET a 5\r x", true, Wanted::Fault(LineError::Deadline)),
-        Row(b"SET a 5 \r", true, Wanted::Fault(LineError::Syntax)),
-    ];
-    assert_eq!(rt; first_wrong(&rows), None);
+    assert_eq!(rt; first_wrong(DEADLINES), None);
     Ok(())
 }
 
+const NUMBERS: &[Row<'static>] = &[
+    Row(b"ADD n 5 007", true, Wanted::Add(b"n", Some(5), 7)),
+    Row(
+        b"ADD n - 18446744073709551615",
+        false,
+        Wanted::Add(b"n", None, u64::MAX),
+    ),
+    Row(
+        b"ADD n - 00000000000000000001",
+        false,
+        Wanted::Add(b"n", None, 1),
+    ),
+    Row(
+        b"ADD n - 000000000000000000001",
+        false,
+        Wanted::Fault(LineError::Number),
+    ),
+    Row(
+        b"ADD n - 18446744073709551616",
+        false,
+        Wanted::Fault(LineError::Number),
+    ),
+    Row(
+        b"ADD n - 99999999999999999999",
+        false,
+        Wanted::Fault(LineError::Number),
+    ),
+    Row(b"ADD n - 1x", false, Wanted::Fault(LineError::Number)),
+    Row(b"ADD n - +1", false, Wanted::Fault(LineError::Number)),
+    Row(b"ADD n - ", false, Wanted::Fault(LineError::Number)),
+    Row(b"ADD n - 1\r", false, Wanted::Fault(LineError::Number)),
+    Row(b"ADD n 5 1x", false, Wanted::Fault(LineError::Deadline)),
+    Row(b"ADD n 5 1 2", false, Wanted::Fault(LineError::Syntax)),
+    Row(b"ADD n - 1 ", false, Wanted::Fault(LineError::Syntax)),
+    Row(b"ADD n -", false, Wanted::Fault(LineError::Syntax)),
+    Row(b"ADD n", false, Wanted::Fault(LineError::Syntax)),
+    Row(b"ADD  - 1", false, Wanted::Fault(LineError::Syntax)),
+];
+
 #[test]
 fn numbers(rt: HostRuntime) -> Result<(), Fail> {
-    let rows = [
-        Row(b"ADD n 5 007", true, Wanted::Add(b"n", Some(5), 7)),
-        Row(
-            b"ADD n - 18446744073709551615",
-            false,
-            Wanted::Add(b"n", None, u64::MAX),
-        ),
-        Row(
-            b"ADD n - 00000000000000000001",
-            false,
-            Wanted::Add(b"n", None, 1),
-        ),
-        Row(
-            b"ADD n - 000000000000000000001",
-            false,
-            Wanted::Fault(LineError::Number),
-        ),
-        Row(
-            b"ADD n - 18446744073709551616",
-            false,
-            Wanted::Fault(LineError::Number),
-        ),
-        Row(
-            b"ADD n - 99999999999999999999",
-            false,
-            Wanted::Fault(LineError::Number),
-        ),
-        Row(b"ADD n - 1x", false, Wanted::Fault(LineError::Number)),
-        Row(b"ADD n - +1", false, Wanted::Fault(LineError::Number)),
-        Row(b"ADD n - ", false, Wanted::Fault(LineError::Number)),
-        Row(b"ADD n - 1\r", false, Wanted::Fault(LineError::Number)),
-        Row(b"ADD n 5 1x", false, Wanted::Fault(LineError::Deadline)),
-        Row(b"ADD n 5 1 2", false, Wanted::Fault(LineError::Syntax)),
-        Row(b"ADD n - 1 ", false, Wanted::Fault(LineError::Syntax)),
-        Row(b"ADD n -", false, Wanted::Fault(LineError::Syntax)),
-        Row(b"ADD n", false, Wanted::Fault(LineError::Syntax)),
-        Row(b"ADD  - 1", false, Wanted::Fault(LineError::Syntax)),
-    ];
-    assert_eq!(rt; first_wrong(&rows), None);
+    assert_eq!(rt; first_wrong(NUMBERS), None);
     Ok(())
 }
 
@@ -238,28 +242,29 @@ fn the_longest_key_of_a_value(rt: HostRuntime) -> Result<(), Fail> {
     Ok(())
 }
 
+const UNREAD: &[Row<'static>] = &[
+    Row(b"", false, Wanted::Fault(LineError::Command)),
+    Row(b"get a", false, Wanted::Fault(LineError::Command)),
+    Row(b" GET a", false, Wanted::Fault(LineError::Command)),
+    Row(b"GET  a", false, Wanted::Fault(LineError::Syntax)),
+    Row(b"GET a ", false, Wanted::Fault(LineError::Syntax)),
+    Row(b"GET", false, Wanted::Fault(LineError::Syntax)),
+    Row(b"GET a\r", false, Wanted::Fault(LineError::Syntax)),
+    Row(b"load a", false, Wanted::Fault(LineError::Command)),
+    Row(b"LOADS a", false, Wanted::Fault(LineError::Command)),
+    Row(b"CLEAR ", false, Wanted::Fault(LineError::Syntax)),
+    Row(b"KEYS a", false, Wanted::Fault(LineError::Syntax)),
+    Row(b"SYNC ", false, Wanted::Fault(LineError::Syntax)),
+    Row(b"QUIT x", false, Wanted::Fault(LineError::Syntax)),
+    Row(b"HAS", false, Wanted::Fault(LineError::Syntax)),
+    Row(b"LOAD", false, Wanted::Fault(LineError::Syntax)),
+    Row(b"LOAD ", false, Wanted::Fault(LineError::Syntax)),
+    Row(b"LOAD a b", false, Wanted::Fault(LineError::Syntax)),
+    Row(b"DROPIF a b", false, Wanted::Fault(LineError::Syntax)),
+];
+
 #[test]
 fn what_cannot_be_read(rt: HostRuntime) -> Result<(), Fail> {
-    let rows = [
-        Row(b"", false, Wanted::Fault(LineError::Command)),
-        Row(b"get a", false, Wanted::Fault(LineError::Command)),
-        Row(b" GET a", false, Wanted::Fault(LineError::Command)),
-        Row(b"GET  a", false, Wanted::Fault(LineError::Syntax)),
-        Row(b"GET a ", false, Wanted::Fault(LineError::Syntax)),
-        Row(b"GET", false, Wanted::Fault(LineError::Syntax)),
-        Row(b"GET a\r", false, Wanted::Fault(LineError::Syntax)),
-        Row(b"load a", false, Wanted::Fault(LineError::Command)),
-        Row(b"LOADS a", false, Wanted::Fault(LineError::Command)),
-        Row(b"CLEAR ", false, Wanted::Fault(LineError::Syntax)),
-        Row(b"KEYS a", false, Wanted::Fault(LineError::Syntax)),
-        Row(b"SYNC ", false, Wanted::Fault(LineError::Syntax)),
-        Row(b"QUIT x", false, Wanted::Fault(LineError::Syntax)),
-        Row(b"HAS", false, Wanted::Fault(LineError::Syntax)),
-        Row(b"LOAD", false, Wanted::Fault(LineError::Syntax)),
-        Row(b"LOAD ", false, Wanted::Fault(LineError::Syntax)),
-        Row(b"LOAD a b", false, Wanted::Fault(LineError::Syntax)),
-        Row(b"DROPIF a b", false, Wanted::Fault(LineError::Syntax)),
-    ];
-    assert_eq!(rt; first_wrong(&rows), None);
+    assert_eq!(rt; first_wrong(UNREAD), None);
     Ok(())
 }
