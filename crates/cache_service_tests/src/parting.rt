@@ -19,61 +19,76 @@ const ONE_EACH: Config = Config {
 };
 
 // with one allocation refused, a `DROPIF` is held and then runs in all parts
+const A_PREFIX_IS_DROPPED_IN_ALL_PARTS: &[Row<'static>] = &[
+    Row::Says(
+        0,
+        b"SET aa - 1\nSET ab - 1\nSET ac - 1\nSET ad - 1\nSET ae - 1\nSET af - 1\nSET ag - 1\nSET b - 1\n",
+        b"OK\nOK\nOK\nOK\nOK\nOK\nOK\nOK\n",
+    ),
+    Row::Says(0, b"DROPIF a\n", b"OK\n"),
+    Row::Says(0, b"GET ab\nKEYS\n", b"NONE\nKEYS 1\nb\n"),
+    Row::Says(0, b"DROPIF b\nSYNC\n", b"OK\nSYNC 0 0\n"),
+];
+
 #[test]
 fn a_prefix_is_dropped_in_all_parts(rt: HostRuntime) -> Result<(), Fail> {
-    let rows = [
-        Row::Says(
-            0,
-            b"SET aa - 1\nSET ab - 1\nSET ac - 1\nSET ad - 1\nSET ae - 1\nSET af - 1\nSET ag - 1\nSET b - 1\n",
-            b"OK\nOK\nOK\nOK\nOK\nOK\nOK\nOK\n",
-        ),
-        Row::Says(0, b"DROPIF a\n", b"OK\n"),
-        Row::Says(0, b"GET ab\nKEYS\n", b"NONE\nKEYS 1\nb\n"),
-        Row::Says(0, b"DROPIF b\nSYNC\n", b"OK\nSYNC 0 0\n"),
-    ];
-    assert_eq!(rt; first_wrong(rt.alloc(), THREE, &rows), Ok(None));
-    assert_eq!(rt; first_wrong(rt.alloc(), MOST, &rows), Ok(None));
+    assert_eq!(rt;
+        first_wrong(rt.alloc(), THREE, A_PREFIX_IS_DROPPED_IN_ALL_PARTS),
+        Ok(None)
+    );
+    assert_eq!(rt;
+        first_wrong(rt.alloc(), MOST, A_PREFIX_IS_DROPPED_IN_ALL_PARTS),
+        Ok(None)
+    );
     Ok(())
 }
 
 // what one part answers, several do
+const COMMANDS_ANSWER_AS_OF_ONE_PART: &[Row<'static>] = &[
+    Row::Says(
+        0,
+        b"SET ab - 1\nSET b - 2\nDROPIF a\nSET ac - 3\nKEYS\n",
+        b"OK\nOK\nOK\nOK\nKEYS 2\nac\nb\n",
+    ),
+    Row::Says(
+        0,
+        b"ADD n - 2\nADD n - 3\nDEL n\nGET n\nSYNC\n",
+        b"VAL 2\nVAL 5\nOK\nNONE\nSYNC 2 2\n",
+    ),
+    Row::Tells(RemovalCause::Replaced, b"n", b"2"),
+    Row::Tells(RemovalCause::Explicit, b"n", b"5"),
+    Row::Tells(RemovalCause::Explicit, b"ab", b"1"),
+    Row::TellsNone,
+    Row::Says(0, b"CLEAR\nSYNC\n", b"OK\nSYNC 0 0\n"),
+];
+
 #[test]
 fn commands_answer_as_of_one_part(rt: HostRuntime) -> Result<(), Fail> {
-    let rows = [
-        Row::Says(
-            0,
-            b"SET ab - 1\nSET b - 2\nDROPIF a\nSET ac - 3\nKEYS\n",
-            b"OK\nOK\nOK\nOK\nKEYS 2\nac\nb\n",
-        ),
-        Row::Says(
-            0,
-            b"ADD n - 2\nADD n - 3\nDEL n\nGET n\nSYNC\n",
-            b"VAL 2\nVAL 5\nOK\nNONE\nSYNC 2 2\n",
-        ),
-        Row::Tells(RemovalCause::Replaced, b"n", b"2"),
-        Row::Tells(RemovalCause::Explicit, b"n", b"5"),
-        Row::Tells(RemovalCause::Explicit, b"ab", b"1"),
-        Row::TellsNone,
-        Row::Says(0, b"CLEAR\nSYNC\n", b"OK\nSYNC 0 0\n"),
-    ];
     for config in [PLAIN, THREE, MOST] {
-        assert_eq!(rt; first_wrong(rt.alloc(), config, &rows), Ok(None));
+        assert_eq!(rt;
+            first_wrong(rt.alloc(), config, COMMANDS_ANSWER_AS_OF_ONE_PART),
+            Ok(None)
+        );
     }
     Ok(())
 }
 
 // a key's part has room for one value, and holds the one written last
+const A_PART_IS_WITHIN_ITS_SHARE: &[Row<'static>] = &[
+    Row::Says(
+        0,
+        b"SET a - 1\nSET a - 2\nGET a\nSYNC\n",
+        b"OK\nOK\nVAL 2\nSYNC 1 1\n",
+    ),
+    Row::Tells(RemovalCause::Replaced, b"a", b"1"),
+    Row::TellsNone,
+];
+
 #[test]
 fn a_part_is_within_its_share(rt: HostRuntime) -> Result<(), Fail> {
-    let rows = [
-        Row::Says(
-            0,
-            b"SET a - 1\nSET a - 2\nGET a\nSYNC\n",
-            b"OK\nOK\nVAL 2\nSYNC 1 1\n",
-        ),
-        Row::Tells(RemovalCause::Replaced, b"a", b"1"),
-        Row::TellsNone,
-    ];
-    assert_eq!(rt; first_wrong(rt.alloc(), ONE_EACH, &rows), Ok(None));
+    assert_eq!(rt;
+        first_wrong(rt.alloc(), ONE_EACH, A_PART_IS_WITHIN_ITS_SHARE),
+        Ok(None)
+    );
     Ok(())
 }

@@ -1,10 +1,11 @@
 //! What is played.
+use crate::asking::{Asked, Done, are_done, inputs_of};
 use crate::script::PLAIN;
-use audit_model::{Bytes, Conn, Input, Instant, LoadId, Outcome, Seq, ServiceError};
+use audit_model::{Conn, Input, Instant, LoadId, Record, ServiceError};
 use cache_spaces::play;
 use rand_core::SeedableRng;
 use rand_xoshiro::Xoshiro256PlusPlus;
-use std::alloc::{AllocError, Global};
+use std::alloc::Global;
 use std::test::Fail;
 
 const START: Instant = Instant { nanos: 7 };
@@ -16,78 +17,71 @@ const CONN: Conn = Conn {
     number: 1,
 };
 
+const LOAD: LoadId = LoadId {
+    namespace: 0,
+    number: 1,
+};
+
 /// A generator.
 fn generator() -> Xoshiro256PlusPlus {
     Xoshiro256PlusPlus::seed_from_u64(1)
 }
 
-/// A feed of these bytes.
-fn feed(alloc: Global, bytes: &[u8], moment: Instant) -> Result<Input, AllocError> {
-    let piece = Vec::from_slice(alloc, bytes)?;
-    Ok(Input::Feed {
-        conn: CONN,
-        piece: Seq::from_vec(piece),
-        moment,
-    })
+/// Whether the steps of these records came to these.
+fn are_all_done(records: &[Record], done: &[&[Done<'_>]]) -> bool {
+    if records.len() != done.len() {
+        return false;
+    }
+    for (record, done) in records.iter().zip(done.iter()) {
+        if !are_done(record, done) {
+            return false;
+        }
+    }
+    true
 }
 
-/// Whether these are the bytes.
-fn is_text(bytes: &Option<Bytes>, text: &[u8]) -> bool {
-    match bytes {
-        Some(bytes) => bytes.as_slice() == text,
-        None => false,
+/// Whether what is asked of one namespace comes to records whose steps came to these.
+fn plays(alloc: Global, asked: &[Asked<'_>], done: &[&[Done<'_>]]) -> Result<bool, ServiceError> {
+    let Ok(inputs) = inputs_of(alloc, asked) else {
+        return Err(ServiceError::OutOfMemory);
+    };
+    let transcripts = play(alloc, &[PLAIN], generator(), START, inputs.as_slice())?;
+    match transcripts.as_slice() {
+        [transcript] => Ok(
+            transcript.made == START && are_all_done(transcript.records.as_slice(), done),
+        ),
+        _ => Ok(false),
     }
 }
 
+// inputs for what is not open, of a namespace that is none, at a moment that is none, and of loads that are not under way are left out
+const TAKEN_AND_LEFT_OUT: &[Asked<'static>] = &[
+    Asked::Feeds(CONN, b"GET a\n", START),
+    Asked::Opens(0),
+    Asked::Opens(1),
+    Asked::Feeds(CONN, b"SET a - 1\nGE", START),
+    Asked::Feeds(CONN, b"T a\n", LATE),
+    Asked::Feeds(CONN, b"T a\nSET a - 2\n", START),
+    Asked::AnswersNone(LOAD, START),
+    Asked::GivesUp(LOAD, START),
+    Asked::Closes(CONN),
+    Asked::Closes(CONN),
+    Asked::Feeds(CONN, b"GET a\n", START),
+];
+
+const STEPS_OF_WHAT_IS_TAKEN: &[&[Done<'static>]] = &[
+    &[],
+    &[(b"SET a - 1", b"OK\n", 0)],
+    &[(b"GET a", b"VAL 1\n", 0), (b"SET a - 2", b"OK\n", 1)],
+    &[],
+];
+
 #[test]
 fn accepted_inputs_have_their_records(rt: HostRuntime) -> Result<(), Fail> {
-    let alloc = rt.alloc();
-    let load = LoadId {
-        namespace: 0,
-        number: 1,
-    };
-    let inputs = [
-        feed(alloc, b"GET a\n", START)?,
-        Input::Open { namespace: 0 },
-        Input::Open { namespace: 1 },
-        feed(alloc, b"SET a - 1\nGE", START)?,
-        feed(alloc, b"T a\n", LATE)?,
-        feed(alloc, b"T a\nSET a - 2\n", START)?,
-        Input::Answer {
-            load,
-            outcome: Outcome::None,
-            moment: START,
-        },
-        Input::GiveUp {
-            load,
-            moment: START,
-        },
-        Input::Close { conn: CONN },
-        Input::Close { conn: CONN },
-        feed(alloc, b"GET a\n", START)?,
-    ];
-    let transcripts = play(alloc, &[PLAIN], generator(), START, &inputs)?;
-    assert_eq!(rt; transcripts.len(), 1);
-    let Some(transcript) = transcripts.first() else {
-        return Err(Fail::new("no transcript"));
-    };
-    assert_eq!(rt; transcript.made, START);
-    let [opened, first, second, closed] = transcript.records.as_slice() else {
-        return Err(Fail::new("not four records"));
-    };
-    assert_eq!(rt; opened.steps.len(), 0);
-    assert_eq!(rt; closed.steps.len(), 0);
-    let [set] = first.steps.as_slice() else {
-        return Err(Fail::new("not one step"));
-    };
-    assert_eq!(rt; set.line.as_slice(), b"SET a - 1".as_slice());
-    assert!(rt; is_text(&set.reply, b"OK\n"));
-    let [get, replace] = second.steps.as_slice() else {
-        return Err(Fail::new("not two steps"));
-    };
-    assert_eq!(rt; get.line.as_slice(), b"GET a".as_slice());
-    assert!(rt; is_text(&get.reply, b"VAL 1\n"));
-    assert_eq!(rt; replace.notices.len(), 1);
+    assert_eq!(rt;
+        plays(rt.alloc(), TAKEN_AND_LEFT_OUT, STEPS_OF_WHAT_IS_TAKEN),
+        Ok(true)
+    );
     Ok(())
 }
 

@@ -1,32 +1,60 @@
 //! A service that keeps its journals.
+use crate::asking::{Asked, Done, are_done, input_of};
 use crate::script::PLAIN;
-use audit_model::{Conn, Input, Instant, LoadId, Seq, ServiceError};
+use audit_model::{Conn, Input, Instant, LoadId, Record, ServiceError};
 use cache_spaces::{Output, RecordedService, Refusal};
 use rand_core::SeedableRng;
 use rand_xoshiro::Xoshiro256PlusPlus;
-use std::alloc::{AllocError, Global};
+use std::alloc::Global;
 use std::test::Fail;
+
+const FIRST: Conn = Conn {
+    namespace: 0,
+    number: 1,
+};
+
+const SECOND: Conn = Conn {
+    namespace: 1,
+    number: 1,
+};
+
+/// What is asked, and what has to come of it.
+#[derive(Clone, Copy)]
+enum Row<'a> {
+    Takes(Asked<'a>, Output),
+    /// How many records a journal has.
+    Records(u64, Result<usize, ServiceError>),
+    /// To what the steps of a record came: of that namespace, at that place in its journal.
+    Did(u64, usize, &'a [Done<'a>]),
+}
 
 /// A generator.
 fn generator() -> Xoshiro256PlusPlus {
     Xoshiro256PlusPlus::seed_from_u64(1)
 }
 
-/// A feed of these bytes at so many nanoseconds.
-fn feed(alloc: Global, conn: Conn, bytes: &[u8], nanos: u64) -> Result<Input, AllocError> {
-    let piece = Vec::from_slice(alloc, bytes)?;
-    Ok(Input::Feed {
-        conn,
-        piece: Seq::from_vec(piece),
-        moment: Instant { nanos },
-    })
+/// A service of so many namespaces that was made at 0.
+fn new_recorded(alloc: Global, namespaces: usize) -> Result<RecordedService, ServiceError> {
+    let configs = [PLAIN; 2];
+    let made = Instant { nanos: 0 };
+    match configs.get(..namespaces) {
+        Some(configs) => RecordedService::new(alloc, configs, generator(), made),
+        None => Err(ServiceError::Config),
+    }
 }
 
-/// What an input came to, or why it was refused.
-fn taken(recorded: &mut RecordedService, input: Input) -> Result<Output, ServiceError> {
+/// Whether an input comes to this.
+fn comes_to(recorded: &mut RecordedService, input: Input, wanted: Output) -> bool {
     match recorded.step(input) {
-        Ok(output) => Ok(output),
-        Err(Refusal { error, .. }) => Err(error),
+        Ok(output) => output == wanted,
+        Err(_) => false,
+    }
+}
+
+fn takes(alloc: Global, recorded: &mut RecordedService, asked: Asked<'_>, wanted: Output) -> bool {
+    match input_of(alloc, asked) {
+        Ok(input) => comes_to(recorded, input, wanted),
+        Err(_) => false,
     }
 }
 
@@ -38,76 +66,97 @@ fn record_count(recorded: &RecordedService, namespace: u64) -> Result<usize, Ser
     }
 }
 
+fn did(record: Option<&Record>, done: &[Done<'_>]) -> bool {
+    match record {
+        Some(record) => are_done(record, done),
+        None => false,
+    }
+}
+
+/// Whether a record's steps came to these.
+fn has_done(recorded: &RecordedService, namespace: u64, place: usize, done: &[Done<'_>]) -> bool {
+    match recorded.journal(namespace) {
+        Ok(journal) => did(journal.records.as_slice().get(place), done),
+        Err(_) => false,
+    }
+}
+
+/// Asks, and answers whether it came out so.
+fn comes_so(alloc: Global, recorded: &mut RecordedService, row: Row<'_>) -> bool {
+    match row {
+        Row::Takes(asked, wanted) => takes(alloc, recorded, asked, wanted),
+        Row::Records(namespace, wanted) => record_count(recorded, namespace) == wanted,
+        Row::Did(namespace, place, done) => has_done(recorded, namespace, place, done),
+    }
+}
+
+fn first_wrong_of(
+    alloc: Global,
+    recorded: &mut RecordedService,
+    rows: &[Row<'_>],
+) -> Option<usize> {
+    for (place, row) in rows.iter().enumerate() {
+        if !comes_so(alloc, recorded, *row) {
+            return Some(place);
+        }
+    }
+    None
+}
+
+/// Asks one row after another of a service of two namespaces, and answers the place of the first that did not come out so.
+fn first_wrong(alloc: Global, rows: &[Row<'_>]) -> Result<Option<usize>, ServiceError> {
+    match new_recorded(alloc, 2) {
+        Ok(mut recorded) => Ok(first_wrong_of(alloc, &mut recorded, rows)),
+        Err(error) => Err(error),
+    }
+}
+
+const TWO_NAMESPACES: &[Row<'static>] = &[
+    Row::Takes(Asked::Opens(0), Output::Opened { conn: FIRST }),
+    Row::Takes(Asked::Opens(1), Output::Opened { conn: SECOND }),
+    Row::Takes(
+        Asked::Feeds(FIRST, b"SET a - 1\n", Instant { nanos: 5 }),
+        Output::All,
+    ),
+    Row::Takes(
+        Asked::Feeds(SECOND, b"GET a\n", Instant { nanos: 3 }),
+        Output::All,
+    ),
+    Row::Takes(Asked::Closes(SECOND), Output::Done),
+    Row::Records(0, Ok(2)),
+    Row::Records(1, Ok(3)),
+    Row::Records(2, Err(ServiceError::NoNamespace)),
+    Row::Did(1, 1, &[(b"GET a", b"NONE\n", 0)]),
+];
+
 #[test]
 fn two_namespaces_at_different_moments(rt: HostRuntime) -> Result<(), Fail> {
-    let alloc = rt.alloc();
-    let mut recorded = RecordedService::new(
-        alloc,
-        &[PLAIN, PLAIN],
-        generator(),
-        Instant { nanos: 0 },
-    )?;
-    let first = Conn {
-        namespace: 0,
-        number: 1,
-    };
-    let second = Conn {
-        namespace: 1,
-        number: 1,
-    };
-    assert_eq!(rt;
-        taken(&mut recorded, Input::Open { namespace: 0 }),
-        Ok(Output::Opened { conn: first })
-    );
-    assert_eq!(rt;
-        taken(&mut recorded, Input::Open { namespace: 1 }),
-        Ok(Output::Opened { conn: second })
-    );
-    let set = feed(alloc, first, b"SET a - 1\n", 5)?;
-    assert_eq!(rt; taken(&mut recorded, set), Ok(Output::All));
-    let get = feed(alloc, second, b"GET a\n", 3)?;
-    assert_eq!(rt; taken(&mut recorded, get), Ok(Output::All));
-    assert_eq!(rt;
-        taken(&mut recorded, Input::Close { conn: second }),
-        Ok(Output::Done)
-    );
-    assert_eq!(rt; record_count(&recorded, 0), Ok(2));
-    assert_eq!(rt; record_count(&recorded, 1), Ok(3));
-    assert_eq!(rt; record_count(&recorded, 2), Err(ServiceError::NoNamespace));
-    let journal = recorded.journal(1)?;
-    let [_, fed, _] = journal.records.as_slice() else {
-        return Err(Fail::new("not three records"));
-    };
-    let [get] = fed.steps.as_slice() else {
-        return Err(Fail::new("not one step"));
-    };
-    let Some(reply) = &get.reply else {
-        return Err(Fail::new("no reply"));
-    };
-    assert_eq!(rt; reply.as_slice(), b"NONE\n".as_slice());
+    assert_eq!(rt; first_wrong(rt.alloc(), TWO_NAMESPACES), Ok(None));
     Ok(())
+}
+
+/// Whether a load that is not under way is not given up, and the input comes back.
+fn hands_back(recorded: &mut RecordedService, load: LoadId) -> bool {
+    let moment = Instant { nanos: 0 };
+    match recorded.step(Input::GiveUp { load, moment }) {
+        Err(
+            Refusal {
+                error,
+                input: Input::GiveUp { load: back, .. },
+            },
+        ) => error == ServiceError::NoLoad && back == load,
+        _ => false,
+    }
 }
 
 #[test]
 fn a_refused_input_is_handed_back(rt: HostRuntime) -> Result<(), Fail> {
-    let alloc = rt.alloc();
-    let mut recorded = RecordedService::new(alloc, &[PLAIN], generator(), Instant { nanos: 0 })?;
+    let mut recorded = new_recorded(rt.alloc(), 1)?;
     let load = LoadId {
         namespace: 0,
         number: 1,
     };
-    let given_up = Input::GiveUp {
-        load,
-        moment: Instant { nanos: 0 },
-    };
-    let Err(Refusal { error, input }) = recorded.step(given_up) else {
-        return Err(Fail::new("taken"));
-    };
-    assert_eq!(rt; error, ServiceError::NoLoad);
-    let Input::GiveUp { load: back, .. } = input else {
-        return Err(Fail::new("another input"));
-    };
-    assert!(rt; back == load);
+    assert!(rt; hands_back(&mut recorded, load));
     assert_eq!(rt; record_count(&recorded, 0), Ok(0));
     assert_eq!(rt; recorded.service().loads_open(0), Ok(0));
     Ok(())

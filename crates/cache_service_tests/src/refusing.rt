@@ -37,40 +37,38 @@ fn refused(alloc: Global, configs: &[Config], nanos: u64) -> Option<ServiceError
     }
 }
 
+const OUT_OF_RANGE: &[Config] = &[
+    Config { parts: 0, ..PLAIN },
+    Config {
+        parts: 257,
+        ..PLAIN
+    },
+    Config {
+        live_ms: Some(0),
+        ..PLAIN
+    },
+    Config {
+        idle_ms: Some(1_000_000_000_000),
+        ..PLAIN
+    },
+    Config {
+        own_deadlines: true,
+        live_ms: Some(1),
+        ..PLAIN
+    },
+];
+
+/// Whether a configuration is refused, beside another one too, and at a moment that is none.
+fn is_refused(alloc: Global, config: Config) -> bool {
+    refused(alloc, &[config], 0) == Some(ServiceError::Config)
+        && refused(alloc, &[PLAIN, config], 0) == Some(ServiceError::Config)
+        && refused(alloc, &[config], LATE_NANOS) == Some(ServiceError::Moment)
+}
+
 #[test]
 fn configurations_out_of_range(rt: HostRuntime) -> Result<(), Fail> {
-    for config in [
-        Config { parts: 0, ..PLAIN },
-        Config {
-            parts: 257,
-            ..PLAIN
-        },
-        Config {
-            live_ms: Some(0),
-            ..PLAIN
-        },
-        Config {
-            idle_ms: Some(1_000_000_000_000),
-            ..PLAIN
-        },
-        Config {
-            own_deadlines: true,
-            live_ms: Some(1),
-            ..PLAIN
-        },
-    ] {
-        assert_eq!(rt;
-            refused(rt.alloc(), &[config], 0),
-            Some(ServiceError::Config)
-        );
-        assert_eq!(rt;
-            refused(rt.alloc(), &[PLAIN, config], 0),
-            Some(ServiceError::Config)
-        );
-        assert_eq!(rt;
-            refused(rt.alloc(), &[config], LATE_NANOS),
-            Some(ServiceError::Moment)
-        );
+    for config in OUT_OF_RANGE {
+        assert!(rt; is_refused(rt.alloc(), *config));
     }
     Ok(())
 }
@@ -97,72 +95,91 @@ fn the_last_of_their_ranges(rt: HostRuntime) -> Result<(), Fail> {
     Ok(())
 }
 
+const CONNECTIONS: &[Row<'static>] = &[
+    Row::Open(1, Err(ServiceError::NoNamespace)),
+    Row::Feed(
+        NOWHERE,
+        LATE_NANOS,
+        b"SYNC\n",
+        Err(ServiceError::NoNamespace),
+    ),
+    Row::Feed(
+        UNKNOWN,
+        LATE_NANOS,
+        b"SYNC\n",
+        Err(ServiceError::NoConnection),
+    ),
+    Row::Feed(FIRST, LATE_NANOS, b"SYNC\n", Err(ServiceError::Moment)),
+    Row::Feed(FIRST, LAST_NANOS, b"SYNC\n", Ok(Fed::All)),
+    Row::Close(UNKNOWN, Err(ServiceError::NoConnection)),
+    Row::Close(NOWHERE, Err(ServiceError::NoNamespace)),
+    Row::Close(FIRST, Ok(())),
+    Row::Close(FIRST, Err(ServiceError::Closed)),
+    Row::Feed(FIRST, LATE_NANOS, b"SYNC\n", Err(ServiceError::Closed)),
+    Row::Closed(FIRST, Ok(Some(Closing::Asked))),
+    Row::Closed(UNKNOWN, Err(ServiceError::NoConnection)),
+    Row::Output(FIRST, Ok(b"SYNC 0 0\n")),
+    Row::Output(FIRST, Ok(b"")),
+    Row::Output(UNKNOWN, Err(ServiceError::NoConnection)),
+    Row::Notice(1, Err(ServiceError::NoNamespace)),
+];
+
 #[test]
 fn connections(rt: HostRuntime) -> Result<(), Fail> {
-    let rows = [
-        Row::Open(1, Err(ServiceError::NoNamespace)),
-        Row::Feed(
-            NOWHERE,
-            LATE_NANOS,
-            b"SYNC\n",
-            Err(ServiceError::NoNamespace),
-        ),
-        Row::Feed(
-            UNKNOWN,
-            LATE_NANOS,
-            b"SYNC\n",
-            Err(ServiceError::NoConnection),
-        ),
-        Row::Feed(FIRST, LATE_NANOS, b"SYNC\n", Err(ServiceError::Moment)),
-        Row::Feed(FIRST, LAST_NANOS, b"SYNC\n", Ok(Fed::All)),
-        Row::Close(UNKNOWN, Err(ServiceError::NoConnection)),
-        Row::Close(NOWHERE, Err(ServiceError::NoNamespace)),
-        Row::Close(FIRST, Ok(())),
-        Row::Close(FIRST, Err(ServiceError::Closed)),
-        Row::Feed(FIRST, LATE_NANOS, b"SYNC\n", Err(ServiceError::Closed)),
-        Row::Closed(FIRST, Ok(Some(Closing::Asked))),
-        Row::Closed(UNKNOWN, Err(ServiceError::NoConnection)),
-        Row::Output(FIRST, Ok(b"SYNC 0 0\n")),
-        Row::Output(FIRST, Ok(b"")),
-        Row::Output(UNKNOWN, Err(ServiceError::NoConnection)),
-        Row::Notice(1, Err(ServiceError::NoNamespace)),
-    ];
-    assert_eq!(rt; first_wrong(rt.alloc(), PLAIN, &rows), Ok(None));
+    assert_eq!(rt; first_wrong(rt.alloc(), PLAIN, CONNECTIONS), Ok(None));
     Ok(())
 }
 
+const AN_EARLIER_MOMENT_IS_THE_LATEST: &[Row<'static>] = &[
+    Row::Feed(FIRST, LAST_NANOS, b"SYNC\n", Ok(Fed::All)),
+    Row::Feed(FIRST, 0, b"SYNC\n", Ok(Fed::All)),
+];
+
 #[test]
 fn an_earlier_moment_is_the_latest(rt: HostRuntime) -> Result<(), Fail> {
-    let rows = [
-        Row::Feed(FIRST, LAST_NANOS, b"SYNC\n", Ok(Fed::All)),
-        Row::Feed(FIRST, 0, b"SYNC\n", Ok(Fed::All)),
-    ];
-    assert_eq!(rt; first_wrong(rt.alloc(), PLAIN, &rows), Ok(None));
+    assert_eq!(rt;
+        first_wrong(rt.alloc(), PLAIN, AN_EARLIER_MOMENT_IS_THE_LATEST),
+        Ok(None)
+    );
     Ok(())
+}
+
+const LOAD: LoadId = LoadId {
+    namespace: 0,
+    number: 1,
+};
+
+const LOAD_OF_NO_NAMESPACE: LoadId = LoadId {
+    namespace: 1,
+    number: 1,
+};
+
+/// Whether no load of the first namespace goes out.
+fn none_goes_out(service: &mut Service) -> bool {
+    match service.take_loads(0) {
+        Ok(loads) => loads.is_empty(),
+        Err(_) => false,
+    }
+}
+
+/// Whether a load is not answered, as none of that number is under way.
+fn is_no_load(service: &mut Service, load: LoadId) -> bool {
+    match service.answer(load, Outcome::None, START) {
+        Ok(()) => false,
+        Err(refused) => refused.error == ServiceError::NoLoad,
+    }
 }
 
 #[test]
 fn loads_that_are_not_under_way(rt: HostRuntime) -> Result<(), Fail> {
     let mut service = Service::new(rt.alloc(), &[PLAIN], generator(), START)?;
-    let load = LoadId {
-        namespace: 0,
-        number: 1,
-    };
-    let nowhere = LoadId {
-        namespace: 1,
-        number: 1,
-    };
-    assert_eq!(rt; service.loads_open(0), Ok(0));
-    assert_eq!(rt; service.loads_open(1), Err(ServiceError::NoNamespace));
-    assert!(rt; service.take_loads(0)?.is_empty());
-    assert_eq!(rt; service.give_up(load, START), Err(ServiceError::NoLoad));
-    assert_eq!(rt;
-        service.give_up(nowhere, START),
-        Err(ServiceError::NoNamespace)
-    );
-    match service.answer(load, Outcome::None, START) {
-        Ok(()) => assert!(rt; false),
-        Err(refused) => assert_eq!(rt; refused.error, ServiceError::NoLoad),
-    }
+    let none_is_open = service.loads_open(0) == Ok(0)
+        && service.loads_open(1) == Err(ServiceError::NoNamespace)
+        && none_goes_out(&mut service);
+    assert!(rt; none_is_open);
+    let each_is_refused = service.give_up(LOAD, START) == Err(ServiceError::NoLoad)
+        && service.give_up(LOAD_OF_NO_NAMESPACE, START) == Err(ServiceError::NoNamespace)
+        && is_no_load(&mut service, LOAD);
+    assert!(rt; each_is_refused);
     Ok(())
 }

@@ -202,3 +202,41 @@ pub fn first_wrong<R: Rng + Drop, H: KeyHasher>(
     let mut store = PlainStore::new(alloc, config, 0, generator, hasher)?;
     Ok(first_wrong_of(alloc, &mut store, &config, 0, rows))
 }
+
+/// Accepts a value of a key. Where memory is wanted for it, so many values are held as before, the key has the value that it had, and
+/// nothing was told; then the second try accepts it.
+fn accepts_at_last<S: Store>(
+    store: &mut S,
+    config: &Config,
+    now: u64,
+    value: &[u8],
+    held: usize,
+    before: Option<&[u8]>,
+) -> bool
+    requires config { (S.frame store.old).config ≡ config.now }
+    requires in_time { (S.frame store.old).latest ≤ now }
+    requires moment { now < 2 ^ 63 }
+    ensures config { (S.frame store.new).config ≡ config.now }
+    ensures in_time { (S.frame store.new).latest ≤ now }
+{
+    accepts(store, config, now, b"key", value, None, 0)
+        || (store.len() == held
+            && store.next_notice().is_none()
+            && store.find(b"key", now) == before
+            && accepts(store, config, now, b"key", value, None, 0))
+}
+
+/// Whether a new store of one part takes two values of a key, and a refusal changes nothing.
+pub fn refusals_change_nothing<R: Rng + Drop, H: KeyHasher>(
+    alloc: Global,
+    config: Config,
+    generator: R,
+    hasher: H,
+) -> Result<bool, AllocError> {
+    let mut store = PlainStore::new(alloc, config, 0, generator, hasher)?;
+    Ok(
+        accepts_at_last(&mut store, &config, 5, b"one", 0, None)
+            && accepts_at_last(&mut store, &config, 5, b"two", 1, Some(b"one"))
+            && store.find(b"key", 5) == Some(b"two".as_slice()),
+    )
+}

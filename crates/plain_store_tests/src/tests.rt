@@ -1,9 +1,8 @@
 //! What a plain store of one part does, and that a call that is refused changes nothing.
 use crate::repeating::Repeating;
-use crate::script::{Row, first_wrong};
+use crate::script::{Row, first_wrong, refusals_change_nothing};
 use audit_model::{Config, EvictionPolicy, RemovalCause, Weight};
-use cache_store::Store;
-use plain_store::{FixedHasher, PlainStore};
+use plain_store::FixedHasher;
 use rand_core::SeedableRng;
 use rand_xoshiro::SplitMix64;
 use std::alloc::{AllocError, Global};
@@ -36,109 +35,147 @@ fn wrong(alloc: Global, config: Config, rows: &[Row<'_>]) -> Result<Option<usize
     )
 }
 
+const GIVES_BACK_WHAT_IT_ACCEPTED: &[Row<'static>] = &[
+    Row::At(5),
+    Row::Accepts(b"key", b"one", None, 0),
+    Row::At(6),
+    Row::Accepts(b"", b"", None, 0),
+    Row::At(7),
+    Row::LooksUp(b"key", Some(b"one")),
+    Row::LooksUp(b"ke", None),
+    Row::LooksUp(b"", Some(b"")),
+    Row::Finds(b"key", Some(b"one")),
+    Row::Finds(b"ke", None),
+    Row::TellsNone,
+    Row::Runs(2, 3),
+];
+
 #[test]
 fn gives_back_what_it_accepted(rt: HostRuntime) -> Result<(), Fail> {
-    let rows = [
-        Row::At(5),
-        Row::Accepts(b"key", b"one", None, 0),
-        Row::At(6),
-        Row::Accepts(b"", b"", None, 0),
-        Row::At(7),
-        Row::LooksUp(b"key", Some(b"one")),
-        Row::LooksUp(b"ke", None),
-        Row::LooksUp(b"", Some(b"")),
-        Row::Finds(b"key", Some(b"one")),
-        Row::Finds(b"ke", None),
-        Row::TellsNone,
-        Row::Runs(2, 3),
-    ];
-    assert_eq!(rt; wrong(rt.alloc(), PLAIN, &rows)?, None);
+    assert_eq!(rt;
+        wrong(rt.alloc(), PLAIN, GIVES_BACK_WHAT_IT_ACCEPTED)?,
+        None
+    );
     Ok(())
 }
 
+const TELLS_REPLACED_AND_REMOVED_VALUES: &[Row<'static>] = &[
+    Row::At(5),
+    Row::Accepts(b"key", b"one", None, 0),
+    Row::At(6),
+    Row::Accepts(b"key", b"two", None, 0),
+    Row::At(7),
+    Row::Removes(b"other"),
+    Row::At(8),
+    Row::Removes(b"key"),
+    Row::Tells(RemovalCause::Replaced, b"key", b"one"),
+    Row::Tells(RemovalCause::Explicit, b"key", b"two"),
+    Row::TellsNone,
+    Row::Runs(0, 0),
+];
+
 #[test]
 fn tells_replaced_and_removed_values(rt: HostRuntime) -> Result<(), Fail> {
-    let rows = [
-        Row::At(5),
-        Row::Accepts(b"key", b"one", None, 0),
-        Row::At(6),
-        Row::Accepts(b"key", b"two", None, 0),
-        Row::At(7),
-        Row::Removes(b"other"),
-        Row::At(8),
-        Row::Removes(b"key"),
-        Row::Tells(RemovalCause::Replaced, b"key", b"one"),
-        Row::Tells(RemovalCause::Explicit, b"key", b"two"),
-        Row::TellsNone,
-        Row::Runs(0, 0),
-    ];
-    assert_eq!(rt; wrong(rt.alloc(), PLAIN, &rows)?, None);
+    assert_eq!(rt;
+        wrong(rt.alloc(), PLAIN, TELLS_REPLACED_AND_REMOVED_VALUES)?,
+        None
+    );
     Ok(())
 }
 
 // `SET ab - 1`, `SET b - 2`, `DROPIF a`, `SET ac - 3`, `KEYS` lists ac and b
+const A_PREFIX_COVERS_WHAT_CAME_BEFORE_IT: &[Row<'static>] = &[
+    Row::Accepts(b"ab", b"1", None, 0),
+    Row::Accepts(b"b", b"2", None, 0),
+    Row::Drops(b"a", true),
+    Row::Accepts(b"ac", b"3", None, 0),
+    Row::Lists(b"ac\nb\n", 2),
+    Row::Runs(2, 2),
+    Row::Tells(RemovalCause::Explicit, b"ab", b"1"),
+    Row::TellsNone,
+];
+
 #[test]
 fn a_prefix_covers_what_came_before_it(rt: HostRuntime) -> Result<(), Fail> {
-    let rows = [
-        Row::Accepts(b"ab", b"1", None, 0),
-        Row::Accepts(b"b", b"2", None, 0),
-        Row::Drops(b"a", true),
-        Row::Accepts(b"ac", b"3", None, 0),
-        Row::Lists(b"ac\nb\n", 2),
-        Row::Runs(2, 2),
-        Row::Tells(RemovalCause::Explicit, b"ab", b"1"),
-        Row::TellsNone,
-    ];
-    assert_eq!(rt; wrong(rt.alloc(), PLAIN, &rows)?, None);
+    assert_eq!(rt;
+        wrong(rt.alloc(), PLAIN, A_PREFIX_COVERS_WHAT_CAME_BEFORE_IT)?,
+        None
+    );
     Ok(())
 }
+
+const A_CLEAR_COVERS_ALL: &[Row<'static>] = &[
+    Row::Accepts(b"a", b"1", None, 0),
+    Row::Clears,
+    Row::Finds(b"a", None),
+    Row::TellsNone,
+    Row::Accepts(b"a", b"2", None, 0),
+    Row::Finds(b"a", Some(b"2")),
+    Row::Tells(RemovalCause::Explicit, b"a", b"1"),
+];
 
 #[test]
 fn a_clear_covers_all(rt: HostRuntime) -> Result<(), Fail> {
-    let rows = [
-        Row::Accepts(b"a", b"1", None, 0),
-        Row::Clears,
-        Row::Finds(b"a", None),
-        Row::TellsNone,
-        Row::Accepts(b"a", b"2", None, 0),
-        Row::Finds(b"a", Some(b"2")),
-        Row::Tells(RemovalCause::Explicit, b"a", b"1"),
-    ];
-    assert_eq!(rt; wrong(rt.alloc(), PLAIN, &rows)?, None);
+    assert_eq!(rt; wrong(rt.alloc(), PLAIN, A_CLEAR_COVERS_ALL)?, None);
     Ok(())
 }
+
+const AN_OWN_DEADLINE_ENDS_A_VALUE: &[Row<'static>] = &[
+    Row::Accepts(b"a", b"1", Some(1), 0),
+    Row::At(999_423),
+    Row::Finds(b"a", Some(b"1")),
+    Row::At(999_424),
+    Row::Finds(b"a", None),
+    Row::At(1_000_000),
+    Row::Runs(0, 0),
+    Row::Tells(RemovalCause::Expired, b"a", b"1"),
+];
 
 #[test]
 fn an_own_deadline_ends_a_value(rt: HostRuntime) -> Result<(), Fail> {
-    let rows = [
-        Row::Accepts(b"a", b"1", Some(1), 0),
-        Row::At(999_423),
-        Row::Finds(b"a", Some(b"1")),
-        Row::At(999_424),
-        Row::Finds(b"a", None),
-        Row::At(1_000_000),
-        Row::Runs(0, 0),
-        Row::Tells(RemovalCause::Expired, b"a", b"1"),
-    ];
-    assert_eq!(rt; wrong(rt.alloc(), PLAIN, &rows)?, None);
+    assert_eq!(rt;
+        wrong(rt.alloc(), PLAIN, AN_OWN_DEADLINE_ENDS_A_VALUE)?,
+        None
+    );
     Ok(())
 }
 
+const THE_ONE_USED_LONGEST_AGO_LEAVES: &[Row<'static>] = &[
+    Row::Accepts(b"a", b"1", None, 0),
+    Row::Accepts(b"b", b"2", None, 0),
+    Row::LooksUp(b"a", Some(b"1")),
+    Row::Accepts(b"c", b"3", None, 0),
+    Row::Finds(b"b", None),
+    Row::Tells(RemovalCause::Size, b"b", b"2"),
+    Row::TellsNone,
+    Row::Runs(2, 2),
+];
+
 #[test]
 fn the_one_used_longest_ago_leaves(rt: HostRuntime) -> Result<(), Fail> {
-    let rows = [
-        Row::Accepts(b"a", b"1", None, 0),
-        Row::Accepts(b"b", b"2", None, 0),
-        Row::LooksUp(b"a", Some(b"1")),
-        Row::Accepts(b"c", b"3", None, 0),
-        Row::Finds(b"b", None),
-        Row::Tells(RemovalCause::Size, b"b", b"2"),
-        Row::TellsNone,
-        Row::Runs(2, 2),
-    ];
-    assert_eq!(rt; wrong(rt.alloc(), TWO, &rows)?, None);
+    assert_eq!(rt;
+        wrong(rt.alloc(), TWO, THE_ONE_USED_LONGEST_AGO_LEAVES)?,
+        None
+    );
     Ok(())
 }
+
+const WEIGHTS_ARE_BYTES: &[Row<'static>] = &[
+    Row::Accepts(b"a", b"one", None, 0),
+    Row::Accepts(b"b", b"two", None, 0),
+    Row::TellsNone,
+    // b weighs less now, and makes room for c
+    Row::Accepts(b"b", b"2", None, 0),
+    Row::Accepts(b"c", b"33", None, 0),
+    Row::Tells(RemovalCause::Replaced, b"b", b"two"),
+    Row::TellsNone,
+    Row::Runs(3, 6),
+    Row::Accepts(b"d", b"4444", None, 0),
+    Row::Tells(RemovalCause::Size, b"a", b"one"),
+    Row::Tells(RemovalCause::Size, b"b", b"2"),
+    Row::TellsNone,
+    Row::Runs(2, 6),
+];
 
 #[test]
 fn weights_are_bytes(rt: HostRuntime) -> Result<(), Fail> {
@@ -146,25 +183,17 @@ fn weights_are_bytes(rt: HostRuntime) -> Result<(), Fail> {
         capacity: Some(6),
         ..PLAIN
     };
-    let rows = [
-        Row::Accepts(b"a", b"one", None, 0),
-        Row::Accepts(b"b", b"two", None, 0),
-        Row::TellsNone,
-        // b weighs less now, and makes room for c
-        Row::Accepts(b"b", b"2", None, 0),
-        Row::Accepts(b"c", b"33", None, 0),
-        Row::Tells(RemovalCause::Replaced, b"b", b"two"),
-        Row::TellsNone,
-        Row::Runs(3, 6),
-        Row::Accepts(b"d", b"4444", None, 0),
-        Row::Tells(RemovalCause::Size, b"a", b"one"),
-        Row::Tells(RemovalCause::Size, b"b", b"2"),
-        Row::TellsNone,
-        Row::Runs(2, 6),
-    ];
-    assert_eq!(rt; wrong(rt.alloc(), six, &rows)?, None);
+    assert_eq!(rt; wrong(rt.alloc(), six, WEIGHTS_ARE_BYTES)?, None);
     Ok(())
 }
+
+const A_VALUE_HEAVIER_THAN_ALL_LEAVES: &[Row<'static>] = &[
+    Row::Accepts(b"a", b"four", None, 0),
+    Row::Finds(b"a", None),
+    Row::Tells(RemovalCause::Size, b"a", b"four"),
+    Row::TellsNone,
+    Row::Runs(0, 0),
+];
 
 #[test]
 fn a_value_heavier_than_all_leaves(rt: HostRuntime) -> Result<(), Fail> {
@@ -172,35 +201,42 @@ fn a_value_heavier_than_all_leaves(rt: HostRuntime) -> Result<(), Fail> {
         capacity: Some(3),
         ..PLAIN
     };
-    let rows = [
-        Row::Accepts(b"a", b"four", None, 0),
-        Row::Finds(b"a", None),
-        Row::Tells(RemovalCause::Size, b"a", b"four"),
-        Row::TellsNone,
-        Row::Runs(0, 0),
-    ];
-    assert_eq!(rt; wrong(rt.alloc(), three, &rows)?, None);
+    assert_eq!(rt;
+        wrong(rt.alloc(), three, A_VALUE_HEAVIER_THAN_ALL_LEAVES)?,
+        None
+    );
     Ok(())
 }
 
 // those that are covered or dead make room, and are told as such
+const COVERED_AND_DEAD_VALUES_MAKE_ROOM: &[Row<'static>] = &[
+    Row::Accepts(b"a", b"1", None, 0),
+    Row::Clears,
+    Row::Accepts(b"b", b"2", Some(1), 0),
+    Row::At(1_000_000),
+    Row::Accepts(b"c", b"3", None, 0),
+    Row::Accepts(b"d", b"4", None, 0),
+    Row::Tells(RemovalCause::Explicit, b"a", b"1"),
+    Row::Tells(RemovalCause::Expired, b"b", b"2"),
+    Row::TellsNone,
+    Row::Lists(b"c\nd\n", 2),
+];
+
 #[test]
 fn covered_and_dead_values_make_room(rt: HostRuntime) -> Result<(), Fail> {
-    let rows = [
-        Row::Accepts(b"a", b"1", None, 0),
-        Row::Clears,
-        Row::Accepts(b"b", b"2", Some(1), 0),
-        Row::At(1_000_000),
-        Row::Accepts(b"c", b"3", None, 0),
-        Row::Accepts(b"d", b"4", None, 0),
-        Row::Tells(RemovalCause::Explicit, b"a", b"1"),
-        Row::Tells(RemovalCause::Expired, b"b", b"2"),
-        Row::TellsNone,
-        Row::Lists(b"c\nd\n", 2),
-    ];
-    assert_eq!(rt; wrong(rt.alloc(), TWO, &rows)?, None);
+    assert_eq!(rt;
+        wrong(rt.alloc(), TWO, COVERED_AND_DEAD_VALUES_MAKE_ROOM)?,
+        None
+    );
     Ok(())
 }
+
+const NOTHING_IS_FOUND_AT_CAPACITY_0: &[Row<'static>] = &[
+    Row::LooksUp(b"a", None),
+    Row::Removes(b"a"),
+    Row::Runs(0, 0),
+    Row::TellsNone,
+];
 
 #[test]
 fn nothing_is_found_at_capacity_0(rt: HostRuntime) -> Result<(), Fail> {
@@ -208,33 +244,37 @@ fn nothing_is_found_at_capacity_0(rt: HostRuntime) -> Result<(), Fail> {
         capacity: Some(0),
         ..PLAIN
     };
-    let rows = [
-        Row::LooksUp(b"a", None),
-        Row::Removes(b"a"),
-        Row::Runs(0, 0),
-        Row::TellsNone,
-    ];
-    assert_eq!(rt; wrong(rt.alloc(), none, &rows)?, None);
+    assert_eq!(rt;
+        wrong(rt.alloc(), none, NOTHING_IS_FOUND_AT_CAPACITY_0)?,
+        None
+    );
     Ok(())
 }
 
 // a generator whose words are all 0
+const A_SECOND_DROP_FINDS_NO_IDENTIFIER: &[Row<'static>] = &[
+    Row::Accepts(b"ab", b"1", None, 0),
+    Row::Accepts(b"b", b"2", None, 0),
+    Row::Drops(b"a", true),
+    Row::Drops(b"b", false),
+    Row::Finds(b"ab", None),
+    Row::Finds(b"b", Some(b"2")),
+    // a run releases the identifier
+    Row::Runs(1, 1),
+    Row::Drops(b"b", true),
+    Row::Finds(b"b", None),
+];
+
 #[test]
 fn a_second_drop_finds_no_identifier(rt: HostRuntime) -> Result<(), Fail> {
-    let rows = [
-        Row::Accepts(b"ab", b"1", None, 0),
-        Row::Accepts(b"b", b"2", None, 0),
-        Row::Drops(b"a", true),
-        Row::Drops(b"b", false),
-        Row::Finds(b"ab", None),
-        Row::Finds(b"b", Some(b"2")),
-        // a run releases the identifier
-        Row::Runs(1, 1),
-        Row::Drops(b"b", true),
-        Row::Finds(b"b", None),
-    ];
     assert_eq!(rt;
-        first_wrong(rt.alloc(), PLAIN, Repeating(0), FixedHasher, &rows)?,
+        first_wrong(
+            rt.alloc(),
+            PLAIN,
+            Repeating(0),
+            FixedHasher,
+            A_SECOND_DROP_FINDS_NO_IDENTIFIER
+        )?,
         None
     );
     Ok(())
@@ -244,16 +284,6 @@ fn a_second_drop_finds_no_identifier(rt: HostRuntime) -> Result<(), Fail> {
 #[test]
 fn a_refused_call_changes_nothing(rt: HostRuntime) -> Result<(), Fail> {
     let generator = SplitMix64::seed_from_u64(1);
-    let mut store = PlainStore::new(rt.alloc(), PLAIN, 5, generator, FixedHasher)?;
-    if store.accept(b"key", b"one", None, false, 5).is_err() {
-        assert_eq!(rt; store.len(), 0);
-        store.accept(b"key", b"one", None, false, 5)?;
-    }
-    if store.accept(b"key", b"two", None, false, 5).is_err() {
-        assert!(rt; store.next_notice().is_none());
-        assert!(rt; store.find(b"key", 5) == Some(b"one".as_slice()));
-        store.accept(b"key", b"two", None, false, 5)?;
-    }
-    assert!(rt; store.find(b"key", 5) == Some(b"two".as_slice()));
+    assert!(rt; refusals_change_nothing(rt.alloc(), PLAIN, generator, FixedHasher)?);
     Ok(())
 }
