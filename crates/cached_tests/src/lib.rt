@@ -1,11 +1,9 @@
-//! Tests of configurations, of scripts over readers and writers that fail, of the program over its words, and of servers over sockets of this
+//! Tests of scripts over readers and writers that fail, of the program over its words, and of servers over sockets of this
 //! machine.
 #![tactic(auto)]
 
 #[cfg(test)]
 mod clients;
-#[cfg(test)]
-mod configs;
 #[cfg(test)]
 mod failures;
 #[cfg(test)]
