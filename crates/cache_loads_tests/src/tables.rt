@@ -1,4 +1,5 @@
 use cache_loads::Loads;
+use std::alloc::{AllocError, Global};
 use std::test::Fail;
 
 /// Whether those wait for the load of that number, in that order.
@@ -9,18 +10,27 @@ fn wait_for(loads: &Loads, number: u64, conns: &[u64]) -> bool {
     }
 }
 
+/// Whether two wait for `k` and one for `l`, and each key has a load of its own.
+fn waits_for_each(alloc: Global, loads: &mut Loads) -> Result<bool, AllocError> {
+    let first = loads.wait(alloc, b"k", 1)?;
+    let again = loads.wait(alloc, b"k", 2)?;
+    let other = loads.wait(alloc, b"l", 3)?;
+    Ok(first == Some(1) && again == None && other == Some(2))
+}
+
+fn has_both(loads: &Loads) -> bool {
+    loads.count() == 2
+        && loads.find(b"k") == Some(1)
+        && loads.find(b"m") == None
+        && wait_for(loads, 1, &[1, 2])
+        && wait_for(loads, 2, &[3])
+}
+
 #[test]
 fn one_load_a_key(rt: HostRuntime) -> Result<(), Fail> {
-    let alloc = rt.alloc();
-    let mut loads = Loads::new(alloc, 3);
-    assert_eq!(rt; loads.wait(alloc, b"k", 1)?, Some(1));
-    assert_eq!(rt; loads.wait(alloc, b"k", 2)?, None);
-    assert_eq!(rt; loads.wait(alloc, b"l", 3)?, Some(2));
-    assert_eq!(rt; loads.count(), 2);
-    assert_eq!(rt; loads.find(b"k"), Some(1));
-    assert_eq!(rt; loads.find(b"m"), None);
-    assert!(rt; wait_for(&loads, 1, &[1, 2]));
-    assert!(rt; wait_for(&loads, 2, &[3]));
+    let mut loads = Loads::new(rt.alloc(), 3);
+    assert!(rt; waits_for_each(rt.alloc(), &mut loads)?);
+    assert!(rt; has_both(&loads));
     Ok(())
 }
 

@@ -1,5 +1,5 @@
 //! Two connections wait for a key's load, each with a line behind its `LOAD`.
-use crate::waiting::two_wait;
+use crate::namespaces::two_wait;
 use audit_model::{Config, EvictionPolicy, Outcome, Seq, ServiceError, Weight};
 use cache_namespace::Namespace;
 use cache_settling::answer_in;

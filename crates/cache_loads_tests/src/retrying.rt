@@ -84,16 +84,40 @@ fn sent(service: &mut Service) -> Result<u64, ServiceError> {
     }
 }
 
+/// Whether both wait.
+fn both_wait(service: &Service, conns: [Conn; 2]) -> bool {
+    service.waiting(conns[0]) == Ok(true) && service.waiting(conns[1]) == Ok(true)
+}
+
+/// Whether both are told the value, the first one for two lines, once an empty piece runs what stands behind its `LOAD`.
+fn both_are_told(service: &mut Service, conns: [Conn; 2]) -> bool {
+    feed(service, conns[0], b"").is_ok()
+        && is_output(service, conns[0], b"VAL v\nVAL v\n")
+        && is_output(service, conns[1], b"VAL v\n")
+}
+
+/// Whether the load of that number is answered with the value, and both are told so.
+fn is_settled(alloc: Global, service: &mut Service, number: u64, conns: [Conn; 2]) -> bool {
+    match value(alloc) {
+        Ok(outcome) => answer(service, number, conns, outcome) && both_are_told(service, conns),
+        Err(_) => false,
+    }
+}
+
+/// Whether the load that went out is given up, and both wait for another one.
+fn is_given_up(service: &mut Service, conns: [Conn; 2]) -> bool {
+    service.give_up(load_of(1), START) == Ok(())
+        && feed(service, conns[0], b"").is_ok()
+        && feed(service, conns[1], b"").is_ok()
+        && both_wait(service, conns)
+}
+
 #[test]
 fn answered_at_the_second_try(rt: HostRuntime) -> Result<(), Fail> {
     let alloc = rt.alloc();
     let (mut service, first, second) = two_that_wait(alloc)?;
     assert_eq!(rt; sent(&mut service), Ok(1));
-    let outcome = value(alloc)?;
-    assert!(rt; answer(&mut service, 1, [first, second], outcome));
-    let _ = feed(&mut service, first, b"")?;
-    assert!(rt; is_output(&mut service, first, b"VAL v\nVAL v\n"));
-    assert!(rt; is_output(&mut service, second, b"VAL v\n"));
+    assert!(rt; is_settled(alloc, &mut service, 1, [first, second]));
     assert_eq!(rt; service.loads_open(0), Ok(0));
     Ok(())
 }
@@ -104,16 +128,8 @@ fn given_up_without_memory(rt: HostRuntime) -> Result<(), Fail> {
     let alloc = rt.alloc();
     let (mut service, first, second) = two_that_wait(alloc)?;
     assert_eq!(rt; sent(&mut service), Ok(1));
-    assert_eq!(rt; service.give_up(load_of(1), START), Ok(()));
-    let _ = feed(&mut service, first, b"")?;
-    let _ = feed(&mut service, second, b"")?;
-    assert_eq!(rt; service.waiting(first), Ok(true));
-    assert_eq!(rt; service.waiting(second), Ok(true));
+    assert!(rt; is_given_up(&mut service, [first, second]));
     assert_eq!(rt; sent(&mut service), Ok(2));
-    let outcome = value(alloc)?;
-    assert!(rt; answer(&mut service, 2, [first, second], outcome));
-    let _ = feed(&mut service, first, b"")?;
-    assert!(rt; is_output(&mut service, first, b"VAL v\nVAL v\n"));
-    assert!(rt; is_output(&mut service, second, b"VAL v\n"));
+    assert!(rt; is_settled(alloc, &mut service, 2, [first, second]));
     Ok(())
 }

@@ -1,5 +1,5 @@
 //! The same, where records are kept.
-use crate::waiting::{nobody_waits, two_wait};
+use crate::namespaces::{nobody_waits, two_wait};
 use audit_model::{Config, EvictionPolicy, Outcome, Seq, ServiceError, Step, Weight};
 use cache_settling::{answer_kept, give_up_kept};
 use plain_store::{FixedHasher, PlainStore};
