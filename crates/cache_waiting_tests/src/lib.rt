@@ -4,4 +4,6 @@
 #[cfg(test)]
 mod retrying;
 #[cfg(test)]
+mod rows;
+#[cfg(test)]
 mod waiting;
