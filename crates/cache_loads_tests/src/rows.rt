@@ -166,7 +166,7 @@ fn outcome(alloc: Global, given: Given<'_>) -> Result<Outcome, AllocError> {
 }
 
 /// Whether an outcome that was handed back is the one that was given.
-fn is_given(outcome: &Outcome, given: Given<'_>) -> bool {
+pub fn is_given(outcome: &Outcome, given: Given<'_>) -> bool {
     match (outcome, given) {
         (Outcome::Value(bytes, time), Given::Value(value, own)) => {
             bytes.as_slice() == value && *time == own
@@ -219,7 +219,7 @@ fn answers(
 }
 
 /// Makes an outcome, at the second try where memory is refused.
-fn new_outcome(alloc: Global, given: Given<'_>) -> Result<Outcome, AllocError> {
+pub fn new_outcome(alloc: Global, given: Given<'_>) -> Result<Outcome, AllocError> {
     match outcome(alloc, given) {
         Err(_) => outcome(alloc, given),
         made => made,

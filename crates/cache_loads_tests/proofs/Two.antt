@@ -17,7 +17,7 @@ use Rattle.cache_namespace.specs.declared.connection.Connection.{Connection}
 use Rattle.cache_namespace.specs.declared.standing.Standing.TheVariants as now
 use Rattle.cache_namespace.proofs.Following.{listed-open}
 use Rattle.load_laws.specs.Tidy.{Tidy, times_loaded, times_waiting, waits_now}
-use Rattle.cache_settling_tests.specs.Both.{both, left}
+use Rattle.cache_loads_tests.specs.Both.{both, left}
 
 -- 1 where a connection that may be there waits
 abbrev wait_of : Option model.Connection → ℕ

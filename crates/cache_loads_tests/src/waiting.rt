@@ -8,7 +8,7 @@ ghost use Rattle.cache_namespace.specs.declared.connection.Connection.{Connectio
 ghost use Rattle.cache_namespace.specs.declared.standing.Standing.TheVariants as now;
 ghost use Rattle.cache_settling.specs.GivenUp.{WaitForLoads};
 ghost use Rattle.load_laws.specs.Tidy.{Tidy};
-ghost use Rattle.cache_settling_tests.specs.Both.{both, left};
+ghost use Rattle.cache_loads_tests.specs.Both.{both, left};
 
 use audit_model::Config;
 use cache_lines::Buffer;
