@@ -1,4 +1,10 @@
 //! Two connections wait for a key's load, each with a line behind its `LOAD`.
+ghost use Rattle.std.specs.Prelude.{[], false};
+ghost use Rattle.cache_namespace.specs.Shown.{situation};
+ghost use Rattle.cache_namespace.specs.Taken.{IsSound};
+ghost use Rattle.cache_namespace.specs.Waiting.{under_way};
+ghost use Rattle.load_laws.specs.Tidy.{Tidy};
+
 use crate::rows::{Given, PLAIN, is_given, new_outcome};
 use crate::waiting::two_wait;
 use audit_model::{Config, Outcome, ServiceError};
@@ -9,7 +15,6 @@ use plain_store::{FixedHasher, PlainStore};
 use rand_core::SeedableRng;
 use rand_xoshiro::SplitMix64;
 use std::alloc::{AllocError, Global};
-use std::test::Fail;
 
 /// Capacity 0.
 pub const NONE: Config = Config {
@@ -37,15 +42,28 @@ fn both_were_told<S: Store>(namespace: &Namespace<S>, text: &[u8]) -> bool {
 }
 
 /// Whether both connections are told so when the load is answered, or the outcome is handed back.
+fn tells<S: Store>(
+    namespace: &mut Namespace<S>,
+    alloc: Global,
+    row: &Row<'_>,
+    outcome: Outcome,
+) -> bool
+    requires sound { IsSound namespace.old.config (S.frame namespace.old.store) namespace.old.latest }
+    requires tidy { Tidy [] (situation 0 (under_way namespace.old.loads) namespace.old.connections.items false []) }
+{
+    let came_so = match answer_in(namespace, alloc, row.load, outcome, 7) {
+        Ok(_) => row.wanted.is_ok() && namespace.latest == 7,
+        Err((error, back)) => row.wanted == Err(error) && is_given(&back, row.given),
+    };
+    came_so && both_were_told(namespace, row.told)
+}
+
+/// The same of a namespace over the plain store for which two connections wait.
 fn is_told(alloc: Global, row: &Row<'_>, outcome: Outcome) -> Result<bool, AllocError> {
     let config = row.config;
     let store = PlainStore::new(alloc, config, 0, SplitMix64::seed_from_u64(1), FixedHasher)?;
     let mut namespace = two_wait(alloc, store, config)?;
-    let came_so = match answer_in(&mut namespace, alloc, row.load, outcome, 7) {
-        Ok(_) => row.wanted.is_ok() && namespace.latest == 7,
-        Err((error, back)) => row.wanted == Err(error) && is_given(&back, row.given),
-    };
-    Ok(came_so && both_were_told(&namespace, row.told))
+    Ok(tells(&mut namespace, alloc, row, outcome))
 }
 
 fn comes_so(alloc: Global, row: &Row<'_>) -> bool {
@@ -83,9 +101,8 @@ const VALUES: &[Row<'static>] = &[
 ];
 
 #[test]
-fn a_value_is_told_and_stored(rt: HostRuntime) -> Result<(), Fail> {
+fn a_value_is_told_and_stored(rt: HostRuntime) {
     assert_eq!(rt; first_wrong(rt.alloc(), VALUES), None);
-    Ok(())
 }
 
 const NO_VALUES: &[Row<'static>] = &[
@@ -106,9 +123,8 @@ const NO_VALUES: &[Row<'static>] = &[
 ];
 
 #[test]
-fn what_is_no_value_is_told(rt: HostRuntime) -> Result<(), Fail> {
+fn what_is_no_value_is_told(rt: HostRuntime) {
     assert_eq!(rt; first_wrong(rt.alloc(), NO_VALUES), None);
-    Ok(())
 }
 
 const REFUSED: &[Row<'static>] = &[Row {
@@ -120,7 +136,6 @@ const REFUSED: &[Row<'static>] = &[Row {
 }];
 
 #[test]
-fn a_refused_outcome_is_handed_back(rt: HostRuntime) -> Result<(), Fail> {
+fn a_refused_outcome_is_handed_back(rt: HostRuntime) {
     assert_eq!(rt; first_wrong(rt.alloc(), REFUSED), None);
-    Ok(())
 }

@@ -13,6 +13,5 @@ mod rows;
 mod served;
 #[cfg(test)]
 mod tables;
+#[cfg(test)]
 mod waiting;
-
-pub use waiting::{nobody_waits, two_wait};

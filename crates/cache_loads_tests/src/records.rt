@@ -1,4 +1,10 @@
 //! The same, where records are kept.
+ghost use Rattle.std.specs.Prelude.{◌≡◌, [], ℕ, false};
+ghost use Rattle.cache_namespace.specs.Shown.{situation};
+ghost use Rattle.cache_namespace.specs.Taken.{IsSound, text_at};
+ghost use Rattle.cache_namespace.specs.Waiting.{under_way};
+ghost use Rattle.load_laws.specs.Tidy.{Tidy};
+
 use crate::answers::NONE;
 use crate::rows::{Given, PLAIN, new_outcome};
 use crate::waiting::{nobody_waits, two_wait};
@@ -10,7 +16,6 @@ use plain_store::{FixedHasher, PlainStore};
 use rand_core::SeedableRng;
 use rand_xoshiro::SplitMix64;
 use std::alloc::{AllocError, Global};
-use std::test::Fail;
 
 /// An answer to a load, and what its record has to say.
 #[derive(Clone, Copy)]
@@ -62,20 +67,35 @@ fn is_silent<S: Store>(namespace: &Namespace<S>) -> bool {
 }
 
 /// Whether the record of an answer tells both connections so, and nothing is written to them.
-fn keeps(alloc: Global, row: &Row<'_>, outcome: Outcome) -> Result<bool, AllocError> {
-    let config = row.config;
-    let store = PlainStore::new(alloc, config, 0, SplitMix64::seed_from_u64(1), FixedHasher)?;
-    let mut namespace = two_wait(alloc, store, config)?;
-    let tells_so = match answer_kept(&mut namespace, alloc, 1, outcome, 7) {
+fn keeps<S: Store>(
+    namespace: &mut Namespace<S>,
+    alloc: Global,
+    row: &Row<'_>,
+    outcome: Outcome,
+) -> bool
+    requires sound { IsSound namespace.old.config (S.frame namespace.old.store) namespace.old.latest }
+    requires tidy { Tidy [] (situation 0 (under_way namespace.old.loads) namespace.old.connections.items false []) }
+    requires untold { (place : ℕ) → text_at namespace.old.connections.items place ≡ [] }
+    requires untaken { S.untaken namespace.old.store ≡ [] }
+{
+    let tells_so = match answer_kept(namespace, alloc, 1, outcome, 7) {
         Ok(record) => tells(&record, row),
         Err(_) => false,
     };
-    Ok(tells_so && namespace.latest == 7 && is_silent(&namespace))
+    tells_so && namespace.latest == 7 && is_silent(namespace)
+}
+
+/// The same of a namespace over the plain store for which two connections wait.
+fn is_kept(alloc: Global, row: &Row<'_>, outcome: Outcome) -> Result<bool, AllocError> {
+    let config = row.config;
+    let store = PlainStore::new(alloc, config, 0, SplitMix64::seed_from_u64(1), FixedHasher)?;
+    let mut namespace = two_wait(alloc, store, config)?;
+    Ok(keeps(&mut namespace, alloc, row, outcome))
 }
 
 fn comes_so(alloc: Global, row: &Row<'_>) -> bool {
     match new_outcome(alloc, row.given) {
-        Ok(outcome) => matches!(keeps(alloc, row, outcome), Ok(true)),
+        Ok(outcome) => matches!(is_kept(alloc, row, outcome), Ok(true)),
         Err(_) => false,
     }
 }
@@ -108,9 +128,8 @@ const VALUES: &[Row<'static>] = &[
 ];
 
 #[test]
-fn a_record_tells_a_value(rt: HostRuntime) -> Result<(), Fail> {
+fn a_record_tells_a_value(rt: HostRuntime) {
     assert_eq!(rt; first_wrong(rt.alloc(), VALUES), None);
-    Ok(())
 }
 
 const NO_VALUES: &[Row<'static>] = &[
@@ -131,9 +150,8 @@ const NO_VALUES: &[Row<'static>] = &[
 ];
 
 #[test]
-fn a_record_tells_what_is_no_value(rt: HostRuntime) -> Result<(), Fail> {
+fn a_record_tells_what_is_no_value(rt: HostRuntime) {
     assert_eq!(rt; first_wrong(rt.alloc(), NO_VALUES), None);
-    Ok(())
 }
 
 /// Gives up a load of a namespace in which the first is under way and nobody waits, and answers whether it comes to that: a record
@@ -158,13 +176,11 @@ fn gives_up(
 }
 
 #[test]
-fn a_load_for_which_nobody_waits_is_given_up(rt: HostRuntime) -> Result<(), Fail> {
-    assert!(rt; gives_up(rt.alloc(), 1, Ok(()))?);
-    Ok(())
+fn a_load_for_which_nobody_waits_is_given_up(rt: HostRuntime) {
+    assert!(rt; matches!(gives_up(rt.alloc(), 1, Ok(())), Ok(true)));
 }
 
 #[test]
-fn a_load_that_is_not_under_way_is_not_given_up(rt: HostRuntime) -> Result<(), Fail> {
-    assert!(rt; gives_up(rt.alloc(), 2, Err(ServiceError::NoLoad))?);
-    Ok(())
+fn a_load_that_is_not_under_way_is_not_given_up(rt: HostRuntime) {
+    assert!(rt; matches!(gives_up(rt.alloc(), 2, Err(ServiceError::NoLoad)), Ok(true)));
 }

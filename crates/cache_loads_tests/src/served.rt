@@ -1,7 +1,6 @@
 //! Connections that wait for loads of a service: answers, give-ups, and what stands behind a `LOAD`.
 use crate::rows::{FIRST, Given, LATE, PLAIN, Row, SECOND, START, first_wrong};
 use audit_model::{Closing, Config, ServiceError};
-use std::test::Fail;
 
 const ONE_LOAD_FOR_TWO: &[Row<'static>] = &[
     Row::Says(FIRST, b"LOAD k\n", b""),
@@ -21,9 +20,8 @@ const ONE_LOAD_FOR_TWO: &[Row<'static>] = &[
 ];
 
 #[test]
-fn one_load_for_two(rt: HostRuntime) -> Result<(), Fail> {
+fn one_load_for_two(rt: HostRuntime) {
     assert_eq!(rt; first_wrong(rt.alloc(), PLAIN, ONE_LOAD_FOR_TWO), Ok(None));
-    Ok(())
 }
 
 const GIVEN_UP_AND_ANSWERED: &[Row<'static>] = &[
@@ -40,12 +38,11 @@ const GIVEN_UP_AND_ANSWERED: &[Row<'static>] = &[
 ];
 
 #[test]
-fn given_up_and_answered(rt: HostRuntime) -> Result<(), Fail> {
+fn given_up_and_answered(rt: HostRuntime) {
     assert_eq!(rt;
         first_wrong(rt.alloc(), PLAIN, GIVEN_UP_AND_ANSWERED),
         Ok(None)
     );
-    Ok(())
 }
 
 const A_DELETED_KEY_IS_LOADED: &[Row<'static>] = &[
@@ -57,12 +54,11 @@ const A_DELETED_KEY_IS_LOADED: &[Row<'static>] = &[
 ];
 
 #[test]
-fn a_deleted_key_is_loaded(rt: HostRuntime) -> Result<(), Fail> {
+fn a_deleted_key_is_loaded(rt: HostRuntime) {
     assert_eq!(rt;
         first_wrong(rt.alloc(), PLAIN, A_DELETED_KEY_IS_LOADED),
         Ok(None)
     );
-    Ok(())
 }
 
 const LINES_BEHIND_RUN_IN_ORDER: &[Row<'static>] = &[
@@ -77,12 +73,11 @@ const LINES_BEHIND_RUN_IN_ORDER: &[Row<'static>] = &[
 ];
 
 #[test]
-fn lines_behind_run_in_order(rt: HostRuntime) -> Result<(), Fail> {
+fn lines_behind_run_in_order(rt: HostRuntime) {
     assert_eq!(rt;
         first_wrong(rt.alloc(), PLAIN, LINES_BEHIND_RUN_IN_ORDER),
         Ok(None)
     );
-    Ok(())
 }
 
 const NOTHING_IS_KEPT: &[Row<'static>] = &[
@@ -96,13 +91,12 @@ const NOTHING_IS_KEPT: &[Row<'static>] = &[
 ];
 
 #[test]
-fn nothing_is_kept_at_capacity_0(rt: HostRuntime) -> Result<(), Fail> {
+fn nothing_is_kept_at_capacity_0(rt: HostRuntime) {
     let off = Config {
         capacity: Some(0),
         ..PLAIN
     };
     assert_eq!(rt; first_wrong(rt.alloc(), off, NOTHING_IS_KEPT), Ok(None));
-    Ok(())
 }
 
 const OUTCOMES_THAT_ARE_REFUSED: &[Row<'static>] = &[
@@ -130,12 +124,11 @@ const OUTCOMES_THAT_ARE_REFUSED: &[Row<'static>] = &[
 ];
 
 #[test]
-fn outcomes_that_are_refused(rt: HostRuntime) -> Result<(), Fail> {
+fn outcomes_that_are_refused(rt: HostRuntime) {
     assert_eq!(rt;
         first_wrong(rt.alloc(), PLAIN, OUTCOMES_THAT_ARE_REFUSED),
         Ok(None)
     );
-    Ok(())
 }
 
 const THE_200TH_GIVE_UP_OF_EACH: &[Row<'static>] = &[
@@ -161,12 +154,11 @@ const THE_200TH_GIVE_UP_OF_EACH: &[Row<'static>] = &[
 ];
 
 #[test]
-fn the_200th_give_up_of_each(rt: HostRuntime) -> Result<(), Fail> {
+fn the_200th_give_up_of_each(rt: HostRuntime) {
     assert_eq!(rt;
         first_wrong(rt.alloc(), PLAIN, THE_200TH_GIVE_UP_OF_EACH),
         Ok(None)
     );
-    Ok(())
 }
 
 const BYTES_BEHIND_A_LOAD: &[Row<'static>] = &[
@@ -185,12 +177,11 @@ const BYTES_BEHIND_A_LOAD: &[Row<'static>] = &[
 ];
 
 #[test]
-fn bytes_behind_a_load(rt: HostRuntime) -> Result<(), Fail> {
+fn bytes_behind_a_load(rt: HostRuntime) {
     assert_eq!(rt;
         first_wrong(rt.alloc(), PLAIN, BYTES_BEHIND_A_LOAD),
         Ok(None)
     );
-    Ok(())
 }
 
 const A_LOAD_OUTLIVES_ITS_CONNECTION: &[Row<'static>] = &[
@@ -205,10 +196,9 @@ const A_LOAD_OUTLIVES_ITS_CONNECTION: &[Row<'static>] = &[
 ];
 
 #[test]
-fn a_load_outlives_its_connection(rt: HostRuntime) -> Result<(), Fail> {
+fn a_load_outlives_its_connection(rt: HostRuntime) {
     assert_eq!(rt;
         first_wrong(rt.alloc(), PLAIN, A_LOAD_OUTLIVES_ITS_CONNECTION),
         Ok(None)
     );
-    Ok(())
 }
