@@ -1,6 +1,5 @@
 //! A service that keeps its journals.
-use crate::asking::{Asked, Done, are_done, input_of};
-use crate::script::PLAIN;
+use crate::asking::{Asked, Done, PLAIN, are_done, input_of};
 use audit_model::{Conn, Input, Instant, LoadId, Record, ServiceError};
 use cache_spaces::{Output, RecordedService, Refusal};
 use rand_core::SeedableRng;

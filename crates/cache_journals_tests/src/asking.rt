@@ -1,6 +1,19 @@
 //! Inputs that constants can say, and what their steps come to.
-use audit_model::{Bytes, Conn, Input, Instant, LoadId, Outcome, Record, Seq, Step};
+use audit_model::{
+    Bytes, Config, Conn, EvictionPolicy, Input, Instant, LoadId, Outcome, Record, Seq, Step, Weight,
+};
 use std::alloc::{AllocError, Global};
+
+/// Without capacity, times and own deadlines.
+pub const PLAIN: Config = Config {
+    capacity: None,
+    policy: EvictionPolicy::Lru,
+    parts: 1,
+    weight: Weight::One,
+    live_ms: None,
+    idle_ms: None,
+    own_deadlines: false,
+};
 
 /// What is asked.
 #[derive(Clone, Copy)]

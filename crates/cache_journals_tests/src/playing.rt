@@ -1,6 +1,5 @@
 //! What is played.
-use crate::asking::{Asked, Done, are_done, inputs_of};
-use crate::script::PLAIN;
+use crate::asking::{Asked, Done, PLAIN, are_done, inputs_of};
 use audit_model::{Conn, Input, Instant, LoadId, Record, ServiceError};
 use cache_spaces::play;
 use rand_core::SeedableRng;
