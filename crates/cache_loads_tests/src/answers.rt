@@ -1,6 +1,7 @@
 //! Two connections wait for a key's load, each with a line behind its `LOAD`.
-use crate::namespaces::two_wait;
-use audit_model::{Config, EvictionPolicy, Outcome, Seq, ServiceError, Weight};
+use crate::rows::{Given, PLAIN, is_given, new_outcome};
+use crate::waiting::two_wait;
+use audit_model::{Config, Outcome, ServiceError};
 use cache_namespace::Namespace;
 use cache_settling::answer_in;
 use cache_store::Store;
@@ -10,20 +11,22 @@ use rand_xoshiro::SplitMix64;
 use std::alloc::{AllocError, Global};
 use std::test::Fail;
 
-const PLAIN: Config = Config {
-    capacity: None,
-    policy: EvictionPolicy::Lru,
-    parts: 1,
-    weight: Weight::One,
-    live_ms: None,
-    idle_ms: None,
-    own_deadlines: false,
-};
-
-const NONE: Config = Config {
+/// Capacity 0.
+pub const NONE: Config = Config {
     capacity: Some(0),
     ..PLAIN
 };
+
+/// An answer to a load, and what has to come of it.
+#[derive(Clone, Copy)]
+struct Row<'a> {
+    config: Config,
+    load: u64,
+    given: Given<'a>,
+    wanted: Result<(), ServiceError>,
+    /// What both connections are told.
+    told: &'a [u8],
+}
 
 /// What both connections were told, where it is the same.
 fn both_were_told<S: Store>(namespace: &Namespace<S>, text: &[u8]) -> bool {
@@ -33,54 +36,91 @@ fn both_were_told<S: Store>(namespace: &Namespace<S>, text: &[u8]) -> bool {
         .all(|c| c.output.as_slice() == text)
 }
 
-fn a_value(alloc: Global) -> Result<Outcome, AllocError> {
-    Ok(Outcome::Value(Seq::from_vec(b"v".to_vec(alloc)?), None))
-}
-
-/// Whether both connections are told that text when the load is answered so.
-fn is_told(
-    alloc: Global,
-    config: Config,
-    outcome: Outcome,
-    text: &[u8],
-) -> Result<bool, AllocError> {
+/// Whether both connections are told so when the load is answered, or the outcome is handed back.
+fn is_told(alloc: Global, row: &Row<'_>, outcome: Outcome) -> Result<bool, AllocError> {
+    let config = row.config;
     let store = PlainStore::new(alloc, config, 0, SplitMix64::seed_from_u64(1), FixedHasher)?;
     let mut namespace = two_wait(alloc, store, config)?;
-    match answer_in(&mut namespace, alloc, 1, outcome, 7) {
-        Ok(_) => Ok(namespace.latest == 7 && both_were_told(&namespace, text)),
-        Err(_) => Ok(false),
+    let came_so = match answer_in(&mut namespace, alloc, row.load, outcome, 7) {
+        Ok(_) => row.wanted.is_ok() && namespace.latest == 7,
+        Err((error, back)) => row.wanted == Err(error) && is_given(&back, row.given),
+    };
+    Ok(came_so && both_were_told(&namespace, row.told))
+}
+
+fn comes_so(alloc: Global, row: &Row<'_>) -> bool {
+    match new_outcome(alloc, row.given) {
+        Ok(outcome) => matches!(is_told(alloc, row, outcome), Ok(true)),
+        Err(_) => false,
     }
 }
+
+/// The place of the first row that does not come out as it says.
+fn first_wrong(alloc: Global, rows: &[Row<'_>]) -> Option<usize> {
+    for (place, row) in rows.iter().enumerate() {
+        if !comes_so(alloc, row) {
+            return Some(place);
+        }
+    }
+    None
+}
+
+const VALUES: &[Row<'static>] = &[
+    Row {
+        config: PLAIN,
+        load: 1,
+        given: Given::Value(b"v", None),
+        wanted: Ok(()),
+        told: b"VAL v\nYES\n",
+    },
+    Row {
+        config: NONE,
+        load: 1,
+        given: Given::Value(b"v", None),
+        wanted: Ok(()),
+        told: b"VAL v\nNO\n",
+    },
+];
 
 #[test]
 fn a_value_is_told_and_stored(rt: HostRuntime) -> Result<(), Fail> {
-    let alloc = rt.alloc();
-    assert!(rt; is_told(alloc, PLAIN, a_value(alloc)?, b"VAL v\nYES\n")?);
-    assert!(rt; is_told(alloc, NONE, a_value(alloc)?, b"VAL v\nNO\n")?);
+    assert_eq!(rt; first_wrong(rt.alloc(), VALUES), None);
     Ok(())
 }
+
+const NO_VALUES: &[Row<'static>] = &[
+    Row {
+        config: PLAIN,
+        load: 1,
+        given: Given::Fault(b"down"),
+        wanted: Ok(()),
+        told: b"ERR load down\nNO\n",
+    },
+    Row {
+        config: PLAIN,
+        load: 1,
+        given: Given::Nothing,
+        wanted: Ok(()),
+        told: b"NONE\nNO\n",
+    },
+];
 
 #[test]
 fn what_is_no_value_is_told(rt: HostRuntime) -> Result<(), Fail> {
-    let alloc = rt.alloc();
-    let fault = Outcome::Fault(Seq::from_vec(b"down".to_vec(alloc)?));
-    assert!(rt; is_told(alloc, PLAIN, fault, b"ERR load down\nNO\n")?);
-    assert!(rt; is_told(alloc, PLAIN, Outcome::None, b"NONE\nNO\n")?);
+    assert_eq!(rt; first_wrong(rt.alloc(), NO_VALUES), None);
     Ok(())
 }
 
+const REFUSED: &[Row<'static>] = &[Row {
+    config: PLAIN,
+    load: 2,
+    given: Given::Value(b"v", None),
+    wanted: Err(ServiceError::NoLoad),
+    told: b"",
+}];
+
 #[test]
 fn a_refused_outcome_is_handed_back(rt: HostRuntime) -> Result<(), Fail> {
-    let alloc = rt.alloc();
-    let store = PlainStore::new(alloc, PLAIN, 0, SplitMix64::seed_from_u64(1), FixedHasher)?;
-    let mut namespace = two_wait(alloc, store, PLAIN)?;
-    match answer_in(&mut namespace, alloc, 2, a_value(alloc)?, 7) {
-        Ok(_) => assert!(rt; false),
-        Err((error, outcome)) => {
-            assert!(rt; error == ServiceError::NoLoad);
-            assert!(rt; matches!(outcome, Outcome::Value(_, None)));
-        }
-    }
-    assert!(rt; both_were_told(&namespace, b""));
+    assert_eq!(rt; first_wrong(rt.alloc(), REFUSED), None);
     Ok(())
 }

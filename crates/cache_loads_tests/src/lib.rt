@@ -1,16 +1,18 @@
-//! Tests of loads: the table, a namespace's answers, the service's.
+//! Tests of loads: the table of those under way, a namespace's answers, and connections of a service that wait.
 #![tactic(auto)]
 
 #[cfg(test)]
 mod answers;
-mod namespaces;
 #[cfg(test)]
 mod records;
 #[cfg(test)]
 mod retrying;
 #[cfg(test)]
-mod tables;
+mod rows;
 #[cfg(test)]
+mod served;
+#[cfg(test)]
+mod tables;
 mod waiting;
 
-pub use namespaces::{nobody_waits, two_wait};
+pub use waiting::{nobody_waits, two_wait};

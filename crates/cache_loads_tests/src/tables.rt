@@ -1,3 +1,5 @@
+//! The table of loads under way.
+use audit_model::{Bytes, LoadId};
 use cache_loads::Loads;
 use std::alloc::{AllocError, Global};
 use std::test::Fail;
@@ -10,58 +12,79 @@ fn wait_for(loads: &Loads, number: u64, conns: &[u64]) -> bool {
     }
 }
 
-/// Whether two wait for `k` and one for `l`, and each key has a load of its own.
-fn waits_for_each(alloc: Global, loads: &mut Loads) -> Result<bool, AllocError> {
-    let first = loads.wait(alloc, b"k", 1)?;
-    let again = loads.wait(alloc, b"k", 2)?;
-    let other = loads.wait(alloc, b"l", 3)?;
-    Ok(first == Some(1) && again == None && other == Some(2))
-}
-
-fn has_both(loads: &Loads) -> bool {
+/// Whether the first two connections wait for the load of `k`, the third for the next, and nobody for any other.
+fn three_wait(loads: &Loads) -> bool {
     loads.count() == 2
         && loads.find(b"k") == Some(1)
-        && loads.find(b"m") == None
+        && loads.find(b"m").is_none()
         && wait_for(loads, 1, &[1, 2])
         && wait_for(loads, 2, &[3])
 }
 
+/// Whether a key's first connection starts a load, and the next one none.
+fn starts_once(alloc: Global) -> Result<bool, AllocError> {
+    let mut loads = Loads::new(alloc, 3);
+    let first = loads.wait(alloc, b"k", 1)?;
+    let second = loads.wait(alloc, b"k", 2)?;
+    let third = loads.wait(alloc, b"l", 3)?;
+    Ok(first == Some(1) && second.is_none() && third == Some(2) && three_wait(&loads))
+}
+
 #[test]
 fn one_load_a_key(rt: HostRuntime) -> Result<(), Fail> {
-    let mut loads = Loads::new(rt.alloc(), 3);
-    assert!(rt; waits_for_each(rt.alloc(), &mut loads)?);
-    assert!(rt; has_both(&loads));
+    assert!(rt; starts_once(rt.alloc())?);
     Ok(())
+}
+
+/// Whether those are the first load, of `k`, and the second, of `l`, of namespace 3.
+fn are_both(out: &[(LoadId, Bytes)]) -> bool {
+    match out {
+        [(first, k), (second, l)] => {
+            first.namespace == 3
+                && first.number == 1
+                && k.as_slice() == b"k".as_slice()
+                && second.namespace == 3
+                && second.number == 2
+                && l.as_slice() == b"l".as_slice()
+        }
+        _ => false,
+    }
+}
+
+/// Whether both loads go out, then none, and both stay under way.
+fn go_out(loads: &mut Loads, alloc: Global) -> bool {
+    are_both(loads.take(alloc).as_slice()) && loads.take(alloc).len() == 0 && loads.count() == 2
+}
+
+fn two_go_out(alloc: Global) -> Result<bool, AllocError> {
+    let mut loads = Loads::new(alloc, 3);
+    let _ = loads.wait(alloc, b"k", 1)?;
+    let _ = loads.wait(alloc, b"l", 2)?;
+    Ok(go_out(&mut loads, alloc))
 }
 
 #[test]
 fn each_goes_out_once(rt: HostRuntime) -> Result<(), Fail> {
-    let alloc = rt.alloc();
-    let mut loads = Loads::new(alloc, 3);
-    let _ = loads.wait(alloc, b"k", 1)?;
-    let _ = loads.wait(alloc, b"l", 2)?;
-    let out = loads.take(alloc);
-    assert_eq!(rt; out.len(), 2);
-    for (place, (id, key)) in out.iter().enumerate() {
-        assert_eq!(rt; id.namespace, 3);
-        assert_eq!(rt; id.number == 1, place == 0);
-        assert_eq!(rt; key.as_slice() == b"k".as_slice(), place == 0);
-    }
-    assert_eq!(rt; loads.take(alloc).len(), 0);
-    assert_eq!(rt; loads.count(), 2);
+    assert!(rt; two_go_out(rt.alloc())?);
     Ok(())
+}
+
+/// Whether the first of two leaves, and the load for which the second waits is settled once.
+fn is_left(loads: &mut Loads) -> bool {
+    loads.leave(1);
+    wait_for(loads, 1, &[2]) && loads.settle(1).is_some() && loads.settle(1).is_none()
+}
+
+fn leaves(alloc: Global) -> Result<bool, AllocError> {
+    let mut loads = Loads::new(alloc, 0);
+    let _ = loads.wait(alloc, b"k", 1)?;
+    let _ = loads.wait(alloc, b"k", 2)?;
+    let left = is_left(&mut loads);
+    Ok(loads.wait(alloc, b"k", 1)? == Some(2) && left)
 }
 
 #[test]
 fn a_closed_connection_leaves(rt: HostRuntime) -> Result<(), Fail> {
-    let alloc = rt.alloc();
-    let mut loads = Loads::new(alloc, 0);
-    let _ = loads.wait(alloc, b"k", 1)?;
-    let _ = loads.wait(alloc, b"k", 2)?;
-    loads.leave(1);
-    assert!(rt; wait_for(&loads, 1, &[2]));
-    assert!(rt; loads.settle(1).is_some());
-    assert!(rt; loads.settle(1).is_none());
-    assert_eq!(rt; loads.wait(alloc, b"k", 1)?, Some(2));
+    assert!(rt; leaves(rt.alloc())?);
     Ok(())
 }

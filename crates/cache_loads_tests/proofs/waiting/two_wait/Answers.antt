@@ -1,6 +1,6 @@
 use Rattle.cache_namespace.specs.Waiting.{under_way}
 use Rattle.cache_loads_tests.proofs.Two.{tidy-both, untold-both}
-use Rattle.cache_loads_tests.proofs.namespaces.two_wait.Goals as goal
+use Rattle.cache_loads_tests.proofs.waiting.two_wait.Goals as goal
 
 pub returns-clause-tidy : goal.returns-clause-tidy
 returns-clause-tidy g c =

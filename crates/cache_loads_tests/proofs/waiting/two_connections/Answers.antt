@@ -1,5 +1,5 @@
 use Rattle.std.proofs.Common.{◌++◌, ◌∷◌, [], ap, ◌∙◌}
-use Rattle.cache_loads_tests.proofs.namespaces.two_connections.Goals as goal
+use Rattle.cache_loads_tests.proofs.waiting.two_connections.Goals as goal
 
 pub returns : goal.returns
 returns c = (

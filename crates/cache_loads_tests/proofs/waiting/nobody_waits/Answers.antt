@@ -1,7 +1,7 @@
 use Rattle.std.proofs.Common.{◌≡◌, Some, None, sym, ap, ◌∙◌}
 use Rattle.cache_namespace.specs.Waiting.{under_way}
 use Rattle.cache_loads_tests.proofs.Two.{reads-none, tidy-none, untold-none}
-use Rattle.cache_loads_tests.proofs.namespaces.nobody_waits.Goals as goal
+use Rattle.cache_loads_tests.proofs.waiting.nobody_waits.Goals as goal
 
 pub returns-clause-tidy : goal.returns-clause-tidy
 returns-clause-tidy g c = tidy-none (under_way c.in_ok-loads.loads) c.new-connections.result.items c.in_ok-loads.ensures c.new-connections.ensures.items
