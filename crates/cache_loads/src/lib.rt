@@ -1,9 +1,11 @@
-//! The loads of a namespace that are under way, and which connections wait for them.
+//! The loads of a namespace that are under way, which connections wait for them, and whether a connection waits.
 #![tactic(auto)]
 
 mod lists;
 mod load;
 mod loads;
+mod standing;
 
 pub use load::Load;
 pub use loads::Loads;
+pub use standing::{Standing, is_holding, is_waiting};

@@ -14,7 +14,7 @@ use Rattle.audit_model.specs.declared.config.Config.{Config}
 use Rattle.cache_settling.specs.GivenUp.{WaitForLoads}
 use Rattle.cache_namespace.specs.Whole.{held_line}
 use Rattle.cache_namespace.specs.declared.connection.Connection.{Connection}
-use Rattle.cache_namespace.specs.declared.standing.Standing.TheVariants as now
+use Rattle.cache_loads.specs.declared.standing.Standing.TheVariants as now
 use Rattle.cache_namespace.proofs.Following.{listed-open}
 use Rattle.load_laws.specs.Tidy.{Tidy, times_loaded, times_waiting, waits_now}
 use Rattle.cache_loads_tests.specs.Both.{both, left}

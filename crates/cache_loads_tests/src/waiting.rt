@@ -5,7 +5,7 @@ ghost use Rattle.cache_namespace.specs.Shown.{situation};
 ghost use Rattle.cache_namespace.specs.Taken.{IsSound, text_at};
 ghost use Rattle.cache_namespace.specs.Waiting.{under_way};
 ghost use Rattle.cache_namespace.specs.declared.connection.Connection.{Connection as Waiter};
-ghost use Rattle.cache_namespace.specs.declared.standing.Standing.TheVariants as now;
+ghost use Rattle.cache_loads.specs.declared.standing.Standing.TheVariants as now;
 ghost use Rattle.cache_settling.specs.GivenUp.{WaitForLoads};
 ghost use Rattle.load_laws.specs.Tidy.{Tidy};
 ghost use Rattle.cache_loads_tests.specs.Both.{both, left};

@@ -7,10 +7,10 @@ use Rattle.cache_namespace.proofs.Following.{listed-open}
 use Rattle.cache_namespace.proofs.Table.{found-at}
 use Rattle.cache_namespace.specs.Shown.{shown, standing_as}
 use Rattle.cache_namespace.specs.Taken.{waits_at}
-use Rattle.cache_namespace.specs.Whole.{waits}
+use Rattle.cache_loads.specs.Standings.{waits}
 use Rattle.cache_namespace.specs.declared.connection.Connection.{Connection}
-use Rattle.cache_namespace.specs.declared.standing.Standing.{Standing}
-use Rattle.cache_namespace.specs.declared.standing.Standing.TheVariants as now
+use Rattle.cache_loads.specs.declared.standing.Standing.{Standing}
+use Rattle.cache_loads.specs.declared.standing.Standing.TheVariants as now
 
 waiting-shown : (m : ℕ) (c : Connection) → is_waiting_now (shown m c).standing ≡ waits c.standing
 waiting-shown m c = go c.standing

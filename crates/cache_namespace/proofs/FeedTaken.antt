@@ -18,7 +18,7 @@ use Rattle.cache_namespace.specs.Lines.{IsThere}
 use Rattle.cache_namespace.specs.Shown.{situation, is_listed}
 use Rattle.cache_namespace.specs.Taken.{is_quit, FeedsConnection, Takes, fed, text_at, closing_at, ReplacedAt, RefusedFor, holds_at}
 use Rattle.cache_namespace.specs.Waiting.{UnderWay, loads_in, when_left}
-use Rattle.cache_namespace.specs.Whole.{holds}
+use Rattle.cache_loads.specs.Standings.{holds}
 use Rattle.cache_namespace.specs.declared.connection.Connection.{Connection}
 use Rattle.cache_namespace.specs.declared.kept.Kept.{Kept}
 use Rattle.cache_namespace.proofs.Places.{closing-is, replaced-is}

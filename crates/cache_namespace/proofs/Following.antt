@@ -27,9 +27,10 @@ use Rattle.cache_namespace.specs.Shown.{shown, standing_as, is_listed, is_open_w
 use Rattle.cache_namespace.specs.Taken.{is_quit, FeedsConnection, Takes, fed, known, holds_at}
 use Rattle.cache_namespace.specs.Waiting.{UnderWay, no_loads, when_left}
 use Rattle.audit_model.specs.Stream.{behind_lines}
-use Rattle.cache_namespace.specs.Whole.{holds, is_long_line, is_near, keeps_line, waits}
-use Rattle.cache_namespace.specs.declared.standing.Standing.{Standing}
-use Rattle.cache_namespace.specs.declared.standing.Standing.TheVariants as now
+use Rattle.cache_loads.specs.Standings.{holds, keeps_line, waits}
+use Rattle.cache_namespace.specs.Whole.{is_long_line, is_near}
+use Rattle.cache_loads.specs.declared.standing.Standing.{Standing}
+use Rattle.cache_loads.specs.declared.standing.Standing.TheVariants as now
 use Rattle.cache_namespace.specs.declared.connection.Connection.{Connection}
 use Rattle.cache_namespace.proofs.Drawn.{spends-same}
 use Rattle.cache_namespace.proofs.Running.{gather-none}

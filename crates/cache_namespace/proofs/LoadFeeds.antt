@@ -38,7 +38,7 @@ use Rattle.cache_namespace.specs.Ran.{RanFeed, RanLines, RanReady, ends_held}
 use Rattle.cache_namespace.specs.Shown.{standing_as}
 use Rattle.cache_namespace.specs.Waiting.{UnderWay, holding_load, loads_in, sent_by, under_way, waiting, when_waiting, with_under_way}
 use Rattle.cache_namespace.specs.Whole.{has_line, held_line}
-use Rattle.cache_namespace.specs.declared.standing.Standing.TheVariants as now
+use Rattle.cache_loads.specs.declared.standing.Standing.TheVariants as now
 use Rattle.cache_namespace.proofs.Drawn.{draws-first, draws-more, spends-same}
 use Rattle.cache_namespace.proofs.FeedSteps.{cons-parted, held_with, runs-end, runs-parted, runs-timely}
 use Rattle.cache_namespace.proofs.Knowing.{keys-in-turn, order-behind-more, runs-keys-more}

@@ -17,9 +17,9 @@ use Rattle.cache_namespace.specs.Ordered.{OrdersSteps}
 use Rattle.cache_namespace.specs.Ran.{RanFeed, standing_with, with_piece}
 use Rattle.cache_namespace.specs.Shown.{put_in, put_parts, standing_as}
 use Rattle.cache_namespace.specs.Waiting.{UnderWay, with_under_way}
-use Rattle.cache_namespace.specs.Whole.{holds, waits}
-use Rattle.cache_namespace.specs.declared.standing.Standing.{Standing}
-use Rattle.cache_namespace.specs.declared.standing.Standing.TheVariants as now
+use Rattle.cache_loads.specs.Standings.{holds, waits}
+use Rattle.cache_loads.specs.declared.standing.Standing.{Standing}
+use Rattle.cache_loads.specs.declared.standing.Standing.TheVariants as now
 use Rattle.cache_namespace.specs.Taken.{is_quit, FeedsConnection}
 use Rattle.cache_namespace.specs.declared.connection.Connection.{Connection}
 

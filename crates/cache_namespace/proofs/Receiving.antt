@@ -22,10 +22,11 @@ use Rattle.cache_namespace.specs.Ran.{with_piece}
 use Rattle.cache_namespace.specs.Shown.{put_in, put_parts, shown, standing_as}
 use Rattle.cache_namespace.specs.Taken.{FeedsConnection, is_quit}
 use Rattle.cache_namespace.specs.Waiting.{UnderWay, loads_in, with_under_way}
-use Rattle.cache_namespace.specs.Whole.{has_line, held_line, holds, is_long_line, is_near, keeps_line, waits}
+use Rattle.cache_loads.specs.Standings.{holds, keeps_line, waits}
+use Rattle.cache_namespace.specs.Whole.{has_line, held_line, is_long_line, is_near}
 use Rattle.cache_namespace.specs.declared.connection.Connection.{Connection}
-use Rattle.cache_namespace.specs.declared.standing.Standing.{Standing}
-use Rattle.cache_namespace.specs.declared.standing.Standing.TheVariants as now
+use Rattle.cache_loads.specs.declared.standing.Standing.{Standing}
+use Rattle.cache_loads.specs.declared.standing.Standing.TheVariants as now
 use Rattle.cache_namespace.proofs.Drawn.{spends-same}
 use Rattle.cache_namespace.proofs.LoadTurns.{stops-waiting}
 use Rattle.cache_namespace.proofs.Putting.{put-long, put-open}

@@ -5,10 +5,11 @@ use Rattle.audit_model.specs.Situation.{Situation, HeldValue, is_overlong, witho
 use Rattle.audit_model.specs.declared.command.Closing.{Closing}
 use Rattle.cache_namespace.specs.Lines.{set_in}
 use Rattle.cache_namespace.specs.Waiting.{UnderWay}
-use Rattle.cache_namespace.specs.Whole.{held_line, keeps_line}
+use Rattle.cache_loads.specs.Standings.{keeps_line}
+use Rattle.cache_namespace.specs.Whole.{held_line}
 use Rattle.audit_model.specs.Stream.{behind_lines}
-use Rattle.cache_namespace.specs.declared.standing.Standing.{Standing}
-use Rattle.cache_namespace.specs.declared.standing.Standing.TheVariants as now
+use Rattle.cache_loads.specs.declared.standing.Standing.{Standing}
+use Rattle.cache_loads.specs.declared.standing.Standing.TheVariants as now
 use Rattle.cache_namespace.specs.declared.connection.Connection.{Connection}
 
 -- it runs lines, or waits before that line

@@ -9,8 +9,8 @@ use Rattle.cache_namespace.specs.declared.lines.Done.{Done}
 use Rattle.cache_namespace.specs.declared.lines.Done.TheVariants as done
 use Rattle.cache_namespace.specs.declared.lines.Stop.{Stop}
 use Rattle.cache_namespace.specs.declared.lines.Stop.TheVariants.{More, TooLong, Held, Misses, Quit}
-use Rattle.cache_namespace.specs.declared.standing.Standing.{Standing}
-use Rattle.cache_namespace.specs.declared.standing.Standing.TheVariants as now
+use Rattle.cache_loads.specs.declared.standing.Standing.{Standing}
+use Rattle.cache_loads.specs.declared.standing.Standing.TheVariants as now
 
 -- less than a line is left; or more than a line may have; or a line of that many bytes, for which memory was wanted, or which is a `LOAD`
 -- that is to wait; or a `QUIT` ran

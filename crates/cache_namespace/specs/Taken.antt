@@ -26,7 +26,7 @@ use Rattle.cache_namespace.specs.Lines.{ArePartedIn, are_timely, ends_quit, set_
 use Rattle.cache_namespace.specs.Ran.{ends_held, with_piece}
 use Rattle.cache_namespace.specs.Shown.{shown, put_in, situation}
 use Rattle.cache_namespace.specs.Waiting.{UnderWay, no_loads, with_under_way}
-use Rattle.cache_namespace.specs.Whole.{holds}
+use Rattle.cache_loads.specs.Standings.{holds}
 use Rattle.cache_namespace.specs.declared.connection.Connection.{Connection}
 
 -- the record of an event that is no answer

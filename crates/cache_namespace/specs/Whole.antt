@@ -1,27 +1,9 @@
 -- What is known of a connection's unread bytes, and of what it waits for.
-use Rattle.std.specs.Prelude.{ℕ, ◌+◌, Bool, true, false, ◌&&◌, ◌||◌, nat_lt, nat_le, nat_eq, List, [], length, if◌then◌else◌, is_some, unwrap_or}
+use Rattle.std.specs.Prelude.{ℕ, ◌+◌, Bool, ◌&&◌, ◌||◌, nat_lt, nat_le, nat_eq, List, [], length, if◌then◌else◌, is_some, unwrap_or}
 use Rattle.audit_model.specs.Bytewise.{cut_at}
 use Rattle.audit_model.specs.Stream.{behind_lines, first_line}
-use Rattle.cache_namespace.specs.declared.standing.Standing.{Standing}
-use Rattle.cache_namespace.specs.declared.standing.Standing.TheVariants.{Ready, Held, Waiting}
-
--- its first unread line is held back
-abbrev pub holds : Standing → Bool
-holds Ready = false
-holds Held = true
-holds Waiting = false
-
--- its first unread line is a `LOAD` that waits
-abbrev pub waits : Standing → Bool
-waits Ready = false
-waits Held = false
-waits Waiting = true
-
--- its first unread line is one of these
-abbrev pub keeps_line : Standing → Bool
-keeps_line Ready = false
-keeps_line Held = true
-keeps_line Waiting = true
+use Rattle.cache_loads.specs.Standings.{waits}
+use Rattle.cache_loads.specs.declared.standing.Standing.{Standing}
 
 -- a whole line has come, which is no longer than a line may be
 abbrev pub has_line : List ℕ → Bool

@@ -1,11 +1,12 @@
 //! One connection.
 ghost use Rattle.std.specs.Prelude.{◌≡◌, [], IsTrue, not, ◌||◌, is_some, None, vec_len, vec_capacity};
-ghost use Rattle.cache_namespace.specs.Whole.{has_line, is_long_line, keeps_line, waits, is_near, is_few, has_room};
-ghost use Rattle.cache_namespace.specs.declared.standing.Standing.TheVariants as now;
+ghost use Rattle.cache_loads.specs.Standings.{keeps_line, waits};
+ghost use Rattle.cache_namespace.specs.Whole.{has_line, is_long_line, is_near, is_few, has_room};
+ghost use Rattle.cache_loads.specs.declared.standing.Standing.TheVariants as now;
 
-use crate::standing::Standing;
 use audit_model::Closing;
 use cache_lines::Buffer;
+use cache_loads::Standing;
 use std::alloc::Global;
 
 /// A connection: what came and was not used, the replies that were not taken, and why it closed.

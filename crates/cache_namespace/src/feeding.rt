@@ -16,7 +16,8 @@ ghost use Rattle.cache_namespace.specs.Waiting.{loads_in, under_way};
 ghost use Rattle.cache_loads.specs.Pending.{SameLoads, SameTaken};
 ghost use Rattle.cache_namespace.specs.Ran.{RanReady, RanFeed};
 ghost use Rattle.cache_namespace.specs.Stops.{EndsFor, ends_by_quit, holds_back, standing_at};
-ghost use Rattle.cache_namespace.specs.Whole.{has_line, has_room, held_line, waits};
+ghost use Rattle.cache_loads.specs.Standings.{waits};
+ghost use Rattle.cache_namespace.specs.Whole.{has_line, has_room, held_line};
 
 use crate::joining::join_first;
 use crate::kept::Kept;

@@ -8,9 +8,9 @@ mod kept;
 mod lines;
 mod namespace;
 mod spare;
-mod standing;
 mod waiting;
 
+pub use cache_loads::Standing;
 pub use connection::Connection;
 pub use feeding::{End, hold_first, run_ready, say_first};
 pub use joining::join_first;
@@ -18,5 +18,4 @@ pub use kept::Kept;
 pub use lines::{Done, drain, release};
 pub use namespace::Namespace;
 pub use spare::Spare;
-pub use standing::Standing;
 pub use waiting::close_where_behind;

@@ -7,12 +7,12 @@ ghost use Rattle.cache_namespace.specs.Ran.{with_piece};
 ghost use Rattle.cache_namespace.specs.Shown.{shown, put_in};
 ghost use Rattle.cache_namespace.specs.Taken.{IsOpenOrEnded, LooksSame, is_quit};
 ghost use Rattle.cache_namespace.specs.Whole.{has_line, has_room};
-ghost use Rattle.cache_namespace.specs.declared.standing.Standing.TheVariants as now;
+ghost use Rattle.cache_loads.specs.declared.standing.Standing.TheVariants as now;
 
 use crate::connection::Connection;
-use crate::standing::Standing;
 use audit_model::Closing;
 use cache_lines::{Buffer, Next};
+use cache_loads::Standing;
 use std::alloc::{AllocError, Global};
 use std::mem;
 

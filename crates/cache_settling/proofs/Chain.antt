@@ -24,7 +24,7 @@ use Rattle.cache_namespace.specs.Taken.{ReplacedAt, closing_at, text_at}
 use Rattle.cache_namespace.specs.Waiting.{UnderWay, no_loads}
 use Rattle.cache_namespace.specs.Whole.{held_line}
 use Rattle.cache_namespace.specs.declared.connection.Connection.{Connection}
-use Rattle.cache_namespace.specs.declared.standing.Standing.TheVariants as now
+use Rattle.cache_loads.specs.declared.standing.Standing.TheVariants as now
 use Rattle.cache_namespace.proofs.Places.{replaced-is, replaced-others, replaced-seen, text-is}
 use Rattle.load_laws.specs.Tidy.{Tidy, times_in}
 use Rattle.load_laws.proofs.Counts.{one_if}

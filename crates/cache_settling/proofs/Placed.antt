@@ -25,10 +25,11 @@ use Rattle.cache_namespace.specs.Making.{Making}
 use Rattle.cache_namespace.specs.Shown.{is_listed, open_from, shown, situation, standing_as, stands_before}
 use Rattle.cache_namespace.specs.Taken.{ReplacedAt}
 use Rattle.cache_namespace.specs.Waiting.{UnderWay, waiting, when_left}
-use Rattle.cache_namespace.specs.Whole.{held_line, is_long_line, is_near, keeps_line, waits}
+use Rattle.cache_loads.specs.Standings.{keeps_line, waits}
+use Rattle.cache_namespace.specs.Whole.{held_line, is_long_line, is_near}
 use Rattle.cache_namespace.specs.declared.connection.Connection.{Connection}
-use Rattle.cache_namespace.specs.declared.standing.Standing.{Standing}
-use Rattle.cache_namespace.specs.declared.standing.Standing.TheVariants as now
+use Rattle.cache_loads.specs.declared.standing.Standing.{Standing}
+use Rattle.cache_loads.specs.declared.standing.Standing.TheVariants as now
 use Rattle.cache_namespace.proofs.Following.{found-open, listed-open, put-situation}
 use Rattle.load_laws.specs.Tidy.{Tidy}
 use Rattle.cache_settling.specs.Leads.{Leads}

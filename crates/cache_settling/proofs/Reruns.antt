@@ -34,7 +34,7 @@ use Rattle.cache_namespace.specs.Shown.{put_in, shown, standing_as}
 use Rattle.cache_namespace.specs.Waiting.{UnderWay, holding_load, is_load, loads_in, sent_by, waiting, when_waiting, with_under_way}
 use Rattle.cache_namespace.specs.Whole.{held_line}
 use Rattle.cache_namespace.specs.declared.connection.Connection.{Connection}
-use Rattle.cache_namespace.specs.declared.standing.Standing.TheVariants as now
+use Rattle.cache_loads.specs.declared.standing.Standing.TheVariants as now
 use Rattle.cache_namespace.proofs.Following.{listed-open}
 use Rattle.cache_settling.specs.GivenUp.{RunsAgain}
 use Rattle.cache_settling.specs.Leads.{Leads}

@@ -27,11 +27,11 @@ use Rattle.cache_namespace.specs.Ran.{RanFeed, RanReady, with_piece}
 use Rattle.cache_namespace.specs.Shown.{put_in, shown, situation, standing_as}
 use Rattle.cache_namespace.specs.Taken.{FeedsConnection, IsOpenOrEnded, ReplacedAt, closing_at, is_quit, text_at}
 use Rattle.cache_namespace.specs.Waiting.{UnderWay, when_left, with_under_way}
-use Rattle.cache_namespace.specs.Whole.{holds, waits}
+use Rattle.cache_loads.specs.Standings.{holds, waits}
 use Rattle.cache_namespace.specs.declared.connection.Connection.{Connection}
 use Rattle.cache_namespace.specs.declared.kept.Kept.{Kept}
-use Rattle.cache_namespace.specs.declared.standing.Standing.{Standing}
-use Rattle.cache_namespace.specs.declared.standing.Standing.TheVariants as now
+use Rattle.cache_loads.specs.declared.standing.Standing.{Standing}
+use Rattle.cache_loads.specs.declared.standing.Standing.TheVariants as now
 use Rattle.cache_namespace.proofs.Following.{found-open, listed-open, put-situation}
 use Rattle.cache_namespace.proofs.Places.{closing-is, replaced-is, replaced-others, text-is}
 use Rattle.cache_namespace.proofs.Putting.{feeds-to}

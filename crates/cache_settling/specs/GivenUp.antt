@@ -21,7 +21,7 @@ use Rattle.cache_namespace.specs.Shown.{put_in, situation}
 use Rattle.cache_namespace.specs.Waiting.{UnderWay, is_load, with_under_way}
 use Rattle.cache_namespace.specs.Whole.{held_line}
 use Rattle.cache_namespace.specs.declared.connection.Connection.{Connection}
-use Rattle.cache_namespace.specs.declared.standing.Standing.TheVariants as now
+use Rattle.cache_loads.specs.declared.standing.Standing.TheVariants as now
 use Rattle.load_laws.specs.Tidy.{times_in}
 use Rattle.cache_settling.specs.Laws.{record_given_up}
 use Rattle.cache_settling.specs.Leads.{BeginsUnknown, Leads, Settles}

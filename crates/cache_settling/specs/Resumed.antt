@@ -10,8 +10,8 @@ use Rattle.cache_namespace.specs.Making.{Making}
 use Rattle.cache_namespace.specs.Shown.{situation}
 use Rattle.cache_namespace.specs.Waiting.{UnderWay}
 use Rattle.cache_namespace.specs.declared.connection.Connection.{Connection}
-use Rattle.cache_namespace.specs.declared.standing.Standing.{Standing}
-use Rattle.cache_namespace.specs.declared.standing.Standing.TheVariants as now
+use Rattle.cache_loads.specs.declared.standing.Standing.{Standing}
+use Rattle.cache_loads.specs.declared.standing.Standing.TheVariants as now
 use Rattle.cache_settling.specs.Leads.{Leads}
 use Rattle.cache_settling.specs.Noted.{Noted, is_loose, with_steps}
 use Rattle.cache_settling.specs.Told.{WritesTo}

@@ -17,7 +17,7 @@ ghost use Rattle.cache_namespace.specs.Ran.{Misses, RanOne};
 ghost use Rattle.cache_namespace.specs.Shown.{shown};
 ghost use Rattle.cache_namespace.specs.Waiting.{is_load, loads_in, sent_by, under_way, when_waiting};
 ghost use Rattle.cache_namespace.specs.Whole.{has_line, has_room, held_line};
-ghost use Rattle.cache_namespace.specs.declared.standing.Standing.TheVariants as stands;
+ghost use Rattle.cache_loads.specs.declared.standing.Standing.TheVariants as stands;
 ghost use Rattle.cache_settling.specs.GivenUp.{RunsAgain};
 ghost use Rattle.cache_settling.specs.Noted.{noted_in};
 

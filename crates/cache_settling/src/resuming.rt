@@ -11,7 +11,7 @@ ghost use Rattle.cache_namespace.specs.Lines.{IsThere};
 ghost use Rattle.cache_namespace.specs.Making.{making_of};
 ghost use Rattle.cache_namespace.specs.Taken.{FeedsConnection, IsOpenOrEnded, ReplacedAt, text_at};
 ghost use Rattle.cache_namespace.specs.Waiting.{loads_in, under_way, when_left};
-ghost use Rattle.cache_namespace.specs.declared.standing.Standing.TheVariants as stands;
+ghost use Rattle.cache_loads.specs.declared.standing.Standing.TheVariants as stands;
 ghost use Rattle.cache_settling.specs.Noted.{NothingWaits, noted_in};
 ghost use Rattle.cache_settling.specs.Resumed.{RunsThem, runs_at};
 

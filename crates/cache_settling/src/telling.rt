@@ -12,7 +12,7 @@ ghost use Rattle.cache_namespace.specs.Taken.{ReplacedAt};
 ghost use Rattle.cache_namespace.specs.Waiting.{UnderWay, no_loads};
 ghost use Rattle.cache_namespace.specs.Whole.{has_line};
 ghost use Rattle.cache_namespace.specs.declared.connection.Connection.{Connection as Waiter};
-ghost use Rattle.cache_namespace.specs.declared.standing.Standing.TheVariants as now;
+ghost use Rattle.cache_loads.specs.declared.standing.Standing.TheVariants as now;
 ghost use Rattle.load_laws.specs.Tidy.{Tidy};
 ghost use Rattle.cache_settling.specs.Told.{HaveRoom, TellsThem, WritesTo, steps_told};
 

@@ -7,7 +7,7 @@ use Rattle.cache_namespace.specs.Taken.{FeedsConnection, IsOpenOrEnded, text_at}
 use Rattle.cache_namespace.specs.declared.connection.Connection.{Connection}
 use Rattle.cache_namespace.specs.Making.{making_of}
 use Rattle.cache_namespace.specs.Waiting.{under_way}
-use Rattle.cache_namespace.specs.Whole.{holds}
+use Rattle.cache_loads.specs.Standings.{holds}
 use Rattle.cache_namespace.proofs.Places.{at-place, at-replaced, text-is, closing-is}
 use Rattle.cache_namespace.proofs.namespace.feed_at.Goals as goal
 

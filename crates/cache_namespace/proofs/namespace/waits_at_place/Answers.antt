@@ -1,6 +1,6 @@
 use Rattle.std.proofs.Common.{◌&&◌, sym, ap, ◌∙◌}
 use Rattle.cache_namespace.proofs.Asking.{waits-where}
-use Rattle.cache_namespace.specs.Whole.{waits}
+use Rattle.cache_loads.specs.Standings.{waits}
 use Rattle.cache_namespace.proofs.namespace.waits_at_place.Goals as goal
 
 pub returns-then-is_open : goal.returns-then-is_open

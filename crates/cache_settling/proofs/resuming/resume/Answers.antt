@@ -9,7 +9,7 @@ use Rattle.cache_namespace.specs.Shown.{put_parts, standing_as}
 use Rattle.cache_namespace.specs.Taken.{is_quit}
 use Rattle.cache_namespace.specs.Making.{making_of}
 use Rattle.cache_namespace.specs.Waiting.{under_way, with_under_way}
-use Rattle.cache_namespace.specs.declared.standing.Standing.TheVariants as now
+use Rattle.cache_loads.specs.declared.standing.Standing.TheVariants as now
 use Rattle.cache_namespace.proofs.Putting.{put-open, put-long, put-quit}
 use Rattle.cache_namespace.proofs.Receiving.{put-behind, put-near}
 use Rattle.cache_settling.proofs.Resumes.{resumed}

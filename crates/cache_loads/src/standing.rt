@@ -1,6 +1,6 @@
 //! What a connection does with its first unread line.
 ghost use Rattle.std.specs.Prelude.{◌≡◌};
-ghost use Rattle.cache_namespace.specs.Whole.{holds, waits};
+ghost use Rattle.cache_loads.specs.Standings.{holds, waits};
 
 /// A connection runs lines, or waits before its first unread line.
 #[derive(Clone, Copy, Debug, PartialEq, Eq, Drop)]
