@@ -46,3 +46,15 @@ push_within-requires g c = let r = c.loop-part.invariant.room in omega arith
 
 pub loop-part-smaller : goal.loop-part-smaller
 loop-part-smaller g c = omega arith
+
+pub returns-in_default-clause-unchanged : goal.returns-in_default-clause-unchanged
+returns-in_default-clause-unchanged g c = c.try_reserve.ensures.items
+
+pub returns-in_default-clause-in_use : goal.returns-in_default-clause-in_use
+returns-in_default-clause-in_use g c = λ e. absurd cc
+
+pub returns-clause-in_use : goal.returns-clause-in_use
+returns-clause-in_use g c = λ e. absurd cc
+
+pub returns-in_default-clause-draws : goal.returns-in_default-clause-draws
+returns-in_default-clause-draws g c = record { number = 0; stream = refl }
