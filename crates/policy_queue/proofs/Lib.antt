@@ -3,3 +3,4 @@ pub mod Closing
 pub mod Moves
 pub mod Ends
 pub mod Names
+pub mod Holding

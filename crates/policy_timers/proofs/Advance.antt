@@ -123,6 +123,12 @@ pending-permutation now xs ys p = sum_by-IsPermutation (λ (t : Timer). cond (le
 pending-append : (now : ℕ) (xs ys : List Timer) → pending now (xs ++ ys) ≡ pending now xs + pending now ys
 pending-append now xs ys = sum_by-append (λ (t : Timer). cond (leb t.placed now) 1 0) xs ys
 
+less : (after before both gone left more one : ℕ) → both ≡ before → both ≡ gone + left → more ≡ left → one ≡ 1 → more ≡ one + after → after < before
+less after before both gone left more one a b c d e = omega arith
+
+less_later : (after before both gone left more one others moved none : ℕ) → both ≡ before → both ≡ gone + left → more ≡ left → one ≡ 1 → after ≡ moved → none ≡ 0 → more ≡ one + others → moved ≡ none + others → after < before
+less_later after before both gone left more one others moved none a b c d e f x y = omega arith
+
 -- each event leaves fewer timers to come
 pub pending_fewer : {K : Type 0} (old new : Slab (Slot K)) (now : ℕ) (before after : List Timer) (event : TimerEvent) → Step old new now before after (Some event) → pending now after < pending now before
 pending_fewer old new now before after (Expired node) h =
@@ -131,7 +137,7 @@ pending_fewer old new now before after (Expired node) h =
     let c = pending-permutation now h.left (h.is.timer ∷ after) h.is.timers in
     let d = counted_one now h.is.timer h.is.placed in
     let e = pending-cons now h.is.timer after in
-    omega arith
+    less (pending now after) (pending now before) (pending now (h.gone ++ h.left)) (pending now h.gone) (pending now h.left) (pending now (h.is.timer ∷ after)) (is_pending now h.is.timer) a b c d e
 pending_fewer old new now before after (Rescheduled u) h =
     let a = pending-permutation now before (h.gone ++ h.left) h.parts in
     let b = pending-append now h.gone h.left in
@@ -142,5 +148,5 @@ pending_fewer old new now before after (Rescheduled u) h =
     let f = counted_none now later h.is.later in
     let x = pending-cons now h.is.timer h.is.others in
     let y = pending-cons now later h.is.others in
-    omega arith
+    less_later (pending now after) (pending now before) (pending now (h.gone ++ h.left)) (pending now h.gone) (pending now h.left) (pending now (h.is.timer ∷ h.is.others)) (is_pending now h.is.timer) (pending now h.is.others) (pending now (later ∷ h.is.others)) (is_pending now later) a b c d e f x y
 pending_fewer old new now before after Descheduled h = absurd h.is

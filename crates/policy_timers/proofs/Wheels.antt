@@ -58,3 +58,10 @@ all_later ts s now first h e late k d lt =
     let same = ap key_of (get_or_default ts k d first lt) in
     let at_0 = ap key_of e in
     omega arith
+
+-- a list that begins with a timer, and with one before these others
+pub leads : (ts rest after : List Timer) (t u : Timer) → ts ≡ t ∷ rest → ts ≡ u ∷ after → ts ≡ t ∷ after
+leads ts rest after t u e f = f ∙ ap (λ (v : Timer). v ∷ after) (sym (ap (λ xs. get_or xs 0 t) (sym e ∙ f)))
+
+pub leads_same : (ts rest after : List Timer) (t u : Timer) → ts ≡ t ∷ rest → ts ≡ u ∷ after → u ≡ t
+leads_same ts rest after t u e f = sym (ap (λ xs. get_or xs 0 t) (sym e ∙ f))

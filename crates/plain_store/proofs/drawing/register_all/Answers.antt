@@ -40,3 +40,21 @@ returns-clause-ok g c =
     let is : c.loop-part.part ≡ c.args.parts = omega arith in
     adding_end c.args.parts (g.R.Rng.stream c.args.generator.now) (g.R.Rng.stream c.loop-part.generator) c.args.register.now.items c.loop-part.register.items c.requires.some
     (subst (λ n. Adding n (g.R.Rng.stream c.args.generator.now) (g.R.Rng.stream c.loop-part.generator) c.args.register.now.items c.loop-part.register.items) is c.loop-part.invariant.adding)
+
+pub push_within-requires : goal.push_within-requires
+push_within-requires g c = let r = c.loop-part.invariant.room in omega arith
+
+pub loop-part-smaller : goal.loop-part-smaller
+loop-part-smaller g c = omega arith
+
+pub returns-in_default-clause-unchanged : goal.returns-in_default-clause-unchanged
+returns-in_default-clause-unchanged g c = c.try_reserve.ensures.items
+
+pub returns-in_default-clause-in_use : goal.returns-in_default-clause-in_use
+returns-in_default-clause-in_use g c = λ e. absurd cc
+
+pub returns-clause-in_use : goal.returns-clause-in_use
+returns-clause-in_use g c = λ e. absurd cc
+
+pub returns-in_default-clause-draws : goal.returns-in_default-clause-draws
+returns-in_default-clause-draws g c = record { number = 0; stream = refl }

@@ -156,3 +156,52 @@ returns-clause-recency g c = λ n keys p o.
     (put_weighs part_of (new_item c.args.now c.in_ok-key.key.items c.in_ok-bytes.bytes.items part c.weight_of-weight.result c.own_deadline-own_deadline.result) store.table c.put.new.table c.weight_at.result c.in_ok-older.older part
     parted refl (at ∙ ap part_of (sym is_key)) was c.in_ok-older.ensures.weight c.in_ok-older.ensures.put ∙ ap (weight_in part) is)
     (rw limit at (rw is at c.evict-left.ensures.evicts))
+
+pub overflow_add-len : goal.overflow_add-len
+overflow_add-len g c = let n = c.len.ensures.number in let few = c.len.ensures.small in omega arith
+
+pub put-requires-clause-light : goal.put-requires-clause-light
+put-requires-clause-light g c = let l = weight_light c.args.self.now.config.weight c.args.bytes.now c.requires.short in let is = c.weight_of-weight.ensures in omega arith
+
+pub weight_at-requires : goal.weight_at-requires
+weight_at-requires g c =
+    let store = c.args.self.now in
+    let part_of = part_by store.parts (g.H.KeyHasher.number_of store.hasher) in
+    let part = c.part_of-part.result in
+    let key = c.args.key.now in
+    let at : part ≡ part_of key = c.part_of-part.ensures in
+    let lt : part < store.parts = subst (λ p. p < store.parts) (sym at) (subst (λ n. part_of key < n) (sym store.counted) (store.kept.served key)) in
+    let len = store.weighed.count in
+    omega arith
+
+pub set_weight-requires : goal.set_weight-requires
+set_weight-requires g c =
+    let store = c.args.self.now in
+    let part_of = part_by store.parts (g.H.KeyHasher.number_of store.hasher) in
+    let part = c.part_of-part.result in
+    let key = c.args.key.now in
+    let at : part ≡ part_of key = c.part_of-part.ensures in
+    let lt : part < store.parts = subst (λ p. p < store.parts) (sym at) (subst (λ n. part_of key < n) (sym store.counted) (store.kept.served key)) in
+    let len = store.weighed.count in
+    omega arith
+
+pub evict-left-requires-clause-room : goal.evict-left-requires-clause-room
+evict-left-requires-clause-room g c = c.in_ok-older.ensures.room
+
+pub returns-in_err-key-clause-few : goal.returns-in_err-key-clause-few
+returns-in_err-key-clause-few g c = omega arith
+
+pub returns-in_err-bytes-clause-few : goal.returns-in_err-bytes-clause-few
+returns-in_err-bytes-clause-few g c = omega arith
+
+pub returns-in_err-reserve-clause-few : goal.returns-in_err-reserve-clause-few
+returns-in_err-reserve-clause-few g c = let a = ap length c.in_err-reserve.ensures.items in omega arith
+
+pub returns-in_err-older-clause-few : goal.returns-in_err-older-clause-few
+returns-in_err-older-clause-few g c = let a = ap length c.in_err-older.ensures.nothing_told in let b = ap length c.in_ok-reserve.ensures.items in omega arith
+
+pub returns-clause-part : goal.returns-clause-part
+returns-clause-part g c = c.part_of-part.ensures
+
+pub returns-clause-frame : goal.returns-clause-frame
+returns-clause-frame g c = refl

@@ -1,10 +1,12 @@
-use Rattle.std.proofs.Common.{◌≡◌, ◌+◌, ◌++◌, ◌∷◌, [], refl, sym, ap, ◌∙◌, None, arith, length, drop, get_or, true, take}
+use Rattle.std.proofs.Common.{◌≡◌, ◌+◌, ◌++◌, ◌∷◌, [], refl, sym, ap, ◌∙◌, None, arith, length, drop, get_or, true, take, is_some}
+use Rattle.std.proofs.lemmas.Bool.{true≢false}
 use Rattle.std.proofs.lemmas.List.{length_push}
 use Rattle.policy_queue.specs.Places.{live}
 use Rattle.policy_queue.specs.Queue.{cursor_moved}
 use Rattle.policy_base.specs.Region.{same_id}
 use Rattle.policy_queue.proofs.Live.{live_at}
 use Rattle.policy_queue.proofs.Names.{AreNamed-moved}
+use Rattle.policy_queue.proofs.Holding.{holds_some, holds_within}
 use Rattle.policy_queue.proofs.Moves.{found-moved, found-behind, found_some, last_some, IsSomeAnd-at, length-emptied}
 use Rattle.policy_queue.proofs.deque.Deque.move_to_back.Goals as goal
 
@@ -72,3 +74,44 @@ invariant_of-self g c =
           let still = c.attach.ensures.capacity in
           omega arith;
     }
+
+pub place_of-requires : goal.place_of-requires
+place_of-requires g c = rw c.as_slice.ensures.value c.self.invariant.sound.stored
+
+pub has_next-requires-clause-last : goal.has_next-requires-clause-last
+has_next-requires-clause-last g c = rw c.as_slice-in-Some.ensures.value c.self.invariant.ends.last
+
+pub has_next-requires-clause-place : goal.has_next-requires-clause-place
+has_next-requires-clause-place g c = rw c.as_slice-in-Some.ensures.value (holds_within c.self.inside.places.items c.in-Some.k (λ n. same_id n.id c.args.id ≡ true) (rw c.as_slice.ensures.value at c.in-Some.ensures))
+
+pub cursor_leaving-self-inside-requires : goal.cursor_leaving-self-inside-requires
+cursor_leaving-self-inside-requires g c = rw c.as_slice-then-has_next.ensures.value (holds_within c.self.inside.places.items c.in-Some.k (λ n. same_id n.id c.args.id ≡ true) (rw c.as_slice.ensures.value at c.in-Some.ensures))
+
+pub detach-node-requires-clause-sound : goal.detach-node-requires-clause-sound
+detach-node-requires-clause-sound g c = c.self.invariant.sound
+
+pub detach-node-requires-clause-ends : goal.detach-node-requires-clause-ends
+detach-node-requires-clause-ends g c = c.self.invariant.ends
+
+pub detach-node-requires-clause-there : goal.detach-node-requires-clause-there
+detach-node-requires-clause-there g c = holds_some c.self.inside.places.items c.in-Some.k (λ n. same_id n.id c.args.id ≡ true) (rw c.as_slice.ensures.value at c.in-Some.ensures)
+
+pub attach-requires-clause-sound : goal.attach-requires-clause-sound
+attach-requires-clause-sound g c = c.detach-node.ensures.sound
+
+pub attach-requires-clause-ends : goal.attach-requires-clause-ends
+attach-requires-clause-ends g c = c.detach-node.ensures.ends
+
+pub attach-requires-clause-room : goal.attach-requires-clause-room
+attach-requires-clause-room g c = c.detach-node.ensures.room
+
+pub attach-requires-clause-slot : goal.attach-requires-clause-slot
+attach-requires-clause-slot g c = sym c.detach-node.ensures.vacant
+
+pub returns-in-None-clause-found : goal.returns-in-None-clause-found
+returns-in-None-clause-found g c =
+    let none = rw c.as_slice.ensures.value at c.in-None.ensures in
+    rw (← c.self.view_is) ((λ e. absurd (true≢false (sym e))), λ s. sym (ap is_some none) ∙ s)
+
+pub returns-in-None-clause-stale : goal.returns-in-None-clause-stale
+returns-in-None-clause-stale g c = refl

@@ -4,6 +4,7 @@ use Rattle.policy_queue.proofs.Names.{AreNamed-remove}
 use Rattle.policy_queue.specs.Places.{live}
 use Rattle.policy_queue.specs.Queue.{cursor_moved}
 use Rattle.policy_base.specs.Region.{same_id}
+use Rattle.policy_queue.proofs.Holding.{holds_some, holds_within}
 use Rattle.policy_queue.proofs.Moves.{found, found-without, found-cursor, IsSomeAnd-at, length-emptied}
 use Rattle.policy_queue.proofs.deque.Deque.unlink.Goals as goal
 
@@ -45,3 +46,24 @@ invariant_of-self g c =
           let kept = c.detach-element.ensures.capacity in
           omega arith;
     }
+
+pub place_of-requires : goal.place_of-requires
+place_of-requires g c = rw c.as_slice.ensures.value c.self.invariant.sound.stored
+
+pub cursor_leaving-self-inside-requires : goal.cursor_leaving-self-inside-requires
+cursor_leaving-self-inside-requires g c = rw c.as_slice-in-Some.ensures.value (holds_within c.self.inside.places.items c.in-Some.k (λ n. same_id n.id c.args.id ≡ true) (rw c.as_slice.ensures.value at c.in-Some.ensures))
+
+pub detach-element-requires-clause-sound : goal.detach-element-requires-clause-sound
+detach-element-requires-clause-sound g c = c.self.invariant.sound
+
+pub detach-element-requires-clause-ends : goal.detach-element-requires-clause-ends
+detach-element-requires-clause-ends g c = c.self.invariant.ends
+
+pub detach-element-requires-clause-there : goal.detach-element-requires-clause-there
+detach-element-requires-clause-there g c = holds_some c.self.inside.places.items c.in-Some.k (λ n. same_id n.id c.args.id ≡ true) (rw c.as_slice.ensures.value at c.in-Some.ensures)
+
+pub returns-in-None-clause-value : goal.returns-in-None-clause-value
+returns-in-None-clause-value g c = rw (← c.self.view_is) (rw c.as_slice.ensures.value at c.in-None.ensures)
+
+pub returns-in-None-clause-stale : goal.returns-in-None-clause-stale
+returns-in-None-clause-stale g c = refl

@@ -1,9 +1,15 @@
-use Rattle.std.proofs.Common.{◌≡◌, ◌∷◌, sym, ap, ◌∙◌, get_or, Bool, true, false, subst, ℕ, Some}
+use Rattle.std.proofs.Common.{◌≡◌, ◌∷◌, sym, ap, ◌∙◌, get_or, Bool, true, false, subst, ℕ, Some, refl}
+use Rattle.std.specs.List.{remove}
+use Rattle.policy_timers.proofs.Wheels.{first_split}
 use Rattle.policy_timers.specs.Events.{EventIs}
 use Rattle.std.specs.Bool.{OnTrue}
 use Rattle.policy_timers.specs.declared.array.Timer.{Timer}
-use Rattle.policy_timers.proofs.Advance.{Advancing-gone, Step-from, advanced_times, advancing_times, pending_fewer}
+use Rattle.policy_timers.proofs.Advance.{Keeps-trans, Advancing-start, Advancing-gone, Step-from, advanced_times, advancing_times, pending_fewer}
 use Rattle.policy_timers.proofs.events.TimerEventsIter.next.Goals as goal
+
+on_true : (b : Bool) (P : Type 0) → P → OnTrue b P
+on_true true P p = p
+on_true false P p = tt
 
 pub loop-timer-preserved : goal.loop-timer-preserved
 loop-timer-preserved g c =
@@ -15,10 +21,6 @@ loop-timer-preserved g c =
 
 pub returns-in-Some-due_of-clause-times : goal.returns-in-Some-due_of-clause-times
 returns-in-Some-due_of-clause-times g c = advanced_times _ c.loop-timer.self.entries.now _ c.loop-timer.self.wheel.now c.loop-timer.invariant.4 c.settle-event.new.entries (Some c.settle-event.result) c.settle-event.ensures.entries
-
-on_true : (b : Bool) (P : Type 0) → P → OnTrue b P
-on_true true P p = p
-on_true false P p = tt
 
 pub returns-in-Some-due_of-clause-steps : goal.returns-in-Some-due_of-clause-steps
 returns-in-Some-due_of-clause-steps g c =
@@ -33,3 +35,84 @@ returns-in-Some-due_of-clause-fewer g c =
 
 pub returns-clause-times : goal.returns-clause-times
 returns-clause-times g c = advancing_times _ _ _ _ c.loop-timer.invariant.4
+
+pub returns-then-not-self-clause-same_wheel : goal.returns-then-not-self-clause-same_wheel
+returns-then-not-self-clause-same_wheel g c = refl
+
+pub returns-then-not-self-clause-same_entries : goal.returns-then-not-self-clause-same_entries
+returns-then-not-self-clause-same_entries g c = refl
+
+pub returns-then-not-self-clause-now : goal.returns-then-not-self-clause-now
+returns-then-not-self-clause-now g c = refl
+
+pub returns-then-not-self-clause-late : goal.returns-then-not-self-clause-late
+returns-then-not-self-clause-late g c = refl
+
+pub returns-then-not-self-clause-times : goal.returns-then-not-self-clause-times
+returns-then-not-self-clause-times g c = λ entry. refl
+
+pub returns-then-not-self-clause-early : goal.returns-then-not-self-clause-early
+returns-then-not-self-clause-early g c = rw c.if-not-self.true (refl, refl, refl)
+
+pub returns-then-not-self-clause-steps : goal.returns-then-not-self-clause-steps
+returns-then-not-self-clause-steps g c = rw c.if-not-self.true tt
+
+pub returns-then-not-self-clause-keeps : goal.returns-then-not-self-clause-keeps
+returns-then-not-self-clause-keeps g c = rw c.if-not-self.true tt
+
+pub returns-then-not-self-clause-fewer : goal.returns-then-not-self-clause-fewer
+returns-then-not-self-clause-fewer g c = on_true _ _ tt
+
+pub loop-timer-init : goal.loop-timer-init
+loop-timer-init g c = (refl, refl, refl, refl, Advancing-start _ _)
+
+pub pop_first-requires : goal.pop_first-requires
+pop_first-requires g c = c.in-Some.ensures.0
+
+pub settle-event-requires-clause-there : goal.settle-event-requires-clause-there
+settle-event-requires-clause-there g c = (remove c.loop-timer.self.wheel.now.timers 0, first_split c.loop-timer.self.wheel.now.timers c.in-Some.timer c.in-Some.ensures.0 c.in-Some.ensures.1)
+
+pub settle-event-requires-clause-due : goal.settle-event-requires-clause-due
+settle-event-requires-clause-due g c = sym c.due_of.ensures ∙ c.in-Some-due_of.is
+
+pub settle-event-requires-clause-placed : goal.settle-event-requires-clause-placed
+settle-event-requires-clause-placed g c = c.in-Some.ensures.2
+
+pub returns-in-Some-due_of-clause-same_wheel : goal.returns-in-Some-due_of-clause-same_wheel
+returns-in-Some-due_of-clause-same_wheel g c = c.loop-timer.invariant.0
+
+pub returns-in-Some-due_of-clause-same_entries : goal.returns-in-Some-due_of-clause-same_entries
+returns-in-Some-due_of-clause-same_entries g c = c.loop-timer.invariant.1
+
+pub returns-in-Some-due_of-clause-now : goal.returns-in-Some-due_of-clause-now
+returns-in-Some-due_of-clause-now g c = c.loop-timer.invariant.2
+
+pub returns-in-Some-due_of-clause-late : goal.returns-in-Some-due_of-clause-late
+returns-in-Some-due_of-clause-late g c = c.loop-timer.invariant.3
+
+pub returns-in-Some-due_of-clause-early : goal.returns-in-Some-due_of-clause-early
+returns-in-Some-due_of-clause-early g c = rw c.if-not-self.false tt
+
+pub returns-in-Some-due_of-clause-keeps : goal.returns-in-Some-due_of-clause-keeps
+returns-in-Some-due_of-clause-keeps g c = on_true _ _ (Keeps-trans c.args.self.now.wheel.now c.loop-timer.self.wheel.now c.settle-event.new.wheel c.loop-timer.invariant.4.keeps c.settle-event.ensures.keeps)
+
+pub returns-clause-same_wheel : goal.returns-clause-same_wheel
+returns-clause-same_wheel g c = c.loop-timer.invariant.0
+
+pub returns-clause-same_entries : goal.returns-clause-same_entries
+returns-clause-same_entries g c = c.loop-timer.invariant.1
+
+pub returns-clause-now : goal.returns-clause-now
+returns-clause-now g c = c.loop-timer.invariant.2
+
+pub returns-clause-late : goal.returns-clause-late
+returns-clause-late g c = c.loop-timer.invariant.3
+
+pub returns-clause-early : goal.returns-clause-early
+returns-clause-early g c = rw c.if-not-self.false tt
+
+pub returns-clause-keeps : goal.returns-clause-keeps
+returns-clause-keeps g c = let h = c.loop-timer.invariant.4.keeps in rw (c.if-not-self.false, c.set_moment.ensures) (record { is_enabled = h.is_enabled; origin = h.origin; moment = c.loop-timer.invariant.2; next_serial = h.next_serial; room = h.room })
+
+pub returns-clause-fewer : goal.returns-clause-fewer
+returns-clause-fewer g c = on_true _ _ tt

@@ -1,8 +1,9 @@
-use Rattle.std.proofs.Common.{◌≡◌, refl, sym, ap, ◌∙◌}
+use Rattle.std.proofs.Common.{◌≡◌, refl, sym, ap, ◌∙◌, length, arith}
 use Rattle.std.specs.List.{remove}
 use Rattle.std.proofs.lemmas.List.{get_or_default}
 use Rattle.policy_timers.specs.Entries.{due_of}
 use Rattle.policy_timers.specs.Timers.{moved}
+use Rattle.std.proofs.lemmas.List.Edits.{length-insert, length-remove}
 use Rattle.std.proofs.lemmas.List.Sorted.{IsPermutation-remove, IsPermutation-insert}
 use Rattle.policy_timers.specs.declared.array.Timer.{Timer}
 use Rattle.policy_timers.proofs.Wheels.{below_removed, below_moved}
@@ -55,3 +56,56 @@ returns-in-Some-due_of-clause-rescheduled g c =
       is_due = ap (λ (u : Timer). due_of c.args.entries.now u.node.entry_info) (sym same) ∙ sym c.due_of.ensures ∙ c.in-Some-due_of.is;
       after = rw (m.4) (IsPermutation-insert (remove ts k) m.2 (moved t due.time due.expiry_gen));
     })
+
+pub find-requires : goal.find-requires
+find-requires g c = c.self.invariant.arranged
+
+pub index-requires : goal.index-requires
+index-requires g c = let lt = c.in-Some.ensures.0 in let ok = c.self.inside.timers.ok in omega arith
+
+pub take-timer-requires-clause-arranged : goal.take-timer-requires-clause-arranged
+take-timer-requires-clause-arranged g c = c.self.invariant.arranged
+
+pub take-timer-requires-clause-within : goal.take-timer-requires-clause-within
+take-timer-requires-clause-within g c = c.in-Some.ensures.0
+
+pub move_timer-requires-clause-arranged : goal.move_timer-requires-clause-arranged
+move_timer-requires-clause-arranged g c = c.self.invariant.arranged
+
+pub move_timer-requires-clause-within : goal.move_timer-requires-clause-within
+move_timer-requires-clause-within g c = c.in-Some.ensures.0
+
+pub returns-in-None-clause-stale : goal.returns-in-None-clause-stale
+returns-in-None-clause-stale g c = rw (← c.self.view_is) c.in-None.ensures
+
+pub returns-in-None-clause-unchanged : goal.returns-in-None-clause-unchanged
+returns-in-None-clause-unchanged g c = refl
+
+pub returns-in-None-due_of-clause-keeps : goal.returns-in-None-due_of-clause-keeps
+returns-in-None-due_of-clause-keeps g c =
+    let ts = c.self.inside.timers.items in
+    let lt = c.in-Some.ensures.0 in
+    let before = c.self.invariant.arranged.counted in
+    let after = c.take-timer.ensures.arranged.counted in
+    let fewer = length-remove ts c.in-Some.k lt in
+    let now = ap length c.take-timer.ensures.removed in
+    let len = c.self.inside.timers.ok in
+    let new_len = c.take-timer.new.timers.ok in
+    let kept = c.take-timer.ensures.capacity in
+    let slots = c.take-timer.ensures.slots in
+    rw (← c.self.view_is) (record { is_enabled = refl; origin = refl; moment = refl; next_serial = refl; room = omega arith })
+
+pub returns-in-Some-due_of-clause-keeps : goal.returns-in-Some-due_of-clause-keeps
+returns-in-Some-due_of-clause-keeps g c =
+    let ts = c.self.inside.timers.items in
+    let m = c.move_timer.ensures.moved in
+    let lt = c.in-Some.ensures.0 in
+    let before = c.self.invariant.arranged.counted in
+    let after = c.move_timer.ensures.arranged.counted in
+    let fewer = length-remove ts c.in-Some.k lt in
+    let now = ap length m.4 ∙ length-insert (remove ts c.in-Some.k) m.2 _ m.3 in
+    let len = c.self.inside.timers.ok in
+    let new_len = c.move_timer.new.timers.ok in
+    let kept = c.move_timer.ensures.capacity in
+    let slots = c.move_timer.ensures.slots in
+    rw (← c.self.view_is) (record { is_enabled = refl; origin = refl; moment = refl; next_serial = refl; room = omega arith })
