@@ -1,5 +1,5 @@
 -- What is found at a place of a list.
-use Rattle.std.proofs.Common.{◌≡◌, refl, ap, sym, ◌∙◌, ℕ, zero, suc, ◌+◌, ◌-◌, ◌<◌, cond, List, [], ◌∷◌, ◌++◌, Option, Some, None, length, arith, drop, take, get_or}
+use Rattle.std.proofs.Common.{◌≡◌, refl, ap, sym, ◌∙◌, ℕ, zero, suc, ◌+◌, ◌-◌, ◌<◌, ◌≤◌, cond, List, [], ◌∷◌, ◌++◌, Option, Some, None, length, arith, drop, take, get_or}
 use Rattle.std.specs.Prelude.{slice_get, remove, fold, option_map}
 use Rattle.std.proofs.lemmas.Bool.{eq-eqb, ne_eqb}
 use Rattle.policy_sketch.specs.Counts.{Sketch, frequency_of}
@@ -9,7 +9,7 @@ use Rattle.engine_reference.specs.Records.{record_at, with_settled, settled_in, 
 use Rattle.engine_reference.specs.declared.data.Record.{Record}
 use Rattle.engine_reference.specs.declared.data.Unsent.{Unsent}
 use Rattle.engine_lists.specs.Fronts.{front_frequency}
-use Rattle.engine_lists.proofs.Dropped.{drop-there}
+use Rattle.engine_lists.proofs.Dropped.{drop-there, drop_past}
 
 pub drop-number : (ns : List ℕ) (i : ℕ) → i < length ns → drop i ns ≡ get_or ns i 0 ∷ drop (suc i) ns
 drop-number [] i less = absurd (omega arith)
@@ -26,6 +26,13 @@ module _ {K V : Type 0} where
   pub record_at-here : (rs : List (Record K V)) (i n : ℕ) (r : Record K V) → slice_get rs i ≡ Some r → r.number ≡ n → record_at (drop i rs) n ≡ Some r
   record_at-here rs i n r there same = ap (λ l. record_at l n) (drop-there rs i r there) ∙ ap (λ b. cond b (Some r) (record_at (drop (suc i) rs) n)) (eq-eqb r.number n same)
 
+  pub record_at-past : (rs : List (Record K V)) (i n : ℕ) (r : Record K V) → slice_get rs i ≡ Some r → (r.number ≡ n → ⊥) → record_at (drop i rs) n ≡ record_at rs n → record_at (drop (i + 1) rs) n ≡ record_at rs n
+  record_at-past rs i n r there other h =
+      sym (ap (λ l. record_at l n) (drop-there rs i r there) ∙ ap (λ b. cond b (Some r) (record_at (drop (suc i) rs) n)) (ne_eqb r.number n other) ∙ ap (λ k. record_at (drop k rs) n) (one_more i)) ∙ h
+
+  pub record_at-end : (rs : List (Record K V)) (i n : ℕ) → length rs ≤ i → record_at (drop i rs) n ≡ record_at rs n → record_at rs n ≡ None
+  record_at-end rs i n past h = sym h ∙ ap (λ l. record_at l n) (drop_past rs i past)
+
   pub settled_here : (rs : List (Record K V)) (n : ℕ) (r : Record K V) → record_at rs n ≡ Some r → r.writes ≡ r.applied → (rest : List (Record K V)) → with_settled (record_at rs n) rest ≡ r ∷ rest
   settled_here rs n r found same rest = ap (λ o. with_settled o rest) found ∙ ap (λ b. cond b (r ∷ rest) rest) (eq-eqb r.writes r.applied same)
 
@@ -39,6 +46,13 @@ module _ {K V : Type 0} where
   pub settled_in-past : (rs : List (Record K V)) (ns : List ℕ) (i : ℕ) → i < length ns
       → ((rest : List (Record K V)) → with_settled (record_at rs (get_or ns i 0)) rest ≡ rest) → settled_in rs (drop i ns) ≡ settled_in rs (drop (suc i) ns)
   settled_in-past rs ns i less past = ap (λ l. settled_in rs l) (drop-number ns i less) ∙ past (settled_in rs (drop (suc i) ns))
+
+  pub settled_in-next : (rs : List (Record K V)) (ns : List ℕ) (i : ℕ) → i < length ns → ((rest : List (Record K V)) → with_settled (record_at rs (get_or ns i 0)) rest ≡ rest)
+      → settled_in rs (drop i ns) ≡ settled_in rs ns → settled_in rs (drop (i + 1) ns) ≡ settled_in rs ns
+  settled_in-next rs ns i less past h = sym (settled_in-past rs ns i less past ∙ ap (λ k. settled_in rs (drop k ns)) (one_more i)) ∙ h
+
+  pub settled_in-end : (rs : List (Record K V)) (ns : List ℕ) (i : ℕ) → length ns ≤ i → settled_in rs (drop i ns) ≡ settled_in rs ns → settled_in rs ns ≡ []
+  settled_in-end rs ns i past h = sym h ∙ ap (λ l. settled_in rs l) (drop_past ns i past)
 
   -- ---- fronts
 
@@ -55,6 +69,11 @@ module _ {K V : Type 0} where
   front-reached sketch [] total left e = ap (λ b. option_map (λ f. total + f) (option_map (frequencies {K = K} {V = V} sketch) (cond b (Some []) None))) (eq-eqb left 0 e) ∙ ap Some (let z : total + 0 ≡ total = omega arith in z)
   front-reached sketch (x ∷ xs) total left e =
       ap (λ b. option_map (λ f. total + f) (option_map (frequencies {K = K} {V = V} sketch) (cond b (Some []) (with_first x (shortest_front (left - weight_at x) xs))))) (eq-eqb left 0 e) ∙ ap Some (let z : total + 0 ≡ total = omega arith in z)
+
+  pub front-unreached : (sketch : Sketch) (rs : List (Record K V)) (ns : List ℕ) (i total left : ℕ) → length ns ≤ i → (left ≡ 0 → ⊥) → option_map (λ f. total + f) (front_frequency sketch left (settled_in rs (drop i ns))) ≡ None
+  front-unreached sketch rs ns i total left past some =
+      ap (λ l. option_map (λ f. total + f) (front_frequency sketch left (settled_in rs l))) (drop_past ns i past)
+      ∙ ap (λ b. option_map (λ f. total + f) (option_map (frequencies {K = K} {V = V} sketch) (cond b (Some []) None))) (ne_eqb left 0 some)
 
   joined : (sketch : Sketch) (total : ℕ) (r : Record K V) (o : Option (List (Record K V)))
       → option_map (λ f. total + f) (option_map (frequencies sketch) (with_first r o)) ≡ option_map (λ f. (total + frequency_of sketch r.hash) + f) (option_map (frequencies sketch) o)

@@ -1,11 +1,11 @@
 -- Sums over what is left of a list, one item further.
-use Rattle.std.proofs.Common.{◌≡◌, refl, ap, sym, ◌∙◌, ℕ, suc, ◌+◌, ◌<◌, Bool, true, false, cond, List, ◌∷◌, length, arith, drop, get_or}
+use Rattle.std.proofs.Common.{◌≡◌, refl, ap, sym, ◌∙◌, ℕ, suc, ◌+◌, ◌<◌, ◌≤◌, Bool, true, false, cond, List, ◌∷◌, length, arith, drop, get_or}
 use Rattle.std.specs.Prelude.{fold, is_some, unwrap_or}
 use Rattle.std.proofs.lemmas.Option.{slice_get_read}
 use Rattle.engine_reference.specs.declared.data.Entry.{Entry}
 use Rattle.engine_reference.specs.declared.data.Record.{Record}
 use Rattle.engine_reference.specs.Records.{held_entries, weight_at}
-use Rattle.engine_lists.proofs.Dropped.{drop-there}
+use Rattle.engine_lists.proofs.Dropped.{drop-there, drop_past}
 
 next-dropped : {X : Type 0} (xs : List X) (i : ℕ) (x : X) → i < length xs → x ≡ get_or xs i x → drop i xs ≡ x ∷ drop (i + 1) xs
 next-dropped xs i x less here =
@@ -34,3 +34,13 @@ module _ {K V : Type 0} where
   held-next rs i total total' n r less here more h =
       ap (λ t. fold (λ w (x : Entry K V). w + x.weight) t (held_entries (drop (i + 1) rs))) more
       ∙ sym (ap (λ l. fold (λ w (x : Entry K V). w + x.weight) total (held_entries l)) (next-dropped rs i r less here) ∙ held-one r.entry (held_entries (drop (i + 1) rs)) total r.is_held) ∙ h
+
+  -- past the last
+  pub count-end : (rs : List (Record K V)) (i total n : ℕ) → length rs ≤ i → fold (λ n r. n + cond (is_some r.counts) 1 0) total (drop i rs) ≡ n → total ≡ n
+  count-end rs i total n past h = sym (ap (λ l. fold (λ n (x : Record K V). n + cond (is_some x.counts) 1 0) total l) (drop_past rs i past)) ∙ h
+
+  pub weight-end : (rs : List (Record K V)) (i total n : ℕ) → length rs ≤ i → fold (λ w r. w + weight_at r) total (drop i rs) ≡ n → total ≡ n
+  weight-end rs i total n past h = sym (ap (λ l. fold (λ w (x : Record K V). w + weight_at x) total l) (drop_past rs i past)) ∙ h
+
+  pub held-end : (rs : List (Record K V)) (i total n : ℕ) → length rs ≤ i → fold (λ w e. w + e.weight) total (held_entries (drop i rs)) ≡ n → total ≡ n
+  held-end rs i total n past h = sym (ap (λ l. fold (λ w (x : Entry K V). w + x.weight) total (held_entries l)) (drop_past rs i past)) ∙ h

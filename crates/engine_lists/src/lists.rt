@@ -317,17 +317,22 @@ impl<K: Eq, V, S, R: Rules<K, V>> Lists<K, V, S, R> {
             return Err(Refusal::UsedUp);
         }
         let more = self.reserved + by;
-        self.records.reserve(more as usize)?;
-        self.unsent.reserve(more as usize)?;
         let told = self.records.len().saturating_add(more as usize);
-        self.notices.reserve(told)?;
         let listed = self
             .unsent
             .len()
             .saturating_add(self.writes.len())
             .saturating_add(more as usize);
-        self.access.reserve(listed)?;
-        self.predicates.reserve(more as usize)?;
+        reserve_all(
+            &mut self.records,
+            &mut self.unsent,
+            &mut self.notices,
+            &mut self.access,
+            &mut self.predicates,
+            more as usize,
+            told,
+            listed,
+        )?;
         self.reserved = more;
         Ok(())
     }
@@ -585,6 +590,63 @@ impl<K: Eq, V, S, R: Rules<K, V>> Lists<K, V, S, R> {
         self.weight = weight;
         self.ran = now;
     }
+}
+
+/// Reserves room in two lists, in turn.
+fn reserve_both<A, B>(
+    first: &mut Vec<A>,
+    second: &mut Vec<B>,
+    more: usize,
+    others: usize,
+) -> Result<(), AllocError>
+    ensures first_items { first.new.items ≡ first.old.items }
+    ensures first_len { vec_len first.new ≡ vec_len first.old }
+    ensures first_capacity { vec_capacity first.old ≤ vec_capacity first.new }
+    ensures first_room { OnOk result (vec_len first.new + more ≤ vec_capacity first.new) }
+    ensures second_items { second.new.items ≡ second.old.items }
+    ensures second_len { vec_len second.new ≡ vec_len second.old }
+    ensures second_capacity { vec_capacity second.old ≤ vec_capacity second.new }
+    ensures second_room { OnOk result (vec_len second.new + others ≤ vec_capacity second.new) }
+{
+    first.reserve(more)?;
+    second.reserve(others)
+}
+
+/// Reserves room for so many more in three lists, and for what is told and listed, in turn.
+fn reserve_all<A, B, C, D, E>(
+    records: &mut Vec<A>,
+    unsent: &mut Vec<B>,
+    notices: &mut Vec<C>,
+    access: &mut Vec<D>,
+    predicates: &mut Vec<E>,
+    more: usize,
+    told: usize,
+    listed: usize,
+) -> Result<(), AllocError>
+    ensures records_items { records.new.items ≡ records.old.items }
+    ensures records_len { vec_len records.new ≡ vec_len records.old }
+    ensures records_capacity { vec_capacity records.old ≤ vec_capacity records.new }
+    ensures records_room { OnOk result (vec_len records.new + more ≤ vec_capacity records.new) }
+    ensures unsent_items { unsent.new.items ≡ unsent.old.items }
+    ensures unsent_len { vec_len unsent.new ≡ vec_len unsent.old }
+    ensures unsent_capacity { vec_capacity unsent.old ≤ vec_capacity unsent.new }
+    ensures unsent_room { OnOk result (vec_len unsent.new + more ≤ vec_capacity unsent.new) }
+    ensures notices_items { notices.new.items ≡ notices.old.items }
+    ensures notices_len { vec_len notices.new ≡ vec_len notices.old }
+    ensures notices_capacity { vec_capacity notices.old ≤ vec_capacity notices.new }
+    ensures notices_room { OnOk result (vec_len notices.new + told ≤ vec_capacity notices.new) }
+    ensures access_items { access.new.items ≡ access.old.items }
+    ensures access_len { vec_len access.new ≡ vec_len access.old }
+    ensures access_capacity { vec_capacity access.old ≤ vec_capacity access.new }
+    ensures access_room { OnOk result (vec_len access.new + listed ≤ vec_capacity access.new) }
+    ensures predicates_items { predicates.new.items ≡ predicates.old.items }
+    ensures predicates_len { vec_len predicates.new ≡ vec_len predicates.old }
+    ensures predicates_capacity { vec_capacity predicates.old ≤ vec_capacity predicates.new }
+    ensures predicates_room { OnOk result (vec_len predicates.new + more ≤ vec_capacity predicates.new) }
+{
+    reserve_both(records, unsent, more, more)?;
+    reserve_both(notices, access, told, listed)?;
+    predicates.reserve(more)
 }
 
 /// Adds a notice of an entry that left, where it was held and removals are told.

@@ -1,5 +1,5 @@
 -- The steps of a run.
-use Rattle.std.proofs.Common.{◌≡◌, refl, ap, sym, ◌∙◌, subst, ℕ, zero, suc, ◌+◌, ◌<◌, arith, Bool, true, false, cond, not, ◌&&◌, List, [], ◌∷◌, ◌++◌, Option, Some, None, length, drop}
+use Rattle.std.proofs.Common.{◌≡◌, refl, ap, sym, ◌∙◌, subst, ℕ, zero, suc, ◌+◌, ◌<◌, ◌≤◌, arith, Bool, true, false, cond, not, ◌&&◌, List, [], ◌∷◌, ◌++◌, Option, Some, None, length, drop}
 use Rattle.std.specs.Prelude.{min, remove, slice_get, is_some}
 use Rattle.engine_reference.specs.declared.data.Record.{Record}
 use Rattle.engine_reference.specs.declared.data.Read.{Read}
@@ -27,6 +27,12 @@ due_there : {X : Type 0} (xs : List X) (i : ℕ) (r : X) → slice_get xs i ≡ 
 due_there [] i r h = absurd (cc)
 due_there (y ∷ xs) zero r h = let same : y ≡ r = cc in ap (λ z. z ∷ xs) same
 due_there (y ∷ xs) (suc i) r h = due_there xs i r h
+
+drop_past : {X : Type 0} (xs : List X) (i : ℕ) → length xs ≤ i → drop i xs ≡ []
+drop_past [] zero h = refl
+drop_past [] (suc i) h = refl
+drop_past (x ∷ xs) zero h = absurd (omega arith)
+drop_past (x ∷ xs) (suc i) h = drop_past xs i (omega arith)
 
 one_more : (n : ℕ) → suc n ≡ n + 1
 one_more n = omega arith
@@ -73,6 +79,9 @@ module _ {K V P S R : Type 0} (answers : Answers K V P R) (now : ℕ) where
       → none_due answers s now (drop (i + 1) s.records) ≡ none_due answers s now (drop i s.records)
   none_due-past s i r there e =
       ap (λ n. none_due answers s now (drop n s.records)) (sym (one_more i)) ∙ sym (ap (λ l. none_due answers s now l) (due_there s.records i r there) ∙ not_due s r (drop (suc i) s.records) e)
+
+  pub none_due-end : (s : State K V P S R) (i : ℕ) → length s.records ≤ i → none_due answers s now (drop i s.records) ≡ none_due answers s now s.records → none_due answers s now s.records ≡ true
+  none_due-end s i past h = sym h ∙ ap (λ l. none_due answers s now l) (drop_past s.records i past)
 
 module _ {K V P S R : Type 0} where
   -- what leaves its place leaves under its number

@@ -1,5 +1,5 @@
 use Rattle.std.proofs.Common.{◌≡◌, ap, sym, ◌∙◌, ◌+◌, cond, arith}
-use Rattle.engine_lists.proofs.Sums.{count-next}
+use Rattle.engine_lists.proofs.Sums.{count-next, count-end}
 use Rattle.engine_lists.proofs.finding.count_admitted.Goals.{then-is_some, else-is_some}
 use Rattle.engine_lists.proofs.finding.count_admitted.Goals as goal
 
@@ -17,3 +17,9 @@ loop-r-preserved g c =
         fits = omega arith;
       }
     ]
+
+pub overflow_add-total : goal.overflow_add-total
+overflow_add-total g c = omega arith
+
+pub returns : goal.returns
+returns g c = count-end c.args.records.now c.loop-r.r-index c.loop-r.total _ c.loop-r-test.false c.loop-r.invariant.total

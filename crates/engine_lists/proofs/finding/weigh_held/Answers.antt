@@ -1,5 +1,5 @@
 use Rattle.std.proofs.Common.{◌≡◌, ap, sym, ◌∙◌, ◌+◌, cond, arith}
-use Rattle.engine_lists.proofs.Sums.{held-next}
+use Rattle.engine_lists.proofs.Sums.{held-next, held-end}
 use Rattle.engine_lists.proofs.finding.weigh_held.Goals.{then-r, else-r}
 use Rattle.engine_lists.proofs.finding.weigh_held.Goals as goal
 
@@ -18,3 +18,12 @@ loop-r-preserved g c =
         fits = omega arith;
       }
     ]
+
+pub overflow_add-total : goal.overflow_add-total
+overflow_add-total g c = omega arith
+
+pub returns-clause-weight : goal.returns-clause-weight
+returns-clause-weight g c = held-end c.args.records.now c.loop-r.r-index c.loop-r.total _ c.loop-r-test.false c.loop-r.invariant.total
+
+pub returns-clause-fits : goal.returns-clause-fits
+returns-clause-fits g c = omega arith

@@ -1,4 +1,4 @@
-use Rattle.std.proofs.Common.{◌≡◌, ap, sym, ◌∙◌, Some}
+use Rattle.std.proofs.Common.{◌≡◌, ap, sym, ◌∙◌, Some, arith, length}
 use Rattle.std.specs.Prelude.{slice_get, slice_set}
 use Rattle.std.proofs.lemmas.Option.{same_Some}
 use Rattle.engine_reference.specs.declared.data.Record.{Record}
@@ -16,3 +16,9 @@ returns-in-Some g c =
     let same : l.0 ≡ f.0 = same_Some _ _ (sym l.1 ∙ there) in
     l.2 ∙ ap (λ (r : Record g.row.K.Denot g.row.V.Denot). record (popped s) { records = slice_set s.records c.in-Some.place (record r { applied = c.args.write.write; counts = Some c.args.write.weight }); access = moved_to_back r.number s.access }) same
     ∙ counted (popped s) c.in-Some.place c.args.write f.0 c.requires.numbered there found
+
+pub count_write-requires-clause-within : goal.count_write-requires-clause-within
+count_write-requires-clause-within g c = omega (arith, c.in-Some.ensures.within, ap (λ rs. length rs) c.records.ensures)
+
+pub count_write-requires-clause-some : goal.count_write-requires-clause-some
+count_write-requires-clause-some g c = c.requires.some

@@ -1,4 +1,4 @@
-use Rattle.std.proofs.Common.{ap, sym, ◌∙◌}
+use Rattle.std.proofs.Common.{ap, sym, ◌∙◌, arith, length}
 use Rattle.std.specs.Prelude.{slice_get}
 use Rattle.engine_reference.specs.Records.{settled_in}
 use Rattle.engine_reference.specs.Runs.{first_of}
@@ -12,3 +12,6 @@ returns-clause-found g c =
       sym c.is_too_heavy.ensures ∙ c.if-not-is_too_heavy.false,
       ap (λ rs. first_of (settled_in rs c.args.lists.now.access)) (sym c.records-records.ensures) ∙ ap (λ ns. first_of (settled_in c.records-records.result.now ns)) (sym c.access-access.ensures) ∙ f.2,
     )
+
+pub returns-clause-within : goal.returns-clause-within
+returns-clause-within g c = omega (arith, c.in_ok-place.ensures.within, ap (λ rs. length rs) c.records-records.ensures)

@@ -1,4 +1,4 @@
-use Rattle.std.proofs.Common.{◌≡◌, ap, sym, ◌∙◌}
+use Rattle.std.proofs.Common.{◌≡◌, ap, sym, ◌∙◌, arith, length}
 use Rattle.std.specs.Prelude.{slice_get, slice_set}
 use Rattle.std.proofs.lemmas.Option.{same_Some}
 use Rattle.engine_reference.specs.declared.data.Record.{Record}
@@ -23,3 +23,6 @@ pub returns-in-None : goal.returns-in-None
 returns-in-None g c =
     let a = (answers_of g.R.Rules.weight_of g.R.Rules.created g.R.Rules.read g.R.Rules.updated g.R.Rules.covers) in
     used_none a c.args.now c.args.lists.now c.args.number (ap (λ rs. record_at rs c.args.number) (sym c.records.ensures) ∙ c.in-None.ensures.none)
+
+pub use_at-requires : goal.use_at-requires
+use_at-requires g c = omega (arith, c.in-Some.ensures.within, ap (λ rs. length rs) c.records.ensures)

@@ -21,14 +21,14 @@ invariant_of-self g c =
     let longer = c.move_to_back.ensures.len in
     record {
       records = omega arith;
-      unsent = omega arith;
+      unsent = c.self.invariant.unsent;
       notices = omega arith;
       access = omega arith;
-      predicates = omega arith;
-      reads = omega arith;
+      predicates = c.self.invariant.predicates;
+      reads = c.self.invariant.reads;
       writes = omega arith;
-      tickets = omega arith;
-      numbers = omega arith;
+      tickets = c.self.invariant.tickets;
+      numbers = c.self.invariant.numbers;
       written = each-set (λ r. r.writes ≤ t) c.self.inside.records.items c.args.place _ low c.self.invariant.written;
       moments = each-set (λ r. r.entry.written < 18446744073709551615) c.self.inside.records.items c.args.place _ (each-get (λ r. r.entry.written < 18446744073709551615) c.self.inside.records.items c.args.place e here c.self.invariant.moments) c.self.invariant.moments;
     }
@@ -38,3 +38,9 @@ returns g c =
     let e = c.index_mut-found.result.now in
     let here = slice_get_read c.self.inside.records.items _ c.args.place e refl (omega (arith, ap (λ v. length v.records) c.self.view_is)) c.index_mut-found.ensures.value in
     (e, sym (ap (λ v. slice_get v.records c.args.place) c.self.view_is) ∙ here, rw (c.remove.ensures.items, c.move_to_back.ensures.items, ← c.self.view_is) refl)
+
+pub remove-requires : goal.remove-requires
+remove-requires g c = omega (arith, ap (λ v. length v.writes) c.self.view_is)
+
+pub index_mut-found-requires : goal.index_mut-found-requires
+index_mut-found-requires g c = omega (arith, ap (λ v. length v.records) c.self.view_is)

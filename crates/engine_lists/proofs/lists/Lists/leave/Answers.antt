@@ -9,14 +9,14 @@ invariant_of-self g c =
     let t = c.self.inside.next_ticket in
     record {
       records = omega arith;
-      unsent = omega arith;
+      unsent = c.self.invariant.unsent;
       notices = omega arith;
       access = omega arith;
-      predicates = omega arith;
-      reads = omega arith;
-      writes = omega arith;
-      tickets = omega arith;
-      numbers = omega arith;
+      predicates = c.self.invariant.predicates;
+      reads = c.self.invariant.reads;
+      writes = c.self.invariant.writes;
+      tickets = c.self.invariant.tickets;
+      numbers = c.self.invariant.numbers;
       written = rw c.remove-number.ensures.items (each-remove (λ r. r.writes ≤ t) c.self.inside.records.items c.args.place c.self.invariant.written);
       moments = rw c.remove-number.ensures.items (each-remove (λ r. r.entry.written < 18446744073709551615) c.self.inside.records.items c.args.place c.self.invariant.moments);
     }
@@ -26,3 +26,9 @@ returns g c =
     let e = c.remove-number.result in
     let here = slice_get_read c.self.inside.records.items _ c.args.place e refl (omega (arith, ap (λ v. length v.records) c.self.view_is)) c.remove-number.ensures.value in
     (e, sym (ap (λ v. slice_get v.records c.args.place) c.self.view_is) ∙ here, rw (c.remove-number.ensures.items, c.take_out.ensures.items, c.tell.ensures.items, ← c.self.view_is) refl)
+
+pub remove-number-requires : goal.remove-number-requires
+remove-number-requires g c = omega (arith, ap (λ v. length v.records) c.self.view_is)
+
+pub tell-requires : goal.tell-requires
+tell-requires g c = omega (arith, ap (λ v. length v.records) c.self.view_is)

@@ -12,14 +12,14 @@ invariant_of-self g c =
     let low = each-get (λ r. r.writes ≤ t) c.self.inside.records.items c.args.place e here c.self.invariant.written in
     record {
       records = omega arith;
-      unsent = omega arith;
+      unsent = c.self.invariant.unsent;
       notices = omega arith;
-      access = omega arith;
-      predicates = omega arith;
-      reads = omega arith;
-      writes = omega arith;
-      tickets = omega arith;
-      numbers = omega arith;
+      access = c.self.invariant.access;
+      predicates = c.self.invariant.predicates;
+      reads = c.self.invariant.reads;
+      writes = c.self.invariant.writes;
+      tickets = c.self.invariant.tickets;
+      numbers = c.self.invariant.numbers;
       written = each-set (λ r. r.writes ≤ t) c.self.inside.records.items c.args.place _ low c.self.invariant.written;
       moments = each-set (λ r. r.entry.written < 18446744073709551615) c.self.inside.records.items c.args.place _ (each-get (λ r. r.entry.written < 18446744073709551615) c.self.inside.records.items c.args.place e here c.self.invariant.moments) c.self.invariant.moments;
     }
@@ -29,3 +29,6 @@ returns g c =
     let e = c.index_mut.result.now in
     let here = slice_get_read c.self.inside.records.items _ c.args.place e refl (omega (arith, ap (λ v. length v.records) c.self.view_is)) c.index_mut.ensures.value in
     (e, sym (ap (λ v. slice_get v.records c.args.place) c.self.view_is) ∙ here, rw (← c.self.view_is) refl)
+
+pub index_mut-requires : goal.index_mut-requires
+index_mut-requires g c = omega (arith, ap (λ v. length v.records) c.self.view_is)

@@ -1,0 +1,23 @@
+use Rattle.std.proofs.Common.{refl, ap, arith, length}
+use Rattle.engine_lists.proofs.lists.Lists.push_read.Goals as goal
+
+pub push_reserved-requires : goal.push_reserved-requires
+push_reserved-requires g c = omega (arith, ap (λ v. length v.reads) c.self.view_is)
+
+pub invariant_of-self : goal.invariant_of-self
+invariant_of-self g c = record {
+  records = c.self.invariant.records;
+  unsent = c.self.invariant.unsent;
+  notices = c.self.invariant.notices;
+  access = c.self.invariant.access;
+  predicates = c.self.invariant.predicates;
+  reads = omega arith;
+  writes = c.self.invariant.writes;
+  tickets = c.self.invariant.tickets;
+  numbers = c.self.invariant.numbers;
+  written = c.self.invariant.written;
+  moments = c.self.invariant.moments;
+}
+
+pub returns : goal.returns
+returns g c = rw (c.push_reserved.ensures.items, ← c.self.view_is) refl
