@@ -77,7 +77,7 @@ fn owed(
         Doing::Set { .. } => Ok(Some(Vec::from_slice(alloc, ok_or_off(config))?)),
         Doing::Get { key } => Ok(Some(value_or_none(alloc, found(config, s, key))?)),
         Doing::Has { key } => Ok(Some(Vec::from_slice(alloc, yes_or_no(found(config, s, key)))?)),
-        Doing::Load { key } => Ok(load_reply(alloc, config, s, key)?),
+        Doing::Load { key } => load_reply(alloc, config, s, key),
         Doing::Del { .. } => Ok(Some(Vec::from_slice(alloc, b"OK\n")?)),
         Doing::Add { key, number, .. } => Ok(Some(add_reply(alloc, config, s, key, number)?)),
         Doing::Clear => Ok(Some(Vec::from_slice(alloc, b"OK\n")?)),
