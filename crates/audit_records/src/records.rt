@@ -304,8 +304,21 @@ fn audited(
     ensures { IfOk result (λ n. n ≡ audited_from config.now [] (empty_situation made) 0 records.now) }
 {
     let mut s = begin(alloc, made)?;
+    audited_from(alloc, config, &mut s, records)
+}
+
+/// The same from a situation on.
+fn audited_from(
+    alloc: Global,
+    config: &Config,
+    s: &mut State,
+    records: &[Record],
+) -> Result<Option<u64>, AllocError>
+    requires { IsTrue (is_tidy (situation_of s.old)) }
+    ensures { IfOk result (λ n. n ≡ audited_from config.now [] (situation_of s.old) 0 records.now) }
+{
     let mut parts = Parts::new(alloc)?;
-    audited_on(alloc, config, &mut s, &mut parts, records)
+    audited_on(alloc, config, s, &mut parts, records)
 }
 
 /// The same from a situation and parts on.
