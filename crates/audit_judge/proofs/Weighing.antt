@@ -1,6 +1,6 @@
 -- What a part weighs where a newcomer has taken its key's place.
-use Rattle.std.proofs.Common.{◌≡◌, refl, ap, ◌∙◌, sym, ℕ, ◌+◌, ◌-◌, ◌≤◌, ◌&&◌, Bool, true, false, cond, List, [], ◌∷◌, ◌++◌, map, Option, Some, None, option_map, nat_lt, arith}
-use Rattle.std.specs.Prelude.{◌==◌, is_some}
+use Rattle.std.proofs.Common.{◌≡◌, refl, ap, ◌∙◌, sym, ℕ, ◌+◌, ◌-◌, ◌≤◌, ◌&&◌, Bool, true, false, cond, List, [], ◌∷◌, ◌++◌, map, Option, Some, None, option_map, nat_lt, arith, Result, Ok, Err}
+use Rattle.std.specs.Prelude.{◌==◌, is_some, IfOk}
 use Rattle.std.specs.List.{find}
 use Rattle.std.specs.Option.{option_map_or}
 use Rattle.std.proofs.lemmas.Simd.{map-map}
@@ -65,3 +65,8 @@ overfilled-some config now hs deed value part e =
 
 pub overfilled-none : (config : Config) (now : ℕ) (hs : List HeldValue) (deed : Deed) (part : ℕ) → deed.value ≡ None → false ≡ overfills config (map (candidate_at config now) hs) deed part
 overfilled-none config now hs deed part e = sym (ap (λ o. is_some o && is_over config part (just_accepted (map (λ c. c.value) (map (candidate_at config now) hs)) o)) e)
+
+-- what holds of a result that is there
+pub if-ok : {T E : Type 0} {P Q : T → Type 0} (r : Result T E) → ((x : T) → P x → Q x) → IfOk r P → IfOk r Q
+if-ok (Ok x) f p = f x p
+if-ok (Err e) f p = tt

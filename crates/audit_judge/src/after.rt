@@ -1,5 +1,5 @@
 //! What a step leaves held.
-ghost use Rattle.std.specs.Prelude.{◌≡◌, ◌||◌, ◌<◌, ◌++◌, ℕ, List, Option, None, true, map, option_map, IfOk, OnOk, IfSome};
+ghost use Rattle.std.specs.Prelude.{◌≡◌, ◌||◌, ◌<◌, ◌++◌, ℕ, List, Option, Some, None, true, map, option_map, IfOk, OnOk, IfSome};
 ghost use Rattle.std.specs.Option.{option_to_list};
 ghost use Rattle.std.specs.List.{find};
 ghost use Rattle.audit_model.specs.Bytewise.{same};
@@ -10,7 +10,7 @@ ghost use Rattle.audit_model.specs.Situation.{candidate_at};
 ghost use Rattle.audit_model.specs.Values.{untold};
 ghost use Rattle.audit_held.specs.Seeing.{held_of};
 ghost use Rattle.audit_held.specs.Weights.{values_of};
-ghost use Rattle.audit_judge.specs.After.{has_true_notes, sized_part, held_values, is_among, used_in, covered_in, marked_by, passed_on_by, IsNew};
+ghost use Rattle.audit_judge.specs.After.{has_true_notes, sized_part, held_values, is_among, used_in, covered_in, marked_by, passed_on_by, AreSized, IsNew};
 ghost use Rattle.audit_judge.specs.Deeds.{covering_of, deed_with};
 ghost use Rattle.audit_judge.specs.Scenes.{rest_of, may_be_told};
 
@@ -111,12 +111,20 @@ fn add(held: &mut Holding, newcomer: Option<Held>, left: bool) -> Result<(), All
     requires absent { IfSome newcomer (λ n. find (λ h. same n.value.key h.value.key) held.old ≡ None) }
     ensures { OnOk result (held.new ≡ held.old ++ rest_of left newcomer) }
 {
-    if let Some(newcomer) = newcomer {
-        if left {
-            held.add(newcomer)?;
-        }
+    match newcomer {
+        Some(newcomer) => add_left(held, newcomer, left),
+        None => Ok(()),
     }
-    Ok(())
+}
+
+/// Adds the newcomer, if it is left.
+fn add_left(held: &mut Holding, newcomer: Held, left: bool) -> Result<(), AllocError>
+    requires small { newcomer.value.part < 256 }
+    requires new { newcomer ≡ newly_held newcomer.value }
+    requires absent { find (λ h. same newcomer.value.key h.value.key) held.old ≡ None }
+    ensures { OnOk result (held.new ≡ held.old ++ rest_of left (Some newcomer)) }
+{
+    if left { held.add(newcomer) } else { Ok(()) }
 }
 
 /// Uses the value that a step looks up, where it is live.
@@ -195,11 +203,31 @@ pub fn do_deed(
     ensures left { IfOk result (λ b. b ≡ true → held.new ≡ all_held_after config.now now held.old (deed_with deed.entry.now (option_map (λ h. h.value) newcomer)) notes.now) }
 {
     let sized = sized_parts(alloc, held, newcomer.as_ref(), notes)?;
+    do_sized(alloc, config, now, held, deed, newcomer, notes, &sized)
+}
+
+/// The same, with the parts of which the notes tell a value `Size`.
+fn do_sized(
+    alloc: Global,
+    config: &Config,
+    now: u64,
+    held: &mut Holding,
+    deed: &Deed<'_>,
+    newcomer: Option<Held>,
+    notes: &[Note],
+    sized: &[u64],
+) -> Result<bool, AllocError>
+    requires new { IfSome newcomer (IsNew now) }
+    requires small { IfSome newcomer (λ h. h.value.part < 256) }
+    requires sized { AreSized config.now now held.old (deed_with deed.now (option_map (λ h. h.value) newcomer)) notes.now sized.now }
+    ensures told { IfOk result (λ b. b ≡ has_true_notes config.now now held.old (deed_with deed.entry.now (option_map (λ h. h.value) newcomer)) notes.now) }
+    ensures left { IfOk result (λ b. b ≡ true → held.new ≡ all_held_after config.now now held.old (deed_with deed.entry.now (option_map (λ h. h.value) newcomer)) notes.now) }
+{
     let (right, left) = judge_notes(alloc, config, now, held, *deed, newcomer.as_ref(), notes)?;
     if !right {
         return Ok(false);
     }
     add(held, newcomer, left)?;
-    pass_on(config, now, deed, &sized, held)?;
+    pass_on(config, now, deed, sized, held)?;
     Ok(true)
 }

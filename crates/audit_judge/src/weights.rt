@@ -137,7 +137,7 @@ pub fn overfilled(
     ensures { IfOk result (λ marks. (now : ℕ) (deed : Deed) → deed.value ≡ option_map (λ h. h.value) (option_map (λ h. h.now) newcomer.entry) → AreOverfilled config.now (map (candidate_at config.now now) held.now) deed marks.items) }
 {
     match newcomer {
-        Some(newcomer) => Ok(overfilled_with(alloc, config, held, newcomer)?),
+        Some(newcomer) => overfilled_with(alloc, config, held, newcomer),
         None => Ok(Vec::new(alloc)),
     }
 }
@@ -152,7 +152,7 @@ fn overfilled_with(
     ensures { IfOk result (λ marks. (part : ℕ) → part < 256 → get_or marks.items part false ≡ is_over config.now part (just_accepted (values_of held.now) (Some newcomer.now.value))) }
 {
     match config.capacity {
-        Some(_) => Ok(overfilled_by(alloc, limit_of(config), held, newcomer)?),
+        Some(_) => overfilled_by(alloc, limit_of(config), held, newcomer),
         None => Ok(Vec::new(alloc)),
     }
 }

@@ -17,14 +17,11 @@ use std::alloc::{AllocError, Global};
 pub fn duties_to_feed<'a>(alloc: Global, conn: u64, held: bool) -> Result<Vec<Duty<'a>>, AllocError>
     ensures { IfOk result (λ ds. map task_of ds.items ≡ tasks_to_feed conn held) }
 {
-    let mut duties = Vec::new(alloc);
     if held {
-        duties.push(Duty::RunHeld(conn))?;
-        duties.push(Duty::RunLines(conn))?;
-        return Ok(duties);
+        Vec::from_slice(alloc, &[Duty::RunHeld(conn), Duty::RunLines(conn)])
+    } else {
+        Vec::from_slice(alloc, &[Duty::RunLines(conn)])
     }
-    duties.push(Duty::RunLines(conn))?;
-    Ok(duties)
 }
 
 /// What an answer makes due behind its own step: to hand it to each connection that waits, and then to run their lines.
@@ -80,9 +77,7 @@ pub fn duties_to_give_up<'a>(alloc: Global, conns: &[u64]) -> Result<Vec<Duty<'a
 fn push_again<'a>(duties: &mut Vec<Duty<'a>>, conn: u64) -> Result<(), AllocError>
     ensures { OnOk result (map task_of duties.new.items ≡ map task_of duties.old.items ++ (RunAgain conn ∷ RunLines conn ∷ [])) }
 {
-    duties.push(Duty::RunAgain(conn))?;
-    duties.push(Duty::RunLines(conn))?;
-    Ok(())
+    duties.extend_from_slice(&[Duty::RunAgain(conn), Duty::RunLines(conn)])
 }
 
 /// Whether it is due now.

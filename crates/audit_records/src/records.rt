@@ -64,7 +64,7 @@ fn judge_open(
     ensures tidy { IfOk result (λ b. b ≡ true → is_tidy (situation_of s.new) ≡ true) }
 {
     open(alloc, s, conn)?;
-    Ok(judge_steps(alloc, config, s, parts, &[], steps)?)
+    judge_steps(alloc, config, s, parts, &[], steps)
 }
 
 /// Closes a connection, and judges the steps that follow: there may be none.
@@ -81,7 +81,7 @@ fn judge_close(
     ensures tidy { IfOk result (λ b. b ≡ true → is_tidy (situation_of s.new) ≡ true) }
 {
     close(s, conn);
-    Ok(judge_steps(alloc, config, s, parts, &[], steps)?)
+    judge_steps(alloc, config, s, parts, &[], steps)
 }
 
 /// Feeds a connection, and judges the steps that follow.
@@ -102,7 +102,7 @@ fn judge_feed(
     let duties = duties_to_feed(alloc, conn, is_holding(s, conn))?;
     s.latest = moment.nanos.max(s.latest);
     feed(s, conn, piece.as_slice())?;
-    Ok(judge_steps(alloc, config, s, parts, duties.as_slice(), steps)?)
+    judge_steps(alloc, config, s, parts, duties.as_slice(), steps)
 }
 
 /// The connections that wait for a load.
@@ -142,7 +142,7 @@ fn judge_give_up(
     let conns = waiting_of(alloc, s, load)?;
     let duties = duties_to_give_up(alloc, conns.as_slice())?;
     settle(s, load, moment.nanos);
-    Ok(judge_steps(alloc, config, s, parts, duties.as_slice(), steps)?)
+    judge_steps(alloc, config, s, parts, duties.as_slice(), steps)
 }
 
 /// What a record shows of an answer's own step.
@@ -179,17 +179,37 @@ fn judge_answer(
     let key = key_of(alloc, s, load)?;
     let duties = duties_to_deliver(alloc, conns.as_slice(), outcome)?;
     settle(s, load, moment.nanos);
-    if !store(alloc, config, s, parts, key.as_ref(), outcome, entry)? {
-        return Ok(false);
-    }
-    Ok(judge_steps(
+    judge_stored(
         alloc,
         config,
         s,
         parts,
+        key.as_ref(),
+        outcome,
         duties.as_slice(),
-        entry.steps.as_slice(),
-    )?)
+        entry,
+    )
+}
+
+/// Judges an answer's own step, and the steps that follow, for which those are due.
+fn judge_stored(
+    alloc: Global,
+    config: &Config,
+    s: &mut State,
+    parts: &mut Parts,
+    key: Option<&Vec<u8>>,
+    outcome: &Outcome,
+    duties: &[Duty<'_>],
+    entry: &Record,
+) -> Result<bool, AllocError>
+    requires tidy { IsTrue (is_tidy (situation_of s.old)) }
+    ensures reaches { IfOk result (λ b. Reaches b (situation_of s.new) parts.new (audited_steps config.now parts.old (situation_of s.old) (Store (option_map (λ k. k.now.items) key.entry) outcome.now ∷ map task_of duties.entry.now) (own_step entry.now ∷ entry.now.steps))) }
+    ensures tidy { IfOk result (λ b. b ≡ true → is_tidy (situation_of s.new) ≡ true) }
+{
+    if !store(alloc, config, s, parts, key, outcome, entry)? {
+        return Ok(false);
+    }
+    judge_steps(alloc, config, s, parts, duties, entry.steps.as_slice())
 }
 
 /// Judges an answer's own step.
@@ -210,16 +230,16 @@ fn store(
     match key {
         Some(key) => {
             let duty = Duty::Store(Some(key.as_slice()), outcome);
-            Ok(judge(alloc, config, s, parts, Some(duty), shown)?)
+            judge(alloc, config, s, parts, Some(duty), shown)
         }
-        None => Ok(judge(
+        None => judge(
             alloc,
             config,
             s,
             parts,
             Some(Duty::Store(None, outcome)),
             shown,
-        )?),
+        ),
     }
 }
 
@@ -238,20 +258,20 @@ fn judge_event(
 {
     let steps = entry.steps.as_slice();
     match &entry.event {
-        Event::Open { conn } => Ok(judge_open(alloc, config, s, parts, *conn, steps)?),
-        Event::Close { conn } => Ok(judge_close(alloc, config, s, parts, *conn, steps)?),
+        Event::Open { conn } => judge_open(alloc, config, s, parts, *conn, steps),
+        Event::Close { conn } => judge_close(alloc, config, s, parts, *conn, steps),
         Event::Feed {
             conn,
             piece,
             moment,
-        } => Ok(judge_feed(alloc, config, s, parts, *conn, piece, *moment, steps)?),
+        } => judge_feed(alloc, config, s, parts, *conn, piece, *moment, steps),
         Event::Answer {
             load,
             outcome,
             moment,
-        } => Ok(judge_answer(alloc, config, s, parts, *load, outcome, *moment, entry)?),
+        } => judge_answer(alloc, config, s, parts, *load, outcome, *moment, entry),
         Event::GiveUp { load, moment } => {
-            Ok(judge_give_up(alloc, config, s, parts, *load, *moment, steps)?)
+            judge_give_up(alloc, config, s, parts, *load, *moment, steps)
         }
     }
 }
@@ -271,7 +291,7 @@ fn judge_record(
     if !is_taken(config, s, entry) {
         return Ok(false);
     }
-    Ok(judge_event(alloc, config, s, parts, entry)?)
+    judge_event(alloc, config, s, parts, entry)
 }
 
 /// The number of the first record that breaks a rule, by situations.
@@ -284,9 +304,36 @@ fn audited(
     ensures { IfOk result (λ n. n ≡ audited_from config.now [] (empty_situation made) 0 records.now) }
 {
     let mut s = begin(alloc, made)?;
+    audited_from(alloc, config, &mut s, records)
+}
+
+/// The same from a situation on.
+fn audited_from(
+    alloc: Global,
+    config: &Config,
+    s: &mut State,
+    records: &[Record],
+) -> Result<Option<u64>, AllocError>
+    requires { IsTrue (is_tidy (situation_of s.old)) }
+    ensures { IfOk result (λ n. n ≡ audited_from config.now [] (situation_of s.old) 0 records.now) }
+{
     let mut parts = Parts::new(alloc)?;
+    audited_on(alloc, config, s, &mut parts, records)
+}
+
+/// The same from a situation and parts on.
+fn audited_on(
+    alloc: Global,
+    config: &Config,
+    s: &mut State,
+    parts: &mut Parts,
+    records: &[Record],
+) -> Result<Option<u64>, AllocError>
+    requires { IsTrue (is_tidy (situation_of s.old)) }
+    ensures { IfOk result (λ n. n ≡ audited_from config.now parts.old (situation_of s.old) 0 records.now) }
+{
     for (i, entry) in records.iter().enumerate() {
-        if !judge_record(alloc, config, &mut s, &mut parts, entry)? {
+        if !judge_record(alloc, config, s, parts, entry)? {
             return Ok(Some(i as u64 + 1));
         }
     }
@@ -302,10 +349,10 @@ pub fn find_break(
     ensures { IfOk result (λ n. n ≡ first_break config.now transcript.now) }
 {
     breaks_agree();
-    Ok(audited(
+    audited(
         alloc,
         config,
         transcript.made.nanos,
         transcript.records.as_slice(),
-    )?)
+    )
 }

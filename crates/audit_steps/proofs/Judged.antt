@@ -1,6 +1,6 @@
 -- A step judged part by part.
-use Rattle.std.proofs.Common.{◌≡◌, refl, sym, ap, ◌∙◌, ℕ, Bool, true, false, not, ◌&&◌, ◌||◌, List, [], ◌∷◌, map, Option, Some, None, true≢false}
-use Rattle.std.specs.Prelude.{is_some}
+use Rattle.std.proofs.Common.{◌≡◌, refl, sym, ap, ◌∙◌, ℕ, Bool, true, false, not, ◌&&◌, ◌||◌, List, [], ◌∷◌, map, Option, Some, None, true≢false, Result, Ok, Err}
+use Rattle.std.specs.Prelude.{is_some, IfOk}
 use Rattle.std.specs.List.{list_all}
 use Rattle.std.specs.Option.{option_map}
 use Rattle.std.proofs.lemmas.Simd.{map-map}
@@ -122,10 +122,27 @@ wrong-acceptance config placed agrees a =
     go true = refl
     go false = refl
 
-pub right-then : (config : Config) (placed : PlacedStep) (agrees b : Bool) → is_fit config placed ≡ true → has_right_acceptance config placed ≡ true → agrees ≡ true
-    → b ≡ (has_right_notes config placed && is_synced config placed) → b ≡ (is_right config placed && agrees)
-right-then config placed agrees b f a g n = sym (and-true b) ∙ ap (λ x. b && x) (sym g) ∙ judged config placed agrees true true b (sym f) (sym a) n
-  where
-    and-true : (x : Bool) → (x && true) ≡ x
-    and-true true = refl
-    and-true false = refl
+both-ways-and : (x y : Bool) → (x && y) ≡ (y && x)
+both-ways-and true true = refl
+both-ways-and true false = refl
+both-ways-and false true = refl
+both-ways-and false false = refl
+
+pub right-of : (config : Config) (placed : PlacedStep) (agrees b : Bool) → is_fit config placed ≡ true → has_right_acceptance config placed ≡ true
+    → b ≡ (agrees && (has_right_notes config placed && is_synced config placed)) → b ≡ (is_right config placed && agrees)
+right-of config placed agrees b f a n =
+    n ∙ both-ways-and agrees (has_right_notes config placed && is_synced config placed)
+    ∙ judged config placed agrees true true (has_right_notes config placed && is_synced config placed) (sym f) (sym a) refl
+
+-- what holds of a result that is there
+pub if-ok : {T E : Type 0} {P Q : T → Type 0} (r : Result T E) → ((x : T) → P x → Q x) → IfOk r P → IfOk r Q
+if-ok (Ok x) f p = f x p
+if-ok (Err e) f p = tt
+
+pub if-ok-three : {T E : Type 0} {P Q R S : T → Type 0} (r : Result T E) → ((x : T) → P x → Q x → R x → S x) → IfOk r P → IfOk r Q → IfOk r R → IfOk r S
+if-ok-three (Ok x) f p q r = f x p q r
+if-ok-three (Err e) f p q r = tt
+
+pub if-ok-always : {T E : Type 0} {P : T → Type 0} (r : Result T E) → ((x : T) → P x) → IfOk r P
+if-ok-always (Ok x) f = f x
+if-ok-always (Err e) f = tt

@@ -41,10 +41,10 @@ fn offered(
     ensures { IfOk result (λ o. option_map offer_from o ≡ offered (view_in config.now (situation_of s.now)) (action_of doing.entry)) }
 {
     match doing {
-        Doing::Set { key, ms, value } => Ok(Some(offer(alloc, key, value, ms)?)),
+        Doing::Set { key, ms, value } => offer_some(alloc, key, value, ms),
         Doing::Add { key, ms, number } => offered_sum(alloc, config, s, key, ms, number),
         Doing::Store(Some(key), Outcome::Value(bytes, ms)) => {
-            Ok(Some(offer(alloc, key, bytes.as_slice(), *ms)?))
+            offer_some(alloc, key, bytes.as_slice(), *ms)
         }
         Doing::Store(Some(_), Outcome::None) => Ok(None),
         Doing::Store(Some(_), Outcome::Fault(_)) => Ok(None),
@@ -65,6 +65,18 @@ fn offer(alloc: Global, key: &[u8], bytes: &[u8], ms: Option<u64>) -> Result<Pro
     Ok(Proposal { key, bytes, ms })
 }
 
+/// The same, where one may be missing.
+fn offer_some(
+    alloc: Global,
+    key: &[u8],
+    bytes: &[u8],
+    ms: Option<u64>,
+) -> Result<Option<Proposal>, AllocError>
+    ensures { IfOk result (λ o. option_map offer_from o ≡ Some (record { key = key.now; bytes = bytes.now; ms = ms })) }
+{
+    Ok(Some(offer(alloc, key, bytes, ms)?))
+}
+
 /// What an `ADD` would have accepted.
 fn offered_sum(
     alloc: Global,
@@ -79,7 +91,7 @@ fn offered_sum(
     match sum_with(found(config, s, key), number) {
         Some(sum) => {
             let digits = digits_of(alloc, sum)?;
-            Ok(Some(offer(alloc, key, digits.as_slice(), ms)?))
+            offer_some(alloc, key, digits.as_slice(), ms)
         }
         None => Ok(None),
     }

@@ -11,6 +11,7 @@ ghost use Rattle.audit_model.specs.Steps.{Task, RunHeld, has_right_notes};
 ghost use Rattle.audit_model.specs.View.{View};
 ghost use Rattle.audit_judge.specs.After.{IsNew};
 ghost use Rattle.audit_held.specs.Weights.{values_of};
+ghost use Rattle.audit_parts.specs.Known.{agrees_with, with_value};
 ghost use Rattle.audit_situation.specs.States.{situation_of, are_apart};
 ghost use Rattle.audit_steps.specs.Doings.{action_of, acting};
 ghost use Rattle.audit_steps.specs.Judging.{placed_by, placed_with, is_fit, is_synced, reply_fits, IsJudged};
@@ -195,8 +196,7 @@ fn pass_step(
         key: key_loaded(doing),
         load: shown.load,
     };
-    pass(alloc, s, moved)?;
-    Ok(())
+    pass(alloc, s, moved)
 }
 
 /// Judges a step's notes, and does what it does.
@@ -222,6 +222,30 @@ fn finish(
     Ok(true)
 }
 
+/// Keeps the part of what a step accepts, judges its notes, and does what it does.
+fn judge_accepted(
+    alloc: Global,
+    config: &Config,
+    s: &mut State,
+    parts: &mut Parts,
+    duty: Option<Duty<'_>>,
+    shown: Shown<'_>,
+    doing: Doing<'_>,
+    newcomer: Option<Held>,
+) -> Result<bool, AllocError>
+    requires apart { IsTrue (are_apart s.old.connections) }
+    requires new { IfSome newcomer (IsNew s.old.latest) }
+    requires small { IfSome newcomer (λ h. h.value.part < 256) }
+    ensures right { IfOk result (λ b. let placed = placed_with config.now (situation_of s.old) (option_map task_of duty.entry) (action_of doing.entry) (step_of shown.entry) (option_map (λ h. h.value) newcomer) in b ≡ (agrees_with parts.old (option_map (λ h. h.value) newcomer) && (has_right_notes config.now placed && is_synced config.now placed))) }
+    ensures left { IfOk result (λ b. b ≡ true → situation_of s.new ≡ after_step config.now (situation_of s.old) (option_map task_of duty.entry) (step_of shown.entry) (placed_with config.now (situation_of s.old) (option_map task_of duty.entry) (action_of doing.entry) (step_of shown.entry) (option_map (λ h. h.value) newcomer)).effect) }
+    ensures kept { IfOk result (λ b. b ≡ true → parts.new ≡ with_value parts.old (option_map (λ h. h.value) newcomer)) }
+{
+    if !admit(parts, newcomer.as_ref())? {
+        return Ok(false);
+    }
+    finish(alloc, config, s, duty, shown, doing, newcomer)
+}
+
 /// Judges a step that does that, and does it.
 fn judge_doing(
     alloc: Global,
@@ -238,13 +262,10 @@ fn judge_doing(
     if !is_fit(alloc, config, s, duty, shown, doing)? {
         return Ok(false);
     }
-    let Some(newcomer) = accept(alloc, config, s, doing, shown.accepted)? else {
-        return Ok(false);
-    };
-    if !admit(parts, newcomer.as_ref())? {
-        return Ok(false);
+    match accept(alloc, config, s, doing, shown.accepted)? {
+        Some(newcomer) => { judge_accepted(alloc, config, s, parts, duty, shown, doing, newcomer) }
+        None => Ok(false),
     }
-    Ok(finish(alloc, config, s, duty, shown, doing, newcomer)?)
 }
 
 /// Judges a step for which this is due, and does what it does: to the situation, and to the parts of keys. Where it is wrong, or its value's
@@ -262,5 +283,5 @@ pub fn judge(
 {
     let waited = waited(s, shown.conn);
     let doing = do_due(config, waited, duty, shown);
-    Ok(judge_doing(alloc, config, s, parts, duty, shown, doing)?)
+    judge_doing(alloc, config, s, parts, duty, shown, doing)
 }

@@ -73,10 +73,17 @@ pub fn keys_listed(
     let _number = held.len();
     let all = held.lent()?;
     let keys = live_keys(alloc, config, now, &all)?;
+    text_of(alloc, &keys)
+}
+
+/// How many of these there are, then each on a line of its own.
+fn text_of(alloc: Global, keys: &BTreeMap<&[u8], ()>) -> Result<Vec<u8>, AllocError>
+    ensures { IfOk result (λ text. text.items ≡ keys_listed (map (λ e. e.0.now) keys.entry.now.entries)) }
+{
     let mut number = Buffer::new();
     let mut text = Vec::from_slice(alloc, b"KEYS ")?;
     text.extend_from_slice(number.format(keys.len()).as_bytes())?;
     text.push(b'\n')?;
-    write_keys(&mut text, &keys)?;
+    write_keys(&mut text, keys)?;
     Ok(text)
 }

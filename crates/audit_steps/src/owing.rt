@@ -64,6 +64,13 @@ fn load_reply(
     }
 }
 
+/// These bytes as a reply.
+fn text(alloc: Global, bytes: &[u8]) -> Result<Option<Vec<u8>>, AllocError>
+    ensures { IfOk result (λ r. option_map (λ t. t.items) r ≡ Some bytes.now) }
+{
+    Ok(Some(Vec::from_slice(alloc, bytes)?))
+}
+
 /// The reply that a step owes that is no `SYNC`.
 fn owed(
     alloc: Global,
@@ -74,21 +81,21 @@ fn owed(
     ensures { IfOk result (λ r. (values : List Value) → is_sync (action_of doing.entry) ≡ false → option_map (λ t. t.items) r ≡ reply_of config.now (view_in config.now (situation_of s.now)) values (action_of doing.entry)) }
 {
     match doing {
-        Doing::Set { .. } => Ok(Some(Vec::from_slice(alloc, ok_or_off(config))?)),
+        Doing::Set { .. } => text(alloc, ok_or_off(config)),
         Doing::Get { key } => Ok(Some(value_or_none(alloc, found(config, s, key))?)),
-        Doing::Has { key } => Ok(Some(Vec::from_slice(alloc, yes_or_no(found(config, s, key)))?)),
-        Doing::Load { key } => Ok(load_reply(alloc, config, s, key)?),
-        Doing::Del { .. } => Ok(Some(Vec::from_slice(alloc, b"OK\n")?)),
+        Doing::Has { key } => text(alloc, yes_or_no(found(config, s, key))),
+        Doing::Load { key } => load_reply(alloc, config, s, key),
+        Doing::Del { .. } => text(alloc, b"OK\n"),
         Doing::Add { key, number, .. } => Ok(Some(add_reply(alloc, config, s, key, number)?)),
-        Doing::Clear => Ok(Some(Vec::from_slice(alloc, b"OK\n")?)),
-        Doing::DropIf { .. } => Ok(Some(Vec::from_slice(alloc, b"OK\n")?)),
+        Doing::Clear => text(alloc, b"OK\n"),
+        Doing::DropIf { .. } => text(alloc, b"OK\n"),
         Doing::Keys => Ok(Some(keys_listed(alloc, config, s.latest, &s.held)?)),
         Doing::Sync => Ok(None),
-        Doing::Quit => Ok(Some(Vec::from_slice(alloc, b"OK\n")?)),
-        Doing::Fault(error) => Ok(Some(Vec::from_slice(alloc, fault_text(error))?)),
+        Doing::Quit => text(alloc, b"OK\n"),
+        Doing::Fault(error) => text(alloc, fault_text(error)),
         Doing::Hold => Ok(None),
         Doing::Deliver(outcome) => Ok(Some(outcome_text(alloc, outcome)?)),
-        Doing::Abandon => Ok(Some(Vec::from_slice(alloc, b"ERR abandoned\n")?)),
+        Doing::Abandon => text(alloc, b"ERR abandoned\n"),
         Doing::Store(_, _) => Ok(None),
     }
 }

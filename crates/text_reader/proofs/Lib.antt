@@ -1,5 +1,6 @@
 pub mod Cutting
 pub mod Entered
+pub mod Finished
 pub mod Gatherings
 pub mod Growing
 pub mod Itemed

@@ -1,5 +1,5 @@
 //! Items, gathered to a transcript.
-ghost use Rattle.std.specs.Prelude.{◌≡◌, ◌++◌, [], IfOk, IsTrue, OnOk, Some, None};
+ghost use Rattle.std.specs.Prelude.{◌≡◌, ◌++◌, [], IfOk, IsTrue, OnOk, Some, None, option_map};
 ghost use Rattle.text_reader.specs.Fields.{IsRead};
 ghost use Rattle.text_reader.specs.Gathered.{gathered_text, item_line};
 ghost use Rattle.text_reader.specs.Gathering as said;
@@ -238,26 +238,49 @@ fn put_note(step: &mut Step, note: Note) -> Result<(), LineFault>
     Ok(())
 }
 
+/// Puts the last step to its record, and that to the others.
+fn close(gathered: &mut Gathered) -> Result<(), LineFault>
+    ensures text { OnOk result (gathered_text gathered.new ≡ gathered_text gathered.old) }
+    ensures step { OnOk result (gathered.new.step ≡ None) }
+    ensures closed { OnOk result (gathered.new.«record» ≡ None) }
+    ensures said { IsMade (option_map said.closed_record (said.closed_step gathered.old)) result gathered.new }
+{
+    close_step(gathered)?;
+    close_record(gathered)
+}
+
 /// The transcript with its configuration, where both lines in front were read.
 #[tactic(auto, unfolding(crate::specs::Gathering::finished))]
 pub fn finish(mut gathered: Gathered) -> Result<(Config, Transcript), LineFault>
     ensures text { IfOk result (λ r. transcript_text r.0 r.1 ≡ gathered_text gathered) }
     ensures said { IsRead (said.finished gathered) result }
 {
-    close_step(&mut gathered)?;
-    close_record(&mut gathered)?;
-    let Some(config) = gathered.config else {
-        return Err(LineFault::Form);
-    };
-    let Some(made) = gathered.made else {
-        return Err(LineFault::Form);
-    };
+    close(&mut gathered)?;
     let Gathered {
-        config: _,
-        made: _,
+        config,
+        made,
         records,
         record: _,
         step: _,
     } = gathered;
+    join(config, made, records)
+}
+
+/// The transcript of these records, where both lines in front were read.
+#[tactic(auto, unfolding(crate::specs::Gathering::finished))]
+fn join(
+    config: Option<Config>,
+    made: Option<Instant>,
+    records: Seq<Record>,
+) -> Result<(Config, Transcript), LineFault>
+    ensures text { IfOk result (λ r. transcript_text r.0 r.1 ≡ gathered_text (record { config = config; made = made; records = records; «record» = None; step = None })) }
+    ensures said { IsRead (said.finished (record { config = config; made = made; records = records; «record» = None; step = None })) result }
+{
+    let Some(config) = config else {
+        return Err(LineFault::Form);
+    };
+    let Some(made) = made else {
+        return Err(LineFault::Form);
+    };
     Ok((config, Transcript { made, records }))
 }

@@ -1,4 +1,5 @@
-use Rattle.std.proofs.Common.{[], ap, ◌∙◌, sym, refl}
+use Rattle.std.proofs.Common.{◌≡◌, [], ap, ◌∙◌, sym, refl, subst}
+use Rattle.std.specs.Prelude.{IfOk}
 use Rattle.audit_model.specs.Situation.{empty_situation}
 use Rattle.audit_records.specs.Auditing.{audited_from}
 use Rattle.audit_records.proofs.Parts.{breaks-are}
@@ -8,5 +9,6 @@ pub returns : goal.returns
 returns c =
     let config = c.args.config.now in
     let transcript = c.args.transcript.now in
-    c.in_ok-audited.ensures ∙ ap (audited_from config [] (empty_situation transcript.made.nanos) 0) c.as_slice.ensures
-    ∙ breaks-are config [] [] (empty_situation transcript.made.nanos) 0 transcript.records (λ key part. refl) refl ∙ sym (c.breaks_agree.ensures config transcript)
+    subst (λ n. IfOk c.audited.result (λ found. found ≡ n))
+    (ap (audited_from config [] (empty_situation transcript.made.nanos) 0) c.as_slice.ensures
+    ∙ breaks-are config [] [] (empty_situation transcript.made.nanos) 0 transcript.records (λ key part. refl) refl ∙ sym (c.breaks_agree.ensures config transcript)) c.audited.ensures

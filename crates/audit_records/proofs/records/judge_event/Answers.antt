@@ -1,9 +1,10 @@
-use Rattle.std.proofs.Common.{◌≡◌, ap, ◌∙◌, sym, subst, refl, true}
+use Rattle.std.proofs.Common.{subst, sym}
+use Rattle.std.specs.Prelude.{IfOk}
 use Rattle.audit_situation.specs.States.{situation_of}
 use Rattle.audit_records.specs.Auditing.{Reaches, audited_event}
 use Rattle.audit_records.proofs.records.judge_event.Goals as goal
 
-pub returns-in_ok-judge_answer-in-Answer-clause-reaches : goal.returns-in_ok-judge_answer-in-Answer-clause-reaches
-returns-in_ok-judge_answer-in-Answer-clause-reaches c =
-    subst (λ e. Reaches c.in_ok-judge_answer-in-Answer.field-0 (situation_of c.judge_answer.new.s) c.judge_answer.new.parts (audited_event c.args.config.now c.args.parts.now (situation_of c.args.s.now) (record c.args.entry.now { event = e })))
-    (sym c.in-Answer.is) c.in_ok-judge_answer-in-Answer.ensures.reaches
+pub returns-in-Answer-clause-reaches : goal.returns-in-Answer-clause-reaches
+returns-in-Answer-clause-reaches c =
+    subst (λ e. IfOk c.judge_answer.result (λ b. Reaches b (situation_of c.judge_answer.new.s) c.judge_answer.new.parts (audited_event c.args.config.now c.args.parts.now (situation_of c.args.s.now) (record c.args.entry.now { event = e }))))
+    (sym c.in-Answer.is) c.judge_answer.ensures.reaches

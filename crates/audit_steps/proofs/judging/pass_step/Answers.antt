@@ -1,11 +1,11 @@
-use Rattle.std.proofs.Common.{ap, ◌∙◌, sym}
+use Rattle.std.proofs.Common.{◌≡◌, ap, ◌∙◌, sym, subst}
 use Rattle.std.specs.Option.{option_map}
 use Rattle.audit_model.specs.Commands.{quits}
 use Rattle.audit_model.specs.Stream.{is_held}
 use Rattle.audit_situation.specs.States.{situation_of, moved_in}
 use Rattle.audit_steps.specs.Doings.{action_of, acting}
 use Rattle.audit_steps.specs.Showing.{step_of, task_of, runs_lines}
-use Rattle.std.specs.Prelude.{is_some}
+use Rattle.std.specs.Prelude.{is_some, OnOk}
 use Rattle.audit_steps.proofs.Judged.{passes, is_some-map}
 use Rattle.audit_steps.proofs.judging.pass_step.Goals as goal
 
@@ -20,10 +20,11 @@ returns c =
     let conn = step.conn in
     let line = step.line in
     let load = step.load in
-    c.in_ok-pass.ensures
-    ∙ ap (λ b. moved_in conn b c.is_hold.result c.is_some.result line c.quits.result key load s) c.is_run_lines.ensures
+    subst (λ t. OnOk c.pass.result (situation_of c.pass.new.s ≡ t))
+    (ap (λ b. moved_in conn b c.is_hold.result c.is_some.result line c.quits.result key load s) c.is_run_lines.ensures
     ∙ ap (λ b. moved_in conn (runs_lines task) b c.is_some.result line c.quits.result key load s) (c.is_hold.ensures.held step.reply load)
     ∙ ap (λ b. moved_in conn (runs_lines task) (is_held effect) b line c.quits.result key load s) (c.is_some.ensures ∙ is_some-map (λ r. r.now) c.args.shown.reply)
     ∙ ap (λ b. moved_in conn (runs_lines task) (is_held effect) (is_some step.reply) line b key load s) (c.quits.ensures step.reply load)
     ∙ ap (λ k. moved_in conn (runs_lines task) (is_held effect) (is_some step.reply) line (quits effect) k load s) c.key_loaded.ensures
-    ∙ passes task step action s (sym c.is_store.ensures ∙ c.if-is_store.false)
+    ∙ passes task step action s (sym c.is_store.ensures ∙ c.if-is_store.false))
+    c.pass.ensures

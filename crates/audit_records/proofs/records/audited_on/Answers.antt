@@ -1,7 +1,7 @@
 use Rattle.std.proofs.Common.{◌∙◌}
 use Rattle.audit_situation.specs.States.{situation_of}
 use Rattle.audit_records.proofs.Onward.{audited-next}
-use Rattle.audit_records.proofs.records.audited.Goals as goal
+use Rattle.audit_records.proofs.records.audited_on.Goals as goal
 
 pub loop-i-preserved : goal.loop-i-preserved
 loop-i-preserved c = record {
