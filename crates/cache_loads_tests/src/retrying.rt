@@ -1,6 +1,5 @@
 //! Loads with memory refused: what is refused is asked once more, so these come out so with any one allocation refused.
-use crate::rows::{FIRST, Given, PLAIN, Row, SECOND, START, first_wrong};
-use std::test::Fail;
+use crate::rows::{FIRST, Given, PLAIN, Row, SECOND, START, first_wrong, none_wrong};
 
 const ANSWERED_AT_THE_SECOND_TRY: &[Row<'static>] = &[
     Row::Says(FIRST, b"LOAD k\nGET k\n", b""),
@@ -13,12 +12,11 @@ const ANSWERED_AT_THE_SECOND_TRY: &[Row<'static>] = &[
 ];
 
 #[test]
-fn answered_at_the_second_try(rt: HostRuntime) -> Result<(), Fail> {
-    assert_eq!(rt;
+fn answered_at_the_second_try(rt: HostRuntime) {
+    none_wrong(
+        &rt,
         first_wrong(rt.alloc(), PLAIN, ANSWERED_AT_THE_SECOND_TRY),
-        Ok(None)
     );
-    Ok(())
 }
 
 // a `LOAD` that finds no memory in a give-up is held back, and an empty piece sends the next load
@@ -38,10 +36,6 @@ const GIVEN_UP_WITHOUT_MEMORY: &[Row<'static>] = &[
 ];
 
 #[test]
-fn given_up_without_memory(rt: HostRuntime) -> Result<(), Fail> {
-    assert_eq!(rt;
-        first_wrong(rt.alloc(), PLAIN, GIVEN_UP_WITHOUT_MEMORY),
-        Ok(None)
-    );
-    Ok(())
+fn given_up_without_memory(rt: HostRuntime) {
+    none_wrong(&rt, first_wrong(rt.alloc(), PLAIN, GIVEN_UP_WITHOUT_MEMORY));
 }

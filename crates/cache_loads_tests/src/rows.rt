@@ -8,6 +8,7 @@ use cache_spaces::{AnswerError, Fed, Service};
 use rand_core::SeedableRng;
 use rand_xoshiro::Xoshiro256PlusPlus;
 use std::alloc::{AllocError, Global};
+use std::process::Abort;
 
 /// Without capacity, times and own deadlines.
 pub const PLAIN: Config = Config {
@@ -166,7 +167,7 @@ fn outcome(alloc: Global, given: Given<'_>) -> Result<Outcome, AllocError> {
 }
 
 /// Whether an outcome that was handed back is the one that was given.
-pub fn is_given(outcome: &Outcome, given: Given<'_>) -> bool {
+fn is_given(outcome: &Outcome, given: Given<'_>) -> bool {
     match (outcome, given) {
         (Outcome::Value(bytes, time), Given::Value(value, own)) => {
             bytes.as_slice() == value && *time == own
@@ -219,7 +220,7 @@ fn answers(
 }
 
 /// Makes an outcome, at the second try where memory is refused.
-pub fn new_outcome(alloc: Global, given: Given<'_>) -> Result<Outcome, AllocError> {
+fn new_outcome(alloc: Global, given: Given<'_>) -> Result<Outcome, AllocError> {
     match outcome(alloc, given) {
         Err(_) => outcome(alloc, given),
         made => made,
@@ -308,4 +309,9 @@ pub fn first_wrong(
         Ok(_) => Err(ServiceError::NoConnection),
         Err(error) => Err(error),
     }
+}
+
+/// Each row came out so.
+pub fn none_wrong(rt: &impl Abort, wrong: Result<Option<usize>, ServiceError>) {
+    assert_eq!(rt; wrong, Ok(None));
 }

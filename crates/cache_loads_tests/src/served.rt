@@ -1,7 +1,6 @@
 //! Connections that wait for loads of a service: answers, give-ups, and what stands behind a `LOAD`.
-use crate::rows::{FIRST, Given, LATE, PLAIN, Row, SECOND, START, first_wrong};
+use crate::rows::{FIRST, Given, LATE, PLAIN, Row, SECOND, START, first_wrong, none_wrong};
 use audit_model::{Closing, Config, ServiceError};
-use std::test::Fail;
 
 const ONE_LOAD_FOR_TWO: &[Row<'static>] = &[
     Row::Says(FIRST, b"LOAD k\n", b""),
@@ -21,9 +20,8 @@ const ONE_LOAD_FOR_TWO: &[Row<'static>] = &[
 ];
 
 #[test]
-fn one_load_for_two(rt: HostRuntime) -> Result<(), Fail> {
-    assert_eq!(rt; first_wrong(rt.alloc(), PLAIN, ONE_LOAD_FOR_TWO), Ok(None));
-    Ok(())
+fn one_load_for_two(rt: HostRuntime) {
+    none_wrong(&rt, first_wrong(rt.alloc(), PLAIN, ONE_LOAD_FOR_TWO));
 }
 
 const GIVEN_UP_AND_ANSWERED: &[Row<'static>] = &[
@@ -40,12 +38,8 @@ const GIVEN_UP_AND_ANSWERED: &[Row<'static>] = &[
 ];
 
 #[test]
-fn given_up_and_answered(rt: HostRuntime) -> Result<(), Fail> {
-    assert_eq!(rt;
-        first_wrong(rt.alloc(), PLAIN, GIVEN_UP_AND_ANSWERED),
-        Ok(None)
-    );
-    Ok(())
+fn given_up_and_answered(rt: HostRuntime) {
+    none_wrong(&rt, first_wrong(rt.alloc(), PLAIN, GIVEN_UP_AND_ANSWERED));
 }
 
 const A_DELETED_KEY_IS_LOADED: &[Row<'static>] = &[
@@ -57,12 +51,8 @@ const A_DELETED_KEY_IS_LOADED: &[Row<'static>] = &[
 ];
 
 #[test]
-fn a_deleted_key_is_loaded(rt: HostRuntime) -> Result<(), Fail> {
-    assert_eq!(rt;
-        first_wrong(rt.alloc(), PLAIN, A_DELETED_KEY_IS_LOADED),
-        Ok(None)
-    );
-    Ok(())
+fn a_deleted_key_is_loaded(rt: HostRuntime) {
+    none_wrong(&rt, first_wrong(rt.alloc(), PLAIN, A_DELETED_KEY_IS_LOADED));
 }
 
 const LINES_BEHIND_RUN_IN_ORDER: &[Row<'static>] = &[
@@ -77,12 +67,44 @@ const LINES_BEHIND_RUN_IN_ORDER: &[Row<'static>] = &[
 ];
 
 #[test]
-fn lines_behind_run_in_order(rt: HostRuntime) -> Result<(), Fail> {
-    assert_eq!(rt;
+fn lines_behind_run_in_order(rt: HostRuntime) {
+    none_wrong(
+        &rt,
         first_wrong(rt.alloc(), PLAIN, LINES_BEHIND_RUN_IN_ORDER),
-        Ok(None)
     );
-    Ok(())
+}
+
+const EACH_IS_TOLD_AND_READS_ON: &[Row<'static>] = &[
+    Row::Says(FIRST, b"LOAD k\nHAS k\n", b""),
+    Row::Says(SECOND, b"LOAD k\nHAS k\n", b""),
+    Row::Answers(1, Given::Fault(b"down"), START, Ok(())),
+    Row::Output(FIRST, b"ERR load down\nNO\n"),
+    Row::Output(SECOND, b"ERR load down\nNO\n"),
+    Row::Says(FIRST, b"LOAD k\nHAS k\n", b""),
+    Row::Says(SECOND, b"LOAD k\nHAS k\n", b""),
+    Row::Answers(2, Given::Nothing, START, Ok(())),
+    Row::Output(FIRST, b"NONE\nNO\n"),
+    Row::Output(SECOND, b"NONE\nNO\n"),
+    Row::Says(FIRST, b"LOAD k\nHAS k\n", b""),
+    Row::Says(SECOND, b"LOAD k\nHAS k\n", b""),
+    Row::Answers(
+        4,
+        Given::Value(b"v", None),
+        START,
+        Err(ServiceError::NoLoad),
+    ),
+    Row::Output(FIRST, b""),
+    Row::Answers(3, Given::Value(b"v", None), START, Ok(())),
+    Row::Output(FIRST, b"VAL v\nYES\n"),
+    Row::Output(SECOND, b"VAL v\nYES\n"),
+];
+
+#[test]
+fn each_is_told_and_reads_on(rt: HostRuntime) {
+    none_wrong(
+        &rt,
+        first_wrong(rt.alloc(), PLAIN, EACH_IS_TOLD_AND_READS_ON),
+    );
 }
 
 const NOTHING_IS_KEPT: &[Row<'static>] = &[
@@ -91,18 +113,19 @@ const NOTHING_IS_KEPT: &[Row<'static>] = &[
         b"SET a - 1\nGET a\nSYNC\nLOAD k\n",
         b"OFF\nNONE\nSYNC 0 0\n",
     ),
+    Row::Says(SECOND, b"LOAD k\nHAS k\n", b""),
     Row::Answers(1, Given::Value(b"v", None), START, Ok(())),
     Row::Says(FIRST, b"GET k\n", b"VAL v\nNONE\n"),
+    Row::Output(SECOND, b"VAL v\nNO\n"),
 ];
 
 #[test]
-fn nothing_is_kept_at_capacity_0(rt: HostRuntime) -> Result<(), Fail> {
+fn nothing_is_kept_at_capacity_0(rt: HostRuntime) {
     let off = Config {
         capacity: Some(0),
         ..PLAIN
     };
-    assert_eq!(rt; first_wrong(rt.alloc(), off, NOTHING_IS_KEPT), Ok(None));
-    Ok(())
+    none_wrong(&rt, first_wrong(rt.alloc(), off, NOTHING_IS_KEPT));
 }
 
 const OUTCOMES_THAT_ARE_REFUSED: &[Row<'static>] = &[
@@ -130,12 +153,11 @@ const OUTCOMES_THAT_ARE_REFUSED: &[Row<'static>] = &[
 ];
 
 #[test]
-fn outcomes_that_are_refused(rt: HostRuntime) -> Result<(), Fail> {
-    assert_eq!(rt;
+fn outcomes_that_are_refused(rt: HostRuntime) {
+    none_wrong(
+        &rt,
         first_wrong(rt.alloc(), PLAIN, OUTCOMES_THAT_ARE_REFUSED),
-        Ok(None)
     );
-    Ok(())
 }
 
 const THE_200TH_GIVE_UP_OF_EACH: &[Row<'static>] = &[
@@ -161,12 +183,11 @@ const THE_200TH_GIVE_UP_OF_EACH: &[Row<'static>] = &[
 ];
 
 #[test]
-fn the_200th_give_up_of_each(rt: HostRuntime) -> Result<(), Fail> {
-    assert_eq!(rt;
+fn the_200th_give_up_of_each(rt: HostRuntime) {
+    none_wrong(
+        &rt,
         first_wrong(rt.alloc(), PLAIN, THE_200TH_GIVE_UP_OF_EACH),
-        Ok(None)
     );
-    Ok(())
 }
 
 const BYTES_BEHIND_A_LOAD: &[Row<'static>] = &[
@@ -185,12 +206,8 @@ const BYTES_BEHIND_A_LOAD: &[Row<'static>] = &[
 ];
 
 #[test]
-fn bytes_behind_a_load(rt: HostRuntime) -> Result<(), Fail> {
-    assert_eq!(rt;
-        first_wrong(rt.alloc(), PLAIN, BYTES_BEHIND_A_LOAD),
-        Ok(None)
-    );
-    Ok(())
+fn bytes_behind_a_load(rt: HostRuntime) {
+    none_wrong(&rt, first_wrong(rt.alloc(), PLAIN, BYTES_BEHIND_A_LOAD));
 }
 
 const A_LOAD_OUTLIVES_ITS_CONNECTION: &[Row<'static>] = &[
@@ -202,13 +219,17 @@ const A_LOAD_OUTLIVES_ITS_CONNECTION: &[Row<'static>] = &[
     Row::Answers(1, Given::Value(b"v", None), START, Ok(())),
     Row::Output(FIRST, b""),
     Row::Output(SECOND, b"VAL v\n"),
+    Row::Says(SECOND, b"LOAD l\n", b""),
+    Row::Closes(SECOND),
+    Row::GivesUp(2, START, Ok(())),
+    Row::LoadsOpen(0),
+    Row::GivesUp(2, START, Err(ServiceError::NoLoad)),
 ];
 
 #[test]
-fn a_load_outlives_its_connection(rt: HostRuntime) -> Result<(), Fail> {
-    assert_eq!(rt;
+fn a_load_outlives_its_connection(rt: HostRuntime) {
+    none_wrong(
+        &rt,
         first_wrong(rt.alloc(), PLAIN, A_LOAD_OUTLIVES_ITS_CONNECTION),
-        Ok(None)
     );
-    Ok(())
 }

@@ -2,7 +2,6 @@
 use audit_model::{Bytes, LoadId};
 use cache_loads::Loads;
 use std::alloc::{AllocError, Global};
-use std::test::Fail;
 
 /// Whether those wait for the load of that number, in that order.
 fn wait_for(loads: &Loads, number: u64, conns: &[u64]) -> bool {
@@ -31,9 +30,8 @@ fn starts_once(alloc: Global) -> Result<bool, AllocError> {
 }
 
 #[test]
-fn one_load_a_key(rt: HostRuntime) -> Result<(), Fail> {
-    assert!(rt; starts_once(rt.alloc())?);
-    Ok(())
+fn one_load_a_key(rt: HostRuntime) {
+    assert!(rt; matches!(starts_once(rt.alloc()), Ok(true)));
 }
 
 /// Whether those are the first load, of `k`, and the second, of `l`, of namespace 3.
@@ -64,9 +62,8 @@ fn two_go_out(alloc: Global) -> Result<bool, AllocError> {
 }
 
 #[test]
-fn each_goes_out_once(rt: HostRuntime) -> Result<(), Fail> {
-    assert!(rt; two_go_out(rt.alloc())?);
-    Ok(())
+fn each_goes_out_once(rt: HostRuntime) {
+    assert!(rt; matches!(two_go_out(rt.alloc()), Ok(true)));
 }
 
 /// Whether the first of two leaves, and the load for which the second waits is settled once.
@@ -84,7 +81,6 @@ fn leaves(alloc: Global) -> Result<bool, AllocError> {
 }
 
 #[test]
-fn a_closed_connection_leaves(rt: HostRuntime) -> Result<(), Fail> {
-    assert!(rt; leaves(rt.alloc())?);
-    Ok(())
+fn a_closed_connection_leaves(rt: HostRuntime) {
+    assert!(rt; matches!(leaves(rt.alloc()), Ok(true)));
 }
