@@ -1,6 +1,6 @@
+use crate::outcome::none_wrong;
 use cache_lines::{Buffer, MAX_LINE, Next};
 use std::alloc::{AllocError, Global};
-use std::test::Fail;
 
 /// What is done with a buffer, and what has to come of it.
 #[derive(Clone, Copy)]
@@ -80,9 +80,8 @@ const PIECES: &[Row<'static>] = &[
 ];
 
 #[test]
-fn a_line_in_pieces(rt: HostRuntime) -> Result<(), Fail> {
-    assert_eq!(rt; first_wrong(rt.alloc(), PIECES), None);
-    Ok(())
+fn a_line_in_pieces(rt: HostRuntime) {
+    none_wrong(&rt, first_wrong(rt.alloc(), PIECES));
 }
 
 const CARRIAGE_RETURNS: &[Row<'static>] = &[
@@ -94,9 +93,8 @@ const CARRIAGE_RETURNS: &[Row<'static>] = &[
 ];
 
 #[test]
-fn one_carriage_return_is_dropped(rt: HostRuntime) -> Result<(), Fail> {
-    assert_eq!(rt; first_wrong(rt.alloc(), CARRIAGE_RETURNS), None);
-    Ok(())
+fn one_carriage_return_is_dropped(rt: HostRuntime) {
+    none_wrong(&rt, first_wrong(rt.alloc(), CARRIAGE_RETURNS));
 }
 
 const LONGEST_LINE: &[Row<'static>] = &[
@@ -107,9 +105,8 @@ const LONGEST_LINE: &[Row<'static>] = &[
 ];
 
 #[test]
-fn the_longest_line(rt: HostRuntime) -> Result<(), Fail> {
-    assert_eq!(rt; first_wrong(rt.alloc(), LONGEST_LINE), None);
-    Ok(())
+fn the_longest_line(rt: HostRuntime) {
+    none_wrong(&rt, first_wrong(rt.alloc(), LONGEST_LINE));
 }
 
 const LINE_TOO_LONG: &[Row<'static>] = &[
@@ -123,9 +120,8 @@ const LINE_TOO_LONG: &[Row<'static>] = &[
 ];
 
 #[test]
-fn a_line_too_long(rt: HostRuntime) -> Result<(), Fail> {
-    assert_eq!(rt; first_wrong(rt.alloc(), LINE_TOO_LONG), None);
-    Ok(())
+fn a_line_too_long(rt: HostRuntime) {
+    none_wrong(&rt, first_wrong(rt.alloc(), LINE_TOO_LONG));
 }
 
 const LONGEST_VALUE: &[Row<'static>] = &[
@@ -143,10 +139,9 @@ const VALUE_TOO_LONG: &[Row<'static>] = &[
 ];
 
 #[test]
-fn a_value_of_8184_bytes_and_one_of_8185(rt: HostRuntime) -> Result<(), Fail> {
-    assert_eq!(rt; first_wrong(rt.alloc(), LONGEST_VALUE), None);
-    assert_eq!(rt; first_wrong(rt.alloc(), VALUE_TOO_LONG), None);
-    Ok(())
+fn a_value_of_8184_bytes_and_one_of_8185(rt: HostRuntime) {
+    none_wrong(&rt, first_wrong(rt.alloc(), LONGEST_VALUE));
+    none_wrong(&rt, first_wrong(rt.alloc(), VALUE_TOO_LONG));
 }
 
 const AFTER_A_REFUSAL: &[Row<'static>] = &[
@@ -159,7 +154,6 @@ const AFTER_A_REFUSAL: &[Row<'static>] = &[
 ];
 
 #[test]
-fn a_piece_after_a_refusal(rt: HostRuntime) -> Result<(), Fail> {
-    assert_eq!(rt; first_wrong(rt.alloc(), AFTER_A_REFUSAL), None);
-    Ok(())
+fn a_piece_after_a_refusal(rt: HostRuntime) {
+    none_wrong(&rt, first_wrong(rt.alloc(), AFTER_A_REFUSAL));
 }

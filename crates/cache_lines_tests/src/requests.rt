@@ -1,6 +1,6 @@
+use crate::outcome::none_wrong;
 use audit_model::{Config, EvictionPolicy, LineError, Weight};
 use cache_lines::{Request, read_line};
-use std::test::Fail;
 
 fn config(own_deadlines: bool) -> Config {
     Config {
@@ -97,9 +97,8 @@ const COMMANDS: &[Row<'static>] = &[
 ];
 
 #[test]
-fn each_command(rt: HostRuntime) -> Result<(), Fail> {
-    assert_eq!(rt; first_wrong(COMMANDS), None);
-    Ok(())
+fn each_command(rt: HostRuntime) {
+    none_wrong(&rt, first_wrong(COMMANDS));
 }
 
 const EMPTY_VALUES: &[Row<'static>] = &[
@@ -108,9 +107,8 @@ const EMPTY_VALUES: &[Row<'static>] = &[
 ];
 
 #[test]
-fn an_empty_value(rt: HostRuntime) -> Result<(), Fail> {
-    assert_eq!(rt; first_wrong(EMPTY_VALUES), None);
-    Ok(())
+fn an_empty_value(rt: HostRuntime) {
+    none_wrong(&rt, first_wrong(EMPTY_VALUES));
 }
 
 const DEADLINES: &[Row<'static>] = &[
@@ -138,9 +136,8 @@ const DEADLINES: &[Row<'static>] = &[
 ];
 
 #[test]
-fn deadlines(rt: HostRuntime) -> Result<(), Fail> {
-    assert_eq!(rt; first_wrong(DEADLINES), None);
-    Ok(())
+fn deadlines(rt: HostRuntime) {
+    none_wrong(&rt, first_wrong(DEADLINES));
 }
 
 const NUMBERS: &[Row<'static>] = &[
@@ -183,13 +180,12 @@ const NUMBERS: &[Row<'static>] = &[
 ];
 
 #[test]
-fn numbers(rt: HostRuntime) -> Result<(), Fail> {
-    assert_eq!(rt; first_wrong(NUMBERS), None);
-    Ok(())
+fn numbers(rt: HostRuntime) {
+    none_wrong(&rt, first_wrong(NUMBERS));
 }
 
 #[test]
-fn the_longest_values(rt: HostRuntime) -> Result<(), Fail> {
+fn the_longest_values(rt: HostRuntime) {
     let mut line = [b'v'; 8192];
     line[..8].copy_from_slice(b"SET a - ");
     let rows = [
@@ -200,12 +196,11 @@ fn the_longest_values(rt: HostRuntime) -> Result<(), Fail> {
         ),
         Row(b"SET a 00 x", true, Wanted::Set(b"a", Some(0), b"x")),
     ];
-    assert_eq!(rt; first_wrong(&rows), None);
-    Ok(())
+    none_wrong(&rt, first_wrong(&rows));
 }
 
 #[test]
-fn the_longest_key(rt: HostRuntime) -> Result<(), Fail> {
+fn the_longest_key(rt: HostRuntime) {
     let mut get = [b'k'; 254];
     get[..4].copy_from_slice(b"GET ");
     let mut get_longer = [b'k'; 255];
@@ -218,12 +213,11 @@ fn the_longest_key(rt: HostRuntime) -> Result<(), Fail> {
             Wanted::Fault(LineError::Syntax),
         ),
     ];
-    assert_eq!(rt; first_wrong(&rows), None);
-    Ok(())
+    none_wrong(&rt, first_wrong(&rows));
 }
 
 #[test]
-fn the_longest_key_of_a_value(rt: HostRuntime) -> Result<(), Fail> {
+fn the_longest_key_of_a_value(rt: HostRuntime) {
     let mut set = [b'k'; 258];
     set[..4].copy_from_slice(b"SET ");
     set[254..].copy_from_slice(b" - x");
@@ -238,8 +232,7 @@ fn the_longest_key_of_a_value(rt: HostRuntime) -> Result<(), Fail> {
             Wanted::Fault(LineError::Syntax),
         ),
     ];
-    assert_eq!(rt; first_wrong(&rows), None);
-    Ok(())
+    none_wrong(&rt, first_wrong(&rows));
 }
 
 const UNREAD: &[Row<'static>] = &[
@@ -264,7 +257,6 @@ const UNREAD: &[Row<'static>] = &[
 ];
 
 #[test]
-fn what_cannot_be_read(rt: HostRuntime) -> Result<(), Fail> {
-    assert_eq!(rt; first_wrong(UNREAD), None);
-    Ok(())
+fn what_cannot_be_read(rt: HostRuntime) {
+    none_wrong(&rt, first_wrong(UNREAD));
 }

@@ -1,7 +1,6 @@
 //! What each command answers and tells, under times and own deadlines.
-use crate::script::{FIRST, PLAIN, Row, first_wrong};
+use crate::script::{FIRST, PLAIN, Row, first_wrong, none_wrong};
 use audit_model::{Closing, Config, RemovalCause, ServiceError};
-use std::test::Fail;
 
 const CLEAR_COVERS_WHAT_WAS_BEFORE_IT: &[Row<'static>] = &[
     Row::Says(
@@ -14,12 +13,11 @@ const CLEAR_COVERS_WHAT_WAS_BEFORE_IT: &[Row<'static>] = &[
 ];
 
 #[test]
-fn clear_covers_what_was_before_it(rt: HostRuntime) -> Result<(), Fail> {
-    assert_eq!(rt;
+fn clear_covers_what_was_before_it(rt: HostRuntime) {
+    none_wrong(
+        &rt,
         first_wrong(rt.alloc(), PLAIN, CLEAR_COVERS_WHAT_WAS_BEFORE_IT),
-        Ok(None)
     );
-    Ok(())
 }
 
 const A_PREFIX_IS_DROPPED: &[Row<'static>] = &[Row::Says(
@@ -29,12 +27,8 @@ const A_PREFIX_IS_DROPPED: &[Row<'static>] = &[Row::Says(
 )];
 
 #[test]
-fn a_prefix_is_dropped(rt: HostRuntime) -> Result<(), Fail> {
-    assert_eq!(rt;
-        first_wrong(rt.alloc(), PLAIN, A_PREFIX_IS_DROPPED),
-        Ok(None)
-    );
-    Ok(())
+fn a_prefix_is_dropped(rt: HostRuntime) {
+    none_wrong(&rt, first_wrong(rt.alloc(), PLAIN, A_PREFIX_IS_DROPPED));
 }
 
 const WHAT_IS_DROPPED_IS_TOLD_BY_A_SYNC: &[Row<'static>] = &[
@@ -50,12 +44,11 @@ const WHAT_IS_DROPPED_IS_TOLD_BY_A_SYNC: &[Row<'static>] = &[
 ];
 
 #[test]
-fn what_is_dropped_is_told_by_a_sync(rt: HostRuntime) -> Result<(), Fail> {
-    assert_eq!(rt;
+fn what_is_dropped_is_told_by_a_sync(rt: HostRuntime) {
+    none_wrong(
+        &rt,
         first_wrong(rt.alloc(), PLAIN, WHAT_IS_DROPPED_IS_TOLD_BY_A_SYNC),
-        Ok(None)
     );
-    Ok(())
 }
 
 const NUMBERS_ARE_ADDED: &[Row<'static>] = &[Row::Says(
@@ -65,9 +58,8 @@ const NUMBERS_ARE_ADDED: &[Row<'static>] = &[Row::Says(
 )];
 
 #[test]
-fn numbers_are_added(rt: HostRuntime) -> Result<(), Fail> {
-    assert_eq!(rt; first_wrong(rt.alloc(), PLAIN, NUMBERS_ARE_ADDED), Ok(None));
-    Ok(())
+fn numbers_are_added(rt: HostRuntime) {
+    none_wrong(&rt, first_wrong(rt.alloc(), PLAIN, NUMBERS_ARE_ADDED));
 }
 
 const IDLE_VALUES_END: &[Row<'static>] = &[
@@ -81,13 +73,12 @@ const IDLE_VALUES_END: &[Row<'static>] = &[
 ];
 
 #[test]
-fn idle_values_end(rt: HostRuntime) -> Result<(), Fail> {
+fn idle_values_end(rt: HostRuntime) {
     let idle = Config {
         idle_ms: Some(7),
         ..PLAIN
     };
-    assert_eq!(rt; first_wrong(rt.alloc(), idle, IDLE_VALUES_END), Ok(None));
-    Ok(())
+    none_wrong(&rt, first_wrong(rt.alloc(), idle, IDLE_VALUES_END));
 }
 
 const OWN_DEADLINES_END_VALUES: &[Row<'static>] = &[
@@ -100,20 +91,16 @@ const OWN_DEADLINES_END_VALUES: &[Row<'static>] = &[
 ];
 
 #[test]
-fn own_deadlines_end_values(rt: HostRuntime) -> Result<(), Fail> {
+fn own_deadlines_end_values(rt: HostRuntime) {
     let own = Config {
         own_deadlines: true,
         ..PLAIN
     };
-    assert_eq!(rt;
-        first_wrong(rt.alloc(), own, OWN_DEADLINES_END_VALUES),
-        Ok(None)
-    );
-    Ok(())
+    none_wrong(&rt, first_wrong(rt.alloc(), own, OWN_DEADLINES_END_VALUES));
 }
 
 // the earliest of the two ends a value
-const OWN_DEADLINES_STAND_BESIDE_IDLE_TIMES_ENDS_OF_ITS_OWN: &[Row<'static>] = &[
+const BESIDE_IDLE_TIMES_ENDS_OF_ITS_OWN: &[Row<'static>] = &[
     Row::Says(0, b"SET a 100 x\nSET a 5 y\n", b"OK\nOK\n"),
     Row::Tells(RemovalCause::Replaced, b"a", b"x"),
     Row::Says(4_000_000, b"GET a\n", b"VAL y\n"),
@@ -121,7 +108,7 @@ const OWN_DEADLINES_STAND_BESIDE_IDLE_TIMES_ENDS_OF_ITS_OWN: &[Row<'static>] = &
     Row::Says(4_997_120, b"GET a\n", b"NONE\n"),
 ];
 
-const OWN_DEADLINES_STAND_BESIDE_IDLE_TIMES_HAS_NONE_OF_ITS_OWN: &[Row<'static>] = &[
+const BESIDE_IDLE_TIMES_HAS_NONE_OF_ITS_OWN: &[Row<'static>] = &[
     Row::Says(0, b"SET b - z\n", b"OK\n"),
     Row::Says(4_999_999, b"GET b\n", b"VAL z\n"),
     Row::Says(9_999_998, b"GET b\n", b"VAL z\n"),
@@ -129,43 +116,30 @@ const OWN_DEADLINES_STAND_BESIDE_IDLE_TIMES_HAS_NONE_OF_ITS_OWN: &[Row<'static>]
     Row::Says(14_999_998, b"GET b\n", b"NONE\n"),
 ];
 
-const OWN_DEADLINES_STAND_BESIDE_IDLE_TIMES_ENDS_BY_IDLING: &[Row<'static>] = &[
+const BESIDE_IDLE_TIMES_ENDS_BY_IDLING: &[Row<'static>] = &[
     Row::Says(0, b"SET c 100 w\n", b"OK\n"),
     Row::Says(5_000_000, b"GET c\n", b"NONE\n"),
 ];
 
 #[test]
-fn own_deadlines_stand_beside_idle_times(rt: HostRuntime) -> Result<(), Fail> {
+fn own_deadlines_stand_beside_idle_times(rt: HostRuntime) {
     let both = Config {
         idle_ms: Some(5),
         own_deadlines: true,
         ..PLAIN
     };
-    assert_eq!(rt;
-        first_wrong(
-            rt.alloc(),
-            both,
-            OWN_DEADLINES_STAND_BESIDE_IDLE_TIMES_ENDS_OF_ITS_OWN
-        ),
-        Ok(None)
+    none_wrong(
+        &rt,
+        first_wrong(rt.alloc(), both, BESIDE_IDLE_TIMES_ENDS_OF_ITS_OWN),
     );
-    assert_eq!(rt;
-        first_wrong(
-            rt.alloc(),
-            both,
-            OWN_DEADLINES_STAND_BESIDE_IDLE_TIMES_HAS_NONE_OF_ITS_OWN
-        ),
-        Ok(None)
+    none_wrong(
+        &rt,
+        first_wrong(rt.alloc(), both, BESIDE_IDLE_TIMES_HAS_NONE_OF_ITS_OWN),
     );
-    assert_eq!(rt;
-        first_wrong(
-            rt.alloc(),
-            both,
-            OWN_DEADLINES_STAND_BESIDE_IDLE_TIMES_ENDS_BY_IDLING
-        ),
-        Ok(None)
+    none_wrong(
+        &rt,
+        first_wrong(rt.alloc(), both, BESIDE_IDLE_TIMES_ENDS_BY_IDLING),
     );
-    Ok(())
 }
 
 const AN_EARLIER_MOMENT_IS_THE_LATEST_ONE: &[Row<'static>] = &[
@@ -175,16 +149,15 @@ const AN_EARLIER_MOMENT_IS_THE_LATEST_ONE: &[Row<'static>] = &[
 ];
 
 #[test]
-fn an_earlier_moment_is_the_latest_one(rt: HostRuntime) -> Result<(), Fail> {
+fn an_earlier_moment_is_the_latest_one(rt: HostRuntime) {
     let own = Config {
         own_deadlines: true,
         ..PLAIN
     };
-    assert_eq!(rt;
+    none_wrong(
+        &rt,
         first_wrong(rt.alloc(), own, AN_EARLIER_MOMENT_IS_THE_LATEST_ONE),
-        Ok(None)
     );
-    Ok(())
 }
 
 const FAULTS_BY_THEIR_ORDER: &[Row<'static>] = &[Row::Says(
@@ -194,12 +167,8 @@ const FAULTS_BY_THEIR_ORDER: &[Row<'static>] = &[Row::Says(
 )];
 
 #[test]
-fn faults_by_their_order(rt: HostRuntime) -> Result<(), Fail> {
-    assert_eq!(rt;
-        first_wrong(rt.alloc(), PLAIN, FAULTS_BY_THEIR_ORDER),
-        Ok(None)
-    );
-    Ok(())
+fn faults_by_their_order(rt: HostRuntime) {
+    none_wrong(&rt, first_wrong(rt.alloc(), PLAIN, FAULTS_BY_THEIR_ORDER));
 }
 
 const QUIT_CLOSES: &[Row<'static>] = &[
@@ -209,9 +178,8 @@ const QUIT_CLOSES: &[Row<'static>] = &[
 ];
 
 #[test]
-fn quit_closes(rt: HostRuntime) -> Result<(), Fail> {
-    assert_eq!(rt; first_wrong(rt.alloc(), PLAIN, QUIT_CLOSES), Ok(None));
-    Ok(())
+fn quit_closes(rt: HostRuntime) {
+    none_wrong(&rt, first_wrong(rt.alloc(), PLAIN, QUIT_CLOSES));
 }
 
 const KEYS_STAND_IN_BYTE_ORDER: &[Row<'static>] = &[Row::Says(
@@ -221,10 +189,9 @@ const KEYS_STAND_IN_BYTE_ORDER: &[Row<'static>] = &[Row::Says(
 )];
 
 #[test]
-fn keys_stand_in_byte_order(rt: HostRuntime) -> Result<(), Fail> {
-    assert_eq!(rt;
+fn keys_stand_in_byte_order(rt: HostRuntime) {
+    none_wrong(
+        &rt,
         first_wrong(rt.alloc(), PLAIN, KEYS_STAND_IN_BYTE_ORDER),
-        Ok(None)
     );
-    Ok(())
 }

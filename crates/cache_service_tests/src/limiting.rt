@@ -1,7 +1,6 @@
 //! What a service with a capacity answers and tells.
-use crate::script::{PLAIN, Row, first_wrong};
+use crate::script::{PLAIN, Row, first_wrong, none_wrong};
 use audit_model::{Config, RemovalCause, Weight};
-use std::test::Fail;
 
 const TWO: Config = Config {
     capacity: Some(2),
@@ -19,12 +18,11 @@ const THE_ONE_USED_LONGEST_AGO_LEAVES: &[Row<'static>] = &[
 ];
 
 #[test]
-fn the_one_used_longest_ago_leaves(rt: HostRuntime) -> Result<(), Fail> {
-    assert_eq!(rt;
+fn the_one_used_longest_ago_leaves(rt: HostRuntime) {
+    none_wrong(
+        &rt,
         first_wrong(rt.alloc(), TWO, THE_ONE_USED_LONGEST_AGO_LEAVES),
-        Ok(None)
     );
-    Ok(())
 }
 
 const A_LOOK_UP_IS_A_USE: &[Row<'static>] = &[
@@ -38,9 +36,8 @@ const A_LOOK_UP_IS_A_USE: &[Row<'static>] = &[
 ];
 
 #[test]
-fn a_look_up_is_a_use(rt: HostRuntime) -> Result<(), Fail> {
-    assert_eq!(rt; first_wrong(rt.alloc(), TWO, A_LOOK_UP_IS_A_USE), Ok(None));
-    Ok(())
+fn a_look_up_is_a_use(rt: HostRuntime) {
+    none_wrong(&rt, first_wrong(rt.alloc(), TWO, A_LOOK_UP_IS_A_USE));
 }
 
 const A_VALUE_HEAVIER_THAN_ALL_LEAVES: &[Row<'static>] = &[
@@ -50,17 +47,16 @@ const A_VALUE_HEAVIER_THAN_ALL_LEAVES: &[Row<'static>] = &[
 ];
 
 #[test]
-fn a_value_heavier_than_all_leaves(rt: HostRuntime) -> Result<(), Fail> {
+fn a_value_heavier_than_all_leaves(rt: HostRuntime) {
     let three = Config {
         capacity: Some(3),
         weight: Weight::Bytes,
         ..PLAIN
     };
-    assert_eq!(rt;
+    none_wrong(
+        &rt,
         first_wrong(rt.alloc(), three, A_VALUE_HEAVIER_THAN_ALL_LEAVES),
-        Ok(None)
     );
-    Ok(())
 }
 
 const NOTHING_IS_KEPT_AT_CAPACITY_0: &[Row<'static>] = &[
@@ -69,14 +65,13 @@ const NOTHING_IS_KEPT_AT_CAPACITY_0: &[Row<'static>] = &[
 ];
 
 #[test]
-fn nothing_is_kept_at_capacity_0(rt: HostRuntime) -> Result<(), Fail> {
+fn nothing_is_kept_at_capacity_0(rt: HostRuntime) {
     let none = Config {
         capacity: Some(0),
         ..PLAIN
     };
-    assert_eq!(rt;
+    none_wrong(
+        &rt,
         first_wrong(rt.alloc(), none, NOTHING_IS_KEPT_AT_CAPACITY_0),
-        Ok(None)
     );
-    Ok(())
 }

@@ -1,7 +1,6 @@
 //! What a service of several parts answers and tells.
-use crate::script::{PLAIN, Row, first_wrong};
+use crate::script::{PLAIN, Row, first_wrong, none_wrong};
 use audit_model::{Config, RemovalCause};
-use std::test::Fail;
 
 // three wanted parts become four
 const THREE: Config = Config { parts: 3, ..PLAIN };
@@ -31,16 +30,15 @@ const A_PREFIX_IS_DROPPED_IN_ALL_PARTS: &[Row<'static>] = &[
 ];
 
 #[test]
-fn a_prefix_is_dropped_in_all_parts(rt: HostRuntime) -> Result<(), Fail> {
-    assert_eq!(rt;
+fn a_prefix_is_dropped_in_all_parts(rt: HostRuntime) {
+    none_wrong(
+        &rt,
         first_wrong(rt.alloc(), THREE, A_PREFIX_IS_DROPPED_IN_ALL_PARTS),
-        Ok(None)
     );
-    assert_eq!(rt;
+    none_wrong(
+        &rt,
         first_wrong(rt.alloc(), MOST, A_PREFIX_IS_DROPPED_IN_ALL_PARTS),
-        Ok(None)
     );
-    Ok(())
 }
 
 // what one part answers, several do
@@ -63,14 +61,19 @@ const COMMANDS_ANSWER_AS_OF_ONE_PART: &[Row<'static>] = &[
 ];
 
 #[test]
-fn commands_answer_as_of_one_part(rt: HostRuntime) -> Result<(), Fail> {
-    for config in [PLAIN, THREE, MOST] {
-        assert_eq!(rt;
-            first_wrong(rt.alloc(), config, COMMANDS_ANSWER_AS_OF_ONE_PART),
-            Ok(None)
-        );
-    }
-    Ok(())
+fn commands_answer_as_of_one_part(rt: HostRuntime) {
+    none_wrong(
+        &rt,
+        first_wrong(rt.alloc(), PLAIN, COMMANDS_ANSWER_AS_OF_ONE_PART),
+    );
+    none_wrong(
+        &rt,
+        first_wrong(rt.alloc(), THREE, COMMANDS_ANSWER_AS_OF_ONE_PART),
+    );
+    none_wrong(
+        &rt,
+        first_wrong(rt.alloc(), MOST, COMMANDS_ANSWER_AS_OF_ONE_PART),
+    );
 }
 
 // a key's part has room for one value, and holds the one written last
@@ -85,10 +88,9 @@ const A_PART_IS_WITHIN_ITS_SHARE: &[Row<'static>] = &[
 ];
 
 #[test]
-fn a_part_is_within_its_share(rt: HostRuntime) -> Result<(), Fail> {
-    assert_eq!(rt;
+fn a_part_is_within_its_share(rt: HostRuntime) {
+    none_wrong(
+        &rt,
         first_wrong(rt.alloc(), ONE_EACH, A_PART_IS_WITHIN_ITS_SHARE),
-        Ok(None)
     );
-    Ok(())
 }

@@ -1,12 +1,11 @@
 //! What is played.
 use crate::asking::{Asked, Done, are_done, inputs_of};
 use crate::script::PLAIN;
-use audit_model::{Conn, Input, Instant, LoadId, Record, ServiceError};
+use audit_model::{Config, Conn, Input, Instant, LoadId, Record, ServiceError, Transcript};
 use cache_spaces::play;
 use rand_core::SeedableRng;
 use rand_xoshiro::Xoshiro256PlusPlus;
 use std::alloc::Global;
-use std::test::Fail;
 
 const START: Instant = Instant { nanos: 7 };
 
@@ -77,42 +76,56 @@ const STEPS_OF_WHAT_IS_TAKEN: &[&[Done<'static>]] = &[
 ];
 
 #[test]
-fn accepted_inputs_have_their_records(rt: HostRuntime) -> Result<(), Fail> {
-    assert_eq!(rt;
-        plays(rt.alloc(), TAKEN_AND_LEFT_OUT, STEPS_OF_WHAT_IS_TAKEN),
-        Ok(true)
-    );
-    Ok(())
+fn accepted_inputs_have_their_records(rt: HostRuntime) {
+    let played = plays(rt.alloc(), TAKEN_AND_LEFT_OUT, STEPS_OF_WHAT_IS_TAKEN);
+    assert!(rt; played == Ok(true));
+}
+
+/// How many transcripts are made of no inputs.
+fn count_of_none(
+    alloc: Global,
+    configs: &[Config],
+    moment: Instant,
+) -> Result<usize, ServiceError> {
+    match play(alloc, configs, generator(), moment, &[]) {
+        Ok(transcripts) => Ok(transcripts.len()),
+        Err(error) => Err(error),
+    }
+}
+
+/// Whether it fails as a new service does, and otherwise makes a transcript for each namespace.
+fn fails_as_it_does(alloc: Global) -> bool {
+    count_of_none(alloc, &[], START) == Err(ServiceError::Config)
+        && count_of_none(alloc, &[], LATE) == Err(ServiceError::Moment)
+        && count_of_none(alloc, &[PLAIN], START) == Ok(1)
 }
 
 #[test]
-fn fails_as_a_new_service_does(rt: HostRuntime) -> Result<(), Fail> {
-    let alloc = rt.alloc();
-    assert_eq!(rt;
-        play(alloc, &[], generator(), START, &[]).err(),
-        Some(ServiceError::Config)
-    );
-    assert_eq!(rt;
-        play(alloc, &[], generator(), LATE, &[]).err(),
-        Some(ServiceError::Moment)
-    );
-    let transcripts = play(alloc, &[PLAIN], generator(), START, &[])?;
-    assert_eq!(rt; transcripts.len(), 1);
-    Ok(())
+fn fails_as_a_new_service_does(rt: HostRuntime) {
+    assert!(rt; fails_as_it_does(rt.alloc()));
 }
 
-#[test]
-fn an_input_without_memory_is_left_out(rt: HostRuntime) -> Result<(), Fail> {
+/// Plays two openings, at the second try where there is no memory for the service.
+fn play_openings(alloc: Global) -> Result<Vec<Transcript>, ServiceError> {
     let inputs = [Input::Open { namespace: 0 }, Input::Open { namespace: 0 }];
-    let transcripts = match play(rt.alloc(), &[PLAIN], generator(), START, &inputs) {
-        Ok(transcripts) => transcripts,
-        Err(ServiceError::OutOfMemory) => play(rt.alloc(), &[PLAIN], generator(), START, &inputs)?,
-        Err(error) => return Err(Fail::from(error)),
-    };
-    let Some(transcript) = transcripts.first() else {
-        return Err(Fail::new("no transcript"));
-    };
-    assert!(rt; transcript.records.len() >= 1);
-    assert!(rt; transcript.records.len() <= 2);
-    Ok(())
+    match play(alloc, &[PLAIN], generator(), START, &inputs) {
+        Err(ServiceError::OutOfMemory) => play(alloc, &[PLAIN], generator(), START, &inputs),
+        played => played,
+    }
+}
+
+/// Whether both openings stand in the transcript, or one where there was no memory for the other.
+fn records_openings(alloc: Global) -> bool {
+    match play_openings(alloc) {
+        Ok(transcripts) => match transcripts.as_slice() {
+            [transcript] => matches!(transcript.records.len(), 1 | 2),
+            _ => false,
+        },
+        Err(_) => false,
+    }
+}
+
+#[test]
+fn an_input_without_memory_is_left_out(rt: HostRuntime) {
+    assert!(rt; records_openings(rt.alloc()));
 }

@@ -1,11 +1,10 @@
 //! What a service refuses, in which order, and what stands after it.
-use crate::script::{FIRST, PLAIN, Row, first_wrong, new_service};
+use crate::script::{FIRST, PLAIN, Row, first_wrong, new_service, none_wrong};
 use audit_model::{Closing, Config, Conn, Instant, LoadId, Outcome, ServiceError};
 use cache_spaces::{Fed, Service};
 use rand_core::SeedableRng;
 use rand_xoshiro::Xoshiro256PlusPlus;
 use std::alloc::Global;
-use std::test::Fail;
 
 const START: Instant = Instant { nanos: 0 };
 
@@ -65,34 +64,41 @@ fn is_refused(alloc: Global, config: Config) -> bool {
         && refused(alloc, &[config], LATE_NANOS) == Some(ServiceError::Moment)
 }
 
-#[test]
-fn configurations_out_of_range(rt: HostRuntime) -> Result<(), Fail> {
-    for config in OUT_OF_RANGE {
-        assert!(rt; is_refused(rt.alloc(), *config));
+/// The place of the first that is taken somewhere.
+fn first_taken(alloc: Global, configs: &[Config]) -> Option<usize> {
+    for (place, config) in configs.iter().enumerate() {
+        if !is_refused(alloc, *config) {
+            return Some(place);
+        }
     }
-    Ok(())
+    None
 }
 
 #[test]
-fn numbers_of_namespaces(rt: HostRuntime) -> Result<(), Fail> {
-    assert_eq!(rt; refused(rt.alloc(), &[], 0), Some(ServiceError::Config));
-    assert_eq!(rt; refused(rt.alloc(), &[PLAIN; 16], 0), None);
-    assert_eq!(rt;
-        refused(rt.alloc(), &[PLAIN; 17], 0),
-        Some(ServiceError::Config)
-    );
-    Ok(())
+fn configurations_out_of_range(rt: HostRuntime) {
+    assert!(rt; first_taken(rt.alloc(), OUT_OF_RANGE).is_none());
+}
+
+/// Whether 1 to 16 namespaces are taken.
+fn are_numbers(alloc: Global) -> bool {
+    refused(alloc, &[], 0) == Some(ServiceError::Config)
+        && refused(alloc, &[PLAIN; 16], 0).is_none()
+        && refused(alloc, &[PLAIN; 17], 0) == Some(ServiceError::Config)
 }
 
 #[test]
-fn the_last_of_their_ranges(rt: HostRuntime) -> Result<(), Fail> {
+fn numbers_of_namespaces(rt: HostRuntime) {
+    assert!(rt; are_numbers(rt.alloc()));
+}
+
+#[test]
+fn the_last_of_their_ranges(rt: HostRuntime) {
     let longest = Config {
         own_deadlines: true,
         idle_ms: Some(999_999_999_999),
         ..PLAIN
     };
-    assert_eq!(rt; refused(rt.alloc(), &[longest], LAST_NANOS), None);
-    Ok(())
+    assert!(rt; refused(rt.alloc(), &[longest], LAST_NANOS).is_none());
 }
 
 const CONNECTIONS: &[Row<'static>] = &[
@@ -125,9 +131,8 @@ const CONNECTIONS: &[Row<'static>] = &[
 ];
 
 #[test]
-fn connections(rt: HostRuntime) -> Result<(), Fail> {
-    assert_eq!(rt; first_wrong(rt.alloc(), PLAIN, CONNECTIONS), Ok(None));
-    Ok(())
+fn connections(rt: HostRuntime) {
+    none_wrong(&rt, first_wrong(rt.alloc(), PLAIN, CONNECTIONS));
 }
 
 const AN_EARLIER_MOMENT_IS_THE_LATEST: &[Row<'static>] = &[
@@ -136,12 +141,11 @@ const AN_EARLIER_MOMENT_IS_THE_LATEST: &[Row<'static>] = &[
 ];
 
 #[test]
-fn an_earlier_moment_is_the_latest(rt: HostRuntime) -> Result<(), Fail> {
-    assert_eq!(rt;
+fn an_earlier_moment_is_the_latest(rt: HostRuntime) {
+    none_wrong(
+        &rt,
         first_wrong(rt.alloc(), PLAIN, AN_EARLIER_MOMENT_IS_THE_LATEST),
-        Ok(None)
     );
-    Ok(())
 }
 
 const LOAD: LoadId = LoadId {
@@ -170,16 +174,28 @@ fn is_no_load(service: &mut Service, load: LoadId) -> bool {
     }
 }
 
-#[test]
-fn loads_that_are_not_under_way(rt: HostRuntime) -> Result<(), Fail> {
-    let mut service = Service::new(rt.alloc(), &[PLAIN], generator(), START)?;
-    let none_is_open = service.loads_open(0) == Ok(0)
+/// Whether no load is open, of no namespace either, and none goes out.
+fn has_none(service: &mut Service) -> bool {
+    service.loads_open(0) == Ok(0)
         && service.loads_open(1) == Err(ServiceError::NoNamespace)
-        && none_goes_out(&mut service);
-    assert!(rt; none_is_open);
-    let each_is_refused = service.give_up(LOAD, START) == Err(ServiceError::NoLoad)
+        && none_goes_out(service)
+}
+
+/// Whether loads that are not under way are neither given up nor answered.
+fn settles_none(service: &mut Service) -> bool {
+    service.give_up(LOAD, START) == Err(ServiceError::NoLoad)
         && service.give_up(LOAD_OF_NO_NAMESPACE, START) == Err(ServiceError::NoNamespace)
-        && is_no_load(&mut service, LOAD);
-    assert!(rt; each_is_refused);
-    Ok(())
+        && is_no_load(service, LOAD)
+}
+
+fn has_and_settles_none(alloc: Global) -> bool {
+    match Service::new(alloc, &[PLAIN], generator(), START) {
+        Ok(mut service) => has_none(&mut service) && settles_none(&mut service),
+        Err(_) => false,
+    }
+}
+
+#[test]
+fn loads_that_are_not_under_way(rt: HostRuntime) {
+    assert!(rt; has_and_settles_none(rt.alloc()));
 }

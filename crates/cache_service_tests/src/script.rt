@@ -7,6 +7,7 @@ use cache_spaces::{Fed, Service};
 use rand_core::SeedableRng;
 use rand_xoshiro::Xoshiro256PlusPlus;
 use std::alloc::Global;
+use std::process::Abort;
 
 /// Without capacity, times and own deadlines.
 pub const PLAIN: Config = Config {
@@ -157,4 +158,9 @@ fn first_wrong_of(service: &mut Service, rows: &[Row<'_>]) -> Option<usize> {
         }
     }
     None
+}
+
+/// Each row came out so.
+pub fn none_wrong(rt: &impl Abort, wrong: Result<Option<usize>, ServiceError>) {
+    assert_eq!(rt; wrong, Ok(None));
 }

@@ -1,8 +1,7 @@
 //! What a service answers, whatever the cuts of its bytes.
-use crate::script::{FIRST, PLAIN, Row, first_wrong};
+use crate::script::{FIRST, PLAIN, Row, first_wrong, none_wrong};
 use audit_model::{Closing, Conn, RemovalCause};
 use cache_spaces::Fed;
-use std::test::Fail;
 
 const SECOND: Conn = Conn {
     namespace: 0,
@@ -20,9 +19,8 @@ const THE_FIRST_RUN: &[Row<'static>] = &[
 ];
 
 #[test]
-fn the_first_run(rt: HostRuntime) -> Result<(), Fail> {
-    assert_eq!(rt; first_wrong(rt.alloc(), PLAIN, THE_FIRST_RUN), Ok(None));
-    Ok(())
+fn the_first_run(rt: HostRuntime) {
+    none_wrong(&rt, first_wrong(rt.alloc(), PLAIN, THE_FIRST_RUN));
 }
 
 const A_REPLACED_VALUE_IS_TOLD_ONCE: &[Row<'static>] = &[
@@ -32,23 +30,18 @@ const A_REPLACED_VALUE_IS_TOLD_ONCE: &[Row<'static>] = &[
 ];
 
 #[test]
-fn a_replaced_value_is_told_once(rt: HostRuntime) -> Result<(), Fail> {
-    assert_eq!(rt;
+fn a_replaced_value_is_told_once(rt: HostRuntime) {
+    none_wrong(
+        &rt,
         first_wrong(rt.alloc(), PLAIN, A_REPLACED_VALUE_IS_TOLD_ONCE),
-        Ok(None)
     );
-    Ok(())
 }
 
 const NOTHING_IS_DELETED: &[Row<'static>] = &[Row::Says(0, b"DEL a\n", b"OK\n"), Row::TellsNone];
 
 #[test]
-fn nothing_is_deleted(rt: HostRuntime) -> Result<(), Fail> {
-    assert_eq!(rt;
-        first_wrong(rt.alloc(), PLAIN, NOTHING_IS_DELETED),
-        Ok(None)
-    );
-    Ok(())
+fn nothing_is_deleted(rt: HostRuntime) {
+    none_wrong(&rt, first_wrong(rt.alloc(), PLAIN, NOTHING_IS_DELETED));
 }
 
 const NO_OWN_DEADLINES: &[Row<'static>] = &[
@@ -57,9 +50,8 @@ const NO_OWN_DEADLINES: &[Row<'static>] = &[
 ];
 
 #[test]
-fn no_own_deadlines(rt: HostRuntime) -> Result<(), Fail> {
-    assert_eq!(rt; first_wrong(rt.alloc(), PLAIN, NO_OWN_DEADLINES), Ok(None));
-    Ok(())
+fn no_own_deadlines(rt: HostRuntime) {
+    none_wrong(&rt, first_wrong(rt.alloc(), PLAIN, NO_OWN_DEADLINES));
 }
 
 const NOTHING_FOR_NOTHING: &[Row<'static>] = &[
@@ -68,12 +60,8 @@ const NOTHING_FOR_NOTHING: &[Row<'static>] = &[
 ];
 
 #[test]
-fn nothing_for_nothing(rt: HostRuntime) -> Result<(), Fail> {
-    assert_eq!(rt;
-        first_wrong(rt.alloc(), PLAIN, NOTHING_FOR_NOTHING),
-        Ok(None)
-    );
-    Ok(())
+fn nothing_for_nothing(rt: HostRuntime) {
+    none_wrong(&rt, first_wrong(rt.alloc(), PLAIN, NOTHING_FOR_NOTHING));
 }
 
 const LINES_IN_PIECES: &[Row<'static>] = &[
@@ -83,9 +71,8 @@ const LINES_IN_PIECES: &[Row<'static>] = &[
 ];
 
 #[test]
-fn lines_in_pieces(rt: HostRuntime) -> Result<(), Fail> {
-    assert_eq!(rt; first_wrong(rt.alloc(), PLAIN, LINES_IN_PIECES), Ok(None));
-    Ok(())
+fn lines_in_pieces(rt: HostRuntime) {
+    none_wrong(&rt, first_wrong(rt.alloc(), PLAIN, LINES_IN_PIECES));
 }
 
 const ONE_CARRIAGE_RETURN_GOES: &[Row<'static>] = &[
@@ -94,12 +81,11 @@ const ONE_CARRIAGE_RETURN_GOES: &[Row<'static>] = &[
 ];
 
 #[test]
-fn one_carriage_return_goes(rt: HostRuntime) -> Result<(), Fail> {
-    assert_eq!(rt;
+fn one_carriage_return_goes(rt: HostRuntime) {
+    none_wrong(
+        &rt,
         first_wrong(rt.alloc(), PLAIN, ONE_CARRIAGE_RETURN_GOES),
-        Ok(None)
     );
-    Ok(())
 }
 
 const LINES_THAT_CANNOT_BE_READ: &[Row<'static>] = &[
@@ -114,12 +100,11 @@ const LINES_THAT_CANNOT_BE_READ: &[Row<'static>] = &[
 ];
 
 #[test]
-fn lines_that_cannot_be_read(rt: HostRuntime) -> Result<(), Fail> {
-    assert_eq!(rt;
+fn lines_that_cannot_be_read(rt: HostRuntime) {
+    none_wrong(
+        &rt,
         first_wrong(rt.alloc(), PLAIN, LINES_THAT_CANNOT_BE_READ),
-        Ok(None)
     );
-    Ok(())
 }
 
 const THE_LONGEST_LINE: &[Row<'static>] = &[
@@ -132,9 +117,8 @@ const THE_LONGEST_LINE: &[Row<'static>] = &[
 ];
 
 #[test]
-fn the_longest_line(rt: HostRuntime) -> Result<(), Fail> {
-    assert_eq!(rt; first_wrong(rt.alloc(), PLAIN, THE_LONGEST_LINE), Ok(None));
-    Ok(())
+fn the_longest_line(rt: HostRuntime) {
+    none_wrong(&rt, first_wrong(rt.alloc(), PLAIN, THE_LONGEST_LINE));
 }
 
 const LINES_BEFORE_ONE_TOO_LONG_ARE_ANSWERED: &[Row<'static>] = &[
@@ -146,12 +130,11 @@ const LINES_BEFORE_ONE_TOO_LONG_ARE_ANSWERED: &[Row<'static>] = &[
 ];
 
 #[test]
-fn lines_before_one_too_long_are_answered(rt: HostRuntime) -> Result<(), Fail> {
-    assert_eq!(rt;
+fn lines_before_one_too_long_are_answered(rt: HostRuntime) {
+    none_wrong(
+        &rt,
         first_wrong(rt.alloc(), PLAIN, LINES_BEFORE_ONE_TOO_LONG_ARE_ANSWERED),
-        Ok(None)
     );
-    Ok(())
 }
 
 const CONNECTIONS_SHARE_VALUES_AND_NOT_REPLIES: &[Row<'static>] = &[
@@ -163,10 +146,9 @@ const CONNECTIONS_SHARE_VALUES_AND_NOT_REPLIES: &[Row<'static>] = &[
 ];
 
 #[test]
-fn connections_share_values_and_not_replies(rt: HostRuntime) -> Result<(), Fail> {
-    assert_eq!(rt;
+fn connections_share_values_and_not_replies(rt: HostRuntime) {
+    none_wrong(
+        &rt,
         first_wrong(rt.alloc(), PLAIN, CONNECTIONS_SHARE_VALUES_AND_NOT_REPLIES),
-        Ok(None)
     );
-    Ok(())
 }

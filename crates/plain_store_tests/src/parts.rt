@@ -1,6 +1,6 @@
 //! What a plain store of several parts does.
 use crate::lengths::ByLength;
-use crate::script::{Row, first_wrong};
+use crate::script::{Row, first_wrong, none_wrong};
 use crate::turning::Turning;
 use audit_model::{Config, EvictionPolicy, RemovalCause, Weight};
 use cache_store::Store;
@@ -8,7 +8,6 @@ use plain_store::{FixedHasher, PlainStore};
 use rand_core::SeedableRng;
 use rand_xoshiro::SplitMix64;
 use std::alloc::{AllocError, Global};
-use std::test::Fail;
 
 // of two parts: keys of length 1 are in part 0, of length 2 in part 1
 const TWO: Config = Config {
@@ -41,11 +40,10 @@ const A_KEYS_PART_IS_ITS_HASHS: &[Row<'static>] = &[
 ];
 
 #[test]
-fn a_keys_part_is_its_hashs(rt: HostRuntime) -> Result<(), Fail> {
+fn a_keys_part_is_its_hashs(rt: HostRuntime) {
     // three wanted parts become four
     let three = Config { parts: 3, ..TWO };
-    assert_eq!(rt; wrong(rt.alloc(), three, A_KEYS_PART_IS_ITS_HASHS)?, None);
-    Ok(())
+    none_wrong(&rt, wrong(rt.alloc(), three, A_KEYS_PART_IS_ITS_HASHS));
 }
 
 const A_DROP_REACHES_EACH_PART: &[Row<'static>] = &[
@@ -63,9 +61,8 @@ const A_DROP_REACHES_EACH_PART: &[Row<'static>] = &[
 ];
 
 #[test]
-fn a_drop_reaches_each_part(rt: HostRuntime) -> Result<(), Fail> {
-    assert_eq!(rt; wrong(rt.alloc(), TWO, A_DROP_REACHES_EACH_PART)?, None);
-    Ok(())
+fn a_drop_reaches_each_part(rt: HostRuntime) {
+    none_wrong(&rt, wrong(rt.alloc(), TWO, A_DROP_REACHES_EACH_PART));
 }
 
 const EACH_PART_HAS_ITS_SHARE: &[Row<'static>] = &[
@@ -87,12 +84,11 @@ const EACH_PART_HAS_ITS_SHARE: &[Row<'static>] = &[
 ];
 
 #[test]
-fn each_part_has_its_share(rt: HostRuntime) -> Result<(), Fail> {
-    assert_eq!(rt;
-        wrong(rt.alloc(), THREE_IN_TWO, EACH_PART_HAS_ITS_SHARE)?,
-        None
+fn each_part_has_its_share(rt: HostRuntime) {
+    none_wrong(
+        &rt,
+        wrong(rt.alloc(), THREE_IN_TWO, EACH_PART_HAS_ITS_SHARE),
     );
-    Ok(())
 }
 
 const EACH_PART_KEEPS_ITS_ORDER_OF_USE: &[Row<'static>] = &[
@@ -117,12 +113,11 @@ const EACH_PART_KEEPS_ITS_ORDER_OF_USE: &[Row<'static>] = &[
 ];
 
 #[test]
-fn each_part_keeps_its_order_of_use(rt: HostRuntime) -> Result<(), Fail> {
-    assert_eq!(rt;
-        wrong(rt.alloc(), THREE_IN_TWO, EACH_PART_KEEPS_ITS_ORDER_OF_USE)?,
-        None
+fn each_part_keeps_its_order_of_use(rt: HostRuntime) {
+    none_wrong(
+        &rt,
+        wrong(rt.alloc(), THREE_IN_TWO, EACH_PART_KEEPS_ITS_ORDER_OF_USE),
     );
-    Ok(())
 }
 
 // notes of a part come in the order in which they were told, here of all
@@ -140,9 +135,8 @@ const NOTES_COME_AS_THEY_WERE_TOLD: &[Row<'static>] = &[
 ];
 
 #[test]
-fn notes_come_as_they_were_told(rt: HostRuntime) -> Result<(), Fail> {
-    assert_eq!(rt; wrong(rt.alloc(), TWO, NOTES_COME_AS_THEY_WERE_TOLD)?, None);
-    Ok(())
+fn notes_come_as_they_were_told(rt: HostRuntime) {
+    none_wrong(&rt, wrong(rt.alloc(), TWO, NOTES_COME_AS_THEY_WERE_TOLD));
 }
 
 // the first identifier is 0 and goes to part 0; all others are alike, and the first of them goes to part 1
@@ -163,27 +157,29 @@ const A_DROP_THAT_IS_REFUSED_IN_A_PART_COVERS_NONE: &[Row<'static>] = &[
 ];
 
 #[test]
-fn a_drop_that_is_refused_in_a_part_covers_none(rt: HostRuntime) -> Result<(), Fail> {
-    assert_eq!(rt;
+fn a_drop_that_is_refused_in_a_part_covers_none(rt: HostRuntime) {
+    none_wrong(
+        &rt,
         first_wrong(
             rt.alloc(),
             TWO,
             Turning(4),
             ByLength,
-            A_DROP_THAT_IS_REFUSED_IN_A_PART_COVERS_NONE
-        )?,
-        None
+            A_DROP_THAT_IS_REFUSED_IN_A_PART_COVERS_NONE,
+        ),
     );
-    Ok(())
+}
+
+/// Whether two keys have two parts, and a key has the same again.
+fn uses_both_parts(alloc: Global) -> Result<bool, AllocError> {
+    let generator = SplitMix64::seed_from_u64(1);
+    let mut store = PlainStore::new(alloc, TWO, 0, generator, FixedHasher)?;
+    let first = store.accept(b"a", b"1", None, false, 0)?;
+    let other = store.accept(b"c", b"1", None, false, 0)?;
+    Ok(first != other && store.accept(b"a", b"2", None, true, 0)? == first)
 }
 
 #[test]
-fn the_fixed_hasher_uses_both_parts(rt: HostRuntime) -> Result<(), Fail> {
-    let generator = SplitMix64::seed_from_u64(1);
-    let mut store = PlainStore::new(rt.alloc(), TWO, 0, generator, FixedHasher)?;
-    let first = store.accept(b"a", b"1", None, false, 0)?;
-    let other = store.accept(b"c", b"1", None, false, 0)?;
-    assert!(rt; first != other);
-    assert_eq!(rt; store.accept(b"a", b"2", None, true, 0)?, first);
-    Ok(())
+fn the_fixed_hasher_uses_both_parts(rt: HostRuntime) {
+    assert!(rt; matches!(uses_both_parts(rt.alloc()), Ok(true)));
 }

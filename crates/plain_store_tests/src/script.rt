@@ -8,6 +8,7 @@ use cache_store::{Store, StoreError};
 use plain_store::{KeyHasher, PlainStore};
 use rand_core::Rng;
 use std::alloc::{AllocError, Global};
+use std::process::Abort;
 
 /// What is asked, and what has to come of it.
 #[derive(Clone, Copy)]
@@ -239,4 +240,9 @@ pub fn refusals_change_nothing<R: Rng + Drop, H: KeyHasher>(
             && accepts_at_last(&mut store, &config, 5, b"two", 1, Some(b"one"))
             && store.find(b"key", 5) == Some(b"two".as_slice()),
     )
+}
+
+/// Each row came out so.
+pub fn none_wrong(rt: &impl Abort, wrong: Result<Option<usize>, AllocError>) {
+    assert_eq!(rt; wrong, Ok(None));
 }

@@ -1,12 +1,11 @@
 //! What a plain store of one part does, and that a call that is refused changes nothing.
 use crate::repeating::Repeating;
-use crate::script::{Row, first_wrong, refusals_change_nothing};
+use crate::script::{Row, first_wrong, none_wrong, refusals_change_nothing};
 use audit_model::{Config, EvictionPolicy, RemovalCause, Weight};
 use plain_store::FixedHasher;
 use rand_core::SeedableRng;
 use rand_xoshiro::SplitMix64;
 use std::alloc::{AllocError, Global};
-use std::test::Fail;
 
 const PLAIN: Config = Config {
     capacity: None,
@@ -51,12 +50,8 @@ const GIVES_BACK_WHAT_IT_ACCEPTED: &[Row<'static>] = &[
 ];
 
 #[test]
-fn gives_back_what_it_accepted(rt: HostRuntime) -> Result<(), Fail> {
-    assert_eq!(rt;
-        wrong(rt.alloc(), PLAIN, GIVES_BACK_WHAT_IT_ACCEPTED)?,
-        None
-    );
-    Ok(())
+fn gives_back_what_it_accepted(rt: HostRuntime) {
+    none_wrong(&rt, wrong(rt.alloc(), PLAIN, GIVES_BACK_WHAT_IT_ACCEPTED));
 }
 
 const TELLS_REPLACED_AND_REMOVED_VALUES: &[Row<'static>] = &[
@@ -75,12 +70,11 @@ const TELLS_REPLACED_AND_REMOVED_VALUES: &[Row<'static>] = &[
 ];
 
 #[test]
-fn tells_replaced_and_removed_values(rt: HostRuntime) -> Result<(), Fail> {
-    assert_eq!(rt;
-        wrong(rt.alloc(), PLAIN, TELLS_REPLACED_AND_REMOVED_VALUES)?,
-        None
+fn tells_replaced_and_removed_values(rt: HostRuntime) {
+    none_wrong(
+        &rt,
+        wrong(rt.alloc(), PLAIN, TELLS_REPLACED_AND_REMOVED_VALUES),
     );
-    Ok(())
 }
 
 // `SET ab - 1`, `SET b - 2`, `DROPIF a`, `SET ac - 3`, `KEYS` lists ac and b
@@ -96,12 +90,11 @@ const A_PREFIX_COVERS_WHAT_CAME_BEFORE_IT: &[Row<'static>] = &[
 ];
 
 #[test]
-fn a_prefix_covers_what_came_before_it(rt: HostRuntime) -> Result<(), Fail> {
-    assert_eq!(rt;
-        wrong(rt.alloc(), PLAIN, A_PREFIX_COVERS_WHAT_CAME_BEFORE_IT)?,
-        None
+fn a_prefix_covers_what_came_before_it(rt: HostRuntime) {
+    none_wrong(
+        &rt,
+        wrong(rt.alloc(), PLAIN, A_PREFIX_COVERS_WHAT_CAME_BEFORE_IT),
     );
-    Ok(())
 }
 
 const A_CLEAR_COVERS_ALL: &[Row<'static>] = &[
@@ -115,9 +108,8 @@ const A_CLEAR_COVERS_ALL: &[Row<'static>] = &[
 ];
 
 #[test]
-fn a_clear_covers_all(rt: HostRuntime) -> Result<(), Fail> {
-    assert_eq!(rt; wrong(rt.alloc(), PLAIN, A_CLEAR_COVERS_ALL)?, None);
-    Ok(())
+fn a_clear_covers_all(rt: HostRuntime) {
+    none_wrong(&rt, wrong(rt.alloc(), PLAIN, A_CLEAR_COVERS_ALL));
 }
 
 const AN_OWN_DEADLINE_ENDS_A_VALUE: &[Row<'static>] = &[
@@ -132,12 +124,8 @@ const AN_OWN_DEADLINE_ENDS_A_VALUE: &[Row<'static>] = &[
 ];
 
 #[test]
-fn an_own_deadline_ends_a_value(rt: HostRuntime) -> Result<(), Fail> {
-    assert_eq!(rt;
-        wrong(rt.alloc(), PLAIN, AN_OWN_DEADLINE_ENDS_A_VALUE)?,
-        None
-    );
-    Ok(())
+fn an_own_deadline_ends_a_value(rt: HostRuntime) {
+    none_wrong(&rt, wrong(rt.alloc(), PLAIN, AN_OWN_DEADLINE_ENDS_A_VALUE));
 }
 
 const THE_ONE_USED_LONGEST_AGO_LEAVES: &[Row<'static>] = &[
@@ -152,12 +140,8 @@ const THE_ONE_USED_LONGEST_AGO_LEAVES: &[Row<'static>] = &[
 ];
 
 #[test]
-fn the_one_used_longest_ago_leaves(rt: HostRuntime) -> Result<(), Fail> {
-    assert_eq!(rt;
-        wrong(rt.alloc(), TWO, THE_ONE_USED_LONGEST_AGO_LEAVES)?,
-        None
-    );
-    Ok(())
+fn the_one_used_longest_ago_leaves(rt: HostRuntime) {
+    none_wrong(&rt, wrong(rt.alloc(), TWO, THE_ONE_USED_LONGEST_AGO_LEAVES));
 }
 
 const WEIGHTS_ARE_BYTES: &[Row<'static>] = &[
@@ -178,13 +162,12 @@ const WEIGHTS_ARE_BYTES: &[Row<'static>] = &[
 ];
 
 #[test]
-fn weights_are_bytes(rt: HostRuntime) -> Result<(), Fail> {
+fn weights_are_bytes(rt: HostRuntime) {
     let six = Config {
         capacity: Some(6),
         ..PLAIN
     };
-    assert_eq!(rt; wrong(rt.alloc(), six, WEIGHTS_ARE_BYTES)?, None);
-    Ok(())
+    none_wrong(&rt, wrong(rt.alloc(), six, WEIGHTS_ARE_BYTES));
 }
 
 const A_VALUE_HEAVIER_THAN_ALL_LEAVES: &[Row<'static>] = &[
@@ -196,16 +179,15 @@ const A_VALUE_HEAVIER_THAN_ALL_LEAVES: &[Row<'static>] = &[
 ];
 
 #[test]
-fn a_value_heavier_than_all_leaves(rt: HostRuntime) -> Result<(), Fail> {
+fn a_value_heavier_than_all_leaves(rt: HostRuntime) {
     let three = Config {
         capacity: Some(3),
         ..PLAIN
     };
-    assert_eq!(rt;
-        wrong(rt.alloc(), three, A_VALUE_HEAVIER_THAN_ALL_LEAVES)?,
-        None
+    none_wrong(
+        &rt,
+        wrong(rt.alloc(), three, A_VALUE_HEAVIER_THAN_ALL_LEAVES),
     );
-    Ok(())
 }
 
 // those that are covered or dead make room, and are told as such
@@ -223,12 +205,11 @@ const COVERED_AND_DEAD_VALUES_MAKE_ROOM: &[Row<'static>] = &[
 ];
 
 #[test]
-fn covered_and_dead_values_make_room(rt: HostRuntime) -> Result<(), Fail> {
-    assert_eq!(rt;
-        wrong(rt.alloc(), TWO, COVERED_AND_DEAD_VALUES_MAKE_ROOM)?,
-        None
+fn covered_and_dead_values_make_room(rt: HostRuntime) {
+    none_wrong(
+        &rt,
+        wrong(rt.alloc(), TWO, COVERED_AND_DEAD_VALUES_MAKE_ROOM),
     );
-    Ok(())
 }
 
 const NOTHING_IS_FOUND_AT_CAPACITY_0: &[Row<'static>] = &[
@@ -239,16 +220,12 @@ const NOTHING_IS_FOUND_AT_CAPACITY_0: &[Row<'static>] = &[
 ];
 
 #[test]
-fn nothing_is_found_at_capacity_0(rt: HostRuntime) -> Result<(), Fail> {
+fn nothing_is_found_at_capacity_0(rt: HostRuntime) {
     let none = Config {
         capacity: Some(0),
         ..PLAIN
     };
-    assert_eq!(rt;
-        wrong(rt.alloc(), none, NOTHING_IS_FOUND_AT_CAPACITY_0)?,
-        None
-    );
-    Ok(())
+    none_wrong(&rt, wrong(rt.alloc(), none, NOTHING_IS_FOUND_AT_CAPACITY_0));
 }
 
 // a generator whose words are all 0
@@ -266,24 +243,23 @@ const A_SECOND_DROP_FINDS_NO_IDENTIFIER: &[Row<'static>] = &[
 ];
 
 #[test]
-fn a_second_drop_finds_no_identifier(rt: HostRuntime) -> Result<(), Fail> {
-    assert_eq!(rt;
+fn a_second_drop_finds_no_identifier(rt: HostRuntime) {
+    none_wrong(
+        &rt,
         first_wrong(
             rt.alloc(),
             PLAIN,
             Repeating(0),
             FixedHasher,
-            A_SECOND_DROP_FINDS_NO_IDENTIFIER
-        )?,
-        None
+            A_SECOND_DROP_FINDS_NO_IDENTIFIER,
+        ),
     );
-    Ok(())
 }
 
 // for `tools/refuse_allocations.py`: the call that may be refused is tried again; where an earlier allocation is refused, it fails
 #[test]
-fn a_refused_call_changes_nothing(rt: HostRuntime) -> Result<(), Fail> {
+fn a_refused_call_changes_nothing(rt: HostRuntime) {
     let generator = SplitMix64::seed_from_u64(1);
-    assert!(rt; refusals_change_nothing(rt.alloc(), PLAIN, generator, FixedHasher)?);
-    Ok(())
+    let unchanged = refusals_change_nothing(rt.alloc(), PLAIN, generator, FixedHasher);
+    assert!(rt; matches!(unchanged, Ok(true)));
 }
