@@ -2,4 +2,3 @@ mod Onward
 mod Parts
 mod Tidying
 mod Walking
-mod Whole

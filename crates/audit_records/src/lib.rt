@@ -6,4 +6,5 @@ mod auditing;
 mod duties;
 mod records;
 
-pub use auditing::{Verdict, audit};
+pub use auditing::Verdict;
+pub use records::find_break;

@@ -9,16 +9,15 @@ ghost use Rattle.audit_model.specs.declared.command.Command.TheVariants as says;
 ghost use Rattle.audit_judge.specs.After.{IsNew};
 ghost use Rattle.audit_situation.specs.States.{situation_of};
 ghost use Rattle.audit_model.specs.declared.config.Config.{Config};
-ghost use Rattle.audit_steps.specs.Doings.{action_of};
+ghost use Rattle.audit_owing.specs.Doings.{action_of};
 ghost use Rattle.audit_parts.specs.Known.{agrees, agrees_with, with_part, with_value};
 ghost use Rattle.audit_steps.specs.Judging.{offer_from, Takes, Accepts};
 
-use crate::doing::Doing;
-use crate::owing::found;
 use crate::replies::{accepts, digits_of, sum_with};
 use audit_held::Held;
 use audit_judge::part_count;
 use audit_model::{Accepted, Bytes, Config, Outcome, Seq, Weight};
+use audit_owing::{Doing, found};
 use audit_parts::Parts;
 use audit_situation::State;
 use std::alloc::{AllocError, Global};

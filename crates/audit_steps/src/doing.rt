@@ -11,55 +11,13 @@ ghost use Rattle.audit_model.specs.Notes.{is_silent};
 ghost use Rattle.audit_model.specs.Steps.{action_by, may_hold, RunAgain, RunLines};
 ghost use Rattle.audit_model.specs.Stream.{is_held};
 ghost use Rattle.audit_judge.specs.Deeds.{covering_of, deed_with};
-ghost use Rattle.audit_steps.specs.Doings.{action_of, acting};
+ghost use Rattle.audit_owing.specs.Doings.{action_of};
+ghost use Rattle.audit_steps.specs.Doings.{acting};
 
 use audit_judge::{Covering, Deed};
-use audit_model::{Config, LineError, Outcome};
+use audit_model::Config;
+use audit_owing::Doing;
 use cache_lines::{Request, read_line};
-
-/// What a step does: the commands, with deadlines in milliseconds, and what else there is.
-#[derive(Clone, Copy)]
-pub enum Doing<'a> {
-    Set {
-        key: &'a [u8],
-        ms: Option<u64>,
-        value: &'a [u8],
-    },
-    Get {
-        key: &'a [u8],
-    },
-    Has {
-        key: &'a [u8],
-    },
-    Load {
-        key: &'a [u8],
-    },
-    Del {
-        key: &'a [u8],
-    },
-    Add {
-        key: &'a [u8],
-        ms: Option<u64>,
-        number: u64,
-    },
-    Clear,
-    DropIf {
-        prefix: &'a [u8],
-    },
-    Keys,
-    Sync,
-    Quit,
-    /// It answers a line that cannot be read.
-    Fault(LineError),
-    /// It is held back.
-    Hold,
-    /// It hands a waiting `LOAD` its outcome.
-    Deliver(&'a Outcome),
-    /// It gives a `LOAD` up for good.
-    Abandon,
-    /// It stores an outcome under its load's key.
-    Store(Option<&'a [u8]>, &'a Outcome),
-}
 
 /// What a line does.
 pub fn do_line<'a>(config: &Config, line: &'a [u8]) -> Doing<'a>

@@ -1,36 +1,26 @@
-//! Whether a step's reply and load are those that it owes.
-ghost use Rattle.std.specs.Prelude.{◌≡◌, ◌||◌, ◌&&◌, suc, IfOk, List, ℕ, Option, false, option_map, Some, nat_eq, codes, is_some};
+//! Whether a step's reply is the one that it owes.
+ghost use Rattle.std.specs.Prelude.{◌≡◌, ◌||◌, ◌&&◌, IfOk, List, ℕ, Option, false, option_map, Some, codes};
 ghost use Rattle.std.specs.Option.{option_eq};
 ghost use Rattle.audit_model.specs.Commands.{is_sync};
 ghost use Rattle.audit_model.specs.History.{Value, Running};
 ghost use Rattle.audit_model.specs.Bytewise.{same, text_line};
 ghost use Rattle.audit_model.specs.declared.command.Command.TheVariants as says;
-ghost use Rattle.audit_model.specs.Replies.{reply_of, may_refuse, load_sent_by};
-ghost use Rattle.audit_model.specs.Situation.{live_at, view_in, load_in};
-ghost use Rattle.audit_model.specs.declared.config.Config.{Config};
-ghost use Rattle.audit_held.specs.Seeing.{held_of};
+ghost use Rattle.audit_model.specs.Replies.{reply_of};
+ghost use Rattle.audit_model.specs.Situation.{view_in};
 ghost use Rattle.audit_situation.specs.States.{situation_of};
-ghost use Rattle.audit_steps.specs.Doings.{action_of};
+ghost use Rattle.audit_owing.specs.Doings.{action_of};
 ghost use Rattle.audit_steps.specs.Judging.{reply_fits};
 
-use crate::doing::{Doing, is_sync};
+use crate::doing::is_sync;
 use crate::keys::keys_listed;
 use crate::replies::{
     accepts, fault_text, is_said, ok_or_off, outcome_text, sum_or_error, sum_with, value_or_none,
     value_reply, yes_or_no,
 };
-use audit_held::Seen;
-use audit_judge::live;
 use audit_model::Config;
-use audit_situation::{State, find_load};
+use audit_owing::{Doing, found, may_refuse};
+use audit_situation::State;
 use std::alloc::{AllocError, Global};
-
-/// The live value of a key.
-pub fn found<'a>(config: &Config, s: &'a State, key: &'a [u8]) -> Option<Seen<'a>>
-    ensures { option_map (λ h. (held_of h).value) result ≡ live_at config.now s.now.latest s.now.held key.now }
-{
-    live(config, s.latest, &s.held, key)
-}
 
 /// The reply to an `ADD`.
 fn add_reply(
@@ -100,19 +90,6 @@ fn owed(
     }
 }
 
-/// Whether a step may refuse its identifier.
-fn may_refuse(s: &State, doing: Doing<'_>) -> bool
-    ensures { (config : Config) → result ≡ may_refuse (view_in config (situation_of s.now)) (action_of doing.entry) }
-{
-    match doing {
-        Doing::DropIf { .. } => s.dropped,
-        Doing::Set { .. } | Doing::Get { .. } | Doing::Has { .. } | Doing::Load { .. } => false,
-        Doing::Del { .. } | Doing::Add { .. } | Doing::Clear | Doing::Keys => false,
-        Doing::Sync | Doing::Quit | Doing::Fault(_) | Doing::Hold => false,
-        Doing::Deliver(_) | Doing::Abandon | Doing::Store(_, _) => false,
-    }
-}
-
 /// Whether a reply is the owed one, or the refusal that may be given.
 fn is_reply(reply: Option<&[u8]>, owed: Option<&[u8]>, refuses: bool) -> bool
     ensures { result ≡ (option_eq same (option_map (λ r. r.now) reply.entry) (option_map (λ r. r.now) owed.entry) || (refuses && option_eq same (option_map (λ r. r.now) reply.entry) (Some (text_line (codes "ERR id"))))) }
@@ -136,48 +113,5 @@ pub fn replies_rightly(
     match owed(alloc, config, s, doing)? {
         Some(owed) => Ok(is_reply(reply, Some(owed.as_slice()), may_refuse(s, doing))),
         None => Ok(is_reply(reply, None, may_refuse(s, doing))),
-    }
-}
-
-/// Whether a load has the next number.
-fn is_next(sent: u64, load: Option<u64>) -> bool
-    ensures { result ≡ option_eq nat_eq load (Some (suc sent)) }
-{
-    match load {
-        Some(number) => number > 0 && number - 1 == sent,
-        None => false,
-    }
-}
-
-/// Whether a `LOAD` needs no load of its own.
-fn needs_none(config: &Config, s: &State, key: &[u8]) -> bool
-    ensures { result ≡ (is_some (live_at config.now s.now.latest s.now.held key.now) || is_some (load_in (situation_of s.now) key.now)) }
-{
-    found(config, s, key).is_some() || find_load(&s.pending, key).is_some()
-}
-
-/// Whether a `LOAD` sends the load that it should.
-fn loads_key_rightly(config: &Config, s: &State, key: &[u8], load: Option<u64>) -> bool
-    ensures { result ≡ option_eq nat_eq load (load_sent_by (view_in config.now (situation_of s.now)) (Running (says.Load key.now))) }
-{
-    if needs_none(config, s, key) {
-        load.is_none()
-    } else {
-        is_next(s.sent, load)
-    }
-}
-
-/// Whether a step sends the load that it should, with its number, or none.
-pub fn loads_rightly(config: &Config, s: &State, doing: Doing<'_>, load: Option<u64>) -> bool
-    ensures { result ≡ option_eq nat_eq load (load_sent_by (view_in config.now (situation_of s.now)) (action_of doing.entry)) }
-{
-    match doing {
-        Doing::Load { key } => loads_key_rightly(config, s, key, load),
-        Doing::Set { .. } | Doing::Get { .. } | Doing::Has { .. } | Doing::Del { .. } => {
-            load.is_none()
-        }
-        Doing::Add { .. } | Doing::Clear | Doing::DropIf { .. } | Doing::Keys => load.is_none(),
-        Doing::Sync | Doing::Quit | Doing::Fault(_) | Doing::Hold => load.is_none(),
-        Doing::Deliver(_) | Doing::Abandon | Doing::Store(_, _) => load.is_none(),
     }
 }

@@ -3,6 +3,7 @@
 //! Contracts cite the definitions of `audit_model`; the laws that hold of them are the functions of `laws`. `audit` judges any transcript.
 #![tactic(auto)]
 
+mod auditing;
 pub mod laws;
 
 pub use audit_model::{
@@ -11,4 +12,5 @@ pub use audit_model::{
     Weight,
 };
 pub use audit_receipts::{Output, Receipt, receipts_stand};
-pub use audit_records::{Verdict, audit};
+pub use audit_records::Verdict;
+pub use auditing::audit;

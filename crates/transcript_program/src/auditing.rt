@@ -2,7 +2,7 @@
 ghost use Rattle.std.specs.Prelude.{IfOk};
 ghost use Rattle.transcript_program.specs.Judged.{IsJustOf};
 
-use audit_records::{Verdict, audit};
+use moka_audit::{Verdict, audit};
 use std::alloc::Global;
 use text_reader::{TextError, read_transcript};
 

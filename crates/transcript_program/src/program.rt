@@ -3,8 +3,8 @@ ghost use Rattle.std.specs.Prelude.{◌≡◌, ◌≢◌, ◌≤◌, ◌⊎◌};
 
 use crate::auditing::judge;
 use crate::replaying::{ReplayError, replay};
-use audit_records::Verdict;
 use itoa::Buffer;
+use moka_audit::Verdict;
 use std::alloc::Global;
 use std::convert::AsStr;
 use std::io::{ErrorKind, Read, Write};

@@ -2,7 +2,7 @@
 ghost use Rattle.std.specs.Prelude.{◌<◌};
 
 use audit_model::{Config, Transcript};
-use audit_records::{Verdict, audit};
+use moka_audit::{Verdict, audit};
 use std::alloc::{AllocError, Global};
 use std::test::Fail;
 use text_reader::read_transcript;

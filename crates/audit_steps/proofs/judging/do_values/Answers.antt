@@ -8,7 +8,7 @@ use Rattle.audit_model.specs.Steps.{has_right_notes}
 use Rattle.audit_judge.specs.After.{has_true_notes}
 use Rattle.audit_held.specs.Weights.{values_of}
 use Rattle.audit_situation.specs.States.{situation_of}
-use Rattle.audit_steps.specs.Doings.{action_of}
+use Rattle.audit_owing.specs.Doings.{action_of}
 use Rattle.audit_steps.specs.Judging.{placed_with, is_synced, reply_fits}
 use Rattle.audit_steps.specs.Showing.{step_of}
 use Rattle.audit_steps.proofs.Judged.{first-wrong, second-wrong, both-right, values-after}

@@ -1,8 +1,8 @@
 use Rattle.std.proofs.Common.{◌∙◌, sym, subst}
 use Rattle.std.specs.Prelude.{MatchOption}
 use Rattle.audit_laws.specs.Breaking.{IsFaultless, BreaksFirstAt}
-use Rattle.audit_records.proofs.Whole.{broken-whole}
-use Rattle.audit_records.proofs.auditing.audit.Goals as goal
+use Rattle.moka_audit.proofs.Whole.{broken-whole}
+use Rattle.moka_audit.proofs.auditing.audit.Goals as goal
 
 pub returns-in-None : goal.returns-in-None
 returns-in-None c =

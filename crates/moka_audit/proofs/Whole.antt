@@ -1,10 +1,9 @@
 -- A transcript of which a front has a fault has one.
-use Rattle.std.proofs.Common.{◌≡◌, sym, subst, ℕ, List, ◌++◌, take, drop, [], IsTrue}
+use Rattle.std.proofs.Common.{sym, subst, ℕ, List, ◌++◌, take, drop, [], IsTrue}
 use Rattle.std.proofs.lemmas.List.{take-append-drop}
 use Rattle.std.specs.List.{list_all}
-use Rattle.audit_model.specs.Belongs.{IsAdmitted, is_admitted}
-use Rattle.audit_model.specs.Obeys.{Obeys}
-use Rattle.audit_model.specs.Places.{placed_records, placed_records_after, history_after}
+use Rattle.audit_model.specs.Belongs.{is_admitted}
+use Rattle.audit_model.specs.Places.{placed_records_after, history_after}
 use Rattle.audit_model.specs.declared.config.Config.{Config}
 use Rattle.audit_model.specs.declared.event.Instant.{Instant}
 use Rattle.audit_model.specs.declared.transcript.Record.{Record}
