@@ -1,6 +1,7 @@
 -- A text that grows by the piece of one value more.
 use Rattle.std.proofs.Common.{◌≡◌, ℕ, false, List, [], ◌∷◌, ◌++◌, Option, Some, None, sym, ap, ◌∙◌}
 use Rattle.std.specs.List.{flat_map}
+use Rattle.std.specs.Prelude.{Result, Ok, Err, OnOk}
 use Rattle.std.specs.Option.{is_some, option_map_or}
 use Rattle.std.proofs.lemmas.Grind.{flat_map-append}
 use Rattle.std.proofs.lemmas.List.{append_assoc, append-nil}
@@ -21,6 +22,12 @@ pub recorded : (front l old new : List ℕ) (step : Option Step) → is_some ste
 recorded front l old new None none more =
     append-nil (front ++ new) ∙ ap (λ t. front ++ t) more ∙ sym (append_assoc front old l) ∙ ap (λ t. t ++ l) (sym (append-nil (front ++ old)))
 recorded front l old new (Some step) none more = cc
+
+-- the same where it may fail
+pub recorded-if : {A E : Type 0} (r : Result A E) (front l old new : List ℕ) (step : Option Step) → is_some step ≡ false → OnOk r (new ≡ old ++ l)
+    → OnOk r ((front ++ new) ++ option_map_or step_text step [] ≡ ((front ++ old) ++ option_map_or step_text step []) ++ l)
+recorded-if (Ok a) front l old new step none more = recorded front l old new step none more
+recorded-if (Err e) front l old new step none more = tt
 
 -- where nothing but configurations was read, one more stands at the end
 pub configured : (front more : List Config) (config : Config) (made : Option Instant) (inputs : List Input) → made ≡ None → inputs ≡ [] → more ≡ front ++ config ∷ []

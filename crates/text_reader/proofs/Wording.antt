@@ -1,7 +1,7 @@
 -- The words of a line.
 use Rattle.std.proofs.Common.{◌≡◌, ◌≢◌, ℕ, zero, suc, ◌+◌, ◌<◌, ◌≤◌, get_or, drop, Bool, true, false, cond, eqb, List, [], ◌∷◌, ◌++◌, length, Option, Some, None, refl, sym, ap, ◌∙◌, arith, Decides}
 use Rattle.std.specs.Prelude.{◌==◌, not}
-use Rattle.std.specs.Option.{is_some}
+use Rattle.std.specs.Option.{is_some, option_map}
 use Rattle.std.specs.Str.{bytes_eq}
 use Rattle.std.specs.Borrow.{Bor}
 use Rattle.std.proofs.lemmas.Bool.{cond-true, cond-false, eqb-true, eq-eqb}
@@ -10,7 +10,7 @@ use Rattle.std.proofs.lemmas.List.{append_cancel_right}
 use Rattle.std.proofs.lemmas.Slice.Eq.{bytes_eq-Decides}
 use Rattle.audit_model.specs.Bytewise.{onto_first}
 use Rattle.text_reader.specs.Lines.{pieces}
-use Rattle.text_reader.specs.Fields.{◌>>=◌, words_of_rest, behind, byte_in, digits_in}
+use Rattle.text_reader.specs.Fields.{◌>>=◌, field, setting_in, words_of_rest, behind, byte_in, digits_in}
 
 onto-some : (x : ℕ) (ws : List (List ℕ)) → onto_first x ws ≢ []
 onto-some x [] = λ e. cc
@@ -65,3 +65,12 @@ bytes_eq-differ a b differ = by_test (bytes_eq a b) refl
     by_test : (t : Bool) → bytes_eq a b ≡ t → t ≡ false
     by_test true e = absurd (differ ((bytes_eq-Decides a b).0 e))
     by_test false e = refl
+
+-- a setting is read off the next word
+pub setting_field : {A : Type 0} (name : List ℕ) (says : List ℕ → Option A) (ws : List (List ℕ)) → field (setting_in name says) ws ≡ (field (behind name) ws >>= (λ b. option_map {U = A × List (List ℕ)} (λ a. (a, b.1)) (says b.0)))
+setting_field {A = A} name says [] = refl
+setting_field {A = A} name says (w ∷ ws) = go (behind name w)
+  where
+    go : (o : Option (List ℕ)) → option_map {U = A × List (List ℕ)} (λ a. (a, ws)) (o >>= says) ≡ (option_map {U = List ℕ × List (List ℕ)} (λ b. (b, ws)) o >>= (λ b. option_map {U = A × List (List ℕ)} (λ a. (a, b.1)) (says b.0)))
+    go None = refl
+    go (Some b) = refl

@@ -119,6 +119,11 @@ behind [] word = Some word
 behind (n ∷ name) [] = None
 behind (n ∷ name) (b ∷ word) = if b == n then behind name word else None
 
+-- what stands behind this name in the next word was given, and the words behind it are left
+abbrev pub IsSetting : List ℕ → List (List ℕ) → Result (Bor (List ℕ)) LineFault → List (List ℕ) → Type 0
+IsSetting name old (Ok rest) left = field (behind name) old ≡ Some (rest.now, left)
+IsSetting name old (Err f) left = IsFault (field (behind name) old) f
+
 -- the value of a setting of this name, which ends in `=`
 abbrev pub setting_in : {A : Type 0} → List ℕ → (List ℕ → Option A) → List ℕ → Option A
 setting_in name says word = behind name word >>= says

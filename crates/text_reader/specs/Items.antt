@@ -93,6 +93,13 @@ step_of ws = do
   accepted ← field (option_in part_in) load.1
   Some (record { conn = conn.0; line = line.0; held = held.0; reply = reply.0; load = load.0; accepted = accepted.0; notices = [] }, accepted.1)
 
+-- a line of the head, or an event, by its kind
+abbrev pub head_of : List ℕ → List (List ℕ) → Option (Item × List (List ℕ))
+head_of kind ws =
+    if bytes_eq kind (codes "config") then option_map (λ config. (item.Config config.0, config.1)) (config_of ws)
+    else (if bytes_eq kind (codes "made") then option_map (λ nanos. (item.Made (record { nanos = nanos.0 }), nanos.1)) (field number_in ws)
+    else option_map (λ event. (item.Event event.0, event.1)) (event_of kind ws))
+
 -- what is said, by its kind
 unfoldable pub item_of : List ℕ → List (List ℕ) → Option (Item × List (List ℕ))
 item_of kind ws =
@@ -100,9 +107,7 @@ item_of kind ws =
     else (if bytes_eq kind (codes "note") then option_map (λ note. (item.Note note.0, note.1)) (note_of ws)
     else (if bytes_eq kind (codes "own") then option_map (λ part. (item.Own part.0, part.1)) (field part_in ws)
     else (if bytes_eq kind (codes "ownnote") then option_map (λ note. (item.OwnNote note.0, note.1)) (note_of ws)
-    else (if bytes_eq kind (codes "config") then option_map (λ config. (item.Config config.0, config.1)) (config_of ws)
-    else (if bytes_eq kind (codes "made") then option_map (λ nanos. (item.Made (record { nanos = nanos.0 }), nanos.1)) (field number_in ws)
-    else option_map (λ event. (item.Event event.0, event.1)) (event_of kind ws))))))
+    else head_of kind ws)))
 
 -- what the words of a whole line say, not so strictly
 unfoldable pub words_in : List (List ℕ) → Option Item

@@ -1,7 +1,7 @@
 //! The words of a line, read one by one.
 ghost use Rattle.std.specs.Prelude.{◌≡◌, ◌∷◌, [], ◌<◌, IfSome};
 ghost use Rattle.audit_model.specs.Grammar.{number_in};
-ghost use Rattle.text_reader.specs.Fields.{at_line, IsRead, IsReadOff, IsNext, IsEnd, IsBehind, IsReadItems, byte_in, words_of_rest, words_left, field, option_in, part_in, flag_in, held_in, policy_in, weight_in, cause_in, behind, setting_in, digit_in, digits_in, bytes_in};
+ghost use Rattle.text_reader.specs.Fields.{at_line, IsRead, IsReadOff, IsNext, IsEnd, IsBehind, IsSetting, IsReadItems, byte_in, words_of_rest, words_left, field, option_in, part_in, flag_in, held_in, policy_in, weight_in, cause_in, behind, setting_in, digit_in, digits_in, bytes_in};
 ghost use Rattle.text_reader.specs.Lines.{words};
 ghost use Rattle.text_reader.specs.declared.fields.LineFault.TheVariants as fault;
 
@@ -20,7 +20,7 @@ pub enum TextError {
 }
 
 /// Why a line is not read.
-#[derive(Clone, Copy, Debug, PartialEq, Eq, Drop)]
+#[derive(Clone, Copy, Drop)]
 pub enum LineFault {
     /// It is not of the form.
     Form,
@@ -157,44 +157,57 @@ impl<'a> Words<'a> {
         read_cause(word)
     }
 
+    /// What stands behind this name in the next word.
+    fn setting(&mut self, name: &[u8]) -> Result<&'a [u8], LineFault>
+        ensures { IsSetting name.now (words_left self.old) result (words_left self.new) }
+    {
+        let word = self.next()?;
+        read_setting(word, name)
+    }
+
     /// The number that the setting of this name has.
+    #[tactic(auto, using(crate::proofs::Wording::setting_field))]
     pub fn number_setting(&mut self, name: &[u8]) -> Result<u64, LineFault>
         ensures { IsReadOff (field (setting_in name.now number_in) (words_left self.old)) result (words_left self.new) }
     {
-        let word = self.next()?;
-        read_number(read_setting(word, name)?)
+        let word = self.setting(name)?;
+        read_number(word)
     }
 
     /// The number that the setting of this name has, or that there is none.
+    #[tactic(auto, using(crate::proofs::Wording::setting_field))]
     pub fn number_or_none_setting(&mut self, name: &[u8]) -> Result<Option<u64>, LineFault>
         ensures { IsReadOff (field (setting_in name.now (option_in number_in)) (words_left self.old)) result (words_left self.new) }
     {
-        let word = self.next()?;
-        read_number_or_none(read_setting(word, name)?)
+        let word = self.setting(name)?;
+        read_number_or_none(word)
     }
 
     /// The policy that the setting of this name has.
+    #[tactic(auto, using(crate::proofs::Wording::setting_field))]
     pub fn policy_setting(&mut self, name: &[u8]) -> Result<EvictionPolicy, LineFault>
         ensures { IsReadOff (field (setting_in name.now policy_in) (words_left self.old)) result (words_left self.new) }
     {
-        let word = self.next()?;
-        read_policy(read_setting(word, name)?)
+        let word = self.setting(name)?;
+        read_policy(word)
     }
 
     /// The weight that the setting of this name has.
+    #[tactic(auto, using(crate::proofs::Wording::setting_field))]
     pub fn weight_setting(&mut self, name: &[u8]) -> Result<Weight, LineFault>
         ensures { IsReadOff (field (setting_in name.now weight_in) (words_left self.old)) result (words_left self.new) }
     {
-        let word = self.next()?;
-        read_weight(read_setting(word, name)?)
+        let word = self.setting(name)?;
+        read_weight(word)
     }
 
     /// Yes or no, as the setting of this name says.
+    #[tactic(auto, using(crate::proofs::Wording::setting_field))]
     pub fn flag_setting(&mut self, name: &[u8]) -> Result<bool, LineFault>
         ensures { IsReadOff (field (setting_in name.now flag_in) (words_left self.old)) result (words_left self.new) }
     {
-        let word = self.next()?;
-        read_flag(read_setting(word, name)?)
+        let word = self.setting(name)?;
+        read_flag(word)
     }
 }
 

@@ -1,5 +1,7 @@
 //! Items, gathered to a transcript.
-ghost use Rattle.std.specs.Prelude.{◌≡◌, ◌++◌, [], IfOk, IsTrue, OnOk, Some, None, option_map};
+ghost use Rattle.std.specs.Prelude.{◌≡◌, ◌++◌, ◌∷◌, [], IfOk, IsTrue, OnOk, Some, None, option_map};
+ghost use Rattle.std.specs.List.{flat_map};
+ghost use Rattle.std.specs.Option.{option_map_or};
 ghost use Rattle.text_reader.specs.Fields.{IsRead};
 ghost use Rattle.text_reader.specs.Gathered.{gathered_text, item_line};
 ghost use Rattle.text_reader.specs.Gathering as said;
@@ -91,15 +93,21 @@ fn add_event(alloc: Global, gathered: &mut Gathered, event: Event) -> Result<(),
     if gathered.made.is_none() {
         return Err(LineFault::Form);
     }
-    close_step(gathered)?;
-    close_record(gathered)?;
-    gathered.record = Some(Record {
+    close(gathered)?;
+    gathered.record = Some(begin_record(alloc, event));
+    Ok(())
+}
+
+/// A record of an event, with nothing else.
+fn begin_record(alloc: Global, event: Event) -> Record
+    ensures { result ≡ said.begun event }
+{
+    Record {
         event,
         own: None,
         notices: Seq::new(alloc),
         steps: Seq::new(alloc),
-    });
-    Ok(())
+    }
 }
 
 /// Puts the last step to its record.
@@ -108,15 +116,21 @@ fn close_step(gathered: &mut Gathered) -> Result<(), LineFault>
     ensures step { OnOk result (gathered.new.step ≡ None) }
     ensures said { IsMade (said.closed_step gathered.old) result gathered.new }
 {
-    let Some(step) = gathered.step.take() else {
-        return Ok(());
-    };
-    let Some(mut record) = gathered.record.take() else {
-        return Err(LineFault::Form);
-    };
-    put_step(&mut record, step)?;
-    gathered.record = Some(record);
-    Ok(())
+    match gathered.step.take() {
+        Some(step) => put_last_step(&mut gathered.record, step),
+        None => Ok(()),
+    }
+}
+
+/// Adds the last step to the record that is open, if one is.
+fn put_last_step(open: &mut Option<Record>, step: Step) -> Result<(), LineFault>
+    ensures text { OnOk result (option_map_or record_text open.new [] ≡ option_map_or record_text open.old [] ++ step_text step) }
+    ensures said { IsMade (option_map (λ r. Some (said.with_step r step)) open.old) result open.new }
+{
+    match open {
+        Some(record) => put_step(record, step),
+        None => Err(LineFault::Form),
+    }
 }
 
 /// Adds a step to a record.
@@ -138,10 +152,19 @@ fn close_record(gathered: &mut Gathered) -> Result<(), LineFault>
     ensures closed { OnOk result (gathered.new.«record» ≡ None) }
     ensures said { IsMade (Some (said.closed_record gathered.old)) result gathered.new }
 {
-    let Some(record) = gathered.record.take() else {
-        return Ok(());
-    };
-    gathered.records.push(record)?;
+    match gathered.record.take() {
+        Some(record) => put_record(&mut gathered.records, record),
+        None => Ok(()),
+    }
+}
+
+/// Adds a record to the others.
+#[tactic(auto, using(crate::proofs::Growing::flat_map_push))]
+fn put_record(records: &mut Seq<Record>, record: Record) -> Result<(), LineFault>
+    ensures text { OnOk result (flat_map record_text records.new ≡ flat_map record_text records.old ++ record_text «record») }
+    ensures said { IsMade (Some (records.old ++ «record» ∷ [])) result records.new }
+{
+    records.push(record)?;
     Ok(())
 }
 
@@ -153,12 +176,10 @@ fn add_own(gathered: &mut Gathered, own: Accepted) -> Result<(), LineFault>
     if gathered.step.is_some() {
         return Err(LineFault::Form);
     }
-    let Some(mut record) = gathered.record.take() else {
-        return Err(LineFault::Form);
-    };
-    put_own(&mut record, own)?;
-    gathered.record = Some(record);
-    Ok(())
+    match &mut gathered.record {
+        Some(record) => put_own(record, own),
+        None => Err(LineFault::Form),
+    }
 }
 
 /// Says in a record which part took the answer's value.
@@ -181,12 +202,10 @@ fn add_own_note(gathered: &mut Gathered, note: Note) -> Result<(), LineFault>
     if gathered.step.is_some() {
         return Err(LineFault::Form);
     }
-    let Some(mut record) = gathered.record.take() else {
-        return Err(LineFault::Form);
-    };
-    put_own_note(&mut record, note)?;
-    gathered.record = Some(record);
-    Ok(())
+    match &mut gathered.record {
+        Some(record) => put_own_note(record, note),
+        None => Err(LineFault::Form),
+    }
 }
 
 /// Adds a note of its event's own step to a record.
@@ -220,12 +239,10 @@ fn add_note(gathered: &mut Gathered, note: Note) -> Result<(), LineFault>
     ensures text { OnOk result (gathered_text gathered.new ≡ gathered_text gathered.old ++ item_line (Item.Note note)) }
     ensures said { IsMade (said.add_note gathered.old note) result gathered.new }
 {
-    let Some(mut step) = gathered.step.take() else {
-        return Err(LineFault::Form);
-    };
-    put_note(&mut step, note)?;
-    gathered.step = Some(step);
-    Ok(())
+    match &mut gathered.step {
+        Some(step) => put_note(step, note),
+        None => Err(LineFault::Form),
+    }
 }
 
 /// Adds a note to a step.

@@ -1,9 +1,11 @@
 //! Inputs for a replay.
-ghost use Rattle.std.specs.Prelude.{◌≡◌, ◌++◌, ◌∷◌, [], IfOk, IsTrue, OnOk, None};
+ghost use Rattle.std.specs.Prelude.{◌≡◌, ◌++◌, ◌∷◌, [], IfOk, IsTrue, OnOk, None, Some, bytes_eq, if◌then◌else◌, option_map};
 ghost use Rattle.audit_text.specs.Words.{line};
 ghost use Rattle.text_reader.specs.Entries.{IsReplay, add_entry, asked_of, begin_config, begin_input, begin_lines, begin_made, begun_text, entry_in, entry_line, entry_of, entry_words_in, has_only_configs, input_in, input_of, replay_reading};
-ghost use Rattle.text_reader.specs.Fields.{IsRead, IsReadOff, words_left};
+ghost use Rattle.audit_model.specs.Grammar.{number_in};
+ghost use Rattle.text_reader.specs.Fields.{IsRead, IsReadOff, field, words_left};
 ghost use Rattle.text_reader.specs.Gathering.{IsMade, IsReadText};
+ghost use Rattle.text_reader.specs.Items.{config_of};
 ghost use Rattle.text_reader.specs.Inputs.{FitsReplay, asked_words, input_words, replay_text};
 ghost use Rattle.text_reader.specs.Lines.{kept, kept_line, said_line, words};
 
@@ -165,10 +167,18 @@ fn read_entry(alloc: Global, line: &[u8]) -> Result<Entry, LineFault>
     ensures said { IsRead (entry_in line.now) result }
 {
     let entry = parse_entry(alloc, line)?;
+    check_entry(alloc, &entry, line).and(Ok(entry))
+}
+
+/// That an entry would be written as this line.
+fn check_entry(alloc: Global, entry: &Entry, line: &[u8]) -> Result<(), LineFault>
+    ensures written { OnOk result (entry_line entry.now ≡ line.now ++ 10 ∷ []) }
+    ensures said { IsMade (if bytes_eq (entry_line entry.now) (line.now ++ 10 ∷ []) then Some entry.now else None) result entry.now }
+{
     let mut text = Vec::new(alloc);
-    put_entry(&mut text, &entry)?;
+    put_entry(&mut text, entry)?;
     if is_line(text.as_slice(), line) {
-        Ok(entry)
+        Ok(())
     } else {
         Err(LineFault::Form)
     }
@@ -237,8 +247,7 @@ fn parse_entry(alloc: Global, line: &[u8]) -> Result<Entry, LineFault>
     let mut words = Words::new(line);
     let kind = words.next()?;
     let entry = parse_entry_kind(alloc, kind, &mut words)?;
-    words.end()?;
-    Ok(entry)
+    words.end().and(Ok(entry))
 }
 
 /// What is said behind the word that names its kind.
@@ -247,15 +256,38 @@ fn parse_entry_kind(alloc: Global, kind: &[u8], words: &mut Words<'_>) -> Result
     ensures { IsReadOff (entry_of kind.now (words_left words.old)) result (words_left words.new) }
 {
     if kind == b"input".as_slice() {
-        Ok(Entry::Input(read_input(alloc, words)?))
+        parse_input(alloc, words)
     } else if kind == b"config".as_slice() {
-        Ok(Entry::Config(read_config(words)?))
+        parse_config(words)
     } else if kind == b"made".as_slice() {
-        let nanos = words.number()?;
-        Ok(Entry::Made(Instant { nanos }))
+        parse_made(words)
     } else {
         Err(LineFault::Form)
     }
+}
+
+/// An input, as an entry.
+fn parse_input(alloc: Global, words: &mut Words<'_>) -> Result<Entry, LineFault>
+    ensures { IsReadOff (option_map (λ input. (Entry.Input input.0, input.1)) (input_in (words_left words.old))) result (words_left words.new) }
+{
+    let input = read_input(alloc, words)?;
+    Ok(Entry::Input(input))
+}
+
+/// The settings of a namespace, as an entry.
+fn parse_config(words: &mut Words<'_>) -> Result<Entry, LineFault>
+    ensures { IsReadOff (option_map (λ config. (Entry.Config config.0, config.1)) (config_of (words_left words.old))) result (words_left words.new) }
+{
+    let config = read_config(words)?;
+    Ok(Entry::Config(config))
+}
+
+/// The moment of the making, as an entry.
+fn parse_made(words: &mut Words<'_>) -> Result<Entry, LineFault>
+    ensures { IsReadOff (option_map (λ nanos. (Entry.Made (record { nanos = nanos.0 }), nanos.1)) (field number_in (words_left words.old))) result (words_left words.new) }
+{
+    let nanos = words.number()?;
+    Ok(Entry::Made(Instant { nanos }))
 }
 
 /// An input behind its word: a namespace, and an event; an opening has no number.

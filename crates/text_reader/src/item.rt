@@ -1,8 +1,10 @@
 //! What one line of a transcript says.
-ghost use Rattle.std.specs.Prelude.{◌≡◌, ◌++◌, ◌∷◌, [], IfOk, OnOk, bytes_eq};
-ghost use Rattle.text_reader.specs.Fields.{IsRead, IsReadOff, words_left};
+ghost use Rattle.std.specs.Prelude.{◌≡◌, ◌++◌, ◌∷◌, [], IfOk, OnOk, bytes_eq, option_map, Some, None, if◌then◌else◌};
+ghost use Rattle.audit_model.specs.Grammar.{number_in};
+ghost use Rattle.text_reader.specs.Fields.{IsRead, IsReadOff, field, part_in, words_left};
 ghost use Rattle.text_reader.specs.Gathered.{item_line};
-ghost use Rattle.text_reader.specs.Items.{config_of, feed_of, value_of, outcome_of, answer_of, give_up_of, event_of, note_of, step_of, item_of, words_in, item_in};
+ghost use Rattle.text_reader.specs.Gathering.{IsMade};
+ghost use Rattle.text_reader.specs.Items.{config_of, head_of, feed_of, value_of, outcome_of, answer_of, give_up_of, event_of, note_of, step_of, item_of, words_in, item_in};
 ghost use Rattle.text_reader.specs.Lines.{words};
 
 use crate::fields::{LineFault, Words};
@@ -36,10 +38,18 @@ pub fn read_item(alloc: Global, line: &[u8]) -> Result<Item, LineFault>
     ensures said { IsRead (item_in line.now) result }
 {
     let item = parse_item(alloc, line)?;
+    check_item(alloc, &item, line).and(Ok(item))
+}
+
+/// That an item would be written as this line.
+fn check_item(alloc: Global, item: &Item, line: &[u8]) -> Result<(), LineFault>
+    ensures written { OnOk result (item_line item.now ≡ line.now ++ 10 ∷ []) }
+    ensures said { IsMade (if bytes_eq (item_line item.now) (line.now ++ 10 ∷ []) then Some item.now else None) result item.now }
+{
     let mut text = Vec::new(alloc);
-    put_item(&mut text, &item)?;
+    put_item(&mut text, item)?;
     if is_line(text.as_slice(), line) {
-        Ok(item)
+        Ok(())
     } else {
         Err(LineFault::Form)
     }
@@ -78,8 +88,7 @@ fn parse_item(alloc: Global, line: &[u8]) -> Result<Item, LineFault>
     let mut words = Words::new(line);
     let kind = words.next()?;
     let item = parse_kind(alloc, kind, &mut words)?;
-    words.end()?;
-    Ok(item)
+    words.end().and(Ok(item))
 }
 
 /// What is said behind the word that names its kind.
@@ -88,21 +97,85 @@ fn parse_kind(alloc: Global, kind: &[u8], words: &mut Words<'_>) -> Result<Item,
     ensures { IsReadOff (item_of kind.now (words_left words.old)) result (words_left words.new) }
 {
     if kind == b"step".as_slice() {
-        Ok(Item::Step(read_step(alloc, words)?))
+        parse_step(alloc, words)
     } else if kind == b"note".as_slice() {
-        Ok(Item::Note(read_note(alloc, words)?))
+        parse_note(alloc, words)
     } else if kind == b"own".as_slice() {
-        Ok(Item::Own(words.part()?))
+        parse_own(words)
     } else if kind == b"ownnote".as_slice() {
-        Ok(Item::OwnNote(read_note(alloc, words)?))
-    } else if kind == b"config".as_slice() {
-        Ok(Item::Config(read_config(words)?))
-    } else if kind == b"made".as_slice() {
-        let nanos = words.number()?;
-        Ok(Item::Made(Instant { nanos }))
+        parse_own_note(alloc, words)
     } else {
-        Ok(Item::Event(read_event(alloc, kind, words)?))
+        parse_head(alloc, kind, words)
     }
+}
+
+/// A line of a transcript's head, or an event, as an item.
+fn parse_head(alloc: Global, kind: &[u8], words: &mut Words<'_>) -> Result<Item, LineFault>
+    ensures { IsReadOff (head_of kind.now (words_left words.old)) result (words_left words.new) }
+{
+    if kind == b"config".as_slice() {
+        parse_config(words)
+    } else if kind == b"made".as_slice() {
+        parse_made(words)
+    } else {
+        parse_event(alloc, kind, words)
+    }
+}
+
+/// A step, as an item.
+fn parse_step(alloc: Global, words: &mut Words<'_>) -> Result<Item, LineFault>
+    ensures { IsReadOff (option_map (λ step. (Item.Step step.0, step.1)) (step_of (words_left words.old))) result (words_left words.new) }
+{
+    let step = read_step(alloc, words)?;
+    Ok(Item::Step(step))
+}
+
+/// A note of a step, as an item.
+fn parse_note(alloc: Global, words: &mut Words<'_>) -> Result<Item, LineFault>
+    ensures { IsReadOff (option_map (λ note. (Item.Note note.0, note.1)) (note_of (words_left words.old))) result (words_left words.new) }
+{
+    let note = read_note(alloc, words)?;
+    Ok(Item::Note(note))
+}
+
+/// The part that took an answer's value, as an item.
+fn parse_own(words: &mut Words<'_>) -> Result<Item, LineFault>
+    ensures { IsReadOff (option_map (λ part. (Item.Own part.0, part.1)) (field part_in (words_left words.old))) result (words_left words.new) }
+{
+    let own = words.part()?;
+    Ok(Item::Own(own))
+}
+
+/// A note of an answer's own step, as an item.
+fn parse_own_note(alloc: Global, words: &mut Words<'_>) -> Result<Item, LineFault>
+    ensures { IsReadOff (option_map (λ note. (Item.OwnNote note.0, note.1)) (note_of (words_left words.old))) result (words_left words.new) }
+{
+    let note = read_note(alloc, words)?;
+    Ok(Item::OwnNote(note))
+}
+
+/// The settings, as an item.
+fn parse_config(words: &mut Words<'_>) -> Result<Item, LineFault>
+    ensures { IsReadOff (option_map (λ config. (Item.Config config.0, config.1)) (config_of (words_left words.old))) result (words_left words.new) }
+{
+    let config = read_config(words)?;
+    Ok(Item::Config(config))
+}
+
+/// The moment of the making, as an item.
+fn parse_made(words: &mut Words<'_>) -> Result<Item, LineFault>
+    ensures { IsReadOff (option_map (λ nanos. (Item.Made (record { nanos = nanos.0 }), nanos.1)) (field number_in (words_left words.old))) result (words_left words.new) }
+{
+    let nanos = words.number()?;
+    Ok(Item::Made(Instant { nanos }))
+}
+
+/// The event that a word begins, as an item.
+fn parse_event(alloc: Global, kind: &[u8], words: &mut Words<'_>) -> Result<Item, LineFault>
+    ensures { IsReadOff (option_map (λ event. (Item.Event event.0, event.1)) (event_of kind.now (words_left words.old))) result (words_left words.new) }
+{
+    let event = read_event(alloc, kind, words)?;
+    Ok(Item::Event(event))
 }
 
 /// The settings behind the word `config`.
@@ -143,14 +216,28 @@ pub fn read_event(alloc: Global, kind: &[u8], words: &mut Words<'_>) -> Result<E
     } else if kind == b"giveup".as_slice() {
         read_give_up(words)
     } else if kind == b"open".as_slice() {
-        let conn = words.number()?;
-        Ok(Event::Open { conn })
+        read_open(words)
     } else if kind == b"close".as_slice() {
-        let conn = words.number()?;
-        Ok(Event::Close { conn })
+        read_close(words)
     } else {
         Err(LineFault::Form)
     }
+}
+
+/// That a connection opens, behind its word.
+fn read_open(words: &mut Words<'_>) -> Result<Event, LineFault>
+    ensures { IsReadOff (option_map (λ conn. (Event.Open conn.0, conn.1)) (field number_in (words_left words.old))) result (words_left words.new) }
+{
+    let conn = words.number()?;
+    Ok(Event::Open { conn })
+}
+
+/// That a connection closes, behind its word.
+fn read_close(words: &mut Words<'_>) -> Result<Event, LineFault>
+    ensures { IsReadOff (option_map (λ conn. (Event.Close conn.0, conn.1)) (field number_in (words_left words.old))) result (words_left words.new) }
+{
+    let conn = words.number()?;
+    Ok(Event::Close { conn })
 }
 
 /// A piece of a connection's bytes, behind its word.
