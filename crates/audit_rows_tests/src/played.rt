@@ -4,7 +4,7 @@ use audit_model::{
     Bytes, Config, Conn, Input, Instant, LoadId, Outcome, Seq, ServiceError, Transcript,
 };
 use audit_records::{Verdict, audit};
-use cache_spaces::play;
+use cache_play::play;
 use rand_core::SeedableRng;
 use rand_xoshiro::Xoshiro256PlusPlus;
 use std::alloc::{AllocError, Global};
