@@ -108,7 +108,7 @@ impl RecordedService {
     fn output_in(&self, namespace: u64) -> Output
         ensures { (journal : Transcript) → slice_get (journals_of self.now) namespace ≡ Some journal → result ≡ output_after namespace journal.records }
     {
-        match self.journals.get(namespace as usize) {
+        match self.journal_at(namespace) {
             Some(journal) => last_output(namespace, journal.records.as_slice()),
             None => Output::Done,
         }
