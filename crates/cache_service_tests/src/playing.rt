@@ -2,7 +2,7 @@
 use crate::asking::{Asked, Done, are_done, inputs_of};
 use crate::script::PLAIN;
 use audit_model::{Config, Conn, Input, Instant, LoadId, Record, ServiceError, Transcript};
-use cache_spaces::play;
+use cache_play::play;
 use rand_core::SeedableRng;
 use rand_xoshiro::Xoshiro256PlusPlus;
 use std::alloc::Global;

@@ -1,5 +1,5 @@
 -- What a namespace's calls say of each situation that it stands for.
-use Rattle.std.proofs.Common.{◌≡◌, ◌≢◌, ℕ, zero, suc, Bool, false, List, [], ◌∷◌, ◌++◌, length, Option, Some, None, refl, sym, ap, ◌∙◌, subst}
+use Rattle.std.proofs.Common.{◌≡◌, ◌≢◌, ◌-◌, ℕ, zero, suc, Bool, false, List, [], ◌∷◌, ◌++◌, length, Option, Some, None, refl, sym, ap, ◌∙◌, subst}
 use Rattle.std.specs.Prelude.{IsTrue}
 use Rattle.audit_model.specs.Follows.{Follows, after_event, tasks_in}
 use Rattle.audit_model.specs.Places.{steps_of}
@@ -9,7 +9,9 @@ use Rattle.audit_model.specs.declared.event.Event.{Event}
 use Rattle.cache_namespace.specs.Gathered.{Gathered}
 use Rattle.cache_namespace.specs.Shown.{situation}
 use Rattle.cache_namespace.specs.Taken.{Takes, is_quit, record_of}
-use Rattle.cache_namespace.specs.Waiting.{UnderWay}
+use Rattle.cache_loads.specs.Pending.{namespace_of, taken_of}
+use Rattle.cache_namespace.specs.Waiting.{UnderWay, under_way}
+use Rattle.plain_store.specs.Standing as plain
 use Rattle.cache_namespace.specs.declared.connection.Connection.{Connection}
 use Rattle.cache_namespace.specs.Drawing.{Workings}
 use Rattle.cache_namespace.specs.Making.{Making}
@@ -25,9 +27,9 @@ use Rattle.std.specs.Option.{option_map_or}
 use Rattle.cache_namespace.specs.Taken.{text_at, closing_at}
 use Rattle.cache_namespace.specs.declared.kept.Kept.{Kept}
 use Rattle.cache_spaces.specs.Moves.{Moves, are_parted_in, are_timely_in, part_in}
-use Rattle.cache_spaces.specs.Serves.{Serves}
+use Rattle.cache_spaces.specs.Serves.{SameSpace, Serves}
 use Rattle.cache_spaces.specs.declared.space.Space.{Space}
-use Rattle.cache_spaces.specs.Spaces.{StandsWith, Stands, closing_of, config_of, gathered_in, workings_of, made_of, output_of, notices_of}
+use Rattle.cache_spaces.specs.Spaces.{StandsWith, Stands, closing_of, config_of, connections_of, gathered_in, workings_of, made_of, output_of, notices_of}
 
 -- an event that is taken, whatever values are held
 pub moves-from : (config : Config) (making : Making) (Holds Left : List HeldValue → Type 0) (dropped drops : Bool) (latest now : ℕ) (l left : UnderWay) (old new : List Connection) (happened : Event) (is_held quit : Bool) (drawn drawing : Workings) (was is : Gathered) (s : Situation)
@@ -134,3 +136,30 @@ opened-text cs is c place e added =
 -- the parts of a namespace's store
 pub same-parts : (parts : ℕ) (stored config : Config) → parts ≡ part_count stored → stored ≡ config → part_by parts (hashed 0) ≡ part_in config
 same-parts parts stored config counted same = ap (λ n. part_by n (hashed 0)) (counted ∙ ap part_count same)
+
+-- a new connection leaves what others were told
+pub outputs-opened : (cs : List Connection) (c : Connection) → c.output.items ≡ [] → (place : ℕ) → text_at (cs ++ c ∷ []) place ≡ text_at cs place
+outputs-opened [] c empty zero = empty
+outputs-opened [] c empty (suc i) = refl
+outputs-opened (k ∷ ks) c empty zero = refl
+outputs-opened (k ∷ ks) c empty (suc i) = outputs-opened ks c empty i
+
+-- a namespace of which no connection changed is the same
+pub same-connected : (was is : Space) → is.inner ≡ record was.inner { connections = is.inner.connections } → connections_of is ≡ connections_of was → SameSpace was is
+same-connected was is rest same = record {
+  stands = λ s stands. record {
+    values = stands.values;
+    held = subst (λ n. plain.Stands n.store.config n.store.table stands.values) (sym rest) stands.held;
+    same = stands.same
+        ∙ sym (ap (λ n. situation n.latest (under_way n.loads) n.connections.items n.store.dropped stands.values) rest
+        ∙ ap (λ cs. situation was.inner.latest (under_way was.inner.loads) cs was.inner.store.dropped stands.values) same);
+  };
+  recency = λ settled keys kept. subst (λ n. plain.AreInOrder n.store.config n.store.table settled keys) (sym rest) kept;
+  config = ap (λ n. n.config) rest;
+  made = ap (λ n. n.store.made) rest;
+  outputs = λ number. ap (λ cs. text_at cs (number - 1)) same;
+  closings = λ number. ap (λ cs. closing_at cs (number - 1)) same;
+  notices = ap (λ n. n.store.notes.items) rest;
+  count = ap length same;
+  goes = record { taken = ap (λ n. taken_of n.loads) rest; namespace = ap (λ n. namespace_of n.loads) rest };
+}

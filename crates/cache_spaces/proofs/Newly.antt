@@ -39,6 +39,10 @@ all-at p (x ∷ xs) (suc i) d lt all = all-at p xs i d (omega arith) (and_parts 
 abbrev pub stream_from : List ℕ → Stream
 stream_from generator = stream_of (steps_u64_high plus_plus) generator
 
+-- none yet
+pub new-none : (spaces : List Space) (generator : List ℕ) (made : ℕ) → spaces ≡ [] → AreNew spaces [] generator made
+new-none spaces generator made none = record { count = ap length none; each = λ k config space at_c at_s. absent at_c }
+
 -- one namespace more
 pub new-more : (spaces more : List Space) (configs : List Config) (generator : List ℕ) (made i : ℕ) (space : Space) (d : Config) → i < length configs → length spaces ≡ i
     → AreNew spaces (take i configs) generator made → IsNew space i (get_or configs i d) (fork_after i generator) made → more ≡ spaces ++ space ∷ [] → AreNew more (take (i + 1) configs) generator made

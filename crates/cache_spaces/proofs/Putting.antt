@@ -1,11 +1,13 @@
 -- One namespace of a service in the place of another.
-use Rattle.std.proofs.Common.{◌≡◌, ℕ, ◌<◌, List, length, refl, sym, subst, get_or, inr}
+use Rattle.std.proofs.Common.{◌≡◌, ℕ, ◌<◌, Bool, true, false, List, length, refl, sym, ap, ◌∙◌, subst, get_or, inr}
 use Rattle.std.specs.Prelude.{slice_set}
+use Rattle.std.specs.List.{slice_get}
+use Rattle.std.proofs.lemmas.Option.{same_Some}
 use Rattle.audit_model.specs.declared.input.ServiceError.{ServiceError}
 use Rattle.cache_namespace.proofs.Places.{at-place}
 use Rattle.cache_spaces.specs.Moves.{At}
 use Rattle.cache_spaces.specs.Serves.{SameSpace}
-use Rattle.cache_spaces.specs.Services.{Refuses}
+use Rattle.cache_spaces.specs.Services.{IsSpace, Refuses}
 use Rattle.cache_spaces.specs.declared.space.Space.{Space}
 
 pub put-at : {X : Type 0} (Fact : X → X → Type 0) (xs : List X) (i : ℕ) (was is : X) → i < length xs → was ≡ get_or xs i was → Fact was is → At xs (slice_set xs i is) i Fact
@@ -22,3 +24,12 @@ refuses-at Cause old new i j e same a = inr (subst (λ k. At old new k (λ was i
 pub same-space : (was is : Space) → is ≡ was → SameSpace was is
 same-space was is e =
     subst (λ x. SameSpace was x) (sym e) (record { stands = λ s stands. stands; recency = λ b keys r. r; config = refl; made = refl; outputs = λ number. refl; closings = λ number. refl; notices = refl; count = refl; goes = record { taken = refl; namespace = refl } })
+
+-- what is true of the namespace at a place is true of whatever is the namespace of that number
+pub of-space : (Fact : Space → Type 0) (spaces : List Space) (i j : ℕ) (here : Space) → i ≡ j → i < length spaces → here ≡ get_or spaces i here → Fact here → (space : Space) → IsSpace spaces j space → Fact space
+of-space Fact spaces i j here same lt at fact space is = subst Fact (same_Some here space (sym (at-place spaces i here lt at) ∙ ap (slice_get spaces) same ∙ is)) fact
+
+-- what was not refused was opened
+pub opened : (was_opened : Bool) → (was_opened ≡ false → false ≡ true) → was_opened ≡ true
+opened true refused = refl
+opened false refused = refused refl

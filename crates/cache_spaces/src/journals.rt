@@ -6,8 +6,8 @@ ghost use Rattle.cache_spaces.specs.Recorded.{AreEmpty, RecordsAt, RefusedInput,
 ghost use Rattle.cache_spaces.specs.Services.{are_taken, AreNew, Refuses, spaces_of};
 
 use crate::outputs::last_output;
-use crate::playing::{empty_transcripts, namespace_of, step_in};
 use crate::service::Service;
+use crate::stepping::{empty_transcripts, namespace_of, step_in};
 use audit_model::{Bytes, Config, Input, Instant, LoadId, ServiceError, Transcript};
 use audit_receipts::Output;
 use rand_xoshiro::Xoshiro256PlusPlus;
@@ -89,8 +89,10 @@ impl RecordedService {
         }
     }
 
-    /// Takes an input, and adds its record.
-    pub(crate) fn record(&mut self, input: &Input) -> Result<Output, ServiceError>
+    /// Takes an input that the caller keeps, and adds its record to its namespace's journal, as `step` does.
+    ///
+    /// An input that is refused changes nothing.
+    pub fn record(&mut self, input: &Input) -> Result<Output, ServiceError>
         ensures taken { OnOk result (RecordsAt input.now (journals_of self.old) (journals_of self.new) (spaces_of (service_of self.old)) (spaces_of (service_of self.new))) }
         ensures output { IfOk result (λ output. (journal : Transcript) → slice_get (journals_of self.new) (namespace_of input.now) ≡ Some journal → output ≡ output_after (namespace_of input.now) journal.records) }
         ensures refused { IfErr result (λ e. Refuses (spaces_of (service_of self.old)) (spaces_of (service_of self.new)) (namespace_of input.now) e (RefusedInput input.now e)) }
@@ -106,7 +108,7 @@ impl RecordedService {
     fn output_in(&self, namespace: u64) -> Output
         ensures { (journal : Transcript) → slice_get (journals_of self.now) namespace ≡ Some journal → result ≡ output_after namespace journal.records }
     {
-        match self.journals.get(namespace as usize) {
+        match self.journal_at(namespace) {
             Some(journal) => last_output(namespace, journal.records.as_slice()),
             None => Output::Done,
         }

@@ -4,13 +4,12 @@
 mod journals;
 mod making;
 mod outputs;
-mod playing;
 mod recording;
 mod service;
 mod settling;
 mod space;
+mod stepping;
 
 pub use audit_receipts::Output;
 pub use journals::{RecordedService, Refusal};
-pub use playing::play;
 pub use service::{AnswerError, Fed, Service};

@@ -157,10 +157,7 @@ impl Space {
         ensures err { OnErr result (self.new ≡ self.old) }
         ensures goes { TakesNoLoads self.old self.new }
     {
-        match self.inner.take_output(alloc, number) {
-            Ok(text) => Ok(text),
-            Err(error) => Err(error),
-        }
+        self.inner.take_output(alloc, number)
     }
 
     /// Why a connection is closed, if it is.

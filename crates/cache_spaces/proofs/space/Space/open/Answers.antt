@@ -1,14 +1,14 @@
 use Rattle.std.proofs.Common.{false, subst, ◌≡◌, ◌-◌, refl, ap, sym, ◌∙◌, None, arith, length, length-append, [], ◌∷◌}
 use Rattle.std.specs.List.{slice_get}
 use Rattle.cache_loads.specs.Pending.{namespace_of, taken_of}
-use Rattle.cache_namespace.specs.Taken.{is_quit, text_at}
+use Rattle.cache_namespace.specs.Taken.{IsSound, is_quit, text_at}
 use Rattle.cache_spaces.specs.Spaces.{gathered_in}
 use Rattle.cache_namespace.specs.Shown.{situation}
 use Rattle.cache_namespace.specs.Waiting.{under_way}
 use Rattle.plain_store.specs.Hashing.{hashed}
 use Rattle.plain_store.specs.Parting.{part_by}
 use Rattle.plain_store.specs.Standing as plain
-use Rattle.cache_spaces.proofs.Moving.{moves-from, same-parts, serves-still, others-opened, opened-output, opened-closing, opened-text}
+use Rattle.cache_spaces.proofs.Moving.{moves-from, same-parts, serves-still, others-opened, opened-output, opened-closing, opened-text, outputs-opened, same-connected}
 use Rattle.std.proofs.Math.Logic.{∥∥₁_map}
 use Rattle.cache_spaces.proofs.Knowing.{by-result, by-taking, known-on, known-same}
 use Rattle.cache_spaces.proofs.space.Space.open.Goals as goal
@@ -56,3 +56,15 @@ invariant_of-self-clause-waiting c =
     (λ same same_too same_again. known-same old.config new.config (plain.Stands old.store.config old.store.table) (plain.Stands new.store.config new.store.table) (under_way old.loads) (under_way new.loads) old.connections.items new.connections.items config k
     (λ values held. subst (λ st. plain.Stands st.config st.table values) (sym (ap (λ n. n.store) c.open.ensures.rest)) held)
     (ap (λ l. situation 0 l new.connections.items false []) (ap (λ n. under_way n.loads) c.open.ensures.rest) ∙ ap (λ cs. situation 0 (under_way old.loads) cs false []) same)))
+
+pub returns-in-Err-clause-same : goal.returns-in-Err-clause-same
+returns-in-Err-clause-same c = same-connected c.args.self.now _ c.in-Err.ensures.rest c.in-Err.ensures.err
+
+pub returns-in-Ok-clause-outputs : goal.returns-in-Ok-clause-outputs
+returns-in-Ok-clause-outputs c = λ n.
+    let added = c.in-Ok.ensures.connections in
+    ap (λ cs. text_at cs (n - 1)) added.3 ∙ outputs-opened c.args.self.now.inner.connections.items added.0 added.1 (n - 1)
+
+pub invariant_of-self-clause-sound : goal.invariant_of-self-clause-sound
+invariant_of-self-clause-sound c =
+    subst (λ n. IsSound n.config (plain.frame_of n.store.config (part_by n.store.parts (hashed 0)) n.store.made n.store.dropped n.store.latest) n.latest) (sym c.open.ensures.rest) c.args.self.now.sound

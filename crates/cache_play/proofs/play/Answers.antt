@@ -3,7 +3,7 @@ use Rattle.cache_spaces.specs.Journals.{journals_of, service_of}
 use Rattle.cache_spaces.specs.Played.{ArePlayed}
 use Rattle.cache_spaces.specs.Services.{spaces_of}
 use Rattle.cache_spaces.proofs.Journaling.{played-none, played-step, played-to-end}
-use Rattle.cache_spaces.proofs.playing.play.Goals as goal
+use Rattle.cache_play.proofs.play.Goals as goal
 
 pub loop-input-init : goal.loop-input-init
 loop-input-init c = record {

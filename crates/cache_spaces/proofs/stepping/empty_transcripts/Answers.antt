@@ -1,7 +1,7 @@
 use Rattle.std.proofs.Common.{length, ap, sym, subst, arith}
 use Rattle.cache_spaces.specs.Recorded.{AreEmpty}
 use Rattle.cache_spaces.proofs.Journaling.{filled, none-empty, one-longer}
-use Rattle.cache_spaces.proofs.playing.empty_transcripts.Goals as goal
+use Rattle.cache_spaces.proofs.stepping.empty_transcripts.Goals as goal
 
 pub loop-init : goal.loop-init
 loop-init c = record { inside = omega arith; count = ap length c.in_ok-transcripts.ensures.items; empty = none-empty _ _ c.in_ok-transcripts.ensures.items }

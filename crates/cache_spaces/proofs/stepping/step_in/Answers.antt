@@ -2,7 +2,7 @@ use Rattle.std.proofs.Common.{arith}
 use Rattle.cache_namespace.proofs.Places.{at-place}
 use Rattle.cache_spaces.proofs.Journaling.{same-transcript, put-back}
 use Rattle.cache_spaces.proofs.Putting.{put-at, at-of, refuses-at}
-use Rattle.cache_spaces.proofs.playing.step_in.Goals as goal
+use Rattle.cache_spaces.proofs.stepping.step_in.Goals as goal
 
 pub record_input-requires : goal.record_input-requires
 record_input-requires c = record {

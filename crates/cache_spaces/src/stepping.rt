@@ -1,40 +1,12 @@
-//! Inputs, played from a service just made.
-ghost use Rattle.std.specs.Prelude.{◌≡◌, ◌≤◌, ◌<◌, ◌^◌, ◌↔◌, ◌⊎◌, ◌∷◌, [], false, IfOk, IfErr, OnOk, OnErr, IsErrOf, length, map};
-ghost use Rattle.cache_spaces.specs.Played.{ArePlayed, HavePlayed};
+//! Inputs, each taken in its namespace.
+ghost use Rattle.std.specs.Prelude.{◌≡◌, ◌<◌, ◌∷◌, [], IfOk, IfErr, OnOk, OnErr, length};
 ghost use Rattle.cache_spaces.specs.Recorded.{AreEmpty, AreQuiet, RecordsAt, RefusedInput, namespace_of};
-ghost use Rattle.cache_spaces.specs.Services.{are_taken, Refuses, spaces_of};
+ghost use Rattle.cache_spaces.specs.Services.{Refuses, spaces_of};
 
-use crate::journals::RecordedService;
 use crate::recording::record_input;
 use crate::service::Service;
-use audit_model::{Config, Input, Instant, Seq, ServiceError, Transcript};
-use rand_xoshiro::Xoshiro256PlusPlus;
+use audit_model::{Input, Instant, Seq, ServiceError, Transcript};
 use std::alloc::{AllocError, Global};
-
-/// The transcripts of the inputs, one a configuration, in their order.
-///
-/// An input that a service would refuse, for memory too, stands in none, and play goes on. Fails only as `Service::new` does.
-pub fn play(
-    alloc: Global,
-    configs: &[Config],
-    generator: Xoshiro256PlusPlus,
-    moment: Instant,
-    inputs: &[Input],
-) -> Result<Vec<Transcript>, ServiceError>
-    ensures played { IfOk result (λ transcripts. ArePlayed configs.now moment inputs.now transcripts.items) }
-    ensures moment { IsErrOf result ServiceError.Moment ↔ (2 ^ 63 ≤ moment.nanos) }
-    ensures config { IsErrOf result ServiceError.Config ↔ ((moment.nanos < 2 ^ 63) × (are_taken configs.now ≡ false)) }
-    ensures memory { IfErr result (λ e. (e ≡ ServiceError.Moment) ⊎ (e ≡ ServiceError.Config) ⊎ (e ≡ ServiceError.OutOfMemory)) }
-{
-    let mut recorded = match RecordedService::new(alloc, configs, generator, moment) {
-        Ok(recorded) => recorded,
-        Err(error) => return Err(error),
-    };
-    for input in inputs {
-        let _ = recorded.record(input);
-    }
-    Ok(recorded.into_journals())
-}
 
 /// So many transcripts without records.
 pub fn empty_transcripts(

@@ -1,6 +1,6 @@
 use Rattle.std.proofs.Common.{◌≡◌, ◌≤◌, length}
 use Rattle.cache_spaces.specs.Recorded.{AreEmpty}
-use Rattle.cache_spaces.proofs.playing.empty_transcripts.Given as goal
+use Rattle.cache_spaces.proofs.stepping.empty_transcripts.Given as goal
 
 abbrev pub invariant-loop : goal.invariant-loop
 invariant-loop l = record {
