@@ -1,5 +1,5 @@
 -- What becomes of the loads of a namespace, call by call.
-use Rattle.std.proofs.Common.{◌≡◌, ℕ, zero, suc, ◌+◌, ◌-◌, ◌<◌, ◌≤◌, ◌==◌, ◌&&◌, ◌||◌, not, nat_lt, nat_le, Bool, true, false, List, [], ◌∷◌, length, take, if◌then◌else◌, Option, None, Some, is_some, cond, refl, sym, ap, ◌∙◌, subst, arith, inl, inr, ⊎_elim}
+use Rattle.std.proofs.Common.{◌≡◌, ◌≢◌, ℕ, zero, suc, ◌+◌, ◌-◌, ◌<◌, ◌≤◌, ◌==◌, ◌&&◌, ◌||◌, not, nat_lt, nat_le, Bool, true, false, List, [], ◌∷◌, length, take, if◌then◌else◌, Option, None, Some, is_some, cond, refl, sym, ap, ◌∙◌, subst, arith, inl, inr, ⊎_elim}
 use Rattle.std.specs.Prelude.{◌⊎◌}
 use Rattle.std.specs.List.{find, slice_get}
 use Rattle.std.specs.Option.{option_map}
@@ -268,6 +268,10 @@ pub none-there : (outs : Outs) (count : ℕ) (empty : Bool) → count ≡ length
 none-there [] count empty counted is e = refl
 none-there (out ∷ outs) count empty counted is e = let no : false ≡ true = sym (is ∙ ne_eqb count 0 (λ none. absurd (omega (arith, none, counted)))) ∙ e in cc
 
+-- one of them is
+pub some-there : (outs : Outs) (count : ℕ) (empty : Bool) → count ≡ length outs → empty ≡ (count == 0) → empty ≡ false → outs ≢ []
+some-there outs count empty counted is e none = let no : true ≡ false = sym (is ∙ eq-eqb count 0 (counted ∙ ap length none)) ∙ e in cc
+
 -- ---- loads are taken
 
 pub in-turn-has : (place before : ℕ) (outs : Outs) (n : ℕ) → are_in_turn place before outs ≡ true → before < n → n ≤ before + length outs → is_left n outs ≡ true
@@ -389,10 +393,6 @@ at-accounts-still IsLeft spaces n number outs c =
 
 pub at-accounts-start : (IsLeft : ℕ → Space → Type 0) (spaces : List Space) (n number : ℕ) (outs : Outs) → outs ≡ [] → Connected spaces n number IsLeft → At spaces spaces n (λ was is. Accounts was is [] outs)
 at-accounts-start IsLeft spaces n number outs fresh c = subst (λ xs. At spaces spaces n (λ was is. Accounts was is [] xs)) (sym fresh) (at-accounts-still IsLeft spaces n number [] c)
-
--- where the namespaces are the same
-pub at-taken-all : (first second third : List Space) (n : ℕ) → third ≡ second → At first second n HasTakenAll → At first third n HasTakenAll
-at-taken-all first second third n same a = subst (λ spaces. At first spaces n HasTakenAll) (sym same) a
 
 pub at-adds-still : (IsLeft : ℕ → Space → Type 0) (spaces : List Space) (n number : ℕ) → Connected spaces n number IsLeft → At spaces spaces n AddsNoLoads
 at-adds-still IsLeft spaces n number c = at-same AddsNoLoads spaces n c.space c.at (own-loads (pending_of c.space))

@@ -1,6 +1,6 @@
 -- A connection of a namespace over several calls.
 use Rattle.std.proofs.Common.{◌≡◌, ℕ, zero, suc, ◌-◌, ◌<◌, ◌≤◌, ◌^◌, Bool, true, false, List, [], ◌∷◌, length, Option, Some, None, refl, sym, ap, ◌∙◌, subst, arith, inl, inr, ⊎_elim, nat_lt, nat_le}
-use Rattle.std.specs.Prelude.{MatchOption, ◌⊎◌, ◌&&◌}
+use Rattle.std.specs.Prelude.{MatchOption, Result, Ok, Err, ◌⊎◌, ◌&&◌}
 use Rattle.std.specs.List.{slice_get}
 use Rattle.std.proofs.lemmas.Bool.{and_from, lt-ltb, le-leb, cases_lt}
 use Rattle.std.proofs.lemmas.Option.{none-some, slice_get_within, get_or_from_slice_get}
@@ -18,7 +18,7 @@ use Rattle.cache_spaces.specs.Serves.{IsUnknown, SameSpace, Takes, TakesOutput}
 use Rattle.cache_spaces.specs.Services.{Refuses}
 use Rattle.cache_spaces.specs.Spaces.{closing_of, config_of, connections_of, output_of}
 use Rattle.cache_spaces.specs.declared.space.Space.{Space}
-use Rattle.cache_run.specs.Connected.{Connected, IsEnded, IsFed, IsReady, IsTaken}
+use Rattle.cache_run.specs.Connected.{Connected, IsEnded, IsFed, IsLeftBy, IsReady, IsTaken}
 use Rattle.cache_run.proofs.Placing.{at-is, at-was}
 
 -- what stands at a place
@@ -104,6 +104,11 @@ connected-taken old new n number text c a =
 -- less of it is wanted
 pub connected-map : (IsLeft IsWanted : ℕ → Space → Type 0) (spaces : List Space) (n number : ℕ) → Connected spaces n number IsLeft → ((x : Space) → IsLeft number x → IsWanted number x) → Connected spaces n number IsWanted
 connected-map IsLeft IsWanted spaces n number c h = record { space = c.space; at = c.at; positive = c.positive; known = c.known; left = h c.space c.left }
+
+-- where the replies were taken, whatever comes of it
+pub left-by : {T E : Type 0} (spaces : List Space) (n number : ℕ) (r : Result T E) → Connected spaces n number IsTaken → Connected spaces n number (IsLeftBy r)
+left-by spaces n number (Ok done) c = c
+left-by spaces n number (Err e) c = connected-map IsTaken IsFed spaces n number c (λ x left. left.0)
 
 -- what is true of it where it stands
 pub connected-here : (IsLeft IsWanted : ℕ → Space → Type 0) (spaces : List Space) (n number : ℕ) (c : Connected spaces n number IsLeft) → IsWanted number c.space → Connected spaces n number IsWanted

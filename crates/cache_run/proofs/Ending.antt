@@ -1,6 +1,6 @@
 -- One connection, from its opening to its closing.
-use Rattle.std.proofs.Common.{◌≡◌, ◌≢◌, ℕ, ◌+◌, ◌-◌, ◌<◌, ◌≤◌, Bool, true, false, List, [], length, Option, Some, None, refl, sym, ap, ◌∙◌, subst, arith, inl, inr}
-use Rattle.std.specs.Prelude.{◌++◌, Result, Ok, Err, OnOk, OnErr, IsTrue}
+use Rattle.std.proofs.Common.{◌≡◌, ◌≢◌, ℕ, ◌+◌, ◌-◌, ◌<◌, ◌≤◌, Bool, true, false, List, [], length, Option, Some, None, refl, sym, ap, ◌∙◌, subst, arith, inl, inr, ⊎_elim}
+use Rattle.std.specs.Prelude.{◌++◌, ◌⊎◌, Result, Ok, Err, IfErr, MatchResult, OnOk, IsTrue}
 use Rattle.std.specs.List.{flat_map}
 use Rattle.std.proofs.lemmas.List.{append-nil}
 use Rattle.std.proofs.lemmas.Option.{none-some}
@@ -275,13 +275,13 @@ module _ {C L : Type 0} (reads : C → ℕ → C → Type 0) (loads : L → List
       (λ x z v p q. partly x z q.0 v e p.0 p.1 q.1 q.2)
 
 -- however it ended, the connection may only have closed for what it was fed
-pub fed-after : {X E : Type 0} (spaces : List Space) (n number : ℕ) (remaining : Option (List ℕ)) (r : Result X E) → OnOk r (Connected spaces n number (IsOver remaining)) → OnErr r (Connected spaces n number IsFed) → Connected spaces n number IsFed
-fed-after spaces n number remaining (Ok x) over left = connected-map (IsOver remaining) IsFed spaces n number over (λ space is. fed space is)
+pub fed-after : {X E : Type 0} (spaces : List Space) (n number : ℕ) (remaining : Option (List ℕ)) (r : Result X E) → MatchResult r (λ done. Connected spaces n number (IsOver remaining)) (λ e. Connected spaces n number IsFed) → Connected spaces n number IsFed
+fed-after spaces n number remaining (Ok x) over = connected-map (IsOver remaining) IsFed spaces n number over (λ space is. fed space is)
   where
     fed : (space : Space) → IsOver remaining number space → IsFed number space
     fed space (inl p) = inl p.0
     fed space (inr p) = inr p
-fed-after spaces n number remaining (Err e) over left = left
+fed-after spaces n number remaining (Err e) left = left
 
 -- ---- what becomes of the loads
 
@@ -323,19 +323,20 @@ at-given : (F G : Space → Space → Type 0) (old new : List Space) (n : ℕ) �
 at-given F G old new n a b = at-map (λ was is. G was is × (G was is → F was is)) F old new n (at-both G (λ was is. G was is → F was is) old new n a b) (λ x y p. p.1 p.0)
 
 -- where no load was under way before, none is
-pub whole-none : {C L : Type 0} (reads : C → ℕ → C → Type 0) (loads : L → List ℕ → Option Outcome → L → Type 0) (before after : Outside C L) (old new : List Space) (n : ℕ) → At old new n (λ was is. ServesWhole reads loads was is before after)
+whole-none : {C L : Type 0} (reads : C → ℕ → C → Type 0) (loads : L → List ℕ → Option Outcome → L → Type 0) (before after : Outside C L) (old new : List Space) (n : ℕ) → At old new n (λ was is. ServesWhole reads loads was is before after)
     → At old new n (λ was is. pending_of was ≡ [] → pending_of is ≡ [])
 whole-none reads loads before after old new n a =
     at-map (λ was is. ServesWhole reads loads was is before after) (λ was is. pending_of was ≡ [] → pending_of is ≡ []) old new n a (λ x y w none. none-behind x y w.settled none)
 
-pub partly-none : {C L : Type 0} (reads : C → ℕ → C → Type 0) (loads : L → List ℕ → Option Outcome → L → Type 0) (before after : Outside C L) (old new : List Space) (n : ℕ) (e : RunError) → At old new n (λ was is. ServesPartly reads loads was is before after e)
+-- however a run ended
+pub run-none : {T C L : Type 0} (reads : C → ℕ → C → Type 0) (loads : L → List ℕ → Option Outcome → L → Type 0) (before after : Outside C L) (old new : List Space) (n : ℕ) (A : RunError → Type 0) (B D E F : Type 0) (r : Result T RunError)
+    → OnOk r (At old new n (λ was is. ServesWhole reads loads was is before after))
+    → IfErr r (λ e. At old new n (λ was is. (A e × SameSpace was is × B × D × E × F) ⊎ ServesPartly reads loads was is before after e))
     → At old new n (λ was is. pending_of was ≡ [] → pending_of is ≡ [])
-partly-none reads loads before after old new n e a =
-    at-map (λ was is. ServesPartly reads loads was is before after e) (λ was is. pending_of was ≡ [] → pending_of is ≡ []) old new n a
-    (λ x y p none. none-behind x y (p.settled (subst (WaitsAlone p.number) (sym none) tt)) none)
-
-pub same-none : (old new : List Space) (n : ℕ) → At old new n SameSpace → At old new n (λ was is. pending_of was ≡ [] → pending_of is ≡ [])
-same-none old new n a = at-map SameSpace (λ was is. pending_of was ≡ [] → pending_of is ≡ []) old new n a (λ x y same none. none-behind x y (keeps-same x y same.stands same.goes.taken).loads none)
+run-none reads loads before after old new n A B D E F (Ok done) whole partly = whole-none reads loads before after old new n whole
+run-none reads loads before after old new n A B D E F (Err e) whole partly =
+    at-map (λ was is. (A e × SameSpace was is × B × D × E × F) ⊎ ServesPartly reads loads was is before after e) (λ was is. pending_of was ≡ [] → pending_of is ≡ []) old new n partly
+    (λ x y p none. ⊎_elim (λ q. none-behind x y (keeps-same x y q.1.stands q.1.goes.taken).loads none) (λ q. none-behind x y (q.settled (subst (WaitsAlone q.number) (sym none) tt)) none) p)
 
 -- ---- what a run leaves
 

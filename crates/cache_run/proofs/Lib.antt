@@ -1,4 +1,5 @@
 pub mod Placing
+pub mod Causing
 pub mod Connecting
 pub mod Going
 pub mod Delivering

@@ -24,7 +24,7 @@ use Rattle.cache_settling.specs.Told.{own_steps, replies_to}
 use Rattle.cache_spaces.proofs.Putting.{same-space}
 use Rattle.cache_spaces.specs.Moves.{At}
 use Rattle.cache_spaces.specs.Serves as served
-use Rattle.cache_spaces.specs.Serves.{SameSpace, Settles, TakesLoads, TakesOutput, known_of}
+use Rattle.cache_spaces.specs.Serves.{SameSpace, Settles, TakesOutput, known_of}
 use Rattle.cache_spaces.specs.Spaces.{Stands, closing_of, config_of, connections_of, loads_of, notices_of, output_of}
 use Rattle.cache_spaces.specs.declared.space.Space.{Space}
 use Rattle.run_laws.specs.Alone.{IsTurnOf, StepsOf, WaitsAlone}

@@ -1,7 +1,7 @@
 -- One turn of a run.
-use Rattle.std.proofs.Common.{◌≡◌, ◌≢◌, ℕ, ◌+◌, ◌≤◌, ◌⊎◌, ◌++◌, false, List, [], ◌∷◌, Option, refl, sym, ap, ◌∙◌, subst, inl, inr, arith, length-append}
-use Rattle.std.specs.Prelude.{Err, IsErrOf}
-use Rattle.std.proofs.lemmas.List.{append-nil}
+use Rattle.std.proofs.Common.{◌≡◌, ◌≢◌, ℕ, ◌+◌, ◌<◌, ◌≤◌, ◌⊎◌, ◌++◌, false, List, [], ◌∷◌, length, take, Option, refl, sym, ap, ◌∙◌, subst, inl, inr, arith, length-append}
+use Rattle.std.specs.Prelude.{Result, Ok, Err, IfErr, IsErrOf, MatchResult}
+use Rattle.std.proofs.lemmas.List.{append-nil, length-take-le}
 use Rattle.std.specs.Io.KnownBytes.{Appends, Consumes}
 use Rattle.audit_model.specs.Situation.{Situation}
 use Rattle.audit_model.specs.declared.input.LoadId.{LoadId}
@@ -19,6 +19,7 @@ use Rattle.cache_spaces.specs.Spaces.{config_of, notices_of}
 use Rattle.cache_spaces.specs.declared.space.Space.{Space}
 use Rattle.audit_model.specs.declared.event.Outcome.{Outcome}
 use Rattle.cache_run.specs.Carried.{Askings, Broken, Carried, nothing_left}
+use Rattle.cache_run.specs.Causes.{Because}
 use Rattle.cache_run.specs.Happened.{Asking, asking_of}
 use Rattle.cache_run.specs.Connected.{Connected, IsReady}
 use Rattle.cache_run.specs.Delivered.{AnsweredLoad, Delivered, Undelivered}
@@ -27,6 +28,7 @@ use Rattle.cache_run.specs.Worlds.{Outside, outside, world}
 use Rattle.cache_run.specs.declared.errors.RunError.{RunError}
 use Rattle.cache_run.specs.declared.errors.RunError.TheVariants.{Moment}
 use Rattle.cache_run.proofs.Carrying.{askings_more, consumes_more, same_consumes, broken-more, broken-one, carried-more, carried-none, carried-one, carried-same}
+use Rattle.cache_run.proofs.Causing.{not-late}
 use Rattle.cache_run.proofs.Going.{at-goes-map, at-goes-more}
 use Rattle.cache_run.proofs.Placing.{at-map, at-same}
 
@@ -65,6 +67,14 @@ module _ {C L : Type 0} (reads : C → ℕ → C → Type 0) (loads : L → List
       (λ x y s t. AreKnown outs s → Broken (config_of x) number reads loads (world x s (outside r v k m)) (world y t (outside q w l o)) false false [] e) a
       (λ x y s t d known. broken-one (config_of x) number reads loads x y s t r q v w k l m o piece moment asks e d read clock loader)
 
+  pub turn-by : {T : Type 0} (result : Result T RunError) (new : List Space) (outs : List (LoadId × List ℕ)) (piece : List ℕ) (moment : ℕ) (asks : List Asking) (r q v w : Option (List ℕ)) (k l : C) (m o : L)
+      → MatchResult result (λ done. At old new n (λ was is. Goes number was is (λ s t. Delivered (config_of was) number piece moment asks s t (notices_of was) (notices_of is) v w [])))
+      (λ e. At old new n (λ was is. Goes number was is (λ s t. Undelivered (config_of was) number piece moment asks s t (notices_of was) (notices_of is) v w e)))
+      → Consumes r q piece → reads k moment l → Askings loads m asks o
+      → MatchResult result (λ done. Carries reads loads old new n number (outside r v k m) (outside q w l o) outs outs) (λ e. Breaks reads loads old new n number (outside r v k m) (outside q w l o) outs e)
+  turn-by (Ok done) new outs piece moment asks r q v w k l m o a read clock loader = turn-one new outs piece moment asks r q v w k l m o a read clock loader
+  turn-by (Err e) new outs piece moment asks r q v w k l m o a read clock loader = turn-broken new outs piece moment asks r q v w k l m o e a read clock loader
+
   -- a load that was taken is settled, and its replies are written
   pub settled-one : (new : List Space) (before after : List (LoadId × List ℕ)) (load moment : ℕ) (asking : Asking) (text output : List ℕ) (r v w : Option (List ℕ)) (k l : C) (m o : L)
       → ((s : Situation) → AreKnown before s → IsKnown load asking.key s × AreKnown after s) → output ≡ text → Appends v w output
@@ -90,6 +100,16 @@ module _ {C L : Type 0} (reads : C → ℕ → C → Type 0) (loads : L → List
       (λ x y s t answered known.
       broken-one (config_of x) number reads loads x y s t r r v w k l m o [] moment (asking ∷ []) e
       (inr (rest, record { text = text; answered = answered (pick s known); sent = sent.sent; wrote = sent.wrote; whole = sent.whole ∙ is }, ne)) (same_consumes r) clock loader)
+
+  -- and its replies are written, or a beginning of them
+  pub settled-by : {T : Type 0} (f u : Type 0) (result : Result T RunError) (new : List Space) (before after : List (LoadId × List ℕ)) (load moment : ℕ) (asking : Asking) (text output : List ℕ) (r v w : Option (List ℕ)) (k l : C) (m o : L)
+      → ((s : Situation) → AreKnown before s → IsKnown load asking.key s × AreKnown after s) → output ≡ text
+      → MatchResult result (λ done. Appends v w output) (λ e. (rest : List ℕ) × SentBut rest output v w) → IfErr result (Because ⊥ f u ⊥)
+      → At old new n (λ was is. Goes number was is (λ s t. AnsweredLoad (config_of was) number load moment asking s t (notices_of was) (notices_of is) text)) → reads k moment l → Askings loads m (asking ∷ []) o
+      → MatchResult result (λ done. Carries reads loads old new n number (outside r v k m) (outside r w l o) before after) (λ e. Breaks reads loads old new n number (outside r v k m) (outside r w l o) before e)
+  settled-by f u (Ok done) new before after load moment asking text output r v w k l m o pick is wrote why a clock loader = settled-one new before after load moment asking text output r v w k l m o pick is wrote a clock loader
+  settled-by f u (Err e) new before after load moment asking text output r v w k l m o pick is sent why a clock loader =
+      settled-broken new before load moment asking text output sent.0 r v w k l m o e (λ s known. (pick s known).0) is sent.1 (not-late ⊥ f u e why) a clock loader
 
   -- an error without a loss
   pub at-broken : (new : List Space) (a b : Outside C L) (before after : List (LoadId × List ℕ)) (e : RunError) → e ≢ Moment → Carries reads loads old new n number a b before after → Breaks reads loads old new n number a b before e
@@ -132,6 +152,13 @@ module _ {C L : Type 0} (reads : C → ℕ → C → Type 0) (loads : L → List
       (λ x y z same s t u f g known.
       let k = f known in broken-more (config_of x) number reads loads (world x s a) (world y t b) (world z u d) false false [] e k.0 (subst (λ c. Broken c number reads loads (world y t b) (world z u d) false false [] e) same (g k.1)))
 
+  -- turns, and then what a call carries, or an error
+  pub at-more-by : {T : Type 0} (result : Result T RunError) (after : List (LoadId × List ℕ)) → Carries reads loads first second n number a b before between
+      → MatchResult result (λ done. Carries reads loads second third n number b d between after) (λ e. Breaks reads loads second third n number b d between e)
+      → MatchResult result (λ done. Carries reads loads first third n number a d before after) (λ e. Breaks reads loads first third n number a d before e)
+  at-more-by (Ok done) after p q = at-carried-more after p q
+  at-more-by (Err e) after p q = at-broken-more e p q
+
 -- nothing has come yet
 pub at-carried-start : {C L : Type 0} (reads : C → ℕ → C → Type 0) (loads : L → List ℕ → Option Outcome → L → Type 0) (old : List Space) (n number : ℕ) (a : Outside C L) (outs : List (LoadId × List ℕ)) → outs ≡ [] → Connected old n number IsReady → Carries reads loads old old n number a a [] outs
 at-carried-start reads loads old n number a outs fresh c =
@@ -157,7 +184,19 @@ turns-more f g h a b c count early late (inr x) (inr y) =
 pub turns-none : (f : ℕ) (a : Option (List ℕ)) → HasFailed f f ⊎ HasRead a a 0
 turns-none f a = inr ([], same_consumes a, omega arith)
 
+-- of at least so many turns
+pub turns-all : {A : Type 0} (f g : ℕ) (a b : Option (List ℕ)) (m n : ℕ) → n ≤ m → HasFailed f g ⊎ HasRead a b m → HasFailed f g ⊎ (HasRead a b n ⊎ A)
+turns-all f g a b m n fewer (inl x) = inl x
+turns-all f g a b m n fewer (inr x) = let most = x.2 in inr (inl (x.0, x.1, omega arith))
+
+-- bytes were read
+pub read-some : (a b : Option (List ℕ)) (n : ℕ) (buffer : List ℕ) → n ≤ length buffer → 0 < n → Consumes a b (take n buffer) → HasRead a b 1
+read-some a b n buffer within some consumes = (take n buffer, consumes, omega (arith, length-take-le n buffer within, some))
+
 -- ---- what the loader was asked
+
+pub askings-one : {L : Type 0} (loads : L → List ℕ → Option Outcome → L → Type 0) (a b : L) (key : List ℕ) (said : Option Outcome) → loads a key said b → Askings loads a (asking_of key said ∷ []) b
+askings-one loads a b key said asks = (b, asks, refl)
 
 pub asked-more : {L : Type 0} (loads : L → List ℕ → Option Outcome → L → Type 0) (a b c : L) (m n : ℕ) → HasAsked loads a m b → HasAsked loads b n c → HasAsked loads a (m + n) c
 asked-more loads a b c m n x y =

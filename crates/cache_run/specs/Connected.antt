@@ -1,5 +1,5 @@
 -- How a connection stands in its namespace.
-use Rattle.std.specs.Prelude.{◌≡◌, ℕ, ◌<◌, ◌≤◌, List, [], length, Option, None, Some, ◌⊎◌}
+use Rattle.std.specs.Prelude.{◌≡◌, ℕ, ◌<◌, ◌≤◌, List, [], length, Option, None, Some, Result, Ok, Err, ◌⊎◌}
 use Rattle.std.specs.Io.KnownBytes.{IsAtEnd}
 use Rattle.audit_model.specs.declared.command.Closing.{Closing}
 use Rattle.audit_model.specs.declared.command.Closing.TheVariants as by
@@ -31,6 +31,11 @@ IsTaken number space = IsOpenOrEnded (closing_of space number) × (output_of spa
 -- it may have closed for what it was fed
 abbrev pub IsFed : ℕ → Space → Type 0
 IsFed number space = IsOpenOrEnded (closing_of space number)
+
+-- its replies were taken, unless there was an error, and it may have closed for what it was fed
+abbrev pub IsLeftBy : {T E : Type 0} → Result T E → ℕ → Space → Type 0
+IsLeftBy (Ok done) = IsTaken
+IsLeftBy (Err e) = IsFed
 
 -- the input is at its end, or the connection has closed for what it was fed
 abbrev pub IsOver : Option (List ℕ) → ℕ → Space → Type 0

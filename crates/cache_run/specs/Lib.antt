@@ -1,4 +1,5 @@
 pub mod Worlds
+pub mod Causes
 pub mod Happened
 pub mod Carried
 pub mod Goes

@@ -1,9 +1,9 @@
 -- Whether a run goes on.
-use Rattle.std.specs.Prelude.{ℕ, ◌≤◌, ◌^◌, List, length, Option}
+use Rattle.std.specs.Prelude.{ℕ, ◌≤◌, ◌^◌, List, length, Option, Result, Ok, Err}
 use Rattle.std.specs.Io.KnownBytes.{Consumes}
 use Rattle.audit_model.specs.declared.event.Outcome.{Outcome}
 use Rattle.cache_run.specs.Carried.{Askings}
-use Rattle.cache_run.specs.Connected.{IsReady, IsOver}
+use Rattle.cache_run.specs.Connected.{IsFed, IsReady, IsOver}
 use Rattle.cache_run.specs.Happened.{Asking}
 use Rattle.cache_run.specs.declared.turns.Progress.{Progress}
 use Rattle.cache_run.specs.declared.turns.Progress.TheVariants.{More, Over}
@@ -13,6 +13,11 @@ use Rattle.cache_spaces.specs.declared.space.Space.{Space}
 abbrev pub LeavesSo : Progress → Option (List ℕ) → ℕ → Space → Type 0
 LeavesSo More remaining number space = IsReady number space
 LeavesSo Over remaining number space = IsOver remaining number space
+
+-- the same of a turn, behind which there may be an error
+abbrev pub TurnLeavesSo : {E : Type 0} → Result Progress E → Option (List ℕ) → ℕ → Space → Type 0
+TurnLeavesSo (Ok progress) remaining = LeavesSo progress remaining
+TurnLeavesSo (Err e) remaining = IsFed
 
 -- at least so many bytes were read
 abbrev pub HasRead : Option (List ℕ) → Option (List ℕ) → ℕ → Type 0

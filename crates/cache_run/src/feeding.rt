@@ -1,17 +1,17 @@
 //! One piece of a connection, and its closing.
 ghost use Rattle.std.specs.Io.KnownBytes.{Appends};
 ghost use Rattle.cache_devices.specs.Sent.{SentBut};
-ghost use Rattle.std.specs.Prelude.{◌≡◌, ◌≢◌, ◌≤◌, ◌<◌, ◌^◌, ◌⊎◌, ℕ, List, [], None, Some, false, IfOk, IfErr, OnOk, OnErr, IsSome, IsErrOf};
-ghost use Rattle.audit_model.specs.declared.event.Event.TheVariants as event;
+ghost use Rattle.std.specs.Prelude.{◌≤◌, ◌^◌, ℕ, List, [], IfOk, IfErr, MatchResult};
 ghost use Rattle.cache_devices.specs.Failures.{HasFailed};
 ghost use Rattle.cache_devices.specs.Watched.{device, failures};
 ghost use Rattle.cache_namespace.specs.Taken.{fed};
 ghost use Rattle.cache_spaces.specs.Moves.{At};
 ghost use Rattle.cache_spaces.specs.Serves.{SameSpace, Takes, TakesOutput};
 ghost use Rattle.cache_spaces.specs.Services.{is_held, spaces_of};
-ghost use Rattle.cache_spaces.specs.Spaces.{closing_of, config_of, notices_of};
+ghost use Rattle.cache_spaces.specs.Spaces.{config_of, notices_of};
 ghost use Rattle.cache_run.specs.Accounts.{SendsLater};
-ghost use Rattle.cache_run.specs.Connected.{Connected, IsFed, IsReady, IsTaken};
+ghost use Rattle.cache_run.specs.Causes.{Because};
+ghost use Rattle.cache_run.specs.Connected.{Connected, IsFed, IsLeftBy, IsReady};
 ghost use Rattle.cache_run.specs.Delivered.{Answered, Delivered, IsCause, Unanswered, Undelivered};
 ghost use Rattle.cache_run.specs.Goes.{Goes};
 
@@ -36,10 +36,8 @@ fn feed_piece(service: &mut Service, conn: Conn, piece: &[u8], moment: u64) -> R
 
 /// Sends replies, and has the writer hand them on.
 pub fn write_replies<W: Write>(replies: &[u8], writer: &mut Watched<W>) -> Result<(), RunError>
-    ensures ok { OnOk result (Appends (W.contents (device writer.old)) (W.contents (device writer.new)) replies.now) }
-    ensures err { OnErr result ((rest : List ℕ) × SentBut rest replies.now (W.contents (device writer.old)) (W.contents (device writer.new))) }
-    ensures cause { OnErr result (HasFailed (failures writer.old) (failures writer.new)) }
-    ensures causes { IfErr result (λ e. (e ≡ RunError.Write) ⊎ (e ≡ RunError.UsedUp)) }
+    ensures sent { MatchResult result (λ done. Appends (W.contents (device writer.old)) (W.contents (device writer.new)) replies.now) (λ e. (rest : List ℕ) × SentBut rest replies.now (W.contents (device writer.old)) (W.contents (device writer.new))) }
+    ensures why { IfErr result (Because ⊥ (HasFailed (failures writer.old) (failures writer.new)) (HasFailed (failures writer.old) (failures writer.new)) ⊥) }
     ensures count { failures writer.old ≤ failures writer.new }
 {
     match send(replies, writer) {
@@ -71,13 +69,12 @@ fn answer_piece(
     moment: u64,
 ) -> Result<Vec<u8>, RunError>
     requires ready { Connected (spaces_of service.old) conn.namespace conn.number IsReady }
-    ensures ok { IfOk result (λ text. At (spaces_of service.old) (spaces_of service.new) conn.namespace (λ was is. Goes conn.number was is (λ s t. Answered (config_of was) conn.number piece.now moment [] s t (notices_of was) (notices_of is) text.items))) }
-    ensures taken { OnOk result (Connected (spaces_of service.new) conn.namespace conn.number IsTaken) }
-    ensures err { IfErr result (λ e. At (spaces_of service.old) (spaces_of service.new) conn.namespace (λ was is. Goes conn.number was is (λ s t. Unanswered (config_of was) conn.number piece.now moment [] s t (notices_of was) (notices_of is) e))) }
-    ensures left { OnErr result (Connected (spaces_of service.new) conn.namespace conn.number IsFed) }
+    ensures goes { MatchResult result
+        (λ text. At (spaces_of service.old) (spaces_of service.new) conn.namespace (λ was is. Goes conn.number was is (λ s t. Answered (config_of was) conn.number piece.now moment [] s t (notices_of was) (notices_of is) text.items)))
+        (λ e. At (spaces_of service.old) (spaces_of service.new) conn.namespace (λ was is. Goes conn.number was is (λ s t. Unanswered (config_of was) conn.number piece.now moment [] s t (notices_of was) (notices_of is) e))) }
+    ensures left { Connected (spaces_of service.new) conn.namespace conn.number (IsLeftBy result) }
     ensures later { At (spaces_of service.old) (spaces_of service.new) conn.namespace SendsLater }
-    ensures causes { IfErr result (λ e. (e ≢ RunError.Read) × (e ≢ RunError.Write) × (e ≢ RunError.UsedUp)) }
-    ensures moment { IsErrOf result RunError.Moment → 2 ^ 63 ≤ moment }
+    ensures why { IfErr result (Because ⊥ ⊥ ⊥ (2 ^ 63 ≤ moment)) }
 {
     match feed_piece(service, conn, piece, moment) {
         Ok(Fed::All) => Ok(take_replies(service, conn)),
@@ -95,23 +92,17 @@ pub fn deliver<W: Write>(
     writer: &mut Watched<W>,
 ) -> Result<(), RunError>
     requires ready { Connected (spaces_of service.old) conn.namespace conn.number IsReady }
-    ensures ok { OnOk result (At (spaces_of service.old) (spaces_of service.new) conn.namespace (λ was is. Goes conn.number was is (λ s t. Delivered (config_of was) conn.number piece.now moment [] s t (notices_of was) (notices_of is) (W.contents (device writer.old)) (W.contents (device writer.new)) []))) }
-    ensures taken { OnOk result (Connected (spaces_of service.new) conn.namespace conn.number IsTaken) }
-    ensures err { IfErr result (λ e. At (spaces_of service.old) (spaces_of service.new) conn.namespace (λ was is. Goes conn.number was is (λ s t. Undelivered (config_of was) conn.number piece.now moment [] s t (notices_of was) (notices_of is) (W.contents (device writer.old)) (W.contents (device writer.new)) e))) }
-    ensures left { OnErr result (Connected (spaces_of service.new) conn.namespace conn.number IsFed) }
+    ensures goes { MatchResult result
+        (λ done. At (spaces_of service.old) (spaces_of service.new) conn.namespace (λ was is. Goes conn.number was is (λ s t. Delivered (config_of was) conn.number piece.now moment [] s t (notices_of was) (notices_of is) (W.contents (device writer.old)) (W.contents (device writer.new)) [])))
+        (λ e. At (spaces_of service.old) (spaces_of service.new) conn.namespace (λ was is. Goes conn.number was is (λ s t. Undelivered (config_of was) conn.number piece.now moment [] s t (notices_of was) (notices_of is) (W.contents (device writer.old)) (W.contents (device writer.new)) e))) }
+    ensures left { Connected (spaces_of service.new) conn.namespace conn.number (IsLeftBy result) }
     ensures later { At (spaces_of service.old) (spaces_of service.new) conn.namespace SendsLater }
-    ensures cause { IsErrOf result RunError.Write → HasFailed (failures writer.old) (failures writer.new) }
-    ensures used_up { IsErrOf result RunError.UsedUp → HasFailed (failures writer.old) (failures writer.new) }
-    ensures moment { IsErrOf result RunError.Moment → 2 ^ 63 ≤ moment }
+    ensures why { IfErr result (Because ⊥ (HasFailed (failures writer.old) (failures writer.new)) (HasFailed (failures writer.old) (failures writer.new)) (2 ^ 63 ≤ moment)) }
     ensures count { failures writer.old ≤ failures writer.new }
-    ensures causes { IfErr result (λ e. e ≢ RunError.Read) }
 {
     let replies = match answer_piece(service, conn, piece, moment) {
         Ok(replies) => replies,
         Err(error) => return Err(error),
     };
-    match write_replies(&replies, writer) {
-        Ok(()) => Ok(()),
-        Err(error) => Err(error),
-    }
+    write_replies(&replies, writer)
 }

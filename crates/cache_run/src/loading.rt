@@ -1,5 +1,5 @@
 //! The loads of a connection, asked of the loader.
-ghost use Rattle.std.specs.Prelude.{◌≡◌, ◌≢◌, ◌==◌, ◌≤◌, ◌<◌, ◌⊎◌, ◌^◌, ◌-◌, ℕ, List, [], ◌∷◌, Option, None, true, false, length, is_some, IfOk, IfErr, OnOk, OnErr, IsErrOf};
+ghost use Rattle.std.specs.Prelude.{◌≡◌, ◌≢◌, ◌==◌, ◌≤◌, ◌<◌, ◌⊎◌, ◌^◌, ◌-◌, ℕ, List, [], Option, true, false, length, is_some, IfOk, IfErr, OnOk, MatchResult};
 ghost use Rattle.audit_model.specs.Belongs.{refusal_of_outcome};
 ghost use Rattle.cache_devices.specs.Failures.{HasFailed};
 ghost use Rattle.cache_devices.specs.Watched.{device, failures};
@@ -8,7 +8,8 @@ ghost use Rattle.cache_spaces.specs.Serves.{SameSpace};
 ghost use Rattle.cache_spaces.specs.Services.{spaces_of};
 ghost use Rattle.cache_spaces.specs.Spaces.{config_of, notices_of, output_of};
 ghost use Rattle.cache_run.specs.Accounts.{Accounts, DropsAll, DropsUnwaited, HasTakenAll, SettlesLoad, is_left};
-ghost use Rattle.cache_run.specs.Connected.{Connected, IsFed, IsTaken};
+ghost use Rattle.cache_run.specs.Causes.{Because};
+ghost use Rattle.cache_run.specs.Connected.{Connected, IsFed, IsLeftBy, IsTaken};
 ghost use Rattle.cache_run.specs.Delivered.{AnsweredLoad, IsCause};
 ghost use Rattle.cache_run.specs.Goes.{Goes};
 ghost use Rattle.cache_run.specs.Happened.{Asking, IsGivenUpFor, asking_of};
@@ -119,8 +120,6 @@ fn settle_load(
     ensures taken { OnOk result (Connected (spaces_of service.new) conn.namespace conn.number IsTaken) }
     ensures gone { OnOk result (At (spaces_of service.old) (spaces_of service.new) conn.namespace (SettlesLoad load)) }
     ensures err { IfErr result (λ e. At (spaces_of service.old) (spaces_of service.new) conn.namespace SameSpace × IsCause moment e) }
-    ensures causes { IfErr result (λ e. (e ≢ RunError.Read) × (e ≢ RunError.Write) × (e ≢ RunError.UsedUp)) }
-    ensures moment { IsErrOf result RunError.Moment → 2 ^ 63 ≤ moment }
 {
     match settle(service, conn, load, said, moment) {
         Ok(()) => Ok(take_replies(service, conn)),
@@ -129,7 +128,7 @@ fn settle_load(
 }
 
 /// Asks the loader by its key for the last of the loads that were taken, settles it by what the loader says, and sends the replies that
-/// come of it. Answers whether there was one. Where there is an error, a load that is not settled is still one of them.
+/// come of it. Where there is an error, a load that is not settled is still one of them.
 fn settle_last<W: Write, C: Clock, L: Loader>(
     service: &mut Service,
     conn: Conn,
@@ -137,25 +136,21 @@ fn settle_last<W: Write, C: Clock, L: Loader>(
     writer: &mut Watched<W>,
     clock: &mut C,
     loader: &mut L,
-) -> Result<bool, RunError>
+) -> Result<(), RunError>
     requires taken { Connected (spaces_of service.old) conn.namespace conn.number IsTaken }
-    ensures ok { OnOk result ((remaining : Option (List ℕ)) → Carries C.reads L.loads (spaces_of service.old) (spaces_of service.new) conn.namespace conn.number (outside remaining (W.contents (device writer.old)) clock.old loader.old) (outside remaining (W.contents (device writer.new)) clock.new loader.new) taken.old.items taken.new.items) }
-    ensures taken { OnOk result (Connected (spaces_of service.new) conn.namespace conn.number IsTaken) }
-    ensures err { IfErr result (λ e. (remaining : Option (List ℕ)) → Breaks C.reads L.loads (spaces_of service.old) (spaces_of service.new) conn.namespace conn.number (outside remaining (W.contents (device writer.old)) clock.old loader.old) (outside remaining (W.contents (device writer.new)) clock.new loader.new) taken.old.items e) }
-    ensures left { OnErr result (Connected (spaces_of service.new) conn.namespace conn.number IsFed) }
+    requires some { taken.old.items ≢ [] }
+    ensures goes { (remaining : Option (List ℕ)) → MatchResult result
+        (λ done. Carries C.reads L.loads (spaces_of service.old) (spaces_of service.new) conn.namespace conn.number (outside remaining (W.contents (device writer.old)) clock.old loader.old) (outside remaining (W.contents (device writer.new)) clock.new loader.new) taken.old.items taken.new.items)
+        (λ e. Breaks C.reads L.loads (spaces_of service.old) (spaces_of service.new) conn.namespace conn.number (outside remaining (W.contents (device writer.old)) clock.old loader.old) (outside remaining (W.contents (device writer.new)) clock.new loader.new) taken.old.items e) }
+    ensures left { Connected (spaces_of service.new) conn.namespace conn.number (IsLeftBy result) }
     ensures accounted { At (spaces_of service.old) (spaces_of service.new) conn.namespace (λ was is. Accounts was is taken.old.items taken.new.items) }
-    ensures none { IfOk result (λ asked. asked ≡ false → (taken.old.items ≡ []) × (taken.new.items ≡ []) × (spaces_of service.new ≡ spaces_of service.old)) }
-    ensures asks { HasAsked L.loads loader.old 0 loader.new }
-    ensures asked { IfOk result (λ asked. asked ≡ true → HasAsked L.loads loader.old 1 loader.new) }
-    ensures cause { IsErrOf result RunError.Write → HasFailed (failures writer.old) (failures writer.new) }
-    ensures used_up { IsErrOf result RunError.UsedUp → HasFailed (failures writer.old) (failures writer.new) }
-    ensures moment { IsErrOf result RunError.Moment → HasToldLate C.reads clock.new }
+    ensures asked { HasAsked L.loads loader.old 1 loader.new }
+    ensures why { IfErr result (Because ⊥ (HasFailed (failures writer.old) (failures writer.new)) (HasFailed (failures writer.old) (failures writer.new)) (HasToldLate C.reads clock.new)) }
     ensures count { failures writer.old ≤ failures writer.new }
-    ensures causes { IfErr result (λ e. e ≢ RunError.Read) }
 {
     let (load, said) = match taken.last() {
         Some((load, key)) => (load.number, loader.load(key.as_slice())),
-        None => return Ok(false),
+        None => unreachable!(),
     };
     let moment = clock.now();
     let replies = match settle_load(service, conn, load, said, moment) {
@@ -163,10 +158,39 @@ fn settle_last<W: Write, C: Clock, L: Loader>(
         Err(error) => return Err(error),
     };
     let _ = taken.pop();
-    match write_replies(&replies, writer) {
-        Ok(()) => Ok(true),
-        Err(error) => Err(error),
+    write_replies(&replies, writer)
+}
+
+/// Settles the last of the loads that were taken, and runs what that may have left held back.
+fn settle_next<W: Write, C: Clock, L: Loader>(
+    service: &mut Service,
+    conn: Conn,
+    taken: &mut Vec<(LoadId, Bytes)>,
+    writer: &mut Watched<W>,
+    clock: &mut C,
+    loader: &mut L,
+) -> Result<(), RunError>
+    requires taken { Connected (spaces_of service.old) conn.namespace conn.number IsTaken }
+    requires some { taken.old.items ≢ [] }
+    ensures goes { (remaining : Option (List ℕ)) → MatchResult result
+        (λ done. Carries C.reads L.loads (spaces_of service.old) (spaces_of service.new) conn.namespace conn.number (outside remaining (W.contents (device writer.old)) clock.old loader.old) (outside remaining (W.contents (device writer.new)) clock.new loader.new) taken.old.items taken.new.items)
+        (λ e. Breaks C.reads L.loads (spaces_of service.old) (spaces_of service.new) conn.namespace conn.number (outside remaining (W.contents (device writer.old)) clock.old loader.old) (outside remaining (W.contents (device writer.new)) clock.new loader.new) taken.old.items e) }
+    ensures left { Connected (spaces_of service.new) conn.namespace conn.number (IsLeftBy result) }
+    ensures accounted { At (spaces_of service.old) (spaces_of service.new) conn.namespace (λ was is. Accounts was is taken.old.items taken.new.items) }
+    ensures asked { HasAsked L.loads loader.old 1 loader.new }
+    ensures why { IfErr result (Because ⊥ (HasFailed (failures writer.old) (failures writer.new)) (HasFailed (failures writer.old) (failures writer.new)) (HasToldLate C.reads clock.new)) }
+    ensures count { failures writer.old ≤ failures writer.new }
+{
+    match settle_last(service, conn, taken, writer, clock, loader) {
+        Ok(()) => {}
+        Err(error) => return Err(error),
     }
+    match progress_of(service, conn) {
+        Progress::More => {}
+        Progress::Over => return Ok(()),
+    }
+    let moment = clock.now();
+    deliver(service, conn, &[], moment, writer)
 }
 
 /// Takes the loads of a namespace that have gone out, where none that was taken is left.
@@ -186,48 +210,6 @@ fn take_more(service: &mut Service, conn: Conn, taken: &mut Vec<(LoadId, Bytes)>
     }
 }
 
-/// Settles one load more of those that have gone out, if there is one, and runs what that may have left held back. Answers whether there
-/// was one.
-fn settle_next<W: Write, C: Clock, L: Loader>(
-    service: &mut Service,
-    conn: Conn,
-    taken: &mut Vec<(LoadId, Bytes)>,
-    writer: &mut Watched<W>,
-    clock: &mut C,
-    loader: &mut L,
-) -> Result<bool, RunError>
-    requires taken { Connected (spaces_of service.old) conn.namespace conn.number IsTaken }
-    ensures ok { OnOk result ((remaining : Option (List ℕ)) → Carries C.reads L.loads (spaces_of service.old) (spaces_of service.new) conn.namespace conn.number (outside remaining (W.contents (device writer.old)) clock.old loader.old) (outside remaining (W.contents (device writer.new)) clock.new loader.new) taken.old.items taken.new.items) }
-    ensures taken { OnOk result (Connected (spaces_of service.new) conn.namespace conn.number IsTaken) }
-    ensures err { IfErr result (λ e. (remaining : Option (List ℕ)) → Breaks C.reads L.loads (spaces_of service.old) (spaces_of service.new) conn.namespace conn.number (outside remaining (W.contents (device writer.old)) clock.old loader.old) (outside remaining (W.contents (device writer.new)) clock.new loader.new) taken.old.items e) }
-    ensures left { OnErr result (Connected (spaces_of service.new) conn.namespace conn.number IsFed) }
-    ensures accounted { At (spaces_of service.old) (spaces_of service.new) conn.namespace (λ was is. Accounts was is taken.old.items taken.new.items) }
-    ensures all { IfOk result (λ settled. settled ≡ false → (taken.new.items ≡ []) × At (spaces_of service.old) (spaces_of service.new) conn.namespace HasTakenAll) }
-    ensures asks { HasAsked L.loads loader.old 0 loader.new }
-    ensures asked { IfOk result (λ asked. asked ≡ true → HasAsked L.loads loader.old 1 loader.new) }
-    ensures cause { IsErrOf result RunError.Write → HasFailed (failures writer.old) (failures writer.new) }
-    ensures used_up { IsErrOf result RunError.UsedUp → HasFailed (failures writer.old) (failures writer.new) }
-    ensures moment { IsErrOf result RunError.Moment → HasToldLate C.reads clock.new }
-    ensures count { failures writer.old ≤ failures writer.new }
-    ensures causes { IfErr result (λ e. e ≢ RunError.Read) }
-{
-    take_more(service, conn, taken);
-    match settle_last(service, conn, taken, writer, clock, loader) {
-        Ok(true) => {}
-        Ok(false) => return Ok(false),
-        Err(error) => return Err(error),
-    }
-    match progress_of(service, conn) {
-        Progress::More => {}
-        Progress::Over => return Ok(true),
-    }
-    let moment = clock.now();
-    match deliver(service, conn, &[], moment, writer) {
-        Ok(()) => Ok(true),
-        Err(error) => Err(error),
-    }
-}
-
 /// Asks the loader for each load of a connection that has gone out, until all are settled.
 pub fn settle_loads<W: Write, C: Clock, L: Loader>(
     service: &mut Service,
@@ -238,23 +220,23 @@ pub fn settle_loads<W: Write, C: Clock, L: Loader>(
     loader: &mut L,
 ) -> Result<(), RunError>
     requires taken { Connected (spaces_of service.old) conn.namespace conn.number IsTaken }
-    ensures ok { OnOk result ((remaining : Option (List ℕ)) → Carries C.reads L.loads (spaces_of service.old) (spaces_of service.new) conn.namespace conn.number (outside remaining (W.contents (device writer.old)) clock.old loader.old) (outside remaining (W.contents (device writer.new)) clock.new loader.new) taken.old.items taken.new.items) }
-    ensures taken { OnOk result (Connected (spaces_of service.new) conn.namespace conn.number IsTaken) }
-    ensures err { IfErr result (λ e. (remaining : Option (List ℕ)) → Breaks C.reads L.loads (spaces_of service.old) (spaces_of service.new) conn.namespace conn.number (outside remaining (W.contents (device writer.old)) clock.old loader.old) (outside remaining (W.contents (device writer.new)) clock.new loader.new) taken.old.items e) }
-    ensures left { OnErr result (Connected (spaces_of service.new) conn.namespace conn.number IsFed) }
+    ensures goes { (remaining : Option (List ℕ)) → MatchResult result
+        (λ done. Carries C.reads L.loads (spaces_of service.old) (spaces_of service.new) conn.namespace conn.number (outside remaining (W.contents (device writer.old)) clock.old loader.old) (outside remaining (W.contents (device writer.new)) clock.new loader.new) taken.old.items taken.new.items)
+        (λ e. Breaks C.reads L.loads (spaces_of service.old) (spaces_of service.new) conn.namespace conn.number (outside remaining (W.contents (device writer.old)) clock.old loader.old) (outside remaining (W.contents (device writer.new)) clock.new loader.new) taken.old.items e) }
+    ensures left { Connected (spaces_of service.new) conn.namespace conn.number (IsLeftBy result) }
     ensures accounted { At (spaces_of service.old) (spaces_of service.new) conn.namespace (λ was is. Accounts was is taken.old.items taken.new.items) }
     ensures all { OnOk result ((taken.new.items ≡ []) × At (spaces_of service.old) (spaces_of service.new) conn.namespace HasTakenAll) }
     ensures asks { HasAsked L.loads loader.old 0 loader.new }
-    ensures cause { IsErrOf result RunError.Write → HasFailed (failures writer.old) (failures writer.new) }
-    ensures used_up { IsErrOf result RunError.UsedUp → HasFailed (failures writer.old) (failures writer.new) ⊎ HasAsked L.loads loader.old (2 ^ 64 - 1) loader.new }
-    ensures moment { IsErrOf result RunError.Moment → HasToldLate C.reads clock.new }
+    ensures why { IfErr result (Because ⊥ (HasFailed (failures writer.old) (failures writer.new)) (HasFailed (failures writer.old) (failures writer.new) ⊎ HasAsked L.loads loader.old (2 ^ 64 - 1) loader.new) (HasToldLate C.reads clock.new)) }
     ensures count { failures writer.old ≤ failures writer.new }
-    ensures causes { IfErr result (λ e. e ≢ RunError.Read) }
 {
     for _turn in 0..u64::MAX {
+        take_more(service, conn, taken);
+        if taken.is_empty() {
+            return Ok(());
+        }
         match settle_next(service, conn, taken, writer, clock, loader) {
-            Ok(true) => {}
-            Ok(false) => return Ok(()),
+            Ok(()) => {}
             Err(error) => return Err(error),
         }
     }

@@ -1,5 +1,5 @@
 //! One connection, from its opening to its closing.
-ghost use Rattle.std.specs.Prelude.{◌≡◌, ◌≤◌, ◌<◌, ◌⊎◌, ◌^◌, ◌-◌, ℕ, [], false, length, IfOk, IfErr, OnOk, OnErr, IsErrOf};
+ghost use Rattle.std.specs.Prelude.{◌≡◌, ◌<◌, ◌⊎◌, ◌^◌, ◌-◌, [], false, length, IfOk, IfErr, OnOk, IsErrOf, MatchResult};
 ghost use Rattle.audit_model.specs.declared.event.Event.TheVariants as event;
 ghost use Rattle.cache_devices.specs.Failures.{HasFailed};
 ghost use Rattle.cache_devices.specs.Watched.{device, failures};
@@ -9,6 +9,7 @@ ghost use Rattle.cache_spaces.specs.Services.{spaces_of};
 ghost use Rattle.cache_spaces.specs.Spaces.{config_of, notices_of};
 ghost use Rattle.cache_run.specs.Accounts.{Accounts, AddsNoLoads, KeepsLoads, pending_of};
 ghost use Rattle.cache_run.specs.Carried.{Broken, Carried, nothing_left};
+ghost use Rattle.cache_run.specs.Causes.{Because};
 ghost use Rattle.cache_run.specs.Connected.{Connected, IsFed, IsOver, IsReady};
 ghost use Rattle.cache_run.specs.Goes.{Goes};
 ghost use Rattle.cache_run.specs.Runs.{Closes, Quiet, ServesPartly, ServesWhole, next_number};
@@ -69,20 +70,18 @@ fn converse<R: Read, W: Write, C: Clock, L: Loader>(
     requires room { 0 < length buffer.old }
     requires ready { Connected (spaces_of service.old) conn.namespace conn.number IsReady }
     requires fresh { taken.old.items ≡ [] }
-    ensures ok { OnOk result (At (spaces_of service.old) (spaces_of service.new) conn.namespace (λ was is. Goes conn.number was is (λ s t. Carried (config_of was) conn.number C.reads L.loads
+    ensures goes { MatchResult result
+        (λ done. At (spaces_of service.old) (spaces_of service.new) conn.namespace (λ was is. Goes conn.number was is (λ s t. Carried (config_of was) conn.number C.reads L.loads
         (world was s (outside (R.remaining (device reader.old)) (W.contents (device writer.old)) clock.old loader.old))
-        (world is t (outside (R.remaining (device reader.new)) (W.contents (device writer.new)) clock.new loader.new)) false false [] nothing_left))) }
-    ensures over { OnOk result (Connected (spaces_of service.new) conn.namespace conn.number (IsOver (R.remaining (device reader.new)))) }
-    ensures err { IfErr result (λ e. At (spaces_of service.old) (spaces_of service.new) conn.namespace (λ was is. Goes conn.number was is (λ s t. Broken (config_of was) conn.number C.reads L.loads
+        (world is t (outside (R.remaining (device reader.new)) (W.contents (device writer.new)) clock.new loader.new)) false false [] nothing_left)))
+        (λ e. At (spaces_of service.old) (spaces_of service.new) conn.namespace (λ was is. Goes conn.number was is (λ s t. Broken (config_of was) conn.number C.reads L.loads
         (world was s (outside (R.remaining (device reader.old)) (W.contents (device writer.old)) clock.old loader.old))
         (world is t (outside (R.remaining (device reader.new)) (W.contents (device writer.new)) clock.new loader.new)) false false [] e))) }
-    ensures left { OnErr result (Connected (spaces_of service.new) conn.namespace conn.number IsFed) }
+    ensures left { MatchResult result (λ done. Connected (spaces_of service.new) conn.namespace conn.number (IsOver (R.remaining (device reader.new)))) (λ e. Connected (spaces_of service.new) conn.namespace conn.number IsFed) }
     ensures settled { OnOk result (At (spaces_of service.old) (spaces_of service.new) conn.namespace AddsNoLoads) }
     ensures accounted { At (spaces_of service.old) (spaces_of service.new) conn.namespace (λ was is. Accounts was is [] taken.new.items) }
-    ensures read { IsErrOf result RunError.Read → HasFailed (failures reader.old) (failures reader.new) }
-    ensures write { IsErrOf result RunError.Write → HasFailed (failures writer.old) (failures writer.new) }
-    ensures moment { IsErrOf result RunError.Moment → HasToldLate C.reads clock.new }
-    ensures used_up { IsErrOf result RunError.UsedUp → HasFailed (failures writer.old) (failures writer.new) ⊎ (HasFailed (failures reader.old) (failures reader.new) ⊎ (HasRead (R.remaining (device reader.old)) (R.remaining (device reader.new)) (2 ^ 64 - 1) ⊎ HasAsked L.loads loader.old (2 ^ 64 - 1) loader.new)) }
+    ensures why { IfErr result (Because (HasFailed (failures reader.old) (failures reader.new)) (HasFailed (failures writer.old) (failures writer.new))
+        (HasFailed (failures writer.old) (failures writer.new) ⊎ (HasFailed (failures reader.old) (failures reader.new) ⊎ (HasRead (R.remaining (device reader.old)) (R.remaining (device reader.new)) (2 ^ 64 - 1) ⊎ HasAsked L.loads loader.old (2 ^ 64 - 1) loader.new))) (HasToldLate C.reads clock.new)) }
 {
     for _turn in 0..u64::MAX {
         match take_turn(service, conn, buffer, reader, writer, clock, loader, taken) {
@@ -92,6 +91,47 @@ fn converse<R: Read, W: Write, C: Clock, L: Loader>(
         }
     }
     Err(RunError::UsedUp)
+}
+
+/// Serves one connection of a namespace, and reads into a buffer.
+fn serve_with<R: Read, W: Write, C: Clock, L: Loader>(
+    service: &mut Service,
+    alloc: Global,
+    namespace: u64,
+    buffer: &mut [u8],
+    reader: &mut Watched<R>,
+    writer: &mut Watched<W>,
+    clock: &mut C,
+    loader: &mut L,
+) -> Result<(), RunError>
+    requires known { namespace < length (spaces_of service.old) }
+    requires room { 0 < length buffer.old }
+    ensures ok { OnOk result (At (spaces_of service.old) (spaces_of service.new) namespace (λ was is. ServesWhole C.reads L.loads was is
+        (outside (R.remaining (device reader.old)) (W.contents (device writer.old)) clock.old loader.old)
+        (outside (R.remaining (device reader.new)) (W.contents (device writer.new)) clock.new loader.new))) }
+    ensures err { IfErr result (λ e. At (spaces_of service.old) (spaces_of service.new) namespace (λ was is. ((e ≡ RunError.OutOfMemory) × SameSpace was is × (reader.new ≡ reader.old) × (writer.new ≡ writer.old) × (clock.new ≡ clock.old) × (loader.new ≡ loader.old))
+        ⊎ ServesPartly C.reads L.loads was is
+        (outside (R.remaining (device reader.old)) (W.contents (device writer.old)) clock.old loader.old)
+        (outside (R.remaining (device reader.new)) (W.contents (device writer.new)) clock.new loader.new) e)) }
+    ensures why { IfErr result (Because (HasFailed (failures reader.old) (failures reader.new)) (HasFailed (failures writer.old) (failures writer.new))
+        (HasFailed (failures writer.old) (failures writer.new) ⊎ (HasFailed (failures reader.old) (failures reader.new) ⊎ (HasRead (R.remaining (device reader.old)) (R.remaining (device reader.new)) (2 ^ 64 - 1) ⊎ HasAsked L.loads loader.old (2 ^ 64 - 1) loader.new))) (HasToldLate C.reads clock.new)) }
+{
+    let conn = match open_connection(service, namespace) {
+        Ok(conn) => conn,
+        Err(error) => return Err(error),
+    };
+    let mut taken = Vec::new(alloc);
+    let outcome = converse(
+        service, conn, buffer, reader, writer, clock, loader, &mut taken,
+    );
+    close_if_open(service, conn);
+    match outcome {
+        Ok(()) => Ok(()),
+        Err(error) => {
+            drop_loads(service, conn, taken.as_slice());
+            Err(error)
+        }
+    }
 }
 
 /// Serves one connection of a namespace, from its opening to the end of its input, where it is closed, or until it has closed.
@@ -136,27 +176,14 @@ pub fn run<R: Read, W: Write, C: Clock, L: Loader>(
         Ok(buffer) => buffer,
         Err(_) => return Err(RunError::OutOfMemory),
     };
-    let conn = match open_connection(service, namespace) {
-        Ok(conn) => conn,
-        Err(error) => return Err(error),
-    };
-    let mut taken = Vec::new(alloc);
-    let outcome = converse(
+    serve_with(
         service,
-        conn,
+        alloc,
+        namespace,
         &mut buffer,
         reader,
         writer,
         clock,
         loader,
-        &mut taken,
-    );
-    close_if_open(service, conn);
-    match outcome {
-        Ok(()) => Ok(()),
-        Err(error) => {
-            drop_loads(service, conn, taken.as_slice());
-            Err(error)
-        }
-    }
+    )
 }

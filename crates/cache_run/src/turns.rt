@@ -1,13 +1,14 @@
 //! One turn of a run.
-ghost use Rattle.std.specs.Prelude.{◌≡◌, ◌≤◌, ◌<◌, ◌⊎◌, ◌^◌, ◌-◌, ℕ, List, [], Option, length, IfOk, IfErr, OnOk, OnErr, IsErrOf};
+ghost use Rattle.std.specs.Prelude.{◌≡◌, ◌≤◌, ◌<◌, ◌⊎◌, ◌^◌, ◌-◌, ℕ, List, [], Option, length, IfOk, IfErr, OnOk, MatchResult};
 ghost use Rattle.cache_devices.specs.Failures.{HasFailed};
 ghost use Rattle.cache_devices.specs.Watched.{device, failures};
 ghost use Rattle.cache_spaces.specs.Moves.{At};
 ghost use Rattle.cache_spaces.specs.Services.{spaces_of};
 ghost use Rattle.cache_run.specs.Accounts.{Accounts, AddsNoLoads};
-ghost use Rattle.cache_run.specs.Connected.{Connected, IsFed, IsReady, IsTaken};
+ghost use Rattle.cache_run.specs.Causes.{Because};
+ghost use Rattle.cache_run.specs.Connected.{Connected, IsReady, IsTaken};
 ghost use Rattle.cache_run.specs.Loading.{Breaks, Carries};
-ghost use Rattle.cache_run.specs.Turns.{HasAsked, HasRead, HasToldLate, LeavesSo};
+ghost use Rattle.cache_run.specs.Turns.{HasAsked, HasRead, HasToldLate, LeavesSo, TurnLeavesSo};
 ghost use Rattle.cache_run.specs.Worlds.{outside};
 
 use crate::errors::RunError;
@@ -52,25 +53,21 @@ pub fn take_turn<R: Read, W: Write, C: Clock, L: Loader>(
 ) -> Result<Progress, RunError>
     requires room { 0 < length buffer.old }
     requires ready { Connected (spaces_of service.old) conn.namespace conn.number IsReady }
-    ensures ok { OnOk result (Carries C.reads L.loads (spaces_of service.old) (spaces_of service.new) conn.namespace conn.number
+    ensures goes { MatchResult result
+        (λ progress. Carries C.reads L.loads (spaces_of service.old) (spaces_of service.new) conn.namespace conn.number
         (outside (R.remaining (device reader.old)) (W.contents (device writer.old)) clock.old loader.old)
-        (outside (R.remaining (device reader.new)) (W.contents (device writer.new)) clock.new loader.new) taken.old.items taken.new.items) }
-    ensures goes { IfOk result (λ progress. Connected (spaces_of service.new) conn.namespace conn.number (LeavesSo progress (R.remaining (device reader.new)))) }
-    ensures err { IfErr result (λ e. Breaks C.reads L.loads (spaces_of service.old) (spaces_of service.new) conn.namespace conn.number
+        (outside (R.remaining (device reader.new)) (W.contents (device writer.new)) clock.new loader.new) taken.old.items taken.new.items)
+        (λ e. Breaks C.reads L.loads (spaces_of service.old) (spaces_of service.new) conn.namespace conn.number
         (outside (R.remaining (device reader.old)) (W.contents (device writer.old)) clock.old loader.old)
         (outside (R.remaining (device reader.new)) (W.contents (device writer.new)) clock.new loader.new) taken.old.items e) }
-    ensures left { OnErr result (Connected (spaces_of service.new) conn.namespace conn.number IsFed) }
+    ensures left { Connected (spaces_of service.new) conn.namespace conn.number (TurnLeavesSo result (R.remaining (device reader.new))) }
     ensures accounted { At (spaces_of service.old) (spaces_of service.new) conn.namespace (λ was is. Accounts was is taken.old.items taken.new.items) }
     ensures settled { OnOk result (taken.old.items ≡ [] → (taken.new.items ≡ []) × At (spaces_of service.old) (spaces_of service.new) conn.namespace AddsNoLoads) }
-    ensures read { IsErrOf result RunError.Read → HasFailed (failures reader.old) (failures reader.new) }
-    ensures write { IsErrOf result RunError.Write → HasFailed (failures writer.old) (failures writer.new) }
-    ensures used_up { IsErrOf result RunError.UsedUp → HasFailed (failures writer.old) (failures writer.new) ⊎ HasAsked L.loads loader.old (2 ^ 64 - 1) loader.new }
+    ensures why { IfErr result (Because (HasFailed (failures reader.old) (failures reader.new)) (HasFailed (failures writer.old) (failures writer.new)) (HasFailed (failures writer.old) (failures writer.new) ⊎ HasAsked L.loads loader.old (2 ^ 64 - 1) loader.new) (HasToldLate C.reads clock.new)) }
     ensures asks { HasAsked L.loads loader.old 0 loader.new }
-    ensures moment { IsErrOf result RunError.Moment → HasToldLate C.reads clock.new }
     ensures more { IfOk result (λ progress. progress ≡ Progress.More → HasFailed (failures reader.old) (failures reader.new) ⊎ HasRead (R.remaining (device reader.old)) (R.remaining (device reader.new)) 1) }
     ensures reads { failures reader.old ≤ failures reader.new }
     ensures writes { failures writer.old ≤ failures writer.new }
-    ensures room { length buffer.new ≡ length buffer.old }
 {
     let count = match reader.read(buffer) {
         Ok(count) => count,

@@ -45,18 +45,11 @@ pub fn add<S: Store>(
     ensures unwritten { OnErr result (output.new.items ≡ output.old.items) }
 {
     if !accepts(capacity) {
-        use_value(store, key, now, b"OFF\n", output)?;
-        return Ok(None);
+        return use_value(store, key, now, b"OFF\n", output);
     }
     match sum_of(store.find(key, now), added) {
-        Some(sum) => {
-            let part = accept_sum(store, key, milliseconds, sum, now, output)?;
-            Ok(Some(Accepted { part }))
-        }
-        None => {
-            use_value(store, key, now, b"ERR number\n", output)?;
-            Ok(None)
-        }
+        Some(sum) => accept_sum(store, key, milliseconds, sum, now, output),
+        None => use_value(store, key, now, b"ERR number\n", output),
     }
 }
 
@@ -73,16 +66,17 @@ fn sum_of(found: Option<&[u8]>, added: u64) -> Option<u64>
     }
 }
 
-/// Looks a key up, which uses its live value, and writes a text.
+/// Looks a key up, which uses its live value, and writes a text. No part takes a value.
 fn use_value<S: Store>(
     store: &mut S,
     key: &[u8],
     now: u64,
     text: &[u8],
     output: &mut Vec<u8>,
-) -> Result<(), AllocError>
+) -> Result<Option<Accepted>, AllocError>
     requires in_time { (S.frame store.old).latest ≤ now }
     requires short { length text.now ≤ SHORT }
+    ensures none { IfOk result (λ accepted. accepted ≡ None) }
     ensures written { OnOk result ((held : List HeldValue) → S.stands store.old held → output.new.items ≡ output.old.items ++ text.now) }
     ensures done { OnOk result ((held : List HeldValue) → S.stands store.old held → Done (S.frame store.old).config now (using key.now) held (S.stands store.new) (Hands (S.untaken store.old) (S.untaken store.new))) }
     ensures frame { OnOk result (S.frame store.new ≡ record (S.frame store.old) { latest = now }) }
@@ -97,10 +91,10 @@ fn use_value<S: Store>(
     store.look_up(key, now, output)?;
     take_back(output, start);
     write(output, text);
-    Ok(())
+    Ok(None)
 }
 
-/// Has a sum accepted, writes it, and answers its part.
+/// Has a sum accepted, writes it, and says which part took it.
 fn accept_sum<S: Store>(
     store: &mut S,
     key: &[u8],
@@ -108,14 +102,14 @@ fn accept_sum<S: Store>(
     sum: u64,
     now: u64,
     output: &mut Vec<u8>,
-) -> Result<u64, AllocError>
+) -> Result<Option<Accepted>, AllocError>
     requires in_time { (S.frame store.old).latest ≤ now }
     requires moment { now < 2 ^ 63 }
     requires accepts { IsTrue (accepts_values (S.frame store.old).config.capacity) }
     requires brief { IfSome milliseconds (λ m. m ≤ 999999999999) }
     requires timed { IsSome milliseconds → IsTrue (S.frame store.old).config.own_deadlines }
     ensures written { OnOk result (output.new.items ≡ output.old.items ++ (codes "VAL " ++ decimal sum ++ codes "\n")) }
-    ensures part { IfOk result (λ part. part ≡ (S.frame store.old).part_of key.now) }
+    ensures part { IfOk result (λ accepted. accepted ≡ Some (record { part = (S.frame store.old).part_of key.now })) }
     ensures done { OnOk result ((held : List HeldValue) → S.stands store.old held → Done (S.frame store.old).config now (accepting (Some key.now) (value_of (S.frame store.old) now key.now (decimal sum) milliseconds)) held (S.stands store.new) (Hands (S.untaken store.old) (S.untaken store.new))) }
     ensures frame { OnOk result (S.frame store.new ≡ record (S.frame store.old) { latest = now }) }
     ensures few { length (S.untaken store.new) ≤ length (S.untaken store.old) + S.count store.old + 1 }
@@ -131,5 +125,5 @@ fn accept_sum<S: Store>(
     write(output, b"VAL ");
     write(output, digits);
     write(output, b"\n");
-    Ok(part)
+    Ok(Some(Accepted { part }))
 }

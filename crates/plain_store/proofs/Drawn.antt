@@ -1,6 +1,7 @@
 -- Identifiers that were drawn.
-use Rattle.std.proofs.Common.{◌≡◌, ℕ, zero, suc, ◌+◌, ◌-◌, ◌<◌, ◌≤◌, ◌==◌, inl, inr, ◌⊎◌, Bool, cond, true, false, ◌&&◌, ◌||◌, nat_lt, List, [], ◌∷◌, ◌++◌, refl, sym, ap, ◌∙◌, subst, arith}
-use Rattle.std.proofs.lemmas.Bool.{cases_lt, eqb-true, eq-eqb, lt-ltb, false_from_ne_true, both_ways}
+use Rattle.std.proofs.Common.{◌≡◌, ℕ, zero, suc, ◌+◌, ◌-◌, ◌<◌, ◌≤◌, ◌==◌, inl, inr, ◌⊎◌, Bool, cond, true, false, ◌&&◌, ◌||◌, List, [], ◌∷◌, ◌++◌, refl, sym, ap, ◌∙◌, subst, arith, length, take, take_all}
+use Rattle.std.proofs.lemmas.List.{take-append-le}
+use Rattle.std.proofs.lemmas.Bool.{cases_lt, eqb-true, eq-eqb, false_from_ne_true, both_ways}
 use Rattle.audit_model.specs.Bytewise.{same}
 use Rattle.plain_table.proofs.Keys.{same_from_equal, equal_from_same}
 use Rattle.rand_core.specs.Stream.{Stream, fill_bytes}
@@ -215,3 +216,7 @@ dropped_from false parts old new register none u =
 
 pub alone_from : (old new : Stream) (before after : Entries) → DrawsOn old new → after ≡ before → DrawsAlone old new (is_registered before) (is_registered after)
 alone_from old new before after d e = record { number = d.number; stream = d.stream; registered = λ part id r. sym (ap (λ xs. is_registered xs part id) e) ∙ r }
+
+-- cut down to those that were there before
+pub put_back : (n : ℕ) (before added now left : Entries) → n ≡ length before → now ≡ before ++ added → left ≡ take n now → left ≡ before
+put_back n before added now left count whole is = is ∙ ap (take n) whole ∙ take-append-le n before added (omega (arith, count)) ∙ take_all n before (omega (arith, count))

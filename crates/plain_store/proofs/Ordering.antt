@@ -1,31 +1,27 @@
 -- The order of use of a plain store that evicts the least recently used, where no time ends a value.
-use Rattle.std.proofs.Common.{◌≡◌, ℕ, suc, ◌<◌, ◌≤◌, ◌+◌, ◌-◌, ◌/◌, ◌==◌, Bool, cond, true, false, not, ◌&&◌, ◌||◌, List, [], ◌∷◌, ◌++◌, map, take, length, Option, option_map, Some, None, is_some, is_none, if◌then◌else◌, refl, sym, ap, ◌∙◌, subst, arith}
-use Rattle.std.specs.List.{list_all, list_any, filter}
+use Rattle.std.proofs.Common.{◌≡◌, ℕ, suc, ◌<◌, ◌≤◌, ◌+◌, ◌-◌, ◌/◌, ◌==◌, Bool, cond, true, false, not, ◌&&◌, ◌||◌, List, [], ◌∷◌, map, take, length, Option, option_map, Some, None, is_some, is_none, if◌then◌else◌, refl, sym, ap, ◌∙◌, subst, arith}
+use Rattle.std.specs.List.{list_all, list_any}
 use Rattle.std.specs.Option.{option_map_or}
 use Rattle.std.proofs.lemmas.Bool.{and_from, and_parts, not-true, not_from_false, eqb-true, eq-eqb, ltb-false}
 use Rattle.std.proofs.lemmas.List.{take-map, take_all, length-map}
-use Rattle.std.proofs.lemmas.Option.{none-some}
 use Rattle.audit_model.specs.Bytewise.{same}
 use Rattle.audit_model.specs.History.{part_count, share, weight_of}
 use Rattle.audit_model.specs.Recency as recent
 use Rattle.audit_model.specs.Situation.{HeldValue, is_dead_at, is_live_at}
-use Rattle.audit_model.specs.Values.{deadline, earlier_of, after_ms, has_come}
+use Rattle.audit_model.specs.Values.{earlier_of, after_ms, has_come}
 use Rattle.audit_model.specs.declared.config.Config.{Config}
-use Rattle.audit_model.specs.declared.config.Weight.{Weight}
-use Rattle.audit_model.specs.declared.config.Weight.TheVariants.{One}
 use Rattle.audit_model.specs.declared.transcript.Note.{Note}
-use Rattle.audit_model.specs.declared.transcript.RemovalCause.{RemovalCause}
-use Rattle.audit_model.specs.declared.transcript.RemovalCause.TheVariants.{Expired, Explicit, Size}
+use Rattle.audit_model.specs.declared.transcript.RemovalCause.TheVariants.{Expired, Explicit}
 use Rattle.cache_store.specs.Recency.{IsPlainLru, put_first, used_first}
 use Rattle.cache_store.specs.Running.{weight_in}
 use Rattle.plain_table.specs.Items.{value_at, without, is_absent, are_apart, used_at}
 use Rattle.plain_table.proofs.Held.{key_of, key_from_some, all_found, all-without_key}
 use Rattle.plain_table.proofs.Keys.{same-flip_false, equal_from_same, same_from_equal}
 use Rattle.plain_sweep.specs.Evicted.{Evicts}
-use Rattle.plain_sweep.specs.Swept.{exceeds, cause_at, left_by, swept}
+use Rattle.plain_sweep.specs.Swept.{exceeds, left_by, swept}
 use Rattle.plain_sweep.proofs.Leavers.{evicts_all, evicts_cut}
 use Rattle.plain_store.specs.Standing.{limit_of, is_proper, AreKept, AreInOrder, HasParts}
-use Rattle.plain_store.specs.Putting.{live_in, if_live}
+use Rattle.plain_store.specs.Putting.{if_live}
 use Rattle.plain_store.specs.Laws.{all_so, parted_from}
 use Rattle.plain_store.proofs.Calls.{looked_up}
 use Rattle.plain_store.proofs.Keeping.{first_weight}

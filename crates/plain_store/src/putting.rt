@@ -10,7 +10,7 @@ ghost use Rattle.plain_store.specs.Putting.{live_in, Writes, replaced_note, dele
 use audit_model::{Config, Note, RemovalCause};
 use plain_sweep::{is_dead, is_live, tell};
 use plain_table::{Kept, Table};
-use std::alloc::AllocError;
+use std::alloc::{AllocError, Global};
 use std::collections::VecDeque;
 
 /// The bytes of a key's live value.
@@ -59,6 +59,16 @@ pub fn use_found(table: &mut Table, is_found: bool, key: &[u8], now: u64)
     if is_found {
         table.touch(key, now);
     }
+}
+
+/// Copies of a key and of its value's bytes.
+pub fn copies_of(alloc: Global, key: &[u8], bytes: &[u8]) -> Result<(Vec<u8>, Vec<u8>), AllocError>
+    ensures key { IfOk result (λ copies. copies.0.items ≡ key.now) }
+    ensures bytes { IfOk result (λ copies. copies.1.items ≡ bytes.now) }
+{
+    let key = Vec::from_slice(alloc, key)?;
+    let bytes = Vec::from_slice(alloc, bytes)?;
+    Ok((key, bytes))
 }
 
 /// Gives a key a value, which comes first, tells the older one, and answers what that one weighed, 0 where there was none. There is

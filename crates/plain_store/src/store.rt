@@ -10,7 +10,7 @@ ghost use Rattle.plain_store.specs.Standing.{frame_of, limit_of, Stands, AreKept
 use crate::drawing::register_all;
 use crate::hashing::{KeyHasher, count_parts, part_of};
 use crate::listing::write_keys;
-use crate::putting::{live_bytes, put, take, use_found, write_found};
+use crate::putting::{copies_of, live_bytes, put, take, use_found, write_found};
 use crate::valuing::{own_deadline, weight_of};
 use crate::weights::{no_weights, set_weight, share_of, weigh_parts, weight_at};
 use audit_model::{Config, Note};
@@ -133,8 +133,7 @@ impl<R: Rng + Drop, H: KeyHasher> Store for PlainStore<R, H> {
         let part = part_of(&self.hasher, self.parts, key);
         let weight = weight_of(self.config.weight, bytes);
         let own_deadline = own_deadline(now, milliseconds);
-        let key = Vec::from_slice(self.alloc, key)?;
-        let bytes = Vec::from_slice(self.alloc, bytes)?;
+        let (key, bytes) = copies_of(self.alloc, key, bytes)?;
         let kept = Kept {
             bytes,
             part,

@@ -1,16 +1,23 @@
-use Rattle.std.proofs.Common.{◌≡◌, [], ⊎_elim, sym, ◌∙◌}
-use Rattle.cache_run.specs.declared.errors.RunError.TheVariants.{Moment, UsedUp, Write}
-use Rattle.cache_run.proofs.Delivering.{at-unanswered, at-unsent, at-written}
+use Rattle.std.proofs.Common.{[], arith}
+use Rattle.cache_run.proofs.Causing.{because-map, why-map}
+use Rattle.cache_run.proofs.Connecting.{left-by}
+use Rattle.cache_run.proofs.Delivering.{at-sent, at-unanswered}
 use Rattle.cache_run.proofs.feeding.deliver.Goals as goal
 
-pub returns-in-Err-clause-err : goal.returns-in-Err-clause-err
-returns-in-Err-clause-err g c = at-unanswered _ _ _ _ c.args.piece.now c.args.moment [] _ _ c.in-Err.ensures.err
+pub returns-in-Err : goal.returns-in-Err
+returns-in-Err g c = record {
+  goes = at-unanswered _ _ _ _ c.args.piece.now c.args.moment [] _ _ c.in-Err.ensures.goes;
+  left = c.in-Err.ensures.left;
+  later = c.in-Err.ensures.later;
+  why = because-map c.in-Err.error (λ no. no) (λ no. absurd no) (λ no. absurd no) (λ late. late) c.in-Err.ensures.why;
+  count = omega arith;
+}
 
-pub returns-clause-err : goal.returns-clause-err
-returns-clause-err g c =
-    let sent = c.in-Err-write_replies.ensures.err in
-    at-unsent _ _ _ _ c.args.piece.now c.args.moment [] _ _ sent.0 _ _ _ c.deref.ensures.value sent.1
-    (λ is. ⊎_elim (λ e. let h : Write ≡ Moment = sym e ∙ is in cc) (λ e. let h : UsedUp ≡ Moment = sym e ∙ is in cc) c.in-Err-write_replies.ensures.causes) c.in-Ok.ensures.ok
-
-pub returns-in-Ok-write_replies-clause-ok : goal.returns-in-Ok-write_replies-clause-ok
-returns-in-Ok-write_replies-clause-ok g c = at-written _ _ _ _ c.args.piece.now c.args.moment [] _ _ _ _ c.deref.ensures.value c.in-Ok-write_replies.ensures.ok c.in-Ok.ensures.ok
+pub returns : goal.returns
+returns g c = record {
+  goes = at-sent _ _ c.write_replies.result _ _ _ _ c.args.piece.now c.args.moment [] _ _ _ _ c.deref.ensures.value c.write_replies.ensures.sent c.write_replies.ensures.why c.in-Ok.ensures.goes;
+  left = left-by _ _ _ c.write_replies.result c.in-Ok.ensures.left;
+  later = c.in-Ok.ensures.later;
+  why = why-map c.write_replies.result (λ no. no) (λ failed. failed) (λ failed. failed) (λ no. absurd no) c.write_replies.ensures.why;
+  count = c.write_replies.ensures.count;
+}

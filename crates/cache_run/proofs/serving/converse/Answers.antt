@@ -2,8 +2,9 @@ use Rattle.std.proofs.Common.{◌≡◌, ◌^◌, ◌-◌, [], ⊎_elim, arith, 
 use Rattle.cache_devices.proofs.Sending.{failed_after}
 use Rattle.cache_run.specs.Connected.{IsFed, IsReady}
 use Rattle.cache_run.specs.declared.errors.RunError.TheVariants.{Moment, UsedUp}
+use Rattle.cache_run.proofs.Causing.{because-map}
 use Rattle.cache_run.proofs.Connecting.{connected-map}
-use Rattle.cache_run.proofs.Turning.{asked-fewer, asked-more, asked-none, at-broken, at-fresh, at-fresh-broken, at-broken-more, at-carried-more, at-carried-start, still-err, turns-more, turns-none}
+use Rattle.cache_run.proofs.Turning.{asked-fewer, asked-more, asked-none, at-broken, at-fresh, at-fresh-broken, at-broken-more, at-carried-more, at-carried-start, turns-all, turns-more, turns-none}
 use Rattle.cache_run.proofs.Accounting.{at-accounts-more, at-accounts-start, at-adds-more, at-adds-still}
 use Rattle.cache_run.proofs.serving.converse.Goals as goal
 
@@ -21,48 +22,49 @@ loop-turn-init g c = record {
   asked = asked-none g.L.Loader.loads _;
 }
 
+pub take_turn-requires : goal.take_turn-requires
+take_turn-requires g c = record { room = c.loop-turn.invariant.room; ready = c.loop-turn.invariant.ready }
+
 pub loop-turn-preserved : goal.loop-turn-preserved
 loop-turn-preserved g c = record {
-  carried = at-carried-more g.C.Clock.reads g.L.Loader.loads _ _ _ _ _ _ _ _ [] _ _ c.loop-turn.invariant.carried c.in-Ok-More.ensures.ok;
+  carried = at-carried-more g.C.Clock.reads g.L.Loader.loads _ _ _ _ _ _ _ _ [] _ _ c.loop-turn.invariant.carried c.in-Ok-More.ensures.goes;
   fresh = (c.in-Ok-More.ensures.settled c.loop-turn.invariant.fresh).0;
   settled = at-adds-more _ _ _ _ c.loop-turn.invariant.settled (c.in-Ok-More.ensures.settled c.loop-turn.invariant.fresh).1;
   accounted = at-accounts-more _ _ _ _ _ _ _ c.loop-turn.invariant.accounted c.in-Ok-More.ensures.accounted;
-  ready = rw c.in-Ok-More.field-0-is at c.in-Ok-More.ensures.goes;
+  ready = rw c.in-Ok-More.field-0-is at c.in-Ok-More.ensures.left;
   reads = omega (arith, c.loop-turn.invariant.reads, c.in-Ok-More.ensures.reads);
   writes = omega (arith, c.loop-turn.invariant.writes, c.in-Ok-More.ensures.writes);
-  room = omega (arith, c.loop-turn.invariant.room, c.in-Ok-More.ensures.room);
+  room = omega (arith, c.loop-turn.invariant.room, c.take_turn.auto.buffer);
   turns = turns-more _ _ _ _ _ _ c.loop-turn._turn c.loop-turn.invariant.reads c.in-Ok-More.ensures.reads c.loop-turn.invariant.turns (c.in-Ok-More.ensures.more c.in-Ok-More.field-0-is);
   asked = asked-fewer g.L.Loader.loads _ _ _ 0 (omega arith) (asked-more g.L.Loader.loads _ _ _ 0 0 c.loop-turn.invariant.asked c.in-Ok-More.ensures.asks);
 }
 
-pub returns-in-Ok-Over-clause-ok : goal.returns-in-Ok-Over-clause-ok
-returns-in-Ok-Over-clause-ok g c =
-    at-fresh g.C.Clock.reads g.L.Loader.loads _ _ _ _ _ _ _ (at-carried-more g.C.Clock.reads g.L.Loader.loads _ _ _ _ _ _ _ _ [] _ _ c.loop-turn.invariant.carried c.in-Ok-Over.ensures.ok)
+pub returns-in-Ok-Over : goal.returns-in-Ok-Over
+returns-in-Ok-Over g c = record {
+  goes = at-fresh g.C.Clock.reads g.L.Loader.loads _ _ _ _ _ _ _ (at-carried-more g.C.Clock.reads g.L.Loader.loads _ _ _ _ _ _ _ _ [] _ _ c.loop-turn.invariant.carried c.in-Ok-Over.ensures.goes);
+  left = rw c.in-Ok-Over.field-0-is at c.in-Ok-Over.ensures.left;
+  settled = at-adds-more _ _ _ _ c.loop-turn.invariant.settled (c.in-Ok-Over.ensures.settled c.loop-turn.invariant.fresh).1;
+  accounted = at-accounts-more _ _ _ _ _ _ _ c.loop-turn.invariant.accounted c.in-Ok-Over.ensures.accounted;
+  why = tt;
+}
 
-pub returns-in-Ok-Over-clause-over : goal.returns-in-Ok-Over-clause-over
-returns-in-Ok-Over-clause-over g c = rw c.in-Ok-Over.field-0-is at c.in-Ok-Over.ensures.goes
+pub returns-in-Err : goal.returns-in-Err
+returns-in-Err g c = record {
+  goes = at-fresh-broken g.C.Clock.reads g.L.Loader.loads _ _ _ _ _ _ _ (at-broken-more g.C.Clock.reads g.L.Loader.loads _ _ _ _ _ _ _ _ [] _ _ c.loop-turn.invariant.carried c.in-Err.ensures.goes);
+  left = c.in-Err.ensures.left;
+  settled = tt;
+  accounted = at-accounts-more _ _ _ _ _ _ _ c.loop-turn.invariant.accounted c.in-Err.ensures.accounted;
+  why = because-map c.in-Err.error (failed_after _ _ _ c.loop-turn.invariant.reads c.in-Err.ensures.reads) (failed_after _ _ _ c.loop-turn.invariant.writes c.in-Err.ensures.writes)
+      (λ used. ⊎_elim (λ failed. inl (failed_after _ _ _ c.loop-turn.invariant.writes c.in-Err.ensures.writes failed))
+      (λ asked. inr (inr (inr (asked-fewer g.L.Loader.loads _ _ _ (2 ^ 64 - 1) (omega arith) (asked-more g.L.Loader.loads _ _ _ 0 (2 ^ 64 - 1) c.loop-turn.invariant.asked asked))))) used)
+      (λ late. late) c.in-Err.ensures.why;
+}
 
-pub returns-in-Err-clause-err : goal.returns-in-Err-clause-err
-returns-in-Err-clause-err g c =
-    at-fresh-broken g.C.Clock.reads g.L.Loader.loads _ _ _ _ _ _ _ (at-broken-more g.C.Clock.reads g.L.Loader.loads _ _ _ _ _ _ _ _ [] _ _ c.loop-turn.invariant.carried c.in-Err.ensures.err)
-
-pub returns-in-Err-clause-used_up : goal.returns-in-Err-clause-used_up
-returns-in-Err-clause-used_up g c = λ is.
-    ⊎_elim (λ failed. inl (failed_after _ _ _ c.loop-turn.invariant.writes c.in-Err.ensures.writes failed))
-    (λ asked. inr (inr (inr (asked-fewer g.L.Loader.loads _ _ _ (2 ^ 64 - 1) (omega arith) (asked-more g.L.Loader.loads _ _ _ 0 (2 ^ 64 - 1) c.loop-turn.invariant.asked asked))))) (c.in-Err.ensures.used_up (still-err c.in-Err.error UsedUp is))
-
-pub returns-clause-err : goal.returns-clause-err
-returns-clause-err g c =
-    at-fresh-broken g.C.Clock.reads g.L.Loader.loads _ _ _ _ _ _ _ (at-broken g.C.Clock.reads g.L.Loader.loads _ _ _ _ _ _ [] _ UsedUp (λ is. let h : UsedUp ≡ Moment = is in cc) c.loop-turn.invariant.carried)
-
-pub returns-clause-left : goal.returns-clause-left
-returns-clause-left g c = connected-map IsReady IsFed _ _ _ c.loop-turn.invariant.ready (λ x left. inl left.0)
-
-pub returns-in-Ok-Over-clause-settled : goal.returns-in-Ok-Over-clause-settled
-returns-in-Ok-Over-clause-settled g c = at-adds-more _ _ _ _ c.loop-turn.invariant.settled (c.in-Ok-Over.ensures.settled c.loop-turn.invariant.fresh).1
-
-pub returns-in-Ok-Over-clause-accounted : goal.returns-in-Ok-Over-clause-accounted
-returns-in-Ok-Over-clause-accounted g c = at-accounts-more _ _ _ _ _ _ _ c.loop-turn.invariant.accounted c.in-Ok-Over.ensures.accounted
-
-pub returns-in-Err-clause-accounted : goal.returns-in-Err-clause-accounted
-returns-in-Err-clause-accounted g c = at-accounts-more _ _ _ _ _ _ _ c.loop-turn.invariant.accounted c.in-Err.ensures.accounted
+pub returns : goal.returns
+returns g c = record {
+  goes = at-fresh-broken g.C.Clock.reads g.L.Loader.loads _ _ _ _ _ _ _ (at-broken g.C.Clock.reads g.L.Loader.loads _ _ _ _ _ _ [] _ UsedUp (λ is. let h : UsedUp ≡ Moment = is in cc) c.loop-turn.invariant.carried);
+  left = connected-map IsReady IsFed _ _ _ c.loop-turn.invariant.ready (λ x left. inl left.0);
+  settled = tt;
+  accounted = c.loop-turn.invariant.accounted;
+  why = inr (turns-all _ _ _ _ _ (2 ^ 64 - 1) (omega (arith, c.loop-turn-test.false)) c.loop-turn.invariant.turns);
+}

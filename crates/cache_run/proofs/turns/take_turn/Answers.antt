@@ -1,81 +1,110 @@
 use Rattle.std.proofs.Common.{◌≡◌, [], ⊎_elim, arith, inl, inr, refl}
 use Rattle.cache_devices.proofs.Sending.{failed_after}
 use Rattle.cache_devices.specs.Watched.{device}
-use Rattle.cache_run.specs.Connected.{IsFed, IsOver, IsReady}
-use Rattle.cache_run.specs.declared.errors.RunError.TheVariants.{Moment, Read, UsedUp}
-use Rattle.cache_run.proofs.Carrying.{consumes_none}
-use Rattle.cache_run.proofs.Connecting.{connected-map}
-use Rattle.cache_run.proofs.Turning.{at-broken, at-broken-more, at-carried-more, still-err, turn-broken, turn-none, turn-one}
 use Rattle.cache_run.specs.Accounts.{HasTakenAll}
+use Rattle.cache_run.specs.Connected.{IsFed, IsOver, IsReady}
+use Rattle.cache_run.specs.declared.errors.RunError.TheVariants.{Moment, Read}
+use Rattle.cache_run.specs.declared.turns.Progress.TheVariants.{More, Over}
+use Rattle.cache_run.proofs.Carrying.{consumes_none}
+use Rattle.cache_run.proofs.Causing.{because-map}
+use Rattle.cache_run.proofs.Connecting.{connected-map}
+use Rattle.cache_run.proofs.Turning.{asked-none, at-broken, at-broken-more, at-carried-more, read-some, turn-broken, turn-none, turn-one}
 use Rattle.cache_run.proofs.Accounting.{at-accounts-later, at-accounts-more, at-accounts-still, at-adds-none, at-adds-still}
 use Rattle.cache_run.proofs.Placing.{at-more}
 use Rattle.cache_run.proofs.turns.take_turn.Goals as goal
 
-pub returns-then-eq-clause-ok : goal.returns-then-eq-clause-ok
-returns-then-eq-clause-ok g c = turn-none g.C.Clock.reads g.L.Loader.loads _ _ _ _ _ _ _ _ _ c.requires.ready (consumes_none _ _ c.in-Err.ensures.bytes)
+pub slice_bounds-deliver-end : goal.slice_bounds-deliver-end
+slice_bounds-deliver-end g c = omega (arith, c.in-Ok.ensures.bound)
 
-pub returns-in-Err-clause-err : goal.returns-in-Err-clause-err
-returns-in-Err-clause-err g c =
-    at-broken g.C.Clock.reads g.L.Loader.loads _ _ _ _ _ _ _ _ Read (λ is. let h : Read ≡ Moment = is in cc)
-    (turn-none g.C.Clock.reads g.L.Loader.loads _ _ _ _ _ _ _ _ _ c.requires.ready (consumes_none _ _ c.in-Err.ensures.bytes))
+pub deliver-requires : goal.deliver-requires
+deliver-requires g c = record { ready = c.requires.ready }
 
-pub returns-then-count-eq0-clause-ok : goal.returns-then-count-eq0-clause-ok
-returns-then-count-eq0-clause-ok g c = turn-none g.C.Clock.reads g.L.Loader.loads _ _ _ _ _ _ _ _ _ c.requires.ready (rw c.if-count-eq0.true at c.in-Ok.ensures.bytes.0)
+pub settle_loads-requires : goal.settle_loads-requires
+settle_loads-requires g c = record { taken = c.in-Ok-deliver.ensures.left }
 
-pub returns-in-Err-deliver-clause-err : goal.returns-in-Err-deliver-clause-err
-returns-in-Err-deliver-clause-err g c = turn-broken g.C.Clock.reads g.L.Loader.loads _ _ _ _ _ _ _ [] _ _ _ _ _ _ _ _ _ c.in-Err-deliver.ensures.err c.in-Ok.ensures.bytes.0 c.now-moment.ensures refl
+pub progress_of-requires : goal.progress_of-requires
+progress_of-requires g c = record { taken = c.in-Ok-settle_loads.ensures.left }
 
-pub returns-in-Ok-settle_loads-clause-ok : goal.returns-in-Ok-settle_loads-clause-ok
-returns-in-Ok-settle_loads-clause-ok g c =
-    at-carried-more g.C.Clock.reads g.L.Loader.loads _ _ _ _ _ _ _ _ _ _ _ (turn-one g.C.Clock.reads g.L.Loader.loads _ _ _ _ _ _ _ [] _ _ _ _ _ _ _ _ c.in-Ok-deliver.ensures.ok c.in-Ok.ensures.bytes.0 c.now-moment.ensures refl)
-    (c.in-Ok-settle_loads.ensures.ok (g.R.Read.remaining (device c.read.new.self)))
+pub returns-then-eq : goal.returns-then-eq
+returns-then-eq g c = record {
+  goes = turn-none g.C.Clock.reads g.L.Loader.loads _ _ _ _ _ _ _ _ _ c.requires.ready (consumes_none _ _ c.in-Err.ensures.bytes);
+  left = c.requires.ready;
+  accounted = at-accounts-still IsReady _ _ _ _ c.requires.ready;
+  settled = λ none. (none, at-adds-still IsReady _ _ _ c.requires.ready);
+  why = tt;
+  asks = asked-none g.L.Loader.loads _;
+  more = λ is. inl c.in-Err.ensures.failed;
+  reads = c.in-Err.ensures.later;
+  writes = omega arith;
+}
 
-pub returns-in-Err-settle_loads-clause-err : goal.returns-in-Err-settle_loads-clause-err
-returns-in-Err-settle_loads-clause-err g c =
-    at-broken-more g.C.Clock.reads g.L.Loader.loads _ _ _ _ _ _ _ _ _ _ _ (turn-one g.C.Clock.reads g.L.Loader.loads _ _ _ _ _ _ _ [] _ _ _ _ _ _ _ _ c.in-Ok-deliver.ensures.ok c.in-Ok.ensures.bytes.0 c.now-moment.ensures refl)
-    (c.in-Err-settle_loads.ensures.err (g.R.Read.remaining (device c.read.new.self)))
+pub returns-in-Err : goal.returns-in-Err
+returns-in-Err g c = record {
+  goes = at-broken g.C.Clock.reads g.L.Loader.loads _ _ _ _ _ _ _ _ Read (λ is. let h : Read ≡ Moment = is in cc)
+      (turn-none g.C.Clock.reads g.L.Loader.loads _ _ _ _ _ _ _ _ _ c.requires.ready (consumes_none _ _ c.in-Err.ensures.bytes));
+  left = connected-map IsReady IsFed _ _ _ c.requires.ready (λ x left. inl left.0);
+  accounted = at-accounts-still IsReady _ _ _ _ c.requires.ready;
+  settled = tt;
+  why = c.in-Err.ensures.failed;
+  asks = asked-none g.L.Loader.loads _;
+  more = tt;
+  reads = c.in-Err.ensures.later;
+  writes = omega arith;
+}
 
-pub returns-in-Err-settle_loads-clause-used_up : goal.returns-in-Err-settle_loads-clause-used_up
-returns-in-Err-settle_loads-clause-used_up g c = λ is.
-    ⊎_elim (λ failed. inl (failed_after _ _ _ c.in-Ok-deliver.ensures.count c.in-Err-settle_loads.ensures.count failed)) (λ asked. inr asked) (c.in-Err-settle_loads.ensures.used_up (still-err c.in-Err-settle_loads.error UsedUp is))
+pub returns-then-count-eq0 : goal.returns-then-count-eq0
+returns-then-count-eq0 g c =
+    let at_end = c.in-Ok.ensures.bytes.1 c.if-count-eq0.true (let room = c.requires.room in omega (arith, c.read.auto.buf)) in record {
+      goes = turn-none g.C.Clock.reads g.L.Loader.loads _ _ _ _ _ _ _ _ _ c.requires.ready (rw c.if-count-eq0.true at c.in-Ok.ensures.bytes.0);
+      left = connected-map IsReady (IsOver (g.R.Read.remaining (device c.read.new.self))) _ _ _ c.requires.ready (λ x left. inl (left.0, at_end));
+      accounted = at-accounts-still IsReady _ _ _ _ c.requires.ready;
+      settled = λ none. (none, at-adds-still IsReady _ _ _ c.requires.ready);
+      why = tt;
+      asks = asked-none g.L.Loader.loads _;
+      more = λ is. let no : Over ≡ More = is in cc;
+      reads = c.in-Ok.ensures.later;
+      writes = omega arith;
+    }
 
-pub returns-in-Err-clause-left : goal.returns-in-Err-clause-left
-returns-in-Err-clause-left g c = connected-map IsReady IsFed _ _ _ c.requires.ready (λ x left. inl left.0)
+pub returns-in-Err-deliver : goal.returns-in-Err-deliver
+returns-in-Err-deliver g c = record {
+  goes = turn-broken g.C.Clock.reads g.L.Loader.loads _ _ _ _ _ _ _ [] _ _ _ _ _ _ _ _ _ c.in-Err-deliver.ensures.goes c.in-Ok.ensures.bytes.0 c.now-moment.ensures refl;
+  left = c.in-Err-deliver.ensures.left;
+  accounted = at-accounts-later _ _ _ _ c.in-Err-deliver.ensures.later;
+  settled = tt;
+  why = because-map c.in-Err-deliver.error (λ no. absurd no) (λ failed. failed) (λ failed. inl failed) (λ late. (_, _, c.now-moment.ensures, late)) c.in-Err-deliver.ensures.why;
+  asks = asked-none g.L.Loader.loads _;
+  more = tt;
+  reads = c.in-Ok.ensures.later;
+  writes = c.in-Err-deliver.ensures.count;
+}
 
-pub returns-then-count-eq0-clause-goes : goal.returns-then-count-eq0-clause-goes
-returns-then-count-eq0-clause-goes g c =
-    let at_end = c.in-Ok.ensures.bytes.1 c.if-count-eq0.true (let room = c.requires.room in omega (arith, c.read.auto.buf)) in
-    connected-map IsReady (IsOver (g.R.Read.remaining (device c.read.new.self))) _ _ _ c.requires.ready (λ x left. inl (left.0, at_end))
-
-pub returns-in-Ok-settle_loads-clause-goes : goal.returns-in-Ok-settle_loads-clause-goes
-returns-in-Ok-settle_loads-clause-goes g c = c.progress_of.ensures (g.R.Read.remaining (device c.read.new.self))
-
-pub returns-then-eq-clause-accounted : goal.returns-then-eq-clause-accounted
-returns-then-eq-clause-accounted g c = at-accounts-still IsReady _ _ _ _ c.requires.ready
-
-pub returns-then-eq-clause-settled : goal.returns-then-eq-clause-settled
-returns-then-eq-clause-settled g c = λ none. (none, at-adds-still IsReady _ _ _ c.requires.ready)
-
-pub returns-in-Err-clause-accounted : goal.returns-in-Err-clause-accounted
-returns-in-Err-clause-accounted g c = at-accounts-still IsReady _ _ _ _ c.requires.ready
-
-pub returns-then-count-eq0-clause-accounted : goal.returns-then-count-eq0-clause-accounted
-returns-then-count-eq0-clause-accounted g c = at-accounts-still IsReady _ _ _ _ c.requires.ready
-
-pub returns-then-count-eq0-clause-settled : goal.returns-then-count-eq0-clause-settled
-returns-then-count-eq0-clause-settled g c = λ none. (none, at-adds-still IsReady _ _ _ c.requires.ready)
-
-pub returns-in-Err-deliver-clause-accounted : goal.returns-in-Err-deliver-clause-accounted
-returns-in-Err-deliver-clause-accounted g c = at-accounts-later _ _ _ _ c.in-Err-deliver.ensures.later
-
-pub returns-in-Ok-settle_loads-clause-accounted : goal.returns-in-Ok-settle_loads-clause-accounted
-returns-in-Ok-settle_loads-clause-accounted g c = at-accounts-more _ _ _ _ _ _ _ (at-accounts-later _ _ _ _ c.in-Ok-deliver.ensures.later) c.in-Ok-settle_loads.ensures.accounted
-
-pub returns-in-Ok-settle_loads-clause-settled : goal.returns-in-Ok-settle_loads-clause-settled
-returns-in-Ok-settle_loads-clause-settled g c = λ none.
+pub returns-in-Ok-settle_loads : goal.returns-in-Ok-settle_loads
+returns-in-Ok-settle_loads g c =
     let all = c.in-Ok-settle_loads.ensures.all in
-    let more = at-accounts-more _ _ _ _ _ _ _ (at-accounts-later _ _ _ c.args.taken.now.items c.in-Ok-deliver.ensures.later) c.in-Ok-settle_loads.ensures.accounted in
-    (all.0, at-adds-none _ _ _ _ _ none all.0 (at-more _ HasTakenAll HasTakenAll _ _ _ _ c.in-Ok-deliver.ensures.later all.1 (λ x y z p q. q)) more)
+    let accounted = at-accounts-more _ _ _ _ _ _ _ (at-accounts-later _ _ _ c.args.taken.now.items c.in-Ok-deliver.ensures.later) c.in-Ok-settle_loads.ensures.accounted in record {
+      goes = at-carried-more g.C.Clock.reads g.L.Loader.loads _ _ _ _ _ _ _ _ _ _ _ (turn-one g.C.Clock.reads g.L.Loader.loads _ _ _ _ _ _ _ [] _ _ _ _ _ _ _ _ c.in-Ok-deliver.ensures.goes c.in-Ok.ensures.bytes.0 c.now-moment.ensures refl)
+          (c.in-Ok-settle_loads.ensures.goes (g.R.Read.remaining (device c.read.new.self)));
+      left = c.progress_of.ensures (g.R.Read.remaining (device c.read.new.self));
+      accounted = accounted;
+      settled = λ none. (all.0, at-adds-none _ _ _ _ _ none all.0 (at-more _ HasTakenAll HasTakenAll _ _ _ _ c.in-Ok-deliver.ensures.later all.1 (λ x y z p q. q)) accounted);
+      why = tt;
+      asks = c.in-Ok-settle_loads.ensures.asks;
+      more = λ is. inr (read-some _ _ _ _ (omega (arith, c.in-Ok.ensures.bound)) (omega (arith, c.if-count-eq0.false)) c.in-Ok.ensures.bytes.0);
+      reads = c.in-Ok.ensures.later;
+      writes = omega (arith, c.in-Ok-deliver.ensures.count, c.in-Ok-settle_loads.ensures.count);
+    }
 
-pub returns-in-Err-settle_loads-clause-accounted : goal.returns-in-Err-settle_loads-clause-accounted
-returns-in-Err-settle_loads-clause-accounted g c = at-accounts-more _ _ _ _ _ _ _ (at-accounts-later _ _ _ _ c.in-Ok-deliver.ensures.later) c.in-Err-settle_loads.ensures.accounted
+pub returns-in-Err-settle_loads : goal.returns-in-Err-settle_loads
+returns-in-Err-settle_loads g c = record {
+  goes = at-broken-more g.C.Clock.reads g.L.Loader.loads _ _ _ _ _ _ _ _ _ _ _ (turn-one g.C.Clock.reads g.L.Loader.loads _ _ _ _ _ _ _ [] _ _ _ _ _ _ _ _ c.in-Ok-deliver.ensures.goes c.in-Ok.ensures.bytes.0 c.now-moment.ensures refl)
+      (c.in-Err-settle_loads.ensures.goes (g.R.Read.remaining (device c.read.new.self)));
+  left = c.in-Err-settle_loads.ensures.left;
+  accounted = at-accounts-more _ _ _ _ _ _ _ (at-accounts-later _ _ _ _ c.in-Ok-deliver.ensures.later) c.in-Err-settle_loads.ensures.accounted;
+  settled = tt;
+  why = because-map c.in-Err-settle_loads.error (λ no. absurd no) (failed_after _ _ _ c.in-Ok-deliver.ensures.count c.in-Err-settle_loads.ensures.count) (λ used. ⊎_elim (λ failed. inl (failed_after _ _ _ c.in-Ok-deliver.ensures.count c.in-Err-settle_loads.ensures.count failed)) (λ asked. inr asked) used) (λ late. late) c.in-Err-settle_loads.ensures.why;
+  asks = c.in-Err-settle_loads.ensures.asks;
+  more = tt;
+  reads = c.in-Ok.ensures.later;
+  writes = omega (arith, c.in-Ok-deliver.ensures.count, c.in-Err-settle_loads.ensures.count);
+}

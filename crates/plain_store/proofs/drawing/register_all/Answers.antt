@@ -1,8 +1,6 @@
-use Rattle.std.proofs.Common.{◌≡◌, ◌+◌, ◌-◌, ◌++◌, [], length, refl, sym, ap, ◌∙◌, subst, arith}
+use Rattle.std.proofs.Common.{◌≡◌, refl, sym, subst, arith}
 use Rattle.std.proofs.lemmas.List.{append-nil, append_assoc}
-use Rattle.std.specs.Prelude.{vec_capacity}
-use Rattle.plain_store.proofs.Drawn.{Adding, adding_start, adding_more, adding_end, used_up, on_from}
-use Rattle.plain_store.specs.Drawing.{is_registered}
+use Rattle.plain_store.proofs.Drawn.{Adding, adding_start, adding_more, adding_end, put_back, used_up, on_from}
 use Rattle.plain_store.proofs.drawing.register_all.Goals as goal
 
 pub loop-part-init : goal.loop-part-init
@@ -14,16 +12,6 @@ loop-part-init g c = record {
   before = let e = c.len-before.ensures in let ok = c.args.register.now.ok in omega arith;
 }
 
-pub returns-in-None-clause-in_use : goal.returns-in-None-clause-in_use
-returns-in-None-clause-in_use g c = λ _.
-    used_up c.args.parts c.loop-part.part (g.R.Rng.stream c.args.generator.now) (g.R.Rng.stream c.loop-part.generator) (g.R.Rng.stream c.draw.new.generator) c.args.register.now.items c.loop-part.register.items
-    (let t = c.loop-part-test.true in omega arith) c.loop-part.invariant.adding (c.in-None.ensures.none refl)
-
-pub returns-in-None-clause-draws : goal.returns-in-None-clause-draws
-returns-in-None-clause-draws g c =
-    on_from c.loop-part.part (g.R.Rng.stream c.args.generator.now) (g.R.Rng.stream c.loop-part.generator) (g.R.Rng.stream c.draw.new.generator) c.args.register.now.items c.loop-part.register.items _
-    c.loop-part.invariant.adding (c.in-None.ensures.none refl)
-
 pub loop-part-preserved : goal.loop-part-preserved
 loop-part-preserved g c = record {
   adding =
@@ -33,28 +21,34 @@ loop-part-preserved g c = record {
   before = c.loop-part.invariant.before;
 }
 
-pub returns-clause-ok : goal.returns-clause-ok
-returns-clause-ok g c =
-    let t = c.loop-part-test.false in
-    let e = c.loop-part.auto.part-end in
-    let is : c.loop-part.part ≡ c.args.parts = omega arith in
-    adding_end c.args.parts (g.R.Rng.stream c.args.generator.now) (g.R.Rng.stream c.loop-part.generator) c.args.register.now.items c.loop-part.register.items c.requires.some
-    (subst (λ n. Adding n (g.R.Rng.stream c.args.generator.now) (g.R.Rng.stream c.loop-part.generator) c.args.register.now.items c.loop-part.register.items) is c.loop-part.invariant.adding)
-
 pub push_within-requires : goal.push_within-requires
 push_within-requires g c = let r = c.loop-part.invariant.room in omega arith
 
 pub loop-part-smaller : goal.loop-part-smaller
 loop-part-smaller g c = omega arith
 
-pub returns-in_default-clause-unchanged : goal.returns-in_default-clause-unchanged
-returns-in_default-clause-unchanged g c = c.try_reserve.ensures.items
+pub returns-in_default : goal.returns-in_default
+returns-in_default g c = record { ok = tt; in_use = λ e. absurd cc; draws = record { number = 0; stream = refl }; unchanged = c.try_reserve.ensures.items }
 
-pub returns-in_default-clause-in_use : goal.returns-in_default-clause-in_use
-returns-in_default-clause-in_use g c = λ e. absurd cc
+pub returns-in-None : goal.returns-in-None
+returns-in-None g c = record {
+  ok = tt;
+  in_use = λ _.
+      used_up c.args.parts c.loop-part.part (g.R.Rng.stream c.args.generator.now) (g.R.Rng.stream c.loop-part.generator) (g.R.Rng.stream c.draw.new.generator) c.args.register.now.items c.loop-part.register.items
+      (let t = c.loop-part-test.true in omega arith) c.loop-part.invariant.adding (c.in-None.ensures.none refl);
+  draws = on_from c.loop-part.part (g.R.Rng.stream c.args.generator.now) (g.R.Rng.stream c.loop-part.generator) (g.R.Rng.stream c.draw.new.generator) c.args.register.now.items c.loop-part.register.items _
+      c.loop-part.invariant.adding (c.in-None.ensures.none refl);
+  unchanged = put_back _ c.args.register.now.items c.loop-part.invariant.adding.added c.loop-part.register.items _ c.loop-part.invariant.before c.loop-part.invariant.adding.whole c.truncate.ensures.items;
+}
 
-pub returns-clause-in_use : goal.returns-clause-in_use
-returns-clause-in_use g c = λ e. absurd cc
-
-pub returns-in_default-clause-draws : goal.returns-in_default-clause-draws
-returns-in_default-clause-draws g c = record { number = 0; stream = refl }
+pub returns : goal.returns
+returns g c =
+    let t = c.loop-part-test.false in
+    let e = c.loop-part.auto.part-end in
+    let is : c.loop-part.part ≡ c.args.parts = omega arith in record {
+      ok = adding_end c.args.parts (g.R.Rng.stream c.args.generator.now) (g.R.Rng.stream c.loop-part.generator) c.args.register.now.items c.loop-part.register.items c.requires.some
+          (subst (λ n. Adding n (g.R.Rng.stream c.args.generator.now) (g.R.Rng.stream c.loop-part.generator) c.args.register.now.items c.loop-part.register.items) is c.loop-part.invariant.adding);
+      in_use = λ e. absurd cc;
+      draws = tt;
+      unchanged = tt;
+    }

@@ -1,6 +1,6 @@
 use Rattle.std.proofs.Common.{◌≡◌, ◌∷◌, ◌++◌, [], Some, None, length, sym, ap, ◌∙◌, arith}
 use Rattle.std.proofs.lemmas.List.{length-append}
-use Rattle.plain_table.specs.Items.{held_of, value_at, without}
+use Rattle.plain_table.specs.Items.{held_of, value_at}
 use Rattle.plain_table.proofs.Held.{length-without, without-absent, absent_from_none}
 use Rattle.plain_sweep.specs.Swept.{note_of}
 use Rattle.plain_store.specs.Putting.{replaced_note}

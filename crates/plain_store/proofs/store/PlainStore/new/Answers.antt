@@ -1,4 +1,4 @@
-use Rattle.std.proofs.Common.{refl, sym, ap, ◌∙◌, subst, length, [], arith}
+use Rattle.std.proofs.Common.{sym, ap, subst, length, arith}
 use Rattle.plain_store.specs.Parting.{part_by}
 use Rattle.plain_store.specs.Standing.{AreKept, WeighEach}
 use Rattle.plain_store.proofs.Beginning.{kept_none}

@@ -1,7 +1,6 @@
-use Rattle.std.proofs.Common.{◌≡◌, ◌≢◌, ℕ, ◌+◌, ◌-◌, ◌*◌, ◌<◌, ◌≤◌, ◌==◌, ◌∷◌, ◌++◌, List, Some, None, true, length, if◌then◌else◌, refl, sym, ap, ◌∙◌, subst, arith}
+use Rattle.std.proofs.Common.{◌≡◌, ◌+◌, ◌-◌, ◌<◌, ◌∷◌, ◌++◌, Some, None, true, length, if◌then◌else◌, refl, sym, ap, ◌∙◌, subst, arith}
 use Rattle.std.proofs.lemmas.List.{append_assoc}
 use Rattle.audit_model.specs.History.{Value}
-use Rattle.audit_model.specs.Situation.{HeldValue}
 use Rattle.cache_store.specs.Promises.{value_of}
 use Rattle.cache_store.specs.Running.{weight_in}
 use Rattle.plain_table.specs.Items.{without, value_at}
@@ -23,7 +22,7 @@ overflow_sub-start g c =
     let part_of = part_by store.parts (g.H.KeyHasher.number_of store.hasher) in
     let part = c.part_of-part.result in
     let key = c.args.key.now in
-    let is_key = c.in_ok-key.ensures.items in
+    let is_key = c.in_ok-key.ensures.key in
     let at : part ≡ part_of key = c.part_of-part.ensures in
     let lt : part < store.parts = subst (λ p. p < store.parts) (sym at) (subst (λ n. part_of key < n) (sym store.counted) (store.kept.served key)) in
     let w = weight_without_here part_of key part store.table (parted_from store.config part_of store.table store.kept.proper) at in
@@ -36,7 +35,7 @@ overflow_add-start g c =
     let part_of = part_by store.parts (g.H.KeyHasher.number_of store.hasher) in
     let part = c.part_of-part.result in
     let key = c.args.key.now in
-    let is_key : c.in_ok-key.key.items ≡ key = c.in_ok-key.ensures.items in
+    let is_key : c.in_ok-key.key.items ≡ key = c.in_ok-key.ensures.key in
     let at : part ≡ part_of key = c.part_of-part.ensures in
     let lt : part < store.parts = subst (λ p. p < store.parts) (sym at) (subst (λ n. part_of key < n) (sym store.counted) (store.kept.served key)) in
     let parted = parted_from store.config part_of store.table store.kept.proper in
@@ -51,12 +50,12 @@ evict-left-requires-clause-weight g c =
     let part_of = part_by store.parts (g.H.KeyHasher.number_of store.hasher) in
     let part = c.part_of-part.result in
     let key = c.args.key.now in
-    let is_key : c.in_ok-key.key.items ≡ key = c.in_ok-key.ensures.items in
+    let is_key : c.in_ok-key.key.items ≡ key = c.in_ok-key.ensures.key in
     let at : part ≡ part_of key = c.part_of-part.ensures in
     let lt : part < store.parts = subst (λ p. p < store.parts) (sym at) (subst (λ n. part_of key < n) (sym store.counted) (store.kept.served key)) in
     let parted = parted_from store.config part_of store.table store.kept.proper in
     let was : c.weight_at.result ≡ weight_in part store.table = c.weight_at.ensures ∙ store.weighed.each part lt in
-    put_weighs part_of (new_item c.args.now c.in_ok-key.key.items c.in_ok-bytes.bytes.items part c.weight_of-weight.result c.own_deadline-own_deadline.result) store.table c.put.new.table c.weight_at.result c.in_ok-older.older part
+    put_weighs part_of (new_item c.args.now c.in_ok-key.key.items c.in_ok-key.bytes.items part c.weight_of-weight.result c.own_deadline-own_deadline.result) store.table c.put.new.table c.weight_at.result c.in_ok-older.older part
     parted refl (at ∙ ap part_of (sym is_key)) was c.in_ok-older.ensures.weight c.in_ok-older.ensures.put
 
 pub invariant_of-self-2 : goal.invariant_of-self-2
@@ -65,7 +64,7 @@ invariant_of-self-2 g c =
     let part_of = part_by store.parts (g.H.KeyHasher.number_of store.hasher) in
     let part = c.part_of-part.result in
     let key = c.args.key.now in
-    let is_key : c.in_ok-key.key.items ≡ key = c.in_ok-key.ensures.items in
+    let is_key : c.in_ok-key.key.items ≡ key = c.in_ok-key.ensures.key in
     let at : part ≡ part_of key = c.part_of-part.ensures in
     let lt : part < store.parts = subst (λ p. p < store.parts) (sym at) (subst (λ n. part_of key < n) (sym store.counted) (store.kept.served key)) in
     let parted = parted_from store.config part_of store.table store.kept.proper in
@@ -73,8 +72,8 @@ invariant_of-self-2 g c =
     let value : Value = value_of (frame_of store.config part_of store.made store.dropped store.latest) c.args.now key c.args.bytes.now c.args.milliseconds in
     let h = new_item c.args.now key value.bytes part value.weight value.own_deadline in
     let is : c.put.new.table ≡ h ∷ without key store.table =
-    put_is c.args.now c.in_ok-key.key.items key c.in_ok-bytes.bytes.items value.bytes part part c.weight_of-weight.result value.weight c.own_deadline-own_deadline.result value.own_deadline
-    store.table c.put.new.table c.in_ok-older.ensures.put is_key c.in_ok-bytes.ensures.items refl c.weight_of-weight.ensures c.own_deadline-own_deadline.ensures in
+    put_is c.args.now c.in_ok-key.key.items key c.in_ok-key.bytes.items value.bytes part part c.weight_of-weight.result value.weight c.own_deadline-own_deadline.result value.own_deadline
+    store.table c.put.new.table c.in_ok-older.ensures.put is_key c.in_ok-key.ensures.bytes refl c.weight_of-weight.ensures c.own_deadline-own_deadline.ensures in
     let limit : store.share ≡ limit_of store.config = store.shared in
     let start = c.weight_at.result - c.in_ok-older.older + c.weight_of-weight.result in
     let v : Evicts store.config c.args.now part (limit_of store.config) start (h ∷ without key store.table) c.put.new.notes.items c.evict-left.new.table c.evict-left.new.notes.items c.evict-left.result =
@@ -101,7 +100,7 @@ returns-clause-done g c = λ held stands.
     let part_of = part_by store.parts (g.H.KeyHasher.number_of store.hasher) in
     let part = c.part_of-part.result in
     let key = c.args.key.now in
-    let is_key : c.in_ok-key.key.items ≡ key = c.in_ok-key.ensures.items in
+    let is_key : c.in_ok-key.key.items ≡ key = c.in_ok-key.ensures.key in
     let at : part ≡ part_of key = c.part_of-part.ensures in
     let lt : part < store.parts = subst (λ p. p < store.parts) (sym at) (subst (λ n. part_of key < n) (sym store.counted) (store.kept.served key)) in
     let parted = parted_from store.config part_of store.table store.kept.proper in
@@ -109,12 +108,12 @@ returns-clause-done g c = λ held stands.
     let value : Value = value_of (frame_of store.config part_of store.made store.dropped store.latest) c.args.now key c.args.bytes.now c.args.milliseconds in
     let h = new_item c.args.now key value.bytes (part_of key) value.weight value.own_deadline in
     let is : c.put.new.table ≡ h ∷ without key store.table =
-    put_is c.args.now c.in_ok-key.key.items key c.in_ok-bytes.bytes.items value.bytes part (part_of key) c.weight_of-weight.result value.weight c.own_deadline-own_deadline.result value.own_deadline
-    store.table c.put.new.table c.in_ok-older.ensures.put is_key c.in_ok-bytes.ensures.items at c.weight_of-weight.ensures c.own_deadline-own_deadline.ensures in
+    put_is c.args.now c.in_ok-key.key.items key c.in_ok-key.bytes.items value.bytes part (part_of key) c.weight_of-weight.result value.weight c.own_deadline-own_deadline.result value.own_deadline
+    store.table c.put.new.table c.in_ok-older.ensures.put is_key c.in_ok-key.ensures.bytes at c.weight_of-weight.ensures c.own_deadline-own_deadline.ensures in
     let limit : store.share ≡ limit_of store.config = store.shared in
     let start = c.weight_at.result - c.in_ok-older.older + c.weight_of-weight.result in
     let weighs : start ≡ weight_in (part_of key) (h ∷ without key store.table) =
-    put_weighs part_of (new_item c.args.now c.in_ok-key.key.items c.in_ok-bytes.bytes.items part c.weight_of-weight.result c.own_deadline-own_deadline.result) store.table c.put.new.table c.weight_at.result c.in_ok-older.older part
+    put_weighs part_of (new_item c.args.now c.in_ok-key.key.items c.in_ok-key.bytes.items part c.weight_of-weight.result c.own_deadline-own_deadline.result) store.table c.put.new.table c.weight_at.result c.in_ok-older.older part
     parted refl (at ∙ ap part_of (sym is_key)) was c.in_ok-older.ensures.weight c.in_ok-older.ensures.put
     ∙ ap (weight_in part) is ∙ ap (λ p. weight_in p (h ∷ without key store.table)) at in
     let v : Evicts store.config c.args.now (part_of key) (limit_of store.config) (weight_in (part_of key) (h ∷ without key store.table)) (h ∷ without key store.table) c.put.new.notes.items c.evict-left.new.table c.evict-left.new.notes.items c.evict-left.result =
@@ -138,7 +137,7 @@ returns-clause-recency g c = λ n keys p o.
     let part_of = part_by store.parts (g.H.KeyHasher.number_of store.hasher) in
     let part = c.part_of-part.result in
     let key = c.args.key.now in
-    let is_key : c.in_ok-key.key.items ≡ key = c.in_ok-key.ensures.items in
+    let is_key : c.in_ok-key.key.items ≡ key = c.in_ok-key.ensures.key in
     let at : part ≡ part_of key = c.part_of-part.ensures in
     let lt : part < store.parts = subst (λ p. p < store.parts) (sym at) (subst (λ n. part_of key < n) (sym store.counted) (store.kept.served key)) in
     let parted = parted_from store.config part_of store.table store.kept.proper in
@@ -146,14 +145,14 @@ returns-clause-recency g c = λ n keys p o.
     let value : Value = value_of (frame_of store.config part_of store.made store.dropped store.latest) c.args.now key c.args.bytes.now c.args.milliseconds in
     let h = new_item c.args.now key value.bytes part value.weight value.own_deadline in
     let is : c.put.new.table ≡ h ∷ without key store.table =
-    put_is c.args.now c.in_ok-key.key.items key c.in_ok-bytes.bytes.items value.bytes part part c.weight_of-weight.result value.weight c.own_deadline-own_deadline.result value.own_deadline
-    store.table c.put.new.table c.in_ok-older.ensures.put is_key c.in_ok-bytes.ensures.items refl c.weight_of-weight.ensures c.own_deadline-own_deadline.ensures in
+    put_is c.args.now c.in_ok-key.key.items key c.in_ok-key.bytes.items value.bytes part part c.weight_of-weight.result value.weight c.own_deadline-own_deadline.result value.own_deadline
+    store.table c.put.new.table c.in_ok-older.ensures.put is_key c.in_ok-key.ensures.bytes refl c.weight_of-weight.ensures c.own_deadline-own_deadline.ensures in
     let limit : store.share ≡ limit_of store.config = store.shared in
     let start = c.weight_at.result - c.in_ok-older.older + c.weight_of-weight.result in
     order_put store.config part_of n p c.args.now start part h store.table keys c.put.new.notes.items c.evict-left.new.table c.evict-left.new.notes.items c.evict-left.result
     (subst (λ p. is_proper store.config part_of (new_item c.args.now key value.bytes p value.weight value.own_deadline) ≡ true) (sym at) (new_proper store.config part_of c.args.now key c.args.bytes.now c.args.milliseconds c.requires.timed))
     refl store.kept o at
-    (put_weighs part_of (new_item c.args.now c.in_ok-key.key.items c.in_ok-bytes.bytes.items part c.weight_of-weight.result c.own_deadline-own_deadline.result) store.table c.put.new.table c.weight_at.result c.in_ok-older.older part
+    (put_weighs part_of (new_item c.args.now c.in_ok-key.key.items c.in_ok-key.bytes.items part c.weight_of-weight.result c.own_deadline-own_deadline.result) store.table c.put.new.table c.weight_at.result c.in_ok-older.older part
     parted refl (at ∙ ap part_of (sym is_key)) was c.in_ok-older.ensures.weight c.in_ok-older.ensures.put ∙ ap (weight_in part) is)
     (rw limit at (rw is at c.evict-left.ensures.evicts))
 
@@ -190,9 +189,6 @@ evict-left-requires-clause-room g c = c.in_ok-older.ensures.room
 
 pub returns-in_err-key-clause-few : goal.returns-in_err-key-clause-few
 returns-in_err-key-clause-few g c = omega arith
-
-pub returns-in_err-bytes-clause-few : goal.returns-in_err-bytes-clause-few
-returns-in_err-bytes-clause-few g c = omega arith
 
 pub returns-in_err-reserve-clause-few : goal.returns-in_err-reserve-clause-few
 returns-in_err-reserve-clause-few g c = let a = ap length c.in_err-reserve.ensures.items in omega arith

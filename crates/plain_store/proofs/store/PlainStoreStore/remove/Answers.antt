@@ -1,9 +1,8 @@
-use Rattle.std.proofs.Common.{◌≡◌, ◌+◌, ◌-◌, ◌<◌, subst, sym, ap, ◌∙◌, arith}
+use Rattle.std.proofs.Common.{◌≡◌, ◌-◌, ◌<◌, subst, sym, ◌∙◌, arith}
 use Rattle.cache_store.specs.Running.{weight_in}
 use Rattle.plain_table.specs.Items.{without}
 use Rattle.plain_store.specs.Laws.{parted_from}
 use Rattle.plain_store.specs.Parting.{part_by}
-use Rattle.plain_store.specs.Putting.{weight_at}
 use Rattle.plain_store.specs.Standing.{WeighEach}
 use Rattle.plain_store.proofs.Calls.{remove_does}
 use Rattle.plain_store.proofs.Keeping.{kept_without, weigh_set, weight_without_here, weight_without_elsewhere}
