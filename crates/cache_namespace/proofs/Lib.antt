@@ -12,6 +12,7 @@ pub mod Places
 pub mod Placing
 pub mod Putting
 pub mod Receiving
+pub mod Reading
 pub mod Recording
 pub mod Running
 pub mod Stepping
