@@ -1,2 +1,3 @@
 pub mod Performing
 pub mod Living
+pub mod Looking

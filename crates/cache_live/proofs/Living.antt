@@ -32,7 +32,7 @@ use Rattle.cache_spaces.specs.declared.space.Space.{Space}
 
 -- ---- places
 
-elsewhere : {X : Type 0} (xs : List X) (i j : ℕ) (x : X) → j ≢ i → slice_get (slice_set xs i x) j ≡ slice_get xs j
+pub elsewhere : {X : Type 0} (xs : List X) (i j : ℕ) (x : X) → j ≢ i → slice_get (slice_set xs i x) j ≡ slice_get xs j
 elsewhere [] i j x ne = refl
 elsewhere (y ∷ ys) zero zero x ne = absurd (ne refl)
 elsewhere (y ∷ ys) zero (suc j) x ne = refl

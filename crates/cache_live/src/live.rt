@@ -1,5 +1,5 @@
 //! A service that keeps nothing of what it took.
-ghost use Rattle.std.specs.Prelude.{◌≡◌, ◌≤◌, ◌<◌, ◌^◌, ◌+◌, ◌-◌, ◌↔◌, ◌⊎◌, [], None, Some, false, ℕ, IfOk, IfErr, OnOk, OnErr, IsErrOf, length};
+ghost use Rattle.std.specs.Prelude.{◌≡◌, ◌≤◌, ◌<◌, ◌^◌, ◌+◌, ◌-◌, ◌↔◌, ◌⊎◌, [], None, Some, false, true, ℕ, IfOk, IfErr, OnOk, OnErr, IsErrOf, length};
 ghost use Rattle.cache_live.specs.Lived.{Lived};
 ghost use Rattle.cache_spaces.specs.Services.{are_taken, AreNew, Refuses, spaces_of};
 
@@ -22,12 +22,13 @@ pub struct LiveService {
 impl LiveService {
     ghost use Rattle.cache_live.specs.Live.{events_of, service_of};
     ghost use Rattle.cache_live.specs.Taken.{TakesInput};
+    ghost use Rattle.cache_namespace.specs.Taken.{known};
     ghost use Rattle.cache_shared.specs.Events.{RefusesEvent};
     ghost use Rattle.cache_spaces.specs.Moves.{At};
     ghost use Rattle.cache_spaces.specs.Recorded.{namespace_of};
     ghost use Rattle.cache_spaces.specs.Serves.{IsUnknown, TakesLoads, TakesNotice, TakesOutput};
-    ghost use Rattle.cache_spaces.specs.Services.{IsSpace};
-    ghost use Rattle.cache_spaces.specs.Spaces.{closing_of};
+    ghost use Rattle.cache_spaces.specs.Services.{IsSpace, RefusesLook};
+    ghost use Rattle.cache_spaces.specs.Spaces.{closing_of, connections_of};
     ghost use Rattle.cache_spaces.specs.declared.space.Space.{Space as Seen};
 
     /// A service of these configurations, made at that moment, which has taken no input. Refused as `Service::new` is.
@@ -115,7 +116,9 @@ impl LiveService {
     /// Why a connection is closed, if it is. Refused with `NoNamespace`, `NoConnection`.
     pub fn closed(&self, conn: Conn) -> Result<Option<Closing>, ServiceError>
         ensures closing { IfOk result (λ closing. (space : Seen) → IsSpace (spaces_of (service_of self.now)) conn.namespace space → closing ≡ closing_of space conn.number) }
-        ensures refused { IfErr result (λ e. ((e ≡ ServiceError.NoNamespace) × (length (spaces_of (service_of self.now)) ≤ conn.namespace)) ⊎ ((space : Seen) → IsSpace (spaces_of (service_of self.now)) conn.namespace space → IsUnknown space conn.number e)) }
+        ensures refused { IfErr result (λ e. RefusesLook (spaces_of (service_of self.now)) conn.namespace e (λ space. IsUnknown space conn.number e)) }
+        ensures known { OnOk result ((space : Seen) → IsSpace (spaces_of (service_of self.now)) conn.namespace space → (known (connections_of space)).was_opened conn.number ≡ true) }
+        ensures found { OnOk result (conn.namespace < length (spaces_of (service_of self.now))) }
     {
         self.service.closed(conn)
     }

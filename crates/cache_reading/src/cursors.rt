@@ -1,5 +1,6 @@
 //! Numbers kept for each connection of each namespace.
-ghost use Rattle.std.specs.Prelude.{◌≡◌, ◌<◌, ℕ, get_or, vec_len, OnOk};
+ghost use Rattle.std.specs.Prelude.{◌≡◌, ◌≢◌, ◌<◌, ℕ, get_or, vec_len, OnOk, OnErr};
+ghost use Rattle.audit_model.specs.declared.input.Conn.{Conn};
 ghost use Rattle.cache_reading.specs.Cursors.{cursor_at};
 
 use audit_model::Conn;
@@ -25,14 +26,16 @@ fn number_at(list: &[u64], place: u64) -> u64
     }
 }
 
-/// Keeps a number for a connection.
+/// Keeps a number for a connection. Others' stay; where there is no memory its own does too.
 pub fn set_cursor(
     alloc: Global,
     lists: &mut Vec<Vec<u64>>,
     conn: Conn,
     number: u64,
 ) -> Result<(), AllocError>
-    ensures { OnOk result (cursor_at lists.new.items conn.namespace conn.number ≡ number) }
+    ensures set { OnOk result (cursor_at lists.new.items conn.namespace conn.number ≡ number) }
+    ensures others { (other : Conn) → other ≢ conn → cursor_at lists.new.items other.namespace other.number ≡ cursor_at lists.old.items other.namespace other.number }
+    ensures kept { OnErr result (cursor_at lists.new.items conn.namespace conn.number ≡ cursor_at lists.old.items conn.namespace conn.number) }
 {
     let namespace = conn.namespace as usize;
     make_lists(alloc, lists, namespace)?;
@@ -41,7 +44,8 @@ pub fn set_cursor(
 
 /// Makes empty lists up to that place.
 fn make_lists(alloc: Global, lists: &mut Vec<Vec<u64>>, place: usize) -> Result<(), AllocError>
-    ensures { OnOk result (place < vec_len lists.new) }
+    ensures made { OnOk result (place < vec_len lists.new) }
+    ensures same { (n m : ℕ) → cursor_at lists.new.items n m ≡ cursor_at lists.old.items n m }
 {
     if place < lists.len() {
         return Ok(());
@@ -56,7 +60,9 @@ fn make_lists(alloc: Global, lists: &mut Vec<Vec<u64>>, place: usize) -> Result<
 
 /// Writes a number at a place. What is missing before it is 0.
 fn set_number(list: &mut Vec<u64>, place: usize, number: u64) -> Result<(), AllocError>
-    ensures { OnOk result (get_or list.new.items place 0 ≡ number) }
+    ensures set { OnOk result (get_or list.new.items place 0 ≡ number) }
+    ensures others { (other : ℕ) → other ≢ place → get_or list.new.items other 0 ≡ get_or list.old.items other 0 }
+    ensures kept { OnErr result (get_or list.new.items place 0 ≡ get_or list.old.items place 0) }
 {
     make_numbers(list, place)?;
     list[place] = number;
@@ -65,7 +71,8 @@ fn set_number(list: &mut Vec<u64>, place: usize, number: u64) -> Result<(), Allo
 
 /// Makes zeros up to that place.
 fn make_numbers(list: &mut Vec<u64>, place: usize) -> Result<(), AllocError>
-    ensures { OnOk result (place < vec_len list.new) }
+    ensures made { OnOk result (place < vec_len list.new) }
+    ensures same { (other : ℕ) → get_or list.new.items other 0 ≡ get_or list.old.items other 0 }
 {
     if place < list.len() {
         return Ok(());

@@ -1,10 +1,15 @@
 //! A recording service, and how far it was read.
-ghost use Rattle.std.specs.Prelude.{◌≡◌, ℕ, ◌<◌, ◌++◌, [], length, drop, vec_len, IsNone, IfOk, OnOk, OnErr};
+ghost use Rattle.std.specs.Prelude.{◌≡◌, ◌≢◌, ℕ, ◌<◌, ◌≤◌, ◌⊎◌, ◌++◌, [], true, length, drop, vec_len, IsNone, IfOk, IfErr, OnOk, OnErr};
 ghost use Rattle.std.specs.Option.{option_to_list};
 ghost use Rattle.cache_reading.specs.Cursors.{cursor_at};
 ghost use Rattle.cache_reading.specs.Notes.{notes_from, told_at};
 ghost use Rattle.cache_reading.specs.Replies.{records_at, replies_to};
-ghost use Rattle.cache_spaces.specs.Journals.{journals_of};
+ghost use Rattle.audit_model.specs.declared.input.Conn.{Conn};
+ghost use Rattle.cache_namespace.specs.Taken.{known};
+ghost use Rattle.cache_spaces.specs.Journals.{journals_of, service_of};
+ghost use Rattle.cache_spaces.specs.Serves.{IsUnknown};
+ghost use Rattle.cache_spaces.specs.Services.{InSpace, RefusesLook, spaces_of};
+ghost use Rattle.cache_spaces.specs.Spaces.{connections_of};
 
 use crate::cursors::{cursor_of, set_cursor};
 use crate::replies::gather_from;
@@ -57,6 +62,8 @@ impl ReadService {
         ensures rest { IfOk result (λ note. untold_in self.old namespace ≡ option_to_list note ++ untold_in self.new namespace) }
         ensures last { IfOk result (λ note. IsNone note → untold_in self.old namespace ≡ []) }
         ensures all { notes_in (records_at (journals_in self.new) namespace) ≡ told_in self.new namespace ++ untold_in self.new namespace }
+        ensures others { (other : ℕ) → other ≢ namespace → (told_in self.new other ≡ told_in self.old other) × (untold_in self.new other ≡ untold_in self.old other) }
+        ensures refused { IfErr result (λ e. (e ≡ ServiceError.OutOfMemory) ⊎ ((e ≡ ServiceError.NoNamespace) × (length (spaces_of (service_of (recorded_of self.old))) ≤ namespace))) }
         ensures kept { OnErr result ((told_in self.new namespace ≡ told_in self.old namespace) × (untold_in self.new namespace ≡ untold_in self.old namespace)) }
         ensures recorded { recorded_of self.new ≡ recorded_of self.old }
     {
@@ -78,7 +85,8 @@ impl ReadService {
     }
 }
 
-/// The replies of a connection since the last taking.
+/// The replies of a connection since the last taking. Others' stay. Refused with `NoNamespace`, `NoConnection`, and with `OutOfMemory` where
+/// there is no memory for the copy or for how far it was read; then they come with the next taking.
 pub fn take_replies(
     alloc: Global,
     recorded: &RecordedService,
@@ -87,6 +95,10 @@ pub fn take_replies(
 ) -> Result<Vec<u8>, ServiceError>
     ensures taken { IfOk result (λ text. text.items ≡ replies_to conn.number (drop (cursor_at read.old.items conn.namespace conn.number) (records_at (journals_of recorded.now) conn.namespace))) }
     ensures all { IfOk result (λ text. cursor_at read.new.items conn.namespace conn.number ≡ length (records_at (journals_of recorded.now) conn.namespace)) }
+    ensures known { OnOk result (InSpace (spaces_of (service_of recorded.now)) conn.namespace (λ space. (known (connections_of space)).was_opened conn.number ≡ true)) }
+    ensures others { (other : Conn) → other ≢ conn → cursor_at read.new.items other.namespace other.number ≡ cursor_at read.old.items other.namespace other.number }
+    ensures refused { IfErr result (λ e. (e ≡ ServiceError.OutOfMemory) ⊎ RefusesLook (spaces_of (service_of recorded.now)) conn.namespace e (λ space. IsUnknown space conn.number e)) }
+    ensures kept { OnErr result (cursor_at read.new.items conn.namespace conn.number ≡ cursor_at read.old.items conn.namespace conn.number) }
 {
     match recorded.service().closed(conn) {
         Ok(_) => {}
@@ -115,6 +127,8 @@ pub fn take_note(
 ) -> Result<Option<Note>, ServiceError>
     ensures note { IfOk result (λ note. notes_from (records_at (journals_of recorded.now) namespace) (told_at told.old.items namespace) ≡ option_to_list note ++ notes_from (records_at (journals_of recorded.now) namespace) (told_at told.new.items namespace)) }
     ensures none { IfOk result (λ note. IsNone note → notes_from (records_at (journals_of recorded.now) namespace) (told_at told.old.items namespace) ≡ []) }
+    ensures others { (other : ℕ) → other ≢ namespace → told_at told.new.items other ≡ told_at told.old.items other }
+    ensures refused { IfErr result (λ e. (e ≡ ServiceError.OutOfMemory) ⊎ ((e ≡ ServiceError.NoNamespace) × (length (spaces_of (service_of recorded.now)) ≤ namespace))) }
     ensures kept { OnErr result (told_at told.new.items namespace ≡ told_at told.old.items namespace) }
 {
     let records = match recorded.journal(namespace) {
@@ -135,6 +149,7 @@ fn take_at(
 ) -> Result<Option<Note>, ServiceError>
     ensures note { IfOk result (λ note. notes_from records.now place.old ≡ option_to_list note ++ notes_from records.now place.new) }
     ensures none { IfOk result (λ note. IsNone note → notes_from records.now place.old ≡ []) }
+    ensures refused { IfErr result (λ e. e ≡ ServiceError.OutOfMemory) }
     ensures kept { OnErr result (place.new ≡ place.old) }
 {
     let Some((note, behind)) = find_note(records, *place) else {

@@ -3,7 +3,7 @@ use Rattle.std.proofs.Common.{◌≡◌, ℕ, zero, suc, ◌-◌, ◌<◌, ◌�
 use Rattle.std.specs.Prelude.{MatchOption, Result, Ok, Err, ◌⊎◌, ◌&&◌}
 use Rattle.std.specs.List.{slice_get}
 use Rattle.std.proofs.lemmas.Bool.{and_from, lt-ltb, le-leb, cases_lt}
-use Rattle.std.proofs.lemmas.Option.{none-some, slice_get_within, get_or_from_slice_get}
+use Rattle.std.proofs.lemmas.Option.{none-some, same_Some, slice_get_within, get_or_from_slice_get}
 use Rattle.audit_model.specs.Belongs.{refusal_of}
 use Rattle.audit_model.specs.declared.command.Closing.{Closing}
 use Rattle.audit_model.specs.declared.command.Closing.TheVariants as by
@@ -15,7 +15,7 @@ use Rattle.cache_namespace.proofs.Places.{closing-is}
 use Rattle.cache_namespace.specs.Taken.{IsOpenOrEnded, RefusedFor, fed, known}
 use Rattle.cache_spaces.specs.Moves.{At}
 use Rattle.cache_spaces.specs.Serves.{IsUnknown, SameSpace, Takes, TakesOutput}
-use Rattle.cache_spaces.specs.Services.{Refuses}
+use Rattle.cache_spaces.specs.Services.{InSpace, Refuses}
 use Rattle.cache_spaces.specs.Spaces.{closing_of, config_of, connections_of, output_of}
 use Rattle.cache_spaces.specs.declared.space.Space.{Space}
 use Rattle.cache_run.specs.Connected.{Connected, IsEnded, IsFed, IsLeftBy, IsReady, IsTaken}
@@ -57,6 +57,10 @@ close-refused space number e positive bound refused is_open =
 pub refused-here : (old new : List Space) (n : ℕ) (e : ServiceError) (Cause : Space → Type 0) (x : Space) → slice_get old n ≡ Some x → Refuses old new n e Cause → At old new n (λ was is. SameSpace was is × Cause was)
 refused-here old new n e Cause x at (inl none) = let within = slice_get_within old n x at in let past = none.1 in absurd (omega arith)
 refused-here old new n e Cause x at (inr a) = a
+
+-- what is true of the namespace of a number is true of this one
+pub fact-here : (Fact : Space → Type 0) (spaces : List Space) (n : ℕ) (x : Space) → slice_get spaces n ≡ Some x → InSpace spaces n Fact → Fact x
+fact-here Fact spaces n x at i = subst Fact (same_Some i.space x (sym i.at ∙ at)) i.fact
 
 -- a connection that was opened is known
 pub not-unknown : (space : Space) (number : ℕ) (e : ServiceError) → 0 < number → number ≤ length (connections_of space) → IsUnknown space number e → ⊥

@@ -5,3 +5,4 @@ pub mod Keeping
 pub mod Marked
 pub mod Performing
 mod UsedUp
+pub mod Looking

@@ -2,3 +2,4 @@ pub mod Events
 pub mod Marks
 pub mod Seats
 pub mod Untaken
+pub mod Looked

@@ -1,5 +1,6 @@
 //! Loads that were taken.
-ghost use Rattle.std.specs.Prelude.{◌≡◌, IfOk};
+ghost use Rattle.std.specs.Prelude.{◌≡◌, ◌≤◌, IfErr, IfOk, length};
+ghost use Rattle.cache_shared.specs.Looked.{WasSo};
 ghost use Rattle.cache_shared.specs.Untaken.{WereOut};
 
 use crate::under::Takings;
@@ -26,9 +27,10 @@ impl<C: Takings> Loads<C> {
     }
 }
 
-/// Takes the loads of a namespace.
+/// Takes the loads of a namespace. Refused with `NoNamespace` where there is no such namespace.
 pub fn take_loads<C: Takings>(core: &mut C, namespace: u64) -> Result<Loads<C>, ServiceError>
     ensures namespace { IfOk result (λ loads. loads.namespace ≡ namespace) }
+    ensures refused { IfErr result (λ e. WasSo C.service C.events (λ spaces. (e ≡ ServiceError.NoNamespace) × (length spaces ≤ namespace))) }
     ensures events { C.events core.new ≡ C.events core.old }
 {
     core.stands();

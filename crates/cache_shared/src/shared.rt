@@ -1,10 +1,15 @@
 //! The shared form.
-ghost use Rattle.std.specs.Prelude.{◌≡◌, ℕ, ◌+◌, ◌≤◌, [], true, false, map, sum_by, vec_len, vec_capacity, IfOk, IfErr, IsSome, IsTrue, OnOk, OnErr};
+ghost use Rattle.std.specs.Prelude.{◌≡◌, ℕ, ◌+◌, ◌≤◌, ◌⊎◌, [], true, false, length, map, sum_by, vec_len, vec_capacity, IfOk, IfErr, IsSome, IsTrue, OnOk, OnErr};
 ghost use Rattle.std.specs.Arc.{arc_value};
+ghost use Rattle.audit_model.specs.Situation.{Situation};
+ghost use Rattle.cache_namespace.specs.Taken.{is_waiting_in};
 ghost use Rattle.cache_shared.specs.Events.{IsLate, Reached, WasRefused, WasUsedUp, is_output_for};
+ghost use Rattle.cache_shared.specs.Looked.{WasNext, WasSo};
 ghost use Rattle.cache_shared.specs.Seats.{AgreeAll, Gains, SameReceipts, receipt_for};
 ghost use Rattle.cache_spaces.specs.Recorded.{namespace_of};
-ghost use Rattle.cache_spaces.specs.Services.{spaces_of};
+ghost use Rattle.cache_spaces.specs.Serves.{IsUnknown};
+ghost use Rattle.cache_spaces.specs.Services.{InSpace, RefusesLook, spaces_of};
+ghost use Rattle.cache_spaces.specs.Spaces.{Stands, closing_of};
 
 use crate::desk::{Desk, Finished};
 use crate::loads::Loads;
@@ -152,6 +157,7 @@ impl<L: Seating, C: Takings> SharedService<L, C> {
     /// The reply bytes of a connection since the last taking, moved out, in one hold of the lock. It is no event, and leaves no receipt.
     pub fn take_output(&self, rt: &impl Wait, conn: Conn) -> Result<Replies<C>, ServiceError>
         ensures conn { IfOk result (λ replies. replies.conn ≡ conn) }
+        ensures refused { IfErr result (λ e. (e ≡ ServiceError.OutOfMemory) ⊎ WasSo C.service C.events (λ spaces. RefusesLook spaces conn.namespace e (λ space. IsUnknown space conn.number e))) }
     {
         let mut guard = self.inner().desk.lock(rt);
         let desk = &mut *guard;
@@ -162,6 +168,7 @@ impl<L: Seating, C: Takings> SharedService<L, C> {
     /// receipt.
     pub fn take_loads(&self, rt: &impl Wait, namespace: u64) -> Result<Loads<C>, ServiceError>
         ensures namespace { IfOk result (λ loads. loads.namespace ≡ namespace) }
+        ensures refused { IfErr result (λ e. WasSo C.service C.events (λ spaces. (e ≡ ServiceError.NoNamespace) × (length spaces ≤ namespace))) }
     {
         let mut guard = self.inner().desk.lock(rt);
         let desk = &mut *guard;
@@ -169,24 +176,29 @@ impl<L: Seating, C: Takings> SharedService<L, C> {
     }
 
     /// The oldest note of a namespace that was told and not taken, in one hold of the lock. It is no event, and leaves no receipt.
-    pub fn next_notice(
-        &self,
-        rt: &impl Wait,
-        namespace: u64,
-    ) -> Result<Option<Note>, ServiceError> {
+    pub fn next_notice(&self, rt: &impl Wait, namespace: u64) -> Result<Option<Note>, ServiceError>
+        ensures note { IfOk result (λ note. WasNext C.service C.events C.untold namespace note) }
+        ensures refused { IfErr result (λ e. (e ≡ ServiceError.OutOfMemory) ⊎ WasSo C.service C.events (λ spaces. (e ≡ ServiceError.NoNamespace) × (length spaces ≤ namespace))) }
+    {
         let mut guard = self.inner().desk.lock(rt);
         let desk = &mut *guard;
         desk.next_notice(namespace)
     }
 
     /// Why a connection is closed, if it is, in one hold of the lock.
-    pub fn closed(&self, rt: &impl Wait, conn: Conn) -> Result<Option<Closing>, ServiceError> {
+    pub fn closed(&self, rt: &impl Wait, conn: Conn) -> Result<Option<Closing>, ServiceError>
+        ensures closing { IfOk result (λ closing. WasSo C.service C.events (λ spaces. InSpace spaces conn.namespace (λ space. closing ≡ closing_of space conn.number))) }
+        ensures refused { IfErr result (λ e. WasSo C.service C.events (λ spaces. RefusesLook spaces conn.namespace e (λ space. IsUnknown space conn.number e))) }
+    {
         let guard = self.inner().desk.lock(rt);
         guard.closed(conn)
     }
 
     /// Whether a `LOAD` of a connection waits for its load, in one hold of the lock.
-    pub fn waiting(&self, rt: &impl Wait, conn: Conn) -> Result<bool, ServiceError> {
+    pub fn waiting(&self, rt: &impl Wait, conn: Conn) -> Result<bool, ServiceError>
+        ensures waits { IfOk result (λ waits. WasSo C.service C.events (λ spaces. InSpace spaces conn.namespace (λ space. (s : Situation) → Stands space s → waits ≡ is_waiting_in s conn.number))) }
+        ensures refused { IfErr result (λ e. WasSo C.service C.events (λ spaces. RefusesLook spaces conn.namespace e (λ space. IsUnknown space conn.number e))) }
+    {
         let guard = self.inner().desk.lock(rt);
         guard.waiting(conn)
     }

@@ -1,7 +1,8 @@
 //! What a shared service needs of the service under its lock.
-ghost use Rattle.std.specs.Prelude.{◌≡◌, ℕ, ◌+◌, ◌++◌, ◌≤◌, Bool, true, List, [], Some, length, IsNone, IfOk, IfErr, OnOk, OnErr};
+ghost use Rattle.std.specs.Prelude.{◌≡◌, ◌≢◌, ℕ, ◌+◌, ◌++◌, ◌<◌, ◌≤◌, ◌⊎◌, Bool, true, List, [], Some, length, IsNone, IfOk, IfErr, OnOk, OnErr};
 ghost use Rattle.std.specs.List.{slice_get};
 ghost use Rattle.std.specs.Option.{option_to_list};
+ghost use Rattle.audit_model.specs.Situation.{Situation};
 ghost use Rattle.audit_model.specs.declared.input.Conn.{Conn};
 ghost use Rattle.audit_model.specs.declared.input.Input.{Input};
 ghost use Rattle.audit_model.specs.declared.transcript.Note.{Note as Told};
@@ -9,8 +10,10 @@ ghost use Rattle.audit_model.specs.declared.transcript.Transcript.{Transcript};
 ghost use Rattle.audit_receipts.specs.declared.output.Output.{Output};
 ghost use Rattle.cache_shared.specs.Events.{Performs, Reached, RefusesEvent};
 ghost use Rattle.cache_spaces.specs.Moves.{At};
-ghost use Rattle.cache_spaces.specs.Serves.{TakesLoads};
-ghost use Rattle.cache_spaces.specs.Services.{Refuses, spaces_of};
+ghost use Rattle.cache_namespace.specs.Taken.{is_waiting_in, known};
+ghost use Rattle.cache_spaces.specs.Serves.{IsUnknown, TakesLoads};
+ghost use Rattle.cache_spaces.specs.Services.{InSpace, Refuses, RefusesLook, spaces_of};
+ghost use Rattle.cache_spaces.specs.Spaces.{Stands, closing_of, connections_of};
 ghost use Rattle.cache_spaces.specs.declared.service.Service.{Service};
 
 use audit_model::{Bytes, Closing, Conn, Input, LoadId, Note, ServiceError, Transcript};
@@ -67,28 +70,41 @@ pub trait Takings: Core {
     /// The notes of a namespace that were told and not taken, in order.
     ghost untold: { Self → ℕ → List Told };
 
-    /// The reply bytes of a connection since the last taking, moved out.
+    /// The reply bytes of a connection since the last taking, moved out. Others' stay. Refused with `NoNamespace`, `NoConnection`, and with
+    /// `OutOfMemory` where a taking needs memory; then they come with the next taking.
     fn take_output(&mut self, conn: Conn) -> Result<Vec<u8>, ServiceError>
         ensures taken { IfOk result (λ text. text.items ≡ untaken self.old conn) }
+        ensures known { OnOk result (InSpace (spaces_of (Self.service self.old)) conn.namespace (λ space. (known (connections_of space)).was_opened conn.number ≡ true)) }
         ensures none { OnOk result (untaken self.new conn ≡ []) }
+        ensures others { (other : Conn) → 0 < other.number → other ≢ conn → untaken self.new other ≡ untaken self.old other }
+        ensures refused { IfErr result (λ e. (e ≡ ServiceError.OutOfMemory) ⊎ RefusesLook (spaces_of (Self.service self.old)) conn.namespace e (λ space. IsUnknown space conn.number e)) }
+        ensures kept { OnErr result (untaken self.new conn ≡ untaken self.old conn) }
         ensures events { Self.events self.new ≡ Self.events self.old };
 
-    /// The oldest note of a namespace that was told and not taken.
+    /// The oldest note of a namespace that was told and not taken. Other namespaces' stay. Refused with `NoNamespace`, and with
+    /// `OutOfMemory` where a taking needs memory; then it comes with the next taking.
     fn next_notice(&mut self, namespace: u64) -> Result<Option<Note>, ServiceError>
         ensures note { IfOk result (λ note. untold self.old namespace ≡ option_to_list note ++ untold self.new namespace) }
         ensures none { IfOk result (λ note. IsNone note → untold self.old namespace ≡ []) }
+        ensures refused { IfErr result (λ e. (e ≡ ServiceError.OutOfMemory) ⊎ ((e ≡ ServiceError.NoNamespace) × (length (spaces_of (Self.service self.old)) ≤ namespace))) }
         ensures kept { OnErr result (untold self.new namespace ≡ untold self.old namespace) }
+        ensures others { (other : ℕ) → other ≢ namespace → untold self.new other ≡ untold self.old other }
         ensures events { Self.events self.new ≡ Self.events self.old };
 
-    /// The loads of a namespace that went out and were not taken, with their keys, in the order in which they were sent; moved out.
+    /// The loads of a namespace that went out and were not taken, with their keys, in the order in which they were sent; moved out. Refused
+    /// with `NoNamespace`.
     fn take_loads(&mut self, namespace: u64) -> Result<Vec<(LoadId, Bytes)>, ServiceError>
         ensures loads { IfOk result (λ loads. At (spaces_of (Self.service self.old)) (spaces_of (Self.service self.new)) namespace (λ was is. TakesLoads was is loads.items)) }
         ensures refused { IfErr result (λ e. Refuses (spaces_of (Self.service self.old)) (spaces_of (Self.service self.new)) namespace e (λ was. ⊥)) }
         ensures events { Self.events self.new ≡ Self.events self.old };
 
-    /// Why a connection is closed, if it is.
-    fn closed(&self, conn: Conn) -> Result<Option<Closing>, ServiceError>;
+    /// Why a connection is closed, if it is. Refused with `NoNamespace`, `NoConnection`.
+    fn closed(&self, conn: Conn) -> Result<Option<Closing>, ServiceError>
+        ensures closing { IfOk result (λ closing. InSpace (spaces_of (Self.service self.now)) conn.namespace (λ space. closing ≡ closing_of space conn.number)) }
+        ensures refused { IfErr result (λ e. RefusesLook (spaces_of (Self.service self.now)) conn.namespace e (λ space. IsUnknown space conn.number e)) };
 
-    /// Whether a `LOAD` of a connection waits for its load.
-    fn waiting(&self, conn: Conn) -> Result<bool, ServiceError>;
+    /// Whether a `LOAD` of a connection waits for its load. Refused with `NoNamespace`, `NoConnection`.
+    fn waiting(&self, conn: Conn) -> Result<bool, ServiceError>
+        ensures waits { IfOk result (λ waits. InSpace (spaces_of (Self.service self.now)) conn.namespace (λ space. (s : Situation) → Stands space s → waits ≡ is_waiting_in s conn.number)) }
+        ensures refused { IfErr result (λ e. RefusesLook (spaces_of (Self.service self.now)) conn.namespace e (λ space. IsUnknown space conn.number e)) };
 }

@@ -7,7 +7,7 @@ use Rattle.audit_model.specs.declared.input.ServiceError.{ServiceError}
 use Rattle.cache_namespace.proofs.Places.{at-place}
 use Rattle.cache_spaces.specs.Moves.{At}
 use Rattle.cache_spaces.specs.Serves.{SameSpace}
-use Rattle.cache_spaces.specs.Services.{IsSpace, Refuses}
+use Rattle.cache_spaces.specs.Services.{IsSpace, Refuses, RefusesLook}
 use Rattle.cache_spaces.specs.declared.space.Space.{Space}
 
 pub put-at : {X : Type 0} (Fact : X → X → Type 0) (xs : List X) (i : ℕ) (was is : X) → i < length xs → was ≡ get_or xs i was → Fact was is → At xs (slice_set xs i is) i Fact
@@ -28,6 +28,10 @@ same-space was is e =
 -- what is true of the namespace at a place is true of whatever is the namespace of that number
 pub of-space : (Fact : Space → Type 0) (spaces : List Space) (i j : ℕ) (here : Space) → i ≡ j → i < length spaces → here ≡ get_or spaces i here → Fact here → (space : Space) → IsSpace spaces j space → Fact space
 of-space Fact spaces i j here same lt at fact space is = subst Fact (same_Some here space (sym (at-place spaces i here lt at) ∙ ap (slice_get spaces) same ∙ is)) fact
+
+-- a look at a namespace that there is was refused by the namespace
+pub refuses-look : (Cause : Space → Type 0) (spaces : List Space) (i j : ℕ) (here : Space) (e : ServiceError) → i ≡ j → i < length spaces → here ≡ get_or spaces i here → Cause here → RefusesLook spaces j e Cause
+refuses-look Cause spaces i j here e same lt at fact = inr (record { space = here; at = sym (ap (slice_get spaces) same) ∙ at-place spaces i here lt at; fact = fact })
 
 -- what was not refused was opened
 pub opened : (was_opened : Bool) → (was_opened ≡ false → false ≡ true) → was_opened ≡ true

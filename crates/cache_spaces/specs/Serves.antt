@@ -1,5 +1,5 @@
 -- What a call of a service does to its namespaces.
-use Rattle.std.specs.Prelude.{◌≡◌, ◌≢◌, ℕ, suc, ◌-◌, ◌+◌, Bool, false, List, [], ◌++◌, length, Option, Some, None, IsNone, IsTrue, MatchOption}
+use Rattle.std.specs.Prelude.{◌≡◌, ◌≢◌, ℕ, suc, ◌-◌, ◌+◌, Bool, false, true, List, [], ◌++◌, length, Option, Some, None, IsNone, IsTrue, MatchOption}
 use Rattle.std.specs.List.{flat_map, slice_get}
 use Rattle.audit_model.specs.Belongs.{Known, refusal_of}
 use Rattle.audit_model.specs.Follows.{Follows, after_event, known_in, tasks_in}
@@ -123,8 +123,9 @@ pub record SameSpace (was is : Space) : Type 0 where
   pub count : length (connections_of is) ≡ length (connections_of was)
   pub goes : TakesNoLoads was is
 
--- The replies of a connection are moved out, and nothing else changes.
+-- The replies of a connection that was opened are moved out, and nothing else changes.
 pub record TakesOutput (was is : Space) (number : ℕ) (text : List ℕ) : Type 0 where
+  pub opened : (known (connections_of was)).was_opened number ≡ true
   pub stands : (s : Situation) → Stands was s → Stands is s
   pub recency : KeepsRecency (recency_of was) (recency_of is)
   pub taken : text ≡ output_of was number

@@ -65,3 +65,13 @@ Refuses old new namespace e Cause =
 -- the namespace of that number is this one
 abbrev pub IsSpace : List Space → ℕ → Space → Type 0
 IsSpace spaces namespace space = slice_get spaces namespace ≡ Some space
+
+-- that is true of the namespace of that number
+pub record InSpace (spaces : List Space) (namespace : ℕ) (Fact : Space → Type 0) : Type 0 where
+  pub space : Space
+  pub at : slice_get spaces namespace ≡ Some space
+  pub fact : Fact space
+
+-- A look at a namespace was refused: there is no such namespace; or there is one, and the cause is true of it.
+abbrev pub RefusesLook : List Space → ℕ → ServiceError → (Space → Type 0) → Type 0
+RefusesLook spaces namespace e Cause = ((e ≡ error.NoNamespace) × (length spaces ≤ namespace)) ⊎ InSpace spaces namespace Cause

@@ -50,7 +50,7 @@ impl Service {
     ghost use Rattle.cache_spaces.specs.Moves.{At};
     ghost use Rattle.cache_spaces.specs.Serves.{Takes, Settled, SameSpace, RefusedAnswer, TakesOutput, TakesLoads, TakesNotice, IsUnknown, known_of};
     ghost use Rattle.cache_spaces.specs.declared.space.Space.{Space as Seen};
-    ghost use Rattle.cache_spaces.specs.Services.{AreNew, Refuses, IsSpace, spaces_of, is_held};
+    ghost use Rattle.cache_spaces.specs.Services.{AreNew, Refuses, RefusesLook, IsSpace, spaces_of, is_held};
     ghost use Rattle.cache_spaces.specs.Spaces.{config_of, connections_of, notices_of, output_of, closing_of, Stands};
 
     /// A service of these configurations, made at that moment. Each namespace has a generator of its own, a fork of the one given.
@@ -169,7 +169,7 @@ impl Service {
     /// Why a connection is closed, if it is. Takes no memory. Refused with `NoNamespace`, `NoConnection`.
     pub fn closed(&self, conn: Conn) -> Result<Option<Closing>, ServiceError>
         ensures closing { IfOk result (λ closing. (space : Seen) → IsSpace (spaces_of self.now) conn.namespace space → closing ≡ closing_of space conn.number) }
-        ensures refused { IfErr result (λ e. ((e ≡ ServiceError.NoNamespace) × (length (spaces_of self.now) ≤ conn.namespace)) ⊎ ((space : Seen) → IsSpace (spaces_of self.now) conn.namespace space → IsUnknown space conn.number e)) }
+        ensures refused { IfErr result (λ e. RefusesLook (spaces_of self.now) conn.namespace e (λ space. IsUnknown space conn.number e)) }
         ensures known { OnOk result ((space : Seen) → IsSpace (spaces_of self.now) conn.namespace space → (known (connections_of space)).was_opened conn.number ≡ true) }
         ensures found { OnOk result (conn.namespace < length (spaces_of self.now)) }
     {
@@ -189,7 +189,7 @@ impl Service {
         ensures waits { IfOk result (λ waits. (space : Seen) (s : Situation) → IsSpace (spaces_of self.now) conn.namespace space → Stands space s → waits ≡ is_waiting_in s conn.number) }
         ensures known { OnOk result ((space : Seen) → IsSpace (spaces_of self.now) conn.namespace space → (known (connections_of space)).was_opened conn.number ≡ true) }
         ensures found { OnOk result (conn.namespace < length (spaces_of self.now)) }
-        ensures refused { IfErr result (λ e. ((e ≡ ServiceError.NoNamespace) × (length (spaces_of self.now) ≤ conn.namespace)) ⊎ ((space : Seen) → IsSpace (spaces_of self.now) conn.namespace space → IsUnknown space conn.number e)) }
+        ensures refused { IfErr result (λ e. RefusesLook (spaces_of self.now) conn.namespace e (λ space. IsUnknown space conn.number e)) }
     {
         let index = match self.index_of(conn.namespace) {
             Ok(index) => index,

@@ -1,7 +1,8 @@
 use Rattle.std.proofs.Common.{◌≡◌, ◌≤◌, sym, ◌∙◌, inr, arith, ⊎_elim, length}
 use Rattle.std.proofs.lemmas.Option.{slice_get_within}
 use Rattle.cache_run.specs.Connected.{IsOver, IsReady, IsTaken}
-use Rattle.cache_run.proofs.Connecting.{connected-here, ended-where-closed, not-unknown}
+use Rattle.cache_run.proofs.Connecting.{connected-here, ended-where-closed, fact-here, not-unknown}
+use Rattle.cache_spaces.specs.Serves.{IsUnknown}
 use Rattle.cache_spaces.specs.Services.{spaces_of}
 use Rattle.cache_spaces.specs.Spaces.{closing_of}
 use Rattle.cache_run.proofs.turns.progress_of.Goals as goal
@@ -26,4 +27,4 @@ unreachable-requires c =
     let inside = slice_get_within (spaces_of c.args.service.now) c.args.conn.namespace r.space r.at in
     let outside : length (spaces_of c.args.service.now) ≤ c.args.conn.namespace = p.1 in
     absurd (omega arith))
-    (λ unknown. not-unknown r.space c.args.conn.number c.in-Err.field-0 r.positive r.known (unknown r.space r.at)) c.in-Err.ensures.refused
+    (λ unknown. not-unknown r.space c.args.conn.number c.in-Err.field-0 r.positive r.known (fact-here (λ space. IsUnknown space c.args.conn.number c.in-Err.field-0) (spaces_of c.args.service.now) c.args.conn.namespace r.space r.at unknown)) c.in-Err.ensures.refused

@@ -1,8 +1,8 @@
-use Rattle.std.proofs.Common.{◌≡◌, refl, arith, inr, true}
+use Rattle.std.proofs.Common.{◌≡◌, refl, arith, true}
 use Rattle.cache_namespace.specs.Taken.{known}
 use Rattle.cache_spaces.specs.Serves.{IsUnknown}
 use Rattle.cache_spaces.specs.Spaces.{closing_of, connections_of}
-use Rattle.cache_spaces.proofs.Putting.{of-space, opened}
+use Rattle.cache_spaces.proofs.Putting.{of-space, opened, refuses-look}
 use Rattle.cache_spaces.proofs.service.Service.closed.Goals as goal
 
 pub index-space-requires : goal.index-space-requires
@@ -23,5 +23,5 @@ returns-in-Ok-closed-clause-found c = omega (arith, c.in-Ok.ensures.place.0, c.i
 
 pub returns-in-Err-closed-clause-refused : goal.returns-in-Err-closed-clause-refused
 returns-in-Err-closed-clause-refused c =
-    inr (of-space (λ x. IsUnknown x c.args.conn.number c.in-Err-closed.error) c.args.self.now.spaces.items c.in-Ok.index c.args.conn.namespace c.index-space.result.now c.in-Ok.ensures.place.0 c.in-Ok.ensures.place.1 c.index-space.ensures
-    (record { unknown = c.in-Err-closed.ensures.refused.0 refl; error = c.in-Err-closed.ensures.error }))
+    refuses-look (λ space. IsUnknown space c.args.conn.number c.in-Err-closed.error) c.args.self.now.spaces.items c.in-Ok.index c.args.conn.namespace c.index-space.result.now c.in-Err-closed.error c.in-Ok.ensures.place.0 c.in-Ok.ensures.place.1
+    c.index-space.ensures (record { unknown = c.in-Err-closed.ensures.refused.0 refl; error = c.in-Err-closed.ensures.error })

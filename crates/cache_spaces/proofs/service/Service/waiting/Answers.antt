@@ -1,8 +1,8 @@
-use Rattle.std.proofs.Common.{◌≡◌, refl, arith, inr, true}
+use Rattle.std.proofs.Common.{◌≡◌, refl, arith, true}
 use Rattle.cache_namespace.specs.Taken.{is_waiting_in, known}
 use Rattle.cache_spaces.specs.Serves.{IsUnknown}
 use Rattle.cache_spaces.specs.Spaces.{Stands, connections_of}
-use Rattle.cache_spaces.proofs.Putting.{of-space, opened}
+use Rattle.cache_spaces.proofs.Putting.{of-space, opened, refuses-look}
 use Rattle.cache_spaces.proofs.service.Service.waiting.Goals as goal
 
 pub index-space-requires : goal.index-space-requires
@@ -23,5 +23,5 @@ returns-in-Ok-waiting-clause-found c = omega (arith, c.in-Ok.ensures.place.0, c.
 
 pub returns-in-Err-waiting-clause-refused : goal.returns-in-Err-waiting-clause-refused
 returns-in-Err-waiting-clause-refused c =
-    inr (of-space (λ x. IsUnknown x c.args.conn.number c.in-Err-waiting.error) c.args.self.now.spaces.items c.in-Ok.index c.args.conn.namespace c.index-space.result.now c.in-Ok.ensures.place.0 c.in-Ok.ensures.place.1 c.index-space.ensures
-    (record { unknown = c.in-Err-waiting.ensures.refused.0 refl; error = c.in-Err-waiting.ensures.error }))
+    refuses-look (λ space. IsUnknown space c.args.conn.number c.in-Err-waiting.error) c.args.self.now.spaces.items c.in-Ok.index c.args.conn.namespace c.index-space.result.now c.in-Err-waiting.error c.in-Ok.ensures.place.0 c.in-Ok.ensures.place.1
+    c.index-space.ensures (record { unknown = c.in-Err-waiting.ensures.refused.0 refl; error = c.in-Err-waiting.ensures.error })
