@@ -1,0 +1,162 @@
+//! A slab whose keys have 32 bits, and whose cells have no byte to spare.
+//!
+//! It does what `slab` does, and contracts see it as they see that. A cell has two parts, so that a first part of 32
+//! bits stands beside the cell's own mark: with eight bytes and eight more in the second part it takes 24.
+#![tactic(auto)]
+
+ghost use Rattle.std.specs.Prelude.{◌≡◌, ◌+◌, ◌-◌, ◌<◌, ◌≤◌, ◌^◌, [], length, IsSome, IsOk, OnOk, option_map, None, Some, vec_len, vec_capacity};
+ghost use Rattle.slab.specs.Slab.{get, ContainsKey, slab_len, HasRoomFor, Updates};
+
+use std::alloc::{AllocError, Global};
+use std::marker::Model;
+use std::mem;
+
+/// How many cells there may be.
+pub const MOST_CELLS: u32 = u32::MAX - 1;
+
+/// Storage for values of two parts, each under a key that the slab picks. There are `MOST_CELLS` keys.
+#[derive(Drop)]
+pub struct Cells<A, B> {
+    cells: Vec<Cell<A, B>>,
+    // How many cells are taken.
+    len: usize,
+    // The first of the list of vacant cells, or the number of cells where there is none.
+    next: u32,
+}
+
+#[derive(Drop)]
+enum Cell<A, B> {
+    Vacant(u32),
+    Taken(A, B),
+}
+
+impl<A, B> Model for Cells<A, B> {
+    ghost use Rattle.std.specs.Prelude.{map, vec_capacity, min, ◌-◌, ◌^◌};
+    ghost use Rattle.slab.specs.Slab.{Slab as Slots};
+    ghost use Rattle.slab.specs.Entry.{value_of};
+    ghost use Rattle.policy_cells.specs.Cells.{entry_of, IsSoundly};
+
+    ghost Value = { Slots (A × B) };
+
+    ghost view = { λ s. record {
+      slots = map value_of (map entry_of s.cells.items);
+      vacant_key = s.next;
+      capacity = min (vec_capacity s.cells) (2 ^ 32 - 2);
+    } };
+
+    ghost invariant = { λ s. IsSoundly s.cells.items s.len s.next };
+}
+
+impl<A, B> Cells<A, B> {
+    /// No cells, which take no memory.
+    pub fn new(alloc: Global) -> Self
+        ensures slots { result.slots ≡ [] }
+    {
+        Cells {
+            cells: Vec::new(alloc),
+            len: 0,
+            next: 0,
+        }
+    }
+
+    /// How many values there are.
+    pub fn len(&self) -> usize
+        ensures { result ≡ slab_len self.now }
+    {
+        self.len
+    }
+
+    /// The key that the next insert will use.
+    pub fn vacant_key(&self) -> u32
+        ensures { result ≡ self.now.vacant_key }
+    {
+        self.next
+    }
+
+    /// Makes room for `additional` more values, which then need no memory. More than `MOST_CELLS` are refused.
+    pub fn reserve(&mut self, additional: usize) -> Result<(), AllocError>
+        ensures room { OnOk result (HasRoomFor self.new additional) }
+        ensures succeeds { HasRoomFor self.old additional → IsOk result }
+        ensures capacity { self.old.capacity ≤ self.new.capacity }
+        ensures rest_kept { self.new ≡ record self.old { capacity = self.new.capacity } }
+    {
+        if additional > MOST_CELLS as usize - self.len {
+            return Err(AllocError);
+        }
+        let vacant = self.cells.len() - self.len;
+        self.cells.reserve(additional.saturating_sub(vacant))
+    }
+
+    /// Stores a value. There is room.
+    pub fn insert_reserved(&mut self, first: A, second: B) -> u32
+        requires { HasRoomFor self.old 1 }
+        ensures key { result ≡ self.old.vacant_key }
+        ensures was_vacant { get self.old result ≡ None }
+        ensures updates { Updates self.old self.new result (Some (first, second)) }
+        ensures len { slab_len self.new ≡ slab_len self.old + 1 }
+        ensures key_in_range { result < 2 ^ 32 - 2 }
+        ensures capacity { self.new.capacity ≡ self.old.capacity }
+    {
+        let key = self.next;
+        self.len += 1;
+        if key as usize == self.cells.len() {
+            self.cells.push_reserved(Cell::Taken(first, second));
+            self.next = key + 1;
+            return key;
+        }
+        match mem::replace(&mut self.cells[key as usize], Cell::Taken(first, second)) {
+            Cell::Vacant(next) => self.next = next,
+            Cell::Taken(_, _) => unreachable!(),
+        }
+        key
+    }
+
+    /// Removes and returns the value at `key`, which must hold one.
+    pub fn remove(&mut self, key: u32) -> (A, B)
+        requires { ContainsKey self.old key }
+        ensures value { get self.old key ≡ Some result }
+        ensures updates { Updates self.old self.new key None }
+        ensures len { slab_len self.new + 1 ≡ slab_len self.old }
+        ensures room { HasRoomFor self.new 1 }
+        ensures key_is_next { self.new.vacant_key ≡ key }
+        ensures capacity { self.new.capacity ≡ self.old.capacity }
+    {
+        let vacant = Cell::Vacant(self.next);
+        match mem::replace(&mut self.cells[key as usize], vacant) {
+            Cell::Taken(first, second) => {
+                self.len -= 1;
+                self.next = key;
+                (first, second)
+            }
+            Cell::Vacant(_) => unreachable!(),
+        }
+    }
+
+    /// The two parts of the value at `key`, if there is one.
+    pub fn get(&self, key: u32) -> Option<(&A, &B)>
+        ensures value { option_map (λ parts. (parts.0.now, parts.1.now)) result ≡ get self.now key }
+        ensures key_in_range { IsSome result → key < 2 ^ 32 - 2 }
+    {
+        match self.cells.get(key as usize) {
+            Some(Cell::Taken(first, second)) => Some((first, second)),
+            Some(Cell::Vacant(_)) => None,
+            None => None,
+        }
+    }
+}
+
+impl<A: Drop, B> Cells<A, B> {
+    /// Puts another first part at `key`, which must hold a value.
+    pub fn set_first(&mut self, key: u32, first: A)
+        requires { ContainsKey self.old key }
+        ensures updates { Updates self.old self.new key (option_map (λ value. (first, value.1)) (get self.old key)) }
+        ensures len { slab_len self.new ≡ slab_len self.old }
+        ensures vacant_key { self.new.vacant_key ≡ self.old.vacant_key }
+        ensures capacity { self.new.capacity ≡ self.old.capacity }
+    {
+        match &mut self.cells[key as usize] {
+            Cell::Taken(part, _) => *part = first,
+            Cell::Vacant(_) => unreachable!(),
+        }
+    }
+}
