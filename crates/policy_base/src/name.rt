@@ -57,13 +57,13 @@ impl CacheRegion {
     }
 }
 
-/// The name of a node or of a timer: its queue, and a serial that no other of that queue ever has.
+/// The name of a node or of a timer: its queue, and a serial that no other of that queue ever has. It takes 16 bytes.
 #[derive(Clone, Copy, Debug, PartialEq, Eq)]
 pub struct NodeId {
-    pub queue: CacheRegion,
     pub serial: u64,
     /// Where the queue looks the node up. A later serial may have it again.
-    pub slot: usize,
+    pub slot: u32,
+    pub queue: CacheRegion,
 }
 
 impl NodeId {

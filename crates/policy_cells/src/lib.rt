@@ -76,6 +76,7 @@ impl<A, B> Cells<A, B> {
     /// Makes room for `additional` more values, which then need no memory. More than `MOST_CELLS` are refused.
     pub fn reserve(&mut self, additional: usize) -> Result<(), AllocError>
         ensures room { OnOk result (HasRoomFor self.new additional) }
+        ensures fits { OnOk result (slab_len self.new + additional ≤ 2 ^ 32 - 2) }
         ensures succeeds { HasRoomFor self.old additional → IsOk result }
         ensures capacity { self.old.capacity ≤ self.new.capacity }
         ensures rest_kept { self.new ≡ record self.old { capacity = self.new.capacity } }

@@ -1,6 +1,7 @@
 pub mod Live
+pub mod Order
+pub mod Slots
+pub mod Ends
 pub mod Closing
 pub mod Moves
-pub mod Ends
 pub mod Names
-pub mod Holding

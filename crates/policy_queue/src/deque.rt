@@ -1,15 +1,15 @@
 //! Queues of elements with stable names.
-ghost use Rattle.std.specs.Prelude.{◌≡◌, ◌≢◌, ℕ, ◌+◌, ◌-◌, ◌^◌, ◌<◌, ◌≤◌, ◌↔◌, true, false, List, [], ◌∷◌, ◌++◌, length, IsTrue, IsSome, IsOk, IsErr, IfOk, IfErr, OnOk, OnErr, MatchOption, MatchResult, option_map, option_copied, Some, None};
+ghost use Rattle.std.specs.Prelude.{◌≡◌, ◌≢◌, ℕ, ◌+◌, ◌-◌, ◌^◌, ◌<◌, ◌≤◌, ◌↔◌, true, false, List, [], ◌∷◌, ◌++◌, length, IsTrue, IsSome, IsOk, IsErr, IfOk, IfErr, OnOk, OnErr, MatchOption, MatchResult, option_map, option_copied, map, Some, None};
 ghost use Rattle.std.specs.Borrow.{sem};
 ghost use Rattle.policy_queue.specs.Queue.{find, from_id, head, final, tail, to_give, cursor_past, Leaves, Pushes, Stays, refused_element, RefusedWell, MovesToBack, AreNamed, StaysStale, TheName, WalksOnce};
-ghost use Rattle.policy_queue.specs.Places.{live};
+ghost use Rattle.policy_queue.specs.Places.{order};
 
 use crate::places::{
-    Cursor, Node, attach, cursor_from, cursor_leaving, detach, element_at, has_next, id_from,
+    Cursor, Seat, attach, cursor_from, cursor_leaving, detach, element_at, has_next, id_from,
     make_room, place_of, walk_place,
 };
 use policy_base::{CacheRegion, NodeId};
-use slab::Slab;
+use policy_cells::Cells;
 use std::alloc::Global;
 use std::marker::Model;
 
@@ -35,8 +35,10 @@ pub enum ReserveError {
 #[derive(Drop)]
 pub struct Deque<T> {
     region: CacheRegion,
-    places: Vec<Option<Node<T>>>,
-    slots: Slab<usize>,
+    // The slots of the nodes, from front to back, with empty places between them.
+    places: Vec<u32>,
+    // The nodes, each with its place.
+    nodes: Cells<u32, Seat<T>>,
     front: usize,
     cursor: Cursor,
     next_serial: u64,
@@ -48,17 +50,17 @@ impl<T> Model for Deque<T> {
     ghost Value = { Queue T };
 
     ghost use Rattle.std.specs.Prelude.{vec_capacity};
-    ghost use Rattle.policy_queue.specs.Places.{live, room_of, IsQueue};
+    ghost use Rattle.policy_queue.specs.Places.{order, nodes_of, room_of, IsQueue};
 
     ghost view = { λ d. record {
       region = d.region;
-      nodes = live d.places.items;
+      nodes = nodes_of d.region d.nodes (order d.places.items);
       cursor = d.cursor;
       next_serial = d.next_serial;
-      room = room_of d.places.items (vec_capacity d.places) d.slots d.next_serial;
+      room = room_of (vec_capacity d.places) d.nodes d.next_serial;
     } };
 
-    ghost invariant = { λ d. IsQueue d.region d.places.items (vec_capacity d.places) d.slots d.front d.next_serial };
+    ghost invariant = { λ d. IsQueue d.region d.places.items (vec_capacity d.places) d.nodes d.front d.next_serial };
 }
 
 impl<T: Drop> Deque<T> {
@@ -74,7 +76,7 @@ impl<T: Drop> Deque<T> {
         Deque {
             region,
             places: Vec::new(alloc),
-            slots: Slab::new(alloc),
+            nodes: Cells::new(alloc),
             front: 0,
             cursor: Cursor::Unstarted,
             next_serial: 0,
@@ -85,14 +87,14 @@ impl<T: Drop> Deque<T> {
     pub fn len(&self) -> usize
         ensures { result ≡ length self.now.nodes }
     {
-        self.slots.len()
+        self.nodes.len()
     }
 
     /// Whether the queue has the node.
     pub fn contains(&self, id: NodeId) -> bool
         ensures { IsTrue result ↔ IsSome (find id self.now.nodes) }
     {
-        match place_of(self.places.as_slice(), &self.slots, id) {
+        match place_of(self.region, self.places.as_slice(), &self.nodes, id) {
             Some(_) => true,
             None => false,
         }
@@ -112,14 +114,14 @@ impl<T: Drop> Deque<T> {
         if self.places.len() == 0 {
             return None;
         }
-        Some(element_at(self.places.as_slice(), self.front))
+        Some(element_at(self.places.as_slice(), &self.nodes, self.front))
     }
 
     /// The name of the first node.
     pub fn peek_front_ptr(&self) -> Option<NodeId>
         ensures { result ≡ option_map (λ n. n.id) (head self.now.nodes) }
     {
-        id_from(self.places.as_slice(), self.front)
+        id_from(self.region, self.places.as_slice(), &self.nodes, self.front)
     }
 
     /// The last element.
@@ -129,7 +131,7 @@ impl<T: Drop> Deque<T> {
         if self.places.len() == 0 {
             return None;
         }
-        Some(element_at(self.places.as_slice(), self.places.len() - 1))
+        Some(element_at(self.places.as_slice(), &self.nodes, self.places.len() - 1))
     }
 
     /// Makes room for `n` pushes, which then need no memory.
@@ -145,7 +147,7 @@ impl<T: Drop> Deque<T> {
         if n == 0 {
             return Ok(());
         }
-        if make_room(&mut self.places, &mut self.slots, n).is_err() {
+        if make_room(&mut self.places, &mut self.nodes, n).is_err() {
             return Err(ReserveError::OutOfMemory);
         }
         Ok(())
@@ -163,23 +165,19 @@ impl<T: Drop> Deque<T> {
         if self.next_serial == u64::MAX {
             return Err(PushError::UsedUp(element));
         }
-        match make_room(&mut self.places, &mut self.slots, 1) {
+        match make_room(&mut self.places, &mut self.nodes, 1) {
             Ok(()) => {}
             Err(_) => return Err(PushError::OutOfMemory(element)),
         }
-        let id = NodeId {
-            queue: self.region,
-            serial: self.next_serial,
-            slot: self.slots.vacant_key(),
-        };
-        attach(
-            &mut self.places,
-            &mut self.slots,
-            &mut self.front,
-            Node { id, element },
-        );
+        let serial = self.next_serial;
+        let slot = self.nodes.insert_reserved(0, Seat { serial, element });
+        attach(&mut self.places, &mut self.nodes, &mut self.front, slot);
         self.next_serial += 1;
-        Ok(id)
+        Ok(NodeId {
+            serial,
+            slot,
+            queue: self.region,
+        })
     }
 
     /// Takes a node out.
@@ -188,16 +186,20 @@ impl<T: Drop> Deque<T> {
         ensures leaves { OnOk result (Leaves self.old self.new id) }
         ensures stale { OnErr result (self.new ≡ self.old) }
     {
-        match place_of(self.places.as_slice(), &self.slots, id) {
+        match place_of(self.region, self.places.as_slice(), &self.nodes, id) {
             None => Err(Stale),
             Some(k) => {
-                self.cursor = cursor_leaving(self.cursor, id, self.places.as_slice(), k);
-                let Node { id: _, element } = detach(
-                    &mut self.places,
-                    &mut self.slots,
-                    &mut self.front,
+                self.cursor = cursor_leaving(
+                    self.cursor,
+                    id,
+                    self.region,
+                    self.places.as_slice(),
+                    &self.nodes,
                     k,
                 );
+                detach(&mut self.places, &mut self.front, k);
+                let (_, seat) = self.nodes.remove(id.slot);
+                let Seat { serial: _, element } = seat;
                 Ok(element)
             }
         }
@@ -221,13 +223,20 @@ impl<T: Drop> Deque<T> {
         ensures moves { OnOk result (MovesToBack self.old self.new id) }
         ensures stale { OnErr result (self.new ≡ self.old) }
     {
-        match place_of(self.places.as_slice(), &self.slots, id) {
+        match place_of(self.region, self.places.as_slice(), &self.nodes, id) {
             None => Err(Stale),
             Some(k) => {
                 if has_next(self.places.as_slice(), k) {
-                    self.cursor = cursor_leaving(self.cursor, id, self.places.as_slice(), k);
-                    let node = detach(&mut self.places, &mut self.slots, &mut self.front, k);
-                    attach(&mut self.places, &mut self.slots, &mut self.front, node);
+                    self.cursor = cursor_leaving(
+                        self.cursor,
+                        id,
+                        self.region,
+                        self.places.as_slice(),
+                        &self.nodes,
+                        k,
+                    );
+                    detach(&mut self.places, &mut self.front, k);
+                    attach(&mut self.places, &mut self.nodes, &mut self.front, id.slot);
                 }
                 Ok(())
             }
@@ -273,26 +282,22 @@ impl<T: Drop> Deque<T> {
         ensures* stays { sem 𝓛 (walks T.row self.entry) }
         ensures value { option_copied result ≡ option_map (λ n. n.element) (head (to_give self.old.cursor self.old.nodes)) }
     {
-        let at = walk_place(self.cursor, self.places.as_slice(), &self.slots);
-        match at {
-            None => {
-                self.cursor = Cursor::Unstarted;
-                None
-            }
-            Some(k) => {
-                self.cursor = cursor_from(self.places.as_slice(), k + 1);
-                Some(element_at(self.places.as_slice(), k))
-            }
+        let k = walk_place(self.cursor, self.region, self.places.as_slice(), &self.nodes);
+        if k == self.places.len() {
+            self.cursor = Cursor::Unstarted;
+            return None;
         }
+        self.cursor = cursor_from(self.region, self.places.as_slice(), &self.nodes, k + 1);
+        Some(element_at(self.places.as_slice(), &self.nodes, k))
     }
 
     /// The name of the node behind this one.
     pub fn next_node_ptr(&self, id: NodeId) -> Result<Option<NodeId>, Stale>
         ensures { MatchResult result (λ next. IsSome (find id self.now.nodes) × (next ≡ option_map (λ n. n.id) (head (tail (from_id id self.now.nodes))))) (λ _. find id self.now.nodes ≡ None) }
     {
-        match place_of(self.places.as_slice(), &self.slots, id) {
+        match place_of(self.region, self.places.as_slice(), &self.nodes, id) {
             None => Err(Stale),
-            Some(k) => Ok(id_from(self.places.as_slice(), k + 1)),
+            Some(k) => Ok(id_from(self.region, self.places.as_slice(), &self.nodes, k + 1)),
         }
     }
 
@@ -301,19 +306,13 @@ impl<T: Drop> Deque<T> {
         ensures value { result ≡ option_map (λ n. n.id) (head (to_give self.old.cursor self.old.nodes)) }
         ensures cursor { self.new ≡ record self.old { cursor = cursor_past (to_give self.old.cursor self.old.nodes) } }
     {
-        match walk_place(self.cursor, self.places.as_slice(), &self.slots) {
-            None => {
-                self.cursor = Cursor::Unstarted;
-                None
-            }
-            Some(k) => {
-                self.cursor = cursor_from(self.places.as_slice(), k + 1);
-                match &self.places[k] {
-                    Some(node) => Some(node.id),
-                    None => unreachable!(),
-                }
-            }
+        let k = walk_place(self.cursor, self.region, self.places.as_slice(), &self.nodes);
+        if k == self.places.len() {
+            self.cursor = Cursor::Unstarted;
+            return None;
         }
+        self.cursor = cursor_from(self.region, self.places.as_slice(), &self.nodes, k + 1);
+        id_from(self.region, self.places.as_slice(), &self.nodes, k)
     }
 }
 
@@ -331,9 +330,9 @@ pub fn stale_names_stay_stale<T>(queue: &Deque<T>)
     let _ = &queue.places;
 }
 
-/// The array behind a queue, from front to back, with its empty places.
-pub fn places_of<T>(queue: &Deque<T>) -> &[Option<Node<T>>]
-    ensures { live result.now ≡ queue.now.nodes }
+/// The array behind a queue: the slots of its nodes from front to back, and `u32::MAX` in its empty places.
+pub fn places_of<T>(queue: &Deque<T>) -> &[u32]
+    ensures { order result.now ≡ map (λ n. n.id.slot) queue.now.nodes }
 {
     queue.places.as_slice()
 }

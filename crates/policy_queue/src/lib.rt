@@ -8,4 +8,4 @@ pub use deque::{
     Deque, PushError, ReserveError, Stale, names_stand, places_of, stale_names_stay_stale,
     walks_give_each_once,
 };
-pub use places::{Cursor, Node};
+pub use places::{Cursor, Node, Seat};

@@ -38,8 +38,8 @@ enum Act {
     Front(Option<u64>),
     Back(Option<u64>),
     Len(usize),
-    /// The element at a place of the array, if there is one, and nothing behind its end.
-    Place(usize, Option<Option<u64>>),
+    /// The node at a place of the array, if there is one, and nothing behind its end.
+    Place(usize, Option<Option<usize>>),
 }
 
 fn new_queue(alloc: Global) -> Queue {
@@ -155,11 +155,15 @@ fn pop_up_to(deque: &mut Deque<u64>, end: u64) -> bool {
     true
 }
 
-/// The element at a place of the array, if there is one; `None` behind its end.
-fn element_at(deque: &Deque<u64>, place: usize) -> Option<Option<u64>> {
-    match places_of(deque).get(place) {
-        Some(Some(node)) => Some(Some(node.element)),
-        Some(None) => Some(None),
+/// The number of the node with this slot.
+fn number_of(names: &[NodeId], slot: u32) -> Option<usize> {
+    names.iter().position(|name| name.slot == slot)
+}
+
+/// The number of the node at a place of the array, if there is one; `None` behind its end.
+fn number_at(queue: &Queue, place: usize) -> Option<Option<usize>> {
+    match places_of(&queue.deque).get(place) {
+        Some(slot) => Some(number_of(queue.names.as_slice(), *slot)),
         None => None,
     }
 }
@@ -179,6 +183,7 @@ fn changes_so(queue: &mut Queue, act: Act) -> bool {
             move_front(&mut queue.deque, times);
             true
         }
+        Act::Place(place, wanted) => number_at(queue, place) == wanted,
         act => shows_so(&mut queue.deque, act),
     }
 }
@@ -192,7 +197,6 @@ fn shows_so(deque: &mut Deque<u64>, act: Act) -> bool {
         Act::Front(wanted) => deque.peek_front().copied() == wanted,
         Act::Back(wanted) => deque.peek_back().copied() == wanted,
         Act::Len(wanted) => deque.len() == wanted,
-        Act::Place(place, wanted) => element_at(deque, place) == wanted,
         _ => false,
     }
 }

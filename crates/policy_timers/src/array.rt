@@ -8,7 +8,7 @@ ghost use Rattle.policy_timers.specs.Timers.{TheTimer, moved};
 ghost use Rattle.policy_timers.specs.Array.{key_of, key_at, IsRising, IsArranged, LacksSerial};
 
 use policy_base::{Instant, NodeId};
-use slab::Slab;
+use policy_cells::Cells;
 use std::collections::VecDeque;
 
 /// A timer's record: its entry, and the generation of the entry's own expiration under which it was placed.
@@ -51,12 +51,12 @@ fn lower_bound(timers: &VecDeque<Timer>, bound: u128) -> usize
 }
 
 /// The index of the timer of this name.
-pub(crate) fn find(timers: &VecDeque<Timer>, slots: &Slab<u128>, id: NodeId) -> Option<usize>
+pub(crate) fn find(timers: &VecDeque<Timer>, slots: &Cells<Instant, u64>, id: NodeId) -> Option<usize>
     requires { IsArranged timers.now.items slots.now }
     ensures { MatchOption result (All (λ t. t.id ≢ id) timers.now.items) (λ k. (k < length timers.now.items) × ((d : TheTimer) → (slice_index_or timers.now.items k d).id ≡ id)) }
 {
     let bound = match slots.get(id.slot) {
-        Some(key) => *key,
+        Some((placed, serial)) => key(*placed, *serial),
         None => return None,
     };
     let k = lower_bound(timers, bound);
@@ -68,7 +68,7 @@ pub(crate) fn find(timers: &VecDeque<Timer>, slots: &Slab<u128>, id: NodeId) -> 
 }
 
 /// Puts a timer at its place. There is room.
-pub(crate) fn add(timers: &mut VecDeque<Timer>, slots: &mut Slab<u128>, timer: Timer)
+pub(crate) fn add(timers: &mut VecDeque<Timer>, slots: &mut Cells<Instant, u64>, timer: Timer)
     requires arranged { IsArranged timers.old.items slots.old }
     requires place { deque_len timers.old < deque_capacity timers.old }
     requires room { HasRoomFor slots.old 1 }
@@ -81,7 +81,7 @@ pub(crate) fn add(timers: &mut VecDeque<Timer>, slots: &mut Slab<u128>, timer: T
 {
     let bound = key(timer.placed, timer.id.serial);
     let at = lower_bound(timers, bound);
-    let _slot = slots.insert_reserved(bound);
+    let _slot = slots.insert_reserved(timer.placed, timer.id.serial);
     match timers.insert(at, timer) {
         Ok(()) => {}
         Err(_) => unreachable!(),
@@ -89,7 +89,7 @@ pub(crate) fn add(timers: &mut VecDeque<Timer>, slots: &mut Slab<u128>, timer: T
 }
 
 /// Takes a timer out.
-pub(crate) fn take(timers: &mut VecDeque<Timer>, slots: &mut Slab<u128>, k: usize) -> Timer
+pub(crate) fn take(timers: &mut VecDeque<Timer>, slots: &mut Cells<Instant, u64>, k: usize) -> Timer
     requires arranged { IsArranged timers.old.items slots.old }
     requires within { k < length timers.old.items }
     ensures timer { result ≡ slice_index_or timers.old.items k result }
@@ -112,7 +112,7 @@ pub(crate) fn take(timers: &mut VecDeque<Timer>, slots: &mut Slab<u128>, k: usiz
 }
 
 /// Puts a timer at another time. It keeps its name.
-pub(crate) fn move_timer(timers: &mut VecDeque<Timer>, slots: &mut Slab<u128>, k: usize, due: Due)
+pub(crate) fn move_timer(timers: &mut VecDeque<Timer>, slots: &mut Cells<Instant, u64>, k: usize, due: Due)
     requires arranged { IsArranged timers.old.items slots.old }
     requires within { k < length timers.old.items }
     ensures moved { (t : TheTimer) × (t ≡ slice_index_or timers.old.items k t) × (at : ℕ) × (at ≤ length (remove timers.old.items k)) × (timers.new.items ≡ insert (remove timers.old.items k) at (moved t due.time due.expiry_gen)) }

@@ -9,6 +9,7 @@ ghost use Rattle.policy_timers.specs.Timers.{TheTimer, moved, Keeps, Stays, Sche
 use crate::array::{Due, Timer, TimerNode, add, find, move_timer, take};
 use crate::entries::due_of;
 use policy_base::{CacheRegion, Instant, NodeId, Slot};
+use policy_cells::Cells;
 use slab::Slab;
 use std::alloc::{AllocError, Global};
 use std::collections::VecDeque;
@@ -42,7 +43,7 @@ pub struct TimerWheel<K> {
     moment: Instant,
     next_serial: u64,
     timers: VecDeque<Timer>,
-    slots: Slab<u128>,
+    slots: Cells<Instant, u64>,
     keys: PhantomData<K>,
 }
 
@@ -82,7 +83,7 @@ impl<K> TimerWheel<K> {
             moment,
             next_serial: 0,
             timers: VecDeque::new(alloc),
-            slots: Slab::new(alloc),
+            slots: Cells::new(alloc),
             keys: PhantomData,
         }
     }

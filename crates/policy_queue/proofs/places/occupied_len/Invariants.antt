@@ -1,8 +1,9 @@
-use Rattle.std.proofs.Common.{◌≡◌, ◌≤◌, ℕ, None, get_or, length}
+use Rattle.std.proofs.Common.{◌≡◌, ◌≤◌, ℕ, get_or, length}
+use Rattle.policy_queue.specs.Places.{vacant}
 use Rattle.policy_queue.proofs.places.occupied_len.Given as goal
 
 abbrev pub invariant-loop-len : goal.invariant-loop-len
-invariant-loop-len g l = (l.len ≤ length l.places) × ((j : ℕ) → l.len ≤ j → get_or l.places j None ≡ None)
+invariant-loop-len l = (l.len ≤ length l.places) × ((j : ℕ) → l.len ≤ j → get_or l.places j vacant ≡ vacant)
 
 abbrev pub decreases-loop-len : goal.decreases-loop-len
-decreases-loop-len g l = l.len
+decreases-loop-len l = l.len

@@ -1,112 +1,72 @@
-use Rattle.std.proofs.Common.{◌≡◌, ◌+◌, ◌++◌, ◌∷◌, [], refl, sym, ap, ◌∙◌, None, arith, length, drop, get_or, true, take, is_some}
+use Rattle.std.proofs.Common.{◌≡◌, ◌+◌, ◌<◌, is_some, refl, sym, ap, ◌∙◌, arith, length, drop, take}
 use Rattle.std.proofs.lemmas.Bool.{true≢false}
-use Rattle.std.proofs.lemmas.List.{length_push}
-use Rattle.policy_queue.specs.Places.{live}
+use Rattle.std.proofs.lemmas.List.{length_push, length-append}
+use Rattle.policy_queue.specs.Places.{order, nodes_of, nodes_for}
 use Rattle.policy_queue.specs.Queue.{cursor_moved}
-use Rattle.policy_base.specs.Region.{same_id}
-use Rattle.policy_queue.proofs.Live.{live_at}
 use Rattle.policy_queue.proofs.Names.{AreNamed-moved}
-use Rattle.policy_queue.proofs.Holding.{holds_some, holds_within}
-use Rattle.policy_queue.proofs.Moves.{found-moved, found-behind, found_some, last_some, IsSomeAnd-at, length-emptied}
+use Rattle.policy_queue.proofs.Order.{length-emptied, length-order}
+use Rattle.policy_queue.proofs.Moves.{found, found-behind, found-moved, found-next, found-last, split, taken, place_within, unplaced, nodes_moved, IsStored-emptied}
 use Rattle.policy_queue.proofs.deque.Deque.move_to_back.Goals as goal
 
-pub returns-then-has_next-clause-found : goal.returns-then-has_next-clause-found
-returns-then-has_next-clause-found g c = (λ _. rw (← c.self.view_is) (found_some c.self.inside.places.items c.self.inside.slots c.in-Some.k c.args.id c.self.invariant.sound.stored (rw c.as_slice.ensures.value at c.in-Some.ensures)), λ _. refl)
+pub place_of-requires : goal.place_of-requires
+place_of-requires g c = rw c.as_slice.ensures.value c.self.invariant.arranged.stored
 
-pub returns-else-has_next-clause-found : goal.returns-else-has_next-clause-found
-returns-else-has_next-clause-found g c = (λ _. rw (← c.self.view_is) (found_some c.self.inside.places.items c.self.inside.slots c.in-Some.k c.args.id c.self.invariant.sound.stored (rw c.as_slice.ensures.value at c.in-Some.ensures)), λ _. refl)
+pub has_next-requires-clause-last : goal.has_next-requires-clause-last
+has_next-requires-clause-last g c = rw c.as_slice-in-Some.ensures.value c.self.invariant.arranged.ends.last
 
-pub returns-then-has_next-clause-moves : goal.returns-then-has_next-clause-moves
-returns-then-has_next-clause-moves g c =
-    let there = c.detach-node.ensures.node in
-    let same = IsSomeAnd-at _ _ (λ n. same_id n.id c.args.id ≡ true) (ap (λ r. get_or r c.in-Some.k None) c.as_slice.ensures.value ∙ there) c.in-Some.ensures in
-    let more = rw c.as_slice-in-Some.ensures.value at (sym c.has_next.ensures ∙ c.if-has_next.true) in
-    rw (← c.self.view_is) (record {
-      nodes = c.attach.ensures.pushed ∙ ap (λ r. r ++ c.detach-node.result ∷ []) c.detach-node.ensures.emptied ∙ sym (found-moved c.self.inside.places.items c.self.inside.slots c.in-Some.k _ c.args.id c.self.invariant.sound.stored there same);
-      cursor = rw (found-behind c.self.inside.places.items c.self.inside.slots c.in-Some.k _ c.args.id c.self.invariant.sound.stored there same, more) (c.cursor_leaving-self-inside.ensures ∙ ap (λ r. cursor_moved c.self.inside.cursor c.args.id (live (drop (c.in-Some.k + 1) r))) c.as_slice-then-has_next.ensures.value);
-      region = refl;
-      next_serial = refl;
-      room =
-          let before = c.self.invariant.sound.counted in
-          let after = c.attach.ensures.sound.counted in
-          let fewer = length-emptied c.self.inside.places.items c.in-Some.k _ there in
-          let now = ap length c.detach-node.ensures.emptied in
-          let grown = ap length c.attach.ensures.pushed ∙ length_push _ _ in
-          omega arith;
-    })
+pub has_next-requires-clause-place : goal.has_next-requires-clause-place
+has_next-requires-clause-place g c = rw c.as_slice-in-Some.ensures.value (place_within c.self.inside.region c.self.inside.places.items c.self.inside.nodes c.in-Some.k c.args.id c.self.invariant.arranged.stored (rw c.as_slice.ensures.value at c.in-Some.ensures))
 
-pub returns-else-has_next-clause-moves : goal.returns-else-has_next-clause-moves
-returns-else-has_next-clause-moves g c =
-    let last = rw c.as_slice-in-Some.ensures.value at (sym c.has_next.ensures ∙ c.if-has_next.false) in
-    let both = last_some c.self.inside.places.items c.self.inside.slots c.in-Some.k c.args.id c.self.invariant.sound.stored (rw c.as_slice.ensures.value at c.in-Some.ensures) last in
-    rw (← c.self.view_is) (record {
-      nodes = both.0;
-      cursor = rw both.1 refl;
-      region = refl;
-      next_serial = refl;
-      room = refl;
-    })
+pub cursor_leaving-self-inside-requires-clause-place : goal.cursor_leaving-self-inside-requires-clause-place
+cursor_leaving-self-inside-requires-clause-place g c = rw c.as_slice-then-has_next.ensures.value (place_within c.self.inside.region c.self.inside.places.items c.self.inside.nodes c.in-Some.k c.args.id c.self.invariant.arranged.stored (rw c.as_slice.ensures.value at c.in-Some.ensures))
+
+pub cursor_leaving-self-inside-requires-clause-stored : goal.cursor_leaving-self-inside-requires-clause-stored
+cursor_leaving-self-inside-requires-clause-stored g c = rw c.as_slice-then-has_next.ensures.value c.self.invariant.arranged.stored
+
+pub detach-requires-clause-ends : goal.detach-requires-clause-ends
+detach-requires-clause-ends g c = c.self.invariant.arranged.ends
+
+pub detach-requires-clause-there : goal.detach-requires-clause-there
+detach-requires-clause-there g c = taken c.self.inside.region c.self.inside.places.items c.self.inside.nodes c.in-Some.k c.args.id c.self.invariant.arranged.stored (rw c.as_slice.ensures.value at c.in-Some.ensures)
+
+pub attach-requires-clause-arranged : goal.attach-requires-clause-arranged
+attach-requires-clause-arranged g c =
+    let fits = c.self.invariant.arranged.fits in
+    let shorter = c.detach.ensures.fewer in
+    let old = c.self.inside.places.ok.0 in
+    let new = c.detach.new.places.ok.0 in
+    record { stored = IsStored-emptied c.self.inside.places.items c.detach.new.places.items c.self.inside.nodes c.in-Some.k c.self.invariant.arranged.stored c.detach.ensures.others; ends = c.detach.ensures.ends; fits = omega arith }
 
 pub attach-requires-clause-place : goal.attach-requires-clause-place
 attach-requires-clause-place g c =
-    let ps = c.self.inside.places.items in
-    let there = c.detach-node.ensures.node in
-    let fewer = length-emptied ps c.in-Some.k _ there in
-    let now = ap length c.detach-node.ensures.emptied in
-    let was = c.self.invariant.half in
-    let kept = c.detach-node.ensures.capacity in
+    let fewer = length-emptied c.self.inside.places.items c.in-Some.k (taken c.self.inside.region c.self.inside.places.items c.self.inside.nodes c.in-Some.k c.args.id c.self.invariant.arranged.stored (rw c.as_slice.ensures.value at c.in-Some.ensures)) in
+    let now = ap length c.detach.ensures.emptied in
+    let most = length-order c.self.inside.places.items in
+    let fits = c.self.invariant.arranged.fits in
+    let kept = c.detach.ensures.capacity in
+    let within = c.self.inside.places.ok in
     omega arith
+
+pub attach-requires-clause-slot : goal.attach-requires-clause-slot
+attach-requires-clause-slot g c = unplaced c.self.inside.region c.self.inside.places.items c.self.inside.nodes c.in-Some.k c.args.id c.self.invariant.arranged.stored (rw c.as_slice.ensures.value at c.in-Some.ensures) c.detach.new.places.items c.detach.ensures.emptied
 
 pub invariant_of-self : goal.invariant_of-self
 invariant_of-self g c =
-    let ps = c.self.inside.places.items in
-    let there = c.detach-node.ensures.node in
+    let at = (rw c.as_slice.ensures.value at c.in-Some.ensures) in
+    let fewer = length-emptied c.self.inside.places.items c.in-Some.k (taken c.self.inside.region c.self.inside.places.items c.self.inside.nodes c.in-Some.k c.args.id c.self.invariant.arranged.stored at) in
+    let now = ap length c.detach.ensures.emptied in
+    let grown = ap length c.attach.ensures.pushed ∙ length_push _ _ in
+    let same = c.attach.ensures.nodes.count in
+    let was = c.self.invariant.counted in
+    let enough = c.self.invariant.enough in
+    let kept = c.detach.ensures.capacity in
+    let still = c.attach.ensures.capacity in
     record {
-      sound = c.attach.ensures.sound;
-      ends = c.attach.ensures.ends;
-      named = rw (c.attach.ensures.pushed, c.detach-node.ensures.emptied) (AreNamed-moved _ _ (live (take c.in-Some.k ps)) _ (live (drop (c.in-Some.k + 1) ps)) (rw (live_at ps c.in-Some.k _ there) at c.self.invariant.named));
-      half =
-          let fewer = length-emptied ps c.in-Some.k _ there in
-          let now = ap length c.detach-node.ensures.emptied in
-          let grown = ap length c.attach.ensures.pushed ∙ length_push _ _ in
-          let was = c.self.invariant.half in
-          let kept = c.detach-node.ensures.capacity in
-          let still = c.attach.ensures.capacity in
-          omega arith;
+      arranged = c.attach.ensures.arranged;
+      counted = omega arith;
+      named = rw (nodes_moved c.self.inside.region c.self.inside.places.items c.self.inside.nodes c.in-Some.k c.args.id c.self.invariant.arranged.stored at c.detach.new.places.items c.detach.ensures.emptied c.attach.new.places.items c.attach.new.nodes c.attach.ensures.pushed c.attach.ensures.nodes) (AreNamed-moved _ _ _ _ _ (rw (split c.self.inside.region c.self.inside.places.items c.self.inside.nodes c.in-Some.k c.args.id c.self.invariant.arranged.stored at) at c.self.invariant.named));
+      enough = omega arith;
     }
-
-pub place_of-requires : goal.place_of-requires
-place_of-requires g c = rw c.as_slice.ensures.value c.self.invariant.sound.stored
-
-pub has_next-requires-clause-last : goal.has_next-requires-clause-last
-has_next-requires-clause-last g c = rw c.as_slice-in-Some.ensures.value c.self.invariant.ends.last
-
-pub has_next-requires-clause-place : goal.has_next-requires-clause-place
-has_next-requires-clause-place g c = rw c.as_slice-in-Some.ensures.value (holds_within c.self.inside.places.items c.in-Some.k (λ n. same_id n.id c.args.id ≡ true) (rw c.as_slice.ensures.value at c.in-Some.ensures))
-
-pub cursor_leaving-self-inside-requires : goal.cursor_leaving-self-inside-requires
-cursor_leaving-self-inside-requires g c = rw c.as_slice-then-has_next.ensures.value (holds_within c.self.inside.places.items c.in-Some.k (λ n. same_id n.id c.args.id ≡ true) (rw c.as_slice.ensures.value at c.in-Some.ensures))
-
-pub detach-node-requires-clause-sound : goal.detach-node-requires-clause-sound
-detach-node-requires-clause-sound g c = c.self.invariant.sound
-
-pub detach-node-requires-clause-ends : goal.detach-node-requires-clause-ends
-detach-node-requires-clause-ends g c = c.self.invariant.ends
-
-pub detach-node-requires-clause-there : goal.detach-node-requires-clause-there
-detach-node-requires-clause-there g c = holds_some c.self.inside.places.items c.in-Some.k (λ n. same_id n.id c.args.id ≡ true) (rw c.as_slice.ensures.value at c.in-Some.ensures)
-
-pub attach-requires-clause-sound : goal.attach-requires-clause-sound
-attach-requires-clause-sound g c = c.detach-node.ensures.sound
-
-pub attach-requires-clause-ends : goal.attach-requires-clause-ends
-attach-requires-clause-ends g c = c.detach-node.ensures.ends
-
-pub attach-requires-clause-room : goal.attach-requires-clause-room
-attach-requires-clause-room g c = c.detach-node.ensures.room
-
-pub attach-requires-clause-slot : goal.attach-requires-clause-slot
-attach-requires-clause-slot g c = sym c.detach-node.ensures.vacant
 
 pub returns-in-None-clause-found : goal.returns-in-None-clause-found
 returns-in-None-clause-found g c =
@@ -115,3 +75,37 @@ returns-in-None-clause-found g c =
 
 pub returns-in-None-clause-stale : goal.returns-in-None-clause-stale
 returns-in-None-clause-stale g c = refl
+
+pub returns-then-has_next-clause-found : goal.returns-then-has_next-clause-found
+returns-then-has_next-clause-found g c = (λ _. rw (← c.self.view_is) (ap is_some (found c.self.inside.region c.self.inside.places.items c.self.inside.nodes c.in-Some.k c.args.id c.self.invariant.arranged.stored (rw c.as_slice.ensures.value at c.in-Some.ensures))), λ _. refl)
+
+pub returns-then-has_next-clause-moves : goal.returns-then-has_next-clause-moves
+returns-then-has_next-clause-moves g c =
+    let at = (rw c.as_slice.ensures.value at c.in-Some.ensures) in
+    let more = rw c.as_slice-in-Some.ensures.value at (sym c.has_next.ensures ∙ c.if-has_next.true) in
+    rw (← c.self.view_is) (record {
+      nodes = nodes_moved c.self.inside.region c.self.inside.places.items c.self.inside.nodes c.in-Some.k c.args.id c.self.invariant.arranged.stored at c.detach.new.places.items c.detach.ensures.emptied c.attach.new.places.items c.attach.new.nodes c.attach.ensures.pushed c.attach.ensures.nodes ∙ sym (found-moved c.self.inside.region c.self.inside.places.items c.self.inside.nodes c.in-Some.k c.args.id c.self.invariant.arranged.stored at);
+      cursor = rw (found-next c.self.inside.region c.self.inside.places.items c.self.inside.nodes c.in-Some.k c.args.id c.self.invariant.arranged.stored at, more, found-behind c.self.inside.region c.self.inside.places.items c.self.inside.nodes c.in-Some.k c.args.id c.self.invariant.arranged.stored at) (c.cursor_leaving-self-inside.ensures ∙ ap (λ r. cursor_moved c.self.inside.cursor c.args.id (nodes_of c.self.inside.region c.self.inside.nodes (order (drop (c.in-Some.k + 1) r)))) c.as_slice-then-has_next.ensures.value);
+      region = refl;
+      next_serial = refl;
+      room =
+          let count = c.attach.ensures.nodes.count in
+          let room = c.attach.ensures.nodes.room in
+          let fits = ap nodes_for (c.attach.ensures.capacity ∙ c.detach.ensures.capacity) in
+          omega arith;
+    })
+
+pub returns-else-has_next-clause-found : goal.returns-else-has_next-clause-found
+returns-else-has_next-clause-found g c = (λ _. rw (← c.self.view_is) (ap is_some (found c.self.inside.region c.self.inside.places.items c.self.inside.nodes c.in-Some.k c.args.id c.self.invariant.arranged.stored (rw c.as_slice.ensures.value at c.in-Some.ensures))), λ _. refl)
+
+pub returns-else-has_next-clause-moves : goal.returns-else-has_next-clause-moves
+returns-else-has_next-clause-moves g c =
+    let at = (rw c.as_slice.ensures.value at c.in-Some.ensures) in
+    let last = rw c.as_slice-in-Some.ensures.value at (sym c.has_next.ensures ∙ c.if-has_next.false) in
+    rw (← c.self.view_is) (record {
+      nodes = found-last c.self.inside.region c.self.inside.places.items c.self.inside.nodes c.in-Some.k c.args.id c.self.invariant.arranged.stored at last;
+      cursor = rw (found-next c.self.inside.region c.self.inside.places.items c.self.inside.nodes c.in-Some.k c.args.id c.self.invariant.arranged.stored at, last) refl;
+      region = refl;
+      next_serial = refl;
+      room = refl;
+    })

@@ -1,23 +1,24 @@
-use Rattle.std.proofs.Common.{◌≡◌, true, arith}
-use Rattle.policy_base.specs.Region.{same_id}
-use Rattle.policy_queue.proofs.Holding.{holds_within}
-use Rattle.policy_queue.proofs.Moves.{found_some, behind_some}
+use Rattle.std.proofs.Common.{◌≡◌, is_some, ap, sym, ◌∙◌, true, arith}
+use Rattle.policy_queue.proofs.Moves.{found, found-behind, place_within}
 use Rattle.policy_queue.proofs.deque.Deque.next_node_ptr.Goals as goal
+
+pub place_of-requires : goal.place_of-requires
+place_of-requires g c = rw c.as_slice.ensures.value c.self.invariant.arranged.stored
+
+pub overflow_add-k : goal.overflow_add-k
+overflow_add-k g c = let lt = place_within c.self.inside.region c.as_slice.result.now c.self.inside.nodes c.in-Some.k c.args.id (rw c.as_slice.ensures.value c.self.invariant.arranged.stored) c.in-Some.ensures in omega arith
+
+pub id_from-requires-clause-place : goal.id_from-requires-clause-place
+id_from-requires-clause-place g c = rw c.as_slice-in-Some.ensures.value (let lt = place_within c.self.inside.region c.self.inside.places.items c.self.inside.nodes c.in-Some.k c.args.id c.self.invariant.arranged.stored (rw c.as_slice.ensures.value at c.in-Some.ensures) in omega arith)
+
+pub id_from-requires-clause-stored : goal.id_from-requires-clause-stored
+id_from-requires-clause-stored g c = rw c.as_slice-in-Some.ensures.value c.self.invariant.arranged.stored
 
 pub returns-in-Some : goal.returns-in-Some
 returns-in-Some g c =
-    let h = rw c.as_slice.ensures.value at c.in-Some.ensures in
-    let behind = behind_some c.self.inside.places.items c.self.inside.slots c.in-Some.k c.args.id c.self.invariant.sound.stored h in
-    rw (← c.self.view_is) (found_some c.self.inside.places.items c.self.inside.slots c.in-Some.k c.args.id c.self.invariant.sound.stored h, rw (behind) (rw c.as_slice-in-Some.ensures.value at c.id_from.ensures))
-
-pub place_of-requires : goal.place_of-requires
-place_of-requires g c = rw c.as_slice.ensures.value c.self.invariant.sound.stored
-
-pub overflow_add-k : goal.overflow_add-k
-overflow_add-k g c = let lt = holds_within c.as_slice.result.now c.in-Some.k (λ n. same_id n.id c.args.id ≡ true) c.in-Some.ensures in omega arith
-
-pub id_from-requires : goal.id_from-requires
-id_from-requires g c = let lt = holds_within c.as_slice.result.now c.in-Some.k (λ n. same_id n.id c.args.id ≡ true) c.in-Some.ensures in omega arith
+    let at = rw c.as_slice.ensures.value at c.in-Some.ensures in
+    let behind = found-behind c.self.inside.region c.self.inside.places.items c.self.inside.nodes c.in-Some.k c.args.id c.self.invariant.arranged.stored at in
+    rw (← c.self.view_is) (ap is_some (found c.self.inside.region c.self.inside.places.items c.self.inside.nodes c.in-Some.k c.args.id c.self.invariant.arranged.stored at), rw (behind) (rw c.as_slice-in-Some.ensures.value at c.id_from.ensures))
 
 pub returns-in-None : goal.returns-in-None
 returns-in-None g c = rw (← c.self.view_is) (rw c.as_slice.ensures.value at c.in-None.ensures)
