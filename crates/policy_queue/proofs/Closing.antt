@@ -3,7 +3,7 @@ use Rattle.std.proofs.Common.{◌≡◌, ◌≢◌, ℕ, ◌+◌, ◌<◌, ◌�
 use Rattle.std.proofs.lemmas.Bool.{cases_eq}
 use Rattle.std.proofs.lemmas.List.{take_more_set, take-set-le, drop-set-lt, append_assoc, append-nil, length-set, length-append, get_or-set_same, get_or-set_other, drop_all, get_or-take, length-take}
 use Rattle.std.proofs.lemmas.Option.{same_Some}
-use Rattle.slab.specs.Slab.{Slab, get, Updates, slab_len}
+use Rattle.slab.specs.Slab.{get, Updates, slab_len}
 use Rattle.policy_queue.specs.declared.places.Seat.{Seat}
 use Rattle.policy_queue.specs.Places.{vacant, order, Nodes, place_in, seat_in, IsStored, SameNodes}
 use Rattle.policy_queue.proofs.Order.{within, order_push, order_drop_some, order_drop_none}

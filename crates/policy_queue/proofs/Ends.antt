@@ -1,7 +1,7 @@
 -- The first and the last node of an array of places.
-use Rattle.std.proofs.Common.{◌≡◌, ◌≢◌, ℕ, zero, suc, ◌+◌, ◌-◌, ◌<◌, ◌≤◌, List, [], ◌∷◌, ◌++◌, length, get_or, set, take, drop, min, refl, sym, ap, ◌∙◌, inl, inr, arith, Some}
+use Rattle.std.proofs.Common.{◌≡◌, ◌≢◌, ℕ, ◌+◌, ◌-◌, ◌<◌, ◌≤◌, List, [], ◌∷◌, ◌++◌, length, get_or, set, take, drop, min, refl, sym, ap, ◌∙◌, inl, inr, arith, Some}
 use Rattle.std.proofs.lemmas.Bool.{cases_lt, cases_eq}
-use Rattle.std.proofs.lemmas.List.{drop_all, length-set, length-take-le, get_or-set_same, get_or-set_other, get_or-take, get_or_past, get_or_append_left, get_or_at, length_push}
+use Rattle.std.proofs.lemmas.List.{drop_all, length-set, length-take-le, get_or-set_same, get_or-set_other, get_or-take, get_or_append_left, get_or_at, length_push}
 use Rattle.policy_queue.specs.Queue.{final}
 use Rattle.policy_queue.specs.Places.{vacant, order, Ends, EndsBut}
 use Rattle.policy_queue.proofs.Order.{within, order_at, full_taken}

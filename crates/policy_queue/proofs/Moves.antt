@@ -1,13 +1,12 @@
 -- A node that is found, that leaves its place, and that comes to the back; and a queue that got room.
-use Rattle.std.proofs.Common.{◌≡◌, ◌≢◌, ℕ, suc, ◌+◌, ◌-◌, ◌*◌, ◌/◌, ◌^◌, ◌<◌, ◌≤◌, true, false, List, [], ◌∷◌, ◌++◌, length, get_or, take, drop, Option, Some, None, is_some, count_by, option_map, min, refl, sym, ap, ◌∙◌, inl, inr, arith, subst}
+use Rattle.std.proofs.Common.{◌≡◌, ◌≢◌, ℕ, ◌+◌, ◌-◌, ◌/◌, ◌^◌, ◌<◌, ◌≤◌, true, false, List, [], ◌∷◌, ◌++◌, length, get_or, take, drop, Option, Some, None, Result, Ok, Err, is_err, OnOk, is_some, count_by, option_map, refl, sym, ap, ◌∙◌, inl, inr, arith, subst}
 use Rattle.std.proofs.lemmas.Bool.{cases_lt, true≢false, cond-true, cond-false, lt-ltb, le-ltb}
 use Rattle.std.proofs.lemmas.List.{get_or_append_left, get_or_at, get_or_past, get_or-drop, drop_all, length_push, append-nil}
 use Rattle.std.proofs.lemmas.Option.{none-some, same_Some}
 use Rattle.std.specs.Option.{option_to_list}
-use Rattle.slab.specs.Slab.{Slab, get, ContainsKey, Updates, slab_len}
+use Rattle.slab.specs.Slab.{get, ContainsKey, Updates, slab_len}
 use Rattle.policy_base.specs.declared.name.CacheRegion.{CacheRegion}
 use Rattle.policy_base.specs.declared.name.NodeId.{NodeId}
-use Rattle.policy_base.specs.Region.{same_id}
 use Rattle.policy_base.proofs.Names.{same_id-refl}
 use Rattle.policy_queue.specs.declared.places.Node.{Node}
 use Rattle.policy_queue.specs.declared.places.Seat.{Seat}
@@ -17,7 +16,7 @@ use Rattle.policy_queue.specs.Queue.{Queue, Stays, find, without, from_id, tail,
 use Rattle.policy_queue.specs.declared.places.Cursor.TheVariants.{At, Done}
 use Rattle.policy_queue.proofs.Live.{NoneIs, find_at, without_at, from_id_at, empty_from}
 use Rattle.policy_queue.proofs.Order.{within, order_at, order_drop_some, order_drop_front, order_skip, Lacks-order, Lacks-at, Lacks-append}
-use Rattle.policy_queue.proofs.Slots.{mapped, Have, Have-order, seat_at, nodes_of-append, nodes_of-other, nodes_of-same, NoneIs-lacks, apart_front, apart_back}
+use Rattle.policy_queue.proofs.Slots.{Have, Have-order, seat_at, nodes_of-append, nodes_of-other, nodes_of-same, NoneIs-lacks, apart_front, apart_back}
 use Rattle.policy_queue.proofs.Ends.{order_last, final-push, Ends-none}
 use Rattle.policy_queue.proofs.Closing.{Replaced, replaced_here, replaced_other}
 
@@ -192,9 +191,9 @@ nodes_for-enough n cap fits = elim (cases_lt cap (2 ^ 32 - 1)) [
 pub nodes_for-more : (cap cap' : ℕ) → cap ≤ cap' → nodes_for cap ≤ nodes_for cap'
 nodes_for-more cap cap' le = elim (cases_lt cap (2 ^ 32 - 1)) [
   | inl lt ↦ elim (cases_lt cap' (2 ^ 32 - 1)) [
-      | inl lt' ↦ omega (arith, nodes_for_small cap lt, nodes_for_small cap' lt')
-      | inr ge ↦ omega (arith, nodes_for_small cap lt, nodes_for_large cap' ge)
-    ]
+    | inl lt' ↦ omega (arith, nodes_for_small cap lt, nodes_for_small cap' lt')
+    | inr ge ↦ omega (arith, nodes_for_small cap lt, nodes_for_large cap' ge)
+  ]
   | inr ge ↦ omega (arith, nodes_for_large cap ge, nodes_for_large cap' (omega arith))
 ]
 
@@ -290,3 +289,8 @@ past_head ns n rest e = ap cursor_past e
 
 abbrev pub at_cursor : {T : Type 0} → List (Node T) → CacheRegion → ℕ → ℕ → Cursor → Queue T
 at_cursor ns r next room cursor = record { region = r; nodes = ns; cursor = cursor; next_serial = next; room = room }
+
+-- what holds where a call came out well
+pub on_ok : {A E : Type 0} (r : Result A E) (P : Type 0) → is_err r ≡ false → OnOk r P → P
+on_ok (Ok x) P e h = h
+on_ok (Err x) P e h = absurd (true≢false e)

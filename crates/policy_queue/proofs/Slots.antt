@@ -1,9 +1,9 @@
 -- Lemmas on the nodes of slots.
-use Rattle.std.proofs.Common.{◌≡◌, ◌≢◌, ℕ, zero, suc, ◌+◌, ◌-◌, ◌<◌, ◌≤◌, true, false, List, [], ◌∷◌, ◌++◌, length, map, get_or, set, take, drop, Option, Some, None, is_some, option_map, refl, sym, ap, ◌∙◌, inl, inr, arith, subst}
-use Rattle.std.proofs.lemmas.Bool.{cases_lt, cases_eq, cases_Bool, true≢false}
-use Rattle.std.proofs.lemmas.List.{get_or_past, get_or-drop, get_or-take, length-take}
+use Rattle.std.proofs.Common.{◌≡◌, ◌≢◌, ℕ, zero, suc, ◌+◌, ◌<◌, false, List, [], ◌∷◌, ◌++◌, length, map, get_or, take, drop, Option, Some, None, option_map, refl, sym, ap, ◌∙◌, inl, inr, arith, subst}
+use Rattle.std.proofs.lemmas.Bool.{cases_eq, cases_Bool, true≢false}
+use Rattle.std.proofs.lemmas.List.{get_or-drop, get_or-take, length-take}
 use Rattle.std.proofs.lemmas.Option.{none-some, same_Some}
-use Rattle.slab.specs.Slab.{Slab, get, Updates}
+use Rattle.slab.specs.Slab.{get, Updates}
 use Rattle.policy_base.specs.declared.name.CacheRegion.{CacheRegion}
 use Rattle.policy_base.specs.declared.name.NodeId.{NodeId}
 use Rattle.policy_base.specs.Region.{same_id}
@@ -82,12 +82,15 @@ module _ {T : Type 0} where
       where
         go : (o : Option (Seat T)) → seat_in s x ≡ o → NoneIs id (nodes_of r s xs) → NoneIs id (with_node r x o (nodes_of r s xs))
         go None e more = more
-        go (Some seat) e more = (elim (cases_Bool (same_id (node_of r x seat).id id)) [
-          | inl t ↦
-              let slot : x ≡ id.slot = same_id-slot (node_of r x seat).id id t in
-              absurd (true≢false (sym t ∙ ap (λ i. same_id (node_of r i seat).id id) slot ∙ h seat (ap (seat_in s) (sym slot) ∙ e)))
-          | inr f ↦ f
-        ], more)
+        go (Some seat) e more = (
+          elim (cases_Bool (same_id (node_of r x seat).id id)) [
+            | inl t ↦
+                let slot : x ≡ id.slot = same_id-slot (node_of r x seat).id id t in
+                absurd (true≢false (sym t ∙ ap (λ i. same_id (node_of r i seat).id id) slot ∙ h seat (ap (seat_in s) (sym slot) ∙ e)))
+            | inr f ↦ f
+          ],
+          more,
+        )
 
     pub stale_absent : (s : Nodes T) (id : NodeId) (xs : List ℕ) → get s id.slot ≡ None → find id (nodes_of r s xs) ≡ None
     stale_absent s id xs e = find_none id _ (NoneIs-unlike s id xs (λ seat f. absurd (none-some seat (sym (ap (λ o. option_map (λ (v : ℕ × Seat T). v.1) o) e) ∙ f))))

@@ -282,7 +282,12 @@ impl<T: Drop> Deque<T> {
         ensures* stays { sem 𝓛 (walks T.row self.entry) }
         ensures value { option_copied result ≡ option_map (λ n. n.element) (head (to_give self.old.cursor self.old.nodes)) }
     {
-        let k = walk_place(self.cursor, self.region, self.places.as_slice(), &self.nodes);
+        let k = walk_place(
+            self.cursor,
+            self.region,
+            self.places.as_slice(),
+            &self.nodes,
+        );
         if k == self.places.len() {
             self.cursor = Cursor::Unstarted;
             return None;
@@ -306,7 +311,12 @@ impl<T: Drop> Deque<T> {
         ensures value { result ≡ option_map (λ n. n.id) (head (to_give self.old.cursor self.old.nodes)) }
         ensures cursor { self.new ≡ record self.old { cursor = cursor_past (to_give self.old.cursor self.old.nodes) } }
     {
-        let k = walk_place(self.cursor, self.region, self.places.as_slice(), &self.nodes);
+        let k = walk_place(
+            self.cursor,
+            self.region,
+            self.places.as_slice(),
+            &self.nodes,
+        );
         if k == self.places.len() {
             self.cursor = Cursor::Unstarted;
             return None;

@@ -294,11 +294,7 @@ pub(crate) fn walk_place<T>(
 }
 
 /// The element in a place.
-pub(crate) fn element_at<'a, T>(
-    places: &[u32],
-    nodes: &'a Cells<u32, Seat<T>>,
-    k: usize,
-) -> &'a T
+pub(crate) fn element_at<'a, T>(places: &[u32], nodes: &'a Cells<u32, Seat<T>>, k: usize) -> &'a T
     requires there { slice_index_or places.now k vacant ≢ vacant }
     requires stored { IsStored places.now nodes.now }
     ensures { option_map (λ seat. seat.element) (seat_in nodes.now (slice_index_or places.now k vacant)) ≡ Some result.now }

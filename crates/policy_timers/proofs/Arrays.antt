@@ -9,7 +9,7 @@ use Rattle.std.proofs.lemmas.Option.{none-some, same_Some}
 use Rattle.slab.specs.Slab.{Slab, get, Updates, slab_len}
 use Rattle.policy_base.specs.declared.name.NodeId.{NodeId}
 use Rattle.policy_timers.specs.declared.array.Timer.{Timer}
-use Rattle.policy_timers.specs.Array.{key_of, IsRising, LacksSerial, AreApart, AreBelow, AreStored, IsArranged}
+use Rattle.policy_timers.specs.Array.{key_at, key_of, stored_of, IsRising, LacksSerial, AreApart, AreBelow, AreStored, IsArranged}
 
 -- a list, taken apart at one of its elements
 pub split_at : (ts : List Timer) (k : ℕ) (t : Timer) → k < length ts → t ≡ get_or ts k t → ts ≡ take k ts ++ t ∷ drop (suc k) ts
@@ -69,27 +69,27 @@ LacksSerial-next next (t ∷ ts) h = ((λ e. let lt = h.0 in absurd (omega arith
 same_serial : (a b : Timer) → a.id.serial < 2 ^ 64 → b.id.serial < 2 ^ 64 → key_of a ≡ key_of b → a.id.serial ≡ b.id.serial
 same_serial a b f g e = omega arith
 
-AreStored-update : (s s' : Slab ℕ) (t : Timer) (o : Option ℕ) (ts : List Timer) → Updates s s' t.id.slot o → get s t.id.slot ≡ Some (key_of t) → t.id.serial < 2 ^ 64 → AreApart ts → LacksSerial t.id.serial ts → AreStored s ts → AreStored s' ts
+AreStored-update : (s s' : Slab (ℕ × ℕ)) (t : Timer) (o : Option (ℕ × ℕ)) (ts : List Timer) → Updates s s' t.id.slot o → get s t.id.slot ≡ Some (stored_of t) → t.id.serial < 2 ^ 64 → AreApart ts → LacksSerial t.id.serial ts → AreStored s ts → AreStored s' ts
 AreStored-update s s' t o [] u at f a l h = tt
 AreStored-update s s' t o (m ∷ ts) u at f a l h = (
-  u.others m.id.slot (λ e. l.0 (same_serial m t a.0 f (same_Some (key_of m) (key_of t) (sym h.0 ∙ ap (get s) e ∙ at)))) ∙ h.0,
+  u.others m.id.slot (λ e. l.0 (ap (λ (p : ℕ × ℕ). p.1) (same_Some (stored_of m) (stored_of t) (sym h.0 ∙ ap (get s) e ∙ at)))) ∙ h.0,
   AreStored-update s s' t o ts u at f a.2 l.1 h.1,
 )
 
-AreStored-at : (s : Slab ℕ) (front : List Timer) (n : Timer) (back : List Timer) → AreStored s (front ++ n ∷ back) → get s n.id.slot ≡ Some (key_of n)
+AreStored-at : (s : Slab (ℕ × ℕ)) (front : List Timer) (n : Timer) (back : List Timer) → AreStored s (front ++ n ∷ back) → get s n.id.slot ≡ Some (stored_of n)
 AreStored-at s [] n back h = h.0
 AreStored-at s (m ∷ front) n back h = AreStored-at s front n back h.1
 
-AreStored-drop : (s : Slab ℕ) (front : List Timer) (n : Timer) (back : List Timer) → AreStored s (front ++ n ∷ back) → AreStored s (front ++ back)
+AreStored-drop : (s : Slab (ℕ × ℕ)) (front : List Timer) (n : Timer) (back : List Timer) → AreStored s (front ++ n ∷ back) → AreStored s (front ++ back)
 AreStored-drop s [] n back h = h.1
 AreStored-drop s (m ∷ front) n back h = (h.0, AreStored-drop s front n back h.1)
 
-AreStored-new : (s s' : Slab ℕ) (slot : ℕ) (o : Option ℕ) (ts : List Timer) → Updates s s' slot o → get s slot ≡ None → AreStored s ts → AreStored s' ts
+AreStored-new : (s s' : Slab (ℕ × ℕ)) (slot : ℕ) (o : Option (ℕ × ℕ)) (ts : List Timer) → Updates s s' slot o → get s slot ≡ None → AreStored s ts → AreStored s' ts
 AreStored-new s s' slot o [] u vacant h = tt
 AreStored-new s s' slot o (m ∷ ts) u vacant h =
-    (u.others m.id.slot (λ e. none-some (key_of m) (sym vacant ∙ ap (get s) (sym e) ∙ h.0)) ∙ h.0, AreStored-new s s' slot o ts u vacant h.1)
+    (u.others m.id.slot (λ e. none-some (stored_of m) (sym vacant ∙ ap (get s) (sym e) ∙ h.0)) ∙ h.0, AreStored-new s s' slot o ts u vacant h.1)
 
-AreStored-insert : (s : Slab ℕ) (front : List Timer) (n : Timer) (back : List Timer) → AreStored s (front ++ back) → get s n.id.slot ≡ Some (key_of n) → AreStored s (front ++ n ∷ back)
+AreStored-insert : (s : Slab (ℕ × ℕ)) (front : List Timer) (n : Timer) (back : List Timer) → AreStored s (front ++ back) → get s n.id.slot ≡ Some (stored_of n) → AreStored s (front ++ n ∷ back)
 AreStored-insert s [] n back h at = (at, h)
 AreStored-insert s (m ∷ front) n back h at = (h.0, AreStored-insert s front n back h.1 at)
 
@@ -123,7 +123,7 @@ length-removed [] m h = absurd (omega arith)
 length-removed (x ∷ xs) zero h = omega arith
 length-removed (x ∷ xs) (suc m) h = let r = length-removed xs m (omega arith) in omega arith
 
-pub IsArranged-taken : (ts : List Timer) (s s' : Slab ℕ) (k : ℕ) (t : Timer) → IsArranged ts s → k < length ts → t ≡ get_or ts k t → Updates s s' t.id.slot None → slab_len s' + 1 ≡ slab_len s → IsArranged (remove ts k) s' × LacksSerial t.id.serial (remove ts k)
+pub IsArranged-taken : (ts : List Timer) (s s' : Slab (ℕ × ℕ)) (k : ℕ) (t : Timer) → IsArranged ts s → k < length ts → t ≡ get_or ts k t → Updates s s' t.id.slot None → slab_len s' + 1 ≡ slab_len s → IsArranged (remove ts k) s' × LacksSerial t.id.serial (remove ts k)
 IsArranged-taken ts s s' k t h lt e updates fewer =
     let front : List Timer = take k ts in
     let back : List Timer = drop (suc k) ts in
@@ -143,7 +143,7 @@ IsArranged-taken ts s s' k t h lt e updates fewer =
     )
 
 -- a timer comes
-pub IsArranged-added : (ts : List Timer) (s s' : Slab ℕ) (at : ℕ) (t : Timer) → IsArranged ts s → at ≤ length ts → t.id.serial < 2 ^ 64 → LacksSerial t.id.serial ts → get s t.id.slot ≡ None → Updates s s' t.id.slot (Some (key_of t)) → slab_len s' ≡ slab_len s + 1
+pub IsArranged-added : (ts : List Timer) (s s' : Slab (ℕ × ℕ)) (at : ℕ) (t : Timer) → IsArranged ts s → at ≤ length ts → t.id.serial < 2 ^ 64 → LacksSerial t.id.serial ts → get s t.id.slot ≡ None → Updates s s' t.id.slot (Some (stored_of t)) → slab_len s' ≡ slab_len s + 1
     → ((k : ℕ) (d : Timer) → k < at → key_of (get_or ts k d) < key_of t) → ((k : ℕ) (d : Timer) → at ≤ k → k < length ts → key_of t ≤ key_of (get_or ts k d)) → IsArranged (insert ts at t) s'
 IsArranged-added ts s s' at t h le fits lacks vacant updates more below above =
     let front : List Timer = take at ts in
@@ -174,19 +174,19 @@ fits_at [] k d h lt = absurd (omega arith)
 fits_at (t ∷ ts) zero d h lt = h.0
 fits_at (t ∷ ts) (suc k) d h lt = fits_at ts k d h.2 (omega arith)
 
-stored_at : (s : Slab ℕ) (ts : List Timer) (k : ℕ) (d : Timer) → AreStored s ts → k < length ts → get s (get_or ts k d).id.slot ≡ Some (key_of (get_or ts k d))
+stored_at : (s : Slab (ℕ × ℕ)) (ts : List Timer) (k : ℕ) (d : Timer) → AreStored s ts → k < length ts → get s (get_or ts k d).id.slot ≡ Some (stored_of (get_or ts k d))
 stored_at s [] k d h lt = absurd (omega arith)
 stored_at s (t ∷ ts) zero d h lt = h.0
 stored_at s (t ∷ ts) (suc k) d h lt = stored_at s ts k d h.1 (omega arith)
 
-pub unknown : (ts : List Timer) (s : Slab ℕ) (id : NodeId) → IsArranged ts s → get s id.slot ≡ None → All (λ (t : Timer). t.id ≢ id) ts
+pub unknown : (ts : List Timer) (s : Slab (ℕ × ℕ)) (id : NodeId) → IsArranged ts s → get s id.slot ≡ None → All (λ (t : Timer). t.id ≢ id) ts
 unknown ts s id h none k d lt = λ e. none-some _ (sym none ∙ ap (λ (i : NodeId). get s i.slot) (sym e) ∙ stored_at s ts k d h.stored lt)
 
 -- no timer has the name, where the one at the key's place has another
-pub not_at_place : (ts : List Timer) (s : Slab ℕ) (id : NodeId) (bound k : ℕ) → IsArranged ts s → get s id.slot ≡ Some bound → ((j : ℕ) (d : Timer) → j < k → key_of (get_or ts j d) < bound) → ((j : ℕ) (d : Timer) → k ≤ j → j < length ts → bound ≤ key_of (get_or ts j d)) → ((d : Timer) → k < length ts → (get_or ts k d).id ≢ id) → All (λ (t : Timer). t.id ≢ id) ts
+pub not_at_place : (ts : List Timer) (s : Slab (ℕ × ℕ)) (id : NodeId) (bound : ℕ × ℕ) (k : ℕ) → IsArranged ts s → get s id.slot ≡ Some bound → ((j : ℕ) (d : Timer) → j < k → key_of (get_or ts j d) < key_at bound.0 bound.1) → ((j : ℕ) (d : Timer) → k ≤ j → j < length ts → key_at bound.0 bound.1 ≤ key_of (get_or ts j d)) → ((d : Timer) → k < length ts → (get_or ts k d).id ≢ id) → All (λ (t : Timer). t.id ≢ id) ts
 not_at_place ts s id bound k h at below above other j d lt = λ e.
     let stored = stored_at s ts j d h.stored lt in
-    let same : key_of (get_or ts j d) ≡ bound = same_Some _ _ (sym stored ∙ ap (λ (i : NodeId). get s i.slot) e ∙ at) in
+    let same : key_of (get_or ts j d) ≡ key_at bound.0 bound.1 = ap (λ (p : ℕ × ℕ). key_at p.0 p.1) (same_Some (stored_of (get_or ts j d)) bound (sym stored ∙ ap (λ (i : NodeId). get s i.slot) e ∙ at)) in
     elim (cases_lt j k) [
       | inl low ↦ let b = below j d low in absurd (omega arith)
       | inr high ↦ elim (cases_eq k j) [
@@ -200,5 +200,5 @@ not_at_place ts s id bound k h at below above other j d lt = λ e.
       ]
     ]
 
-pub contains_at : (ts : List Timer) (s : Slab ℕ) (k : ℕ) (t : Timer) → IsArranged ts s → k < length ts → t ≡ get_or ts k t → is_some (get s t.id.slot) ≡ true
+pub contains_at : (ts : List Timer) (s : Slab (ℕ × ℕ)) (k : ℕ) (t : Timer) → IsArranged ts s → k < length ts → t ≡ get_or ts k t → is_some (get s t.id.slot) ≡ true
 contains_at ts s k t h lt e = ap is_some (ap (λ (u : Timer). get s u.id.slot) e ∙ stored_at s ts k t h.stored lt)

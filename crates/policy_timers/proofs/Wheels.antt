@@ -8,17 +8,17 @@ use Rattle.policy_timers.specs.declared.array.Timer.{Timer}
 use Rattle.policy_timers.specs.Array.{key_of, LacksSerial, AreBelow, AreStored, IsArranged, IsWheel}
 use Rattle.policy_timers.proofs.Arrays.{split_at, fits_at, AreBelow-remove, AreBelow-at, AreBelow-insert}
 
-AreStored-same : (s s' : Slab ℕ) (ts : List Timer) → ((k : ℕ) → get s' k ≡ get s k) → AreStored s ts → AreStored s' ts
+AreStored-same : (s s' : Slab (ℕ × ℕ)) (ts : List Timer) → ((k : ℕ) → get s' k ≡ get s k) → AreStored s ts → AreStored s' ts
 AreStored-same s s' [] same h = tt
 AreStored-same s s' (t ∷ ts) same h = (same t.id.slot ∙ h.0, AreStored-same s s' ts same h.1)
 
 -- more room changes nothing
-pub IsWheel-same : (ts : List Timer) (s s' : Slab ℕ) (next : ℕ) → s' ≡ record s { capacity = s'.capacity } → IsWheel ts s next → IsWheel ts s' next
+pub IsWheel-same : (ts : List Timer) (s s' : Slab (ℕ × ℕ)) (next : ℕ) → s' ≡ record s { capacity = s'.capacity } → IsWheel ts s next → IsWheel ts s' next
 IsWheel-same ts s s' next same h = record {
   arranged = record {
     rising = h.arranged.rising;
     apart = h.arranged.apart;
-    stored = AreStored-same s s' ts (λ k. ap (λ (x : Slab ℕ). get x k) same) h.arranged.stored;
+    stored = AreStored-same s s' ts (λ k. ap (λ (x : Slab (ℕ × ℕ)). get x k) same) h.arranged.stored;
     counted = ap slab_len same ∙ h.arranged.counted;
   };
   below = h.below;
@@ -51,7 +51,7 @@ lacks_named (t ∷ ts) id h zero d lt = λ e. h.0 (ap (λ (i : NodeId). i.serial
 lacks_named (t ∷ ts) id h (suc k) d lt = lacks_named ts id h.1 k d (omega arith)
 
 -- where the first timer was placed behind now, all were
-pub all_later : (ts : List Timer) (s : Slab ℕ) (now : ℕ) (first : Timer) → IsArranged ts s → first ≡ get_or ts 0 first → now < first.placed → All (λ (t : Timer). now < t.placed) ts
+pub all_later : (ts : List Timer) (s : Slab (ℕ × ℕ)) (now : ℕ) (first : Timer) → IsArranged ts s → first ≡ get_or ts 0 first → now < first.placed → All (λ (t : Timer). now < t.placed) ts
 all_later ts s now first h e late k d lt =
     let up = h.rising 0 k first (omega arith) lt in
     let fits = fits_at ts k d h.apart lt in

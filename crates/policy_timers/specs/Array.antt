@@ -30,19 +30,23 @@ abbrev pub AreBelow : ℕ → List Timer → Type 0
 AreBelow next [] = Unit {0}
 AreBelow next (t ∷ rest) = (t.id.serial < next) × AreBelow next rest
 
+-- what the slab has of a timer: when it was placed, and its serial
+abbrev pub stored_of : Timer → ℕ × ℕ
+stored_of t = (t.placed, t.id.serial)
+
 -- the slab says of each timer's name which its key is
-abbrev pub AreStored : Slab ℕ → List Timer → Type 0
+abbrev pub AreStored : Slab (ℕ × ℕ) → List Timer → Type 0
 AreStored slots [] = Unit {0}
-AreStored slots (t ∷ rest) = (get slots t.id.slot ≡ Some (key_of t)) × AreStored slots rest
+AreStored slots (t ∷ rest) = (get slots t.id.slot ≡ Some (stored_of t)) × AreStored slots rest
 
 -- array and slab fit together
-pub record IsArranged (timers : List Timer) (slots : Slab ℕ) : Type 0 where
+pub record IsArranged (timers : List Timer) (slots : Slab (ℕ × ℕ)) : Type 0 where
   pub rising : IsRising timers
   pub apart : AreApart timers
   pub stored : AreStored slots timers
   pub counted : slab_len slots ≡ length timers
 
 -- the array of a wheel
-pub record IsWheel (timers : List Timer) (slots : Slab ℕ) (next : ℕ) : Type 0 where
+pub record IsWheel (timers : List Timer) (slots : Slab (ℕ × ℕ)) (next : ℕ) : Type 0 where
   pub arranged : IsArranged timers slots
   pub below : AreBelow next timers

@@ -1,4 +1,4 @@
-use Rattle.std.proofs.Common.{◌≡◌, sym, ap, ◌∙◌}
+use Rattle.std.proofs.Common.{sym, ap, ◌∙◌}
 use Rattle.policy_queue.specs.Places.{order}
 use Rattle.policy_queue.proofs.Slots.{slots_of-nodes, Have-stored}
 use Rattle.policy_queue.proofs.deque.places_of.Goals as goal

@@ -1,6 +1,6 @@
-use Rattle.std.proofs.Common.{◌≡◌, ◌≤◌, ◌<◌, ◌++◌, ◌∷◌, [], ℕ, sym, ap, ◌∙◌, length, subst, option_map, arith}
+use Rattle.std.proofs.Common.{◌≡◌, ◌++◌, ◌∷◌, [], sym, ap, ◌∙◌, length, subst, arith}
 use Rattle.std.proofs.lemmas.List.{length_push}
-use Rattle.policy_queue.specs.Places.{order, Lacks}
+use Rattle.policy_queue.specs.Places.{Lacks}
 use Rattle.policy_queue.proofs.Order.{order_push}
 use Rattle.policy_queue.proofs.Ends.{Ends-push}
 use Rattle.policy_queue.proofs.Closing.{Replaced}

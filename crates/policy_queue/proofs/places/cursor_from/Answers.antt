@@ -1,4 +1,4 @@
-use Rattle.std.proofs.Common.{◌≡◌, sym}
+use Rattle.std.proofs.Common.{sym}
 use Rattle.policy_queue.proofs.Moves.{cursor_head, cursor_none}
 use Rattle.policy_queue.proofs.places.cursor_from.Goals as goal
 

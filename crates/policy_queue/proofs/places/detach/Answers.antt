@@ -1,7 +1,4 @@
-use Rattle.std.proofs.Common.{◌≡◌, ◌≢◌, ◌<◌, sym, ap, ◌∙◌, get_or, set, take, length, vec_len, arith}
-use Rattle.std.proofs.lemmas.Bool.{cases_eq}
-use Rattle.std.proofs.lemmas.List.{get_or-set_same, get_or-set_other}
-use Rattle.policy_queue.specs.Places.{vacant, order}
+use Rattle.std.proofs.Common.{◌∙◌, vec_len, arith}
 use Rattle.policy_queue.proofs.Order.{order_emptied, within, taken_before}
 use Rattle.policy_queue.proofs.Ends.{Ends-emptied}
 use Rattle.policy_queue.proofs.places.detach.Goals as goal

@@ -1,4 +1,4 @@
-use Rattle.std.proofs.Common.{◌≡◌, ◌+◌, ◌<◌, sym, ap, ◌∙◌, get_or, length, inl, inr, arith}
+use Rattle.std.proofs.Common.{◌<◌, ap, ◌∙◌, get_or, length, inl, inr, arith}
 use Rattle.std.proofs.lemmas.Bool.{cases_eq}
 use Rattle.std.proofs.lemmas.List.{get_or_default}
 use Rattle.policy_queue.specs.Places.{vacant}

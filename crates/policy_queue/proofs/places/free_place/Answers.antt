@@ -1,5 +1,4 @@
-use Rattle.std.proofs.Common.{◌≡◌, ◌≤◌, sym, ap, ◌∙◌, length, arith}
-use Rattle.policy_queue.specs.Places.{order}
+use Rattle.std.proofs.Common.{sym, ap, ◌∙◌, length, arith}
 use Rattle.policy_queue.proofs.Order.{length-order}
 use Rattle.policy_queue.proofs.Ends.{Ends-full}
 use Rattle.policy_queue.proofs.places.free_place.Goals as goal

@@ -1,5 +1,5 @@
-use Rattle.std.proofs.Common.{◌≡◌, ◌≤◌, sym, ap, ◌∙◌, length, arith}
-use Rattle.policy_queue.specs.Places.{order, nodes_of}
+use Rattle.std.proofs.Common.{sym, ap, ◌∙◌, arith}
+use Rattle.policy_queue.specs.Places.{nodes_of}
 use Rattle.policy_queue.proofs.Live.{from_none}
 use Rattle.policy_queue.proofs.Order.{order_skip}
 use Rattle.policy_queue.proofs.Moves.{found-from, from_place, taken, place_within, nodes_past}

@@ -7,11 +7,11 @@ use Rattle.policy_timers.proofs.array.find.Goals as goal
 use Rattle.policy_timers.proofs.array.find.Goals.{else-k-len-via-then-k-len+else-is_same, else-k-len-via-else-k-len}
 
 pub returns-in-None : goal.returns-in-None
-returns-in-None c = unknown c.args.timers.now.items c.args.slots.now c.args.id c.requires (sym c.in-None.ensures)
+returns-in-None c = unknown c.args.timers.now.items c.args.slots.now c.args.id c.requires (sym c.in-None.ensures.value)
 
 pub returns-else-k-len : goal.returns-else-k-len
 returns-else-k-len c =
-    not_at_place c.args.timers.now.items c.args.slots.now c.args.id c.in-Some.key.now c.lower_bound-k.result c.requires (sym c.in-Some.ensures) c.lower_bound-k.ensures.below c.lower_bound-k.ensures.above
+    not_at_place c.args.timers.now.items c.args.slots.now c.args.id (c.in-Some.placed.now, c.in-Some.serial.now) c.lower_bound-k.result c.requires (sym c.in-Some.ensures.value) (rw (c.key-bound.ensures) c.lower_bound-k.ensures.below) (rw (c.key-bound.ensures) c.lower_bound-k.ensures.above)
     (λ d lt e. elim c.else-k-len.branch [
       | else-k-len-via-then-k-len+else-is_same w ↦
           let ts = c.args.timers.now.items in

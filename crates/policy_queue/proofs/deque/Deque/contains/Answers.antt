@@ -1,4 +1,4 @@
-use Rattle.std.proofs.Common.{◌≡◌, is_some, refl, ap}
+use Rattle.std.proofs.Common.{is_some, refl, ap}
 use Rattle.policy_queue.proofs.Moves.{found}
 use Rattle.policy_queue.proofs.deque.Deque.contains.Goals as goal
 

@@ -1,4 +1,4 @@
-use Rattle.std.proofs.Common.{◌≡◌, sym, ◌∙◌}
+use Rattle.std.proofs.Common.{sym, ◌∙◌}
 use Rattle.policy_queue.specs.Places.{order}
 use Rattle.policy_queue.proofs.Slots.{length-nodes_of, Have-stored}
 use Rattle.policy_queue.proofs.deque.Deque.len.Goals as goal

@@ -1,6 +1,6 @@
-use Rattle.std.proofs.Common.{◌≡◌, ◌+◌, ◌<◌, is_some, refl, sym, ap, ◌∙◌, arith, length, drop, take}
+use Rattle.std.proofs.Common.{◌+◌, is_some, refl, sym, ap, ◌∙◌, arith, length, drop}
 use Rattle.std.proofs.lemmas.Bool.{true≢false}
-use Rattle.std.proofs.lemmas.List.{length_push, length-append}
+use Rattle.std.proofs.lemmas.List.{length_push}
 use Rattle.policy_queue.specs.Places.{order, nodes_of, nodes_for}
 use Rattle.policy_queue.specs.Queue.{cursor_moved}
 use Rattle.policy_queue.proofs.Names.{AreNamed-moved}

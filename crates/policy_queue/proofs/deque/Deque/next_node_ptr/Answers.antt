@@ -1,4 +1,4 @@
-use Rattle.std.proofs.Common.{◌≡◌, is_some, ap, sym, ◌∙◌, true, arith}
+use Rattle.std.proofs.Common.{is_some, ap, arith}
 use Rattle.policy_queue.proofs.Moves.{found, found-behind, place_within}
 use Rattle.policy_queue.proofs.deque.Deque.next_node_ptr.Goals as goal
 

@@ -1,4 +1,4 @@
-use Rattle.std.proofs.Common.{◌≡◌, ap, ◌∙◌, option_map, sym, ◌<◌, arith, length}
+use Rattle.std.proofs.Common.{ap, ◌∙◌, option_map, sym, ◌<◌, arith, length}
 use Rattle.policy_queue.specs.declared.places.Node.{Node}
 use Rattle.policy_queue.specs.Queue.{head}
 use Rattle.policy_queue.proofs.Moves.{head_front, nodes_none}

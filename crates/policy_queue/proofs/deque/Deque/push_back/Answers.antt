@@ -1,10 +1,11 @@
-use Rattle.std.proofs.Common.{◌≡◌, ◌+◌, ◌<◌, refl, sym, ap, ◌∙◌, arith, length, ℕ, is_ok, is_some, Some, None, ◌++◌, ◌∷◌, []}
+use Rattle.std.proofs.Common.{◌+◌, refl, sym, ap, ◌∙◌, arith, length, is_ok, is_some, ◌++◌, ◌∷◌, []}
 use Rattle.std.proofs.lemmas.Bool.{true≢false}
 use Rattle.std.proofs.lemmas.List.{length_push}
-use Rattle.slab.specs.Slab.{get, slab_len}
-use Rattle.policy_queue.specs.Places.{order, nodes_of, nodes_for}
+use Rattle.slab.specs.Slab.{slab_len}
+use Rattle.policy_queue.specs.Places.{order, node_of, nodes_of, nodes_for}
+use Rattle.policy_queue.specs.declared.places.Seat.{Seat}
 use Rattle.policy_queue.proofs.Slots.{stale_absent}
-use Rattle.policy_queue.proofs.Moves.{AreArranged-room, IsStored-room, IsStored-other, IsQueue-room, Stays-room, Lacks-vacant, nodes_pushed, nodes_kept, get_kept, nodes_for-enough, nodes_for-more}
+use Rattle.policy_queue.proofs.Moves.{AreArranged-room, IsStored-other, IsQueue-room, Stays-room, Lacks-vacant, nodes_pushed, nodes_kept, get_kept, nodes_for-enough, nodes_for-more}
 use Rattle.policy_queue.proofs.Names.{AreNamed-push, AreNamed-more, LacksSerial-next}
 use Rattle.policy_queue.proofs.deque.Deque.push_back.Goals as goal
 
@@ -72,9 +73,10 @@ overflow_add-self g c = omega arith
 
 pub invariant_of-self-2 : goal.invariant_of-self-2
 invariant_of-self-2 g c =
+    let seat : Seat g.row.T.Denot = record { serial = c.self.inside.next_serial; element = c.args.element } in
     let was = AreArranged-room c.self.inside.places.items c.make_room.new.places.items c.self.inside.nodes c.make_room.new.nodes c.make_room.ensures.same c.make_room.ensures.kept c.self.inside.front c.self.invariant.arranged in
     let apart = Lacks-vacant c.make_room.new.places.items c.make_room.new.nodes c.insert_reserved-slot.result was.stored c.insert_reserved-slot.ensures.was_vacant in
-    let nodes = nodes_pushed c.self.inside.region c.make_room.new.places.items c.attach.new.places.items c.make_room.new.nodes c.insert_reserved-slot.new.self c.attach.new.nodes c.insert_reserved-slot.result _ _ apart c.insert_reserved-slot.ensures.updates c.attach.ensures.pushed c.attach.ensures.nodes ∙ ap (λ ns. ns ++ _ ∷ []) (nodes_kept c.self.inside.places.items c.make_room.new.places.items c.self.inside.nodes c.make_room.new.nodes c.make_room.ensures.same c.make_room.ensures.kept c.self.inside.region) in
+    let nodes = nodes_pushed c.self.inside.region c.make_room.new.places.items c.attach.new.places.items c.make_room.new.nodes c.insert_reserved-slot.new.self c.attach.new.nodes c.insert_reserved-slot.result 0 seat apart c.insert_reserved-slot.ensures.updates c.attach.ensures.pushed c.attach.ensures.nodes ∙ ap (λ ns. ns ++ node_of c.self.inside.region c.insert_reserved-slot.result seat ∷ []) (nodes_kept c.self.inside.places.items c.make_room.new.places.items c.self.inside.nodes c.make_room.new.nodes c.make_room.ensures.same c.make_room.ensures.kept c.self.inside.region) in
     let grown = ap length c.attach.ensures.pushed ∙ length_push _ _ in
     let same = ap (λ ps. length (order ps)) c.make_room.ensures.same in
     let before = c.self.invariant.counted in
@@ -86,15 +88,16 @@ invariant_of-self-2 g c =
     record {
       arranged = c.attach.ensures.arranged;
       counted = omega arith;
-      named = rw nodes (AreNamed-push _ (c.self.inside.next_serial + 1) (nodes_of c.self.inside.region c.self.inside.nodes (order c.self.inside.places.items)) _ (AreNamed-more _ _ _ c.self.invariant.named) refl (omega arith) (LacksSerial-next _ _ _ c.self.invariant.named));
+      named = rw nodes (AreNamed-push _ (c.self.inside.next_serial + 1) (nodes_of c.self.inside.region c.self.inside.nodes (order c.self.inside.places.items)) (node_of c.self.inside.region c.insert_reserved-slot.result seat) (AreNamed-more _ _ _ c.self.invariant.named) refl (omega arith) (LacksSerial-next _ _ _ c.self.invariant.named));
       enough = omega arith;
     }
 
 pub returns-clause-pushes : goal.returns-clause-pushes
 returns-clause-pushes g c =
+    let seat : Seat g.row.T.Denot = record { serial = c.self.inside.next_serial; element = c.args.element } in
     let was = AreArranged-room c.self.inside.places.items c.make_room.new.places.items c.self.inside.nodes c.make_room.new.nodes c.make_room.ensures.same c.make_room.ensures.kept c.self.inside.front c.self.invariant.arranged in
     let apart = Lacks-vacant c.make_room.new.places.items c.make_room.new.nodes c.insert_reserved-slot.result was.stored c.insert_reserved-slot.ensures.was_vacant in
-    let nodes = nodes_pushed c.self.inside.region c.make_room.new.places.items c.attach.new.places.items c.make_room.new.nodes c.insert_reserved-slot.new.self c.attach.new.nodes c.insert_reserved-slot.result _ _ apart c.insert_reserved-slot.ensures.updates c.attach.ensures.pushed c.attach.ensures.nodes ∙ ap (λ ns. ns ++ _ ∷ []) (nodes_kept c.self.inside.places.items c.make_room.new.places.items c.self.inside.nodes c.make_room.new.nodes c.make_room.ensures.same c.make_room.ensures.kept c.self.inside.region) in
+    let nodes = nodes_pushed c.self.inside.region c.make_room.new.places.items c.attach.new.places.items c.make_room.new.nodes c.insert_reserved-slot.new.self c.attach.new.nodes c.insert_reserved-slot.result 0 seat apart c.insert_reserved-slot.ensures.updates c.attach.ensures.pushed c.attach.ensures.nodes ∙ ap (λ ns. ns ++ node_of c.self.inside.region c.insert_reserved-slot.result seat ∷ []) (nodes_kept c.self.inside.places.items c.make_room.new.places.items c.self.inside.nodes c.make_room.new.nodes c.make_room.ensures.same c.make_room.ensures.kept c.self.inside.region) in
     rw (← c.self.view_is) (record {
       nodes = nodes;
       queue = refl;

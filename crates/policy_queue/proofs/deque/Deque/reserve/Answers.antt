@@ -1,6 +1,6 @@
-use Rattle.std.proofs.Common.{refl, ap, rules, arith}
+use Rattle.std.proofs.Common.{◌≡◌, refl, ap, is_err, false, rules, arith}
 use Rattle.slab.specs.Slab.{slab_len}
-use Rattle.policy_queue.proofs.Moves.{IsQueue-room, Stays-room, nodes_for-enough, nodes_for-fits}
+use Rattle.policy_queue.proofs.Moves.{IsQueue-room, Stays-room, nodes_for-enough, nodes_for-fits, on_ok}
 use Rattle.policy_queue.proofs.deque.Deque.reserve.Goals as goal
 
 pub returns-then-is_err-clause-had_room : goal.returns-then-is_err-clause-had_room
@@ -53,9 +53,9 @@ returns-clause-used_up g c = ((λ e. cc), λ h. let h' = rw (← c.self.view_is)
 
 pub returns-clause-room : goal.returns-clause-room
 returns-clause-room g c =
-    let err = c.if-is_err.false in
-    let ok = c.make_room.ensures.place (search rules) in
-    let room = c.make_room.ensures.room (search rules) in
+    let ok : is_err c.make_room.result ≡ false = search rules in
+    let place = on_ok c.make_room.result _ ok c.make_room.ensures.place in
+    let room = on_ok c.make_room.result _ ok c.make_room.ensures.room in
     let len = ap (λ t. slab_len t) c.make_room.ensures.kept in
-    let fits = nodes_for-fits _ _ room.1 ok in
+    let fits = nodes_for-fits _ _ room.1 place in
     omega arith
