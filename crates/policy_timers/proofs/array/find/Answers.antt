@@ -11,7 +11,7 @@ returns-in-None c = unknown c.args.timers.now.items c.args.slots.now c.args.id c
 
 pub returns-else-k-len : goal.returns-else-k-len
 returns-else-k-len c =
-    not_at_place c.args.timers.now.items c.args.slots.now c.args.id (c.in-Some.placed.now, c.in-Some.serial.now) c.lower_bound-k.result c.requires (sym c.in-Some.ensures.value) (rw (c.key-bound.ensures) c.lower_bound-k.ensures.below) (rw (c.key-bound.ensures) c.lower_bound-k.ensures.above)
+    not_at_place c.args.timers.now.items c.args.slots.now c.args.id (c.in-Some.placed.now, c.in-Some.serial.now) c.lower_bound-k.result c.requires (sym c.in-Some.ensures.value) (rw (← c.key-bound.ensures) c.lower_bound-k.ensures.below) (rw (← c.key-bound.ensures) c.lower_bound-k.ensures.above)
     (λ d lt e. elim c.else-k-len.branch [
       | else-k-len-via-then-k-len+else-is_same w ↦
           let ts = c.args.timers.now.items in
