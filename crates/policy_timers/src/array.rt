@@ -51,7 +51,11 @@ fn lower_bound(timers: &VecDeque<Timer>, bound: u128) -> usize
 }
 
 /// The index of the timer of this name.
-pub(crate) fn find(timers: &VecDeque<Timer>, slots: &Cells<Instant, u64>, id: NodeId) -> Option<usize>
+pub(crate) fn find(
+    timers: &VecDeque<Timer>,
+    slots: &Cells<Instant, u64>,
+    id: NodeId,
+) -> Option<usize>
     requires { IsArranged timers.now.items slots.now }
     ensures { MatchOption result (All (λ t. t.id ≢ id) timers.now.items) (λ k. (k < length timers.now.items) × ((d : TheTimer) → (slice_index_or timers.now.items k d).id ≡ id)) }
 {
@@ -112,7 +116,12 @@ pub(crate) fn take(timers: &mut VecDeque<Timer>, slots: &mut Cells<Instant, u64>
 }
 
 /// Puts a timer at another time. It keeps its name.
-pub(crate) fn move_timer(timers: &mut VecDeque<Timer>, slots: &mut Cells<Instant, u64>, k: usize, due: Due)
+pub(crate) fn move_timer(
+    timers: &mut VecDeque<Timer>,
+    slots: &mut Cells<Instant, u64>,
+    k: usize,
+    due: Due,
+)
     requires arranged { IsArranged timers.old.items slots.old }
     requires within { k < length timers.old.items }
     ensures moved { (t : TheTimer) × (t ≡ slice_index_or timers.old.items k t) × (at : ℕ) × (at ≤ length (remove timers.old.items k)) × (timers.new.items ≡ insert (remove timers.old.items k) at (moved t due.time due.expiry_gen)) }
