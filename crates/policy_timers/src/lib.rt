@@ -5,6 +5,8 @@ mod array;
 mod entries;
 mod events;
 pub mod laws;
+mod places;
+mod row;
 mod wheel;
 
 pub use array::{Timer, TimerNode};

@@ -8,10 +8,11 @@ ghost use Rattle.policy_timers.specs.Timers.{TheTimer, moved, Keeps, Stays, Sche
 
 use crate::array::{Due, Timer, TimerNode, add, find, move_timer, take};
 use crate::entries::due_of;
+use crate::places::{Place, slot_at};
+use crate::row::Row;
 use policy_base::{CacheRegion, Instant, NodeId, Slot};
 use slab::Slab;
 use std::alloc::{AllocError, Global};
-use std::collections::VecDeque;
 use std::marker::{Model, PhantomData};
 
 /// What became of a timer whose entry's time may have changed.
@@ -41,17 +42,17 @@ pub struct TimerWheel<K> {
     origin: Instant,
     moment: Instant,
     next_serial: u64,
-    timers: VecDeque<Timer>,
+    row: Row,
     slots: Slab<u128>,
     keys: PhantomData<K>,
 }
 
 impl<K> Model for TimerWheel<K> {
-    ghost use Rattle.std.specs.Prelude.{◌-◌, ◌^◌, min};
-    ghost use Rattle.std.specs.VecDeque.{deque_len, deque_capacity};
+    ghost use Rattle.std.specs.Prelude.{◌-◌, ◌^◌, min, length};
     ghost use Rattle.slab.specs.Slab.{slab_len};
     ghost use Rattle.policy_timers.specs.Timers.{Timers};
     ghost use Rattle.policy_timers.specs.Array.{IsWheel};
+    ghost use Rattle.policy_timers.specs.Places.{taken};
 
     ghost Value = { Timers };
 
@@ -59,12 +60,12 @@ impl<K> Model for TimerWheel<K> {
       is_enabled = w.is_enabled;
       origin = w.origin;
       moment = w.moment;
-      timers = w.timers.items;
+      timers = taken w.row.places;
       next_serial = w.next_serial;
-      room = min (deque_capacity w.timers - deque_len w.timers) (min (w.slots.capacity - slab_len w.slots) (2 ^ 64 - 1 - w.next_serial));
+      room = min (w.row.capacity - length (taken w.row.places)) (min (w.slots.capacity - slab_len w.slots) (2 ^ 64 - 1 - w.next_serial));
     } };
 
-    ghost invariant = { λ w. IsWheel w.timers.items w.slots w.next_serial };
+    ghost invariant = { λ w. IsWheel (taken w.row.places) w.slots w.next_serial };
 }
 
 impl<K> TimerWheel<K> {
@@ -81,7 +82,7 @@ impl<K> TimerWheel<K> {
             origin: moment,
             moment,
             next_serial: 0,
-            timers: VecDeque::new(alloc),
+            row: Row::new(alloc),
             slots: Slab::new(alloc),
             keys: PhantomData,
         }
@@ -106,7 +107,7 @@ impl<K> TimerWheel<K> {
     pub fn len(&self) -> usize
         ensures { result ≡ length self.now.timers }
     {
-        self.timers.len()
+        self.slots.len()
     }
 
     /// The moment up to which timers were given.
@@ -136,7 +137,7 @@ impl<K> TimerWheel<K> {
         if n == 0 {
             return Ok(());
         }
-        if self.timers.reserve(n).is_err() {
+        if !self.row.reserve(self.slots.len(), n) {
             return Err(ScheduleError::OutOfMemory);
         }
         if self.slots.reserve(n).is_err() {
@@ -176,18 +177,17 @@ impl<K> TimerWheel<K> {
         let id = NodeId {
             queue: CacheRegion::Other,
             serial: self.next_serial,
-            slot: self.slots.vacant_key(),
+            slot: slot_at(self.slots.vacant_key()),
         };
-        let node = TimerNode {
-            entry_info: entry,
-            expiry_gen: due.expiry_gen,
-        };
-        let timer = Timer {
+        let place = Place {
             placed: due.time,
-            id,
-            node,
+            serial: id.serial,
+            entry,
+            slot: id.slot,
+            expiry_gen: due.expiry_gen,
+            is_taken: true,
         };
-        add(&mut self.timers, &mut self.slots, timer);
+        add(&mut self.row, &mut self.slots, place);
         self.next_serial += 1;
         id
     }
@@ -204,15 +204,15 @@ impl<K> TimerWheel<K> {
         ensures stale { OnErr result (All (λ t. t.id ≢ id) self.old.timers) }
         ensures unchanged { OnErr result (self.new ≡ self.old) }
     {
-        match find(&self.timers, &self.slots, id) {
+        match find(&self.row, &self.slots, id) {
             None => Err(StaleTimer),
-            Some(k) => match due_of(entries, self.timers[k].node.entry_info) {
+            Some(k) => match due_of(entries, self.row.at(k).node.entry_info) {
                 None => {
-                    let timer = take(&mut self.timers, &mut self.slots, k);
+                    let timer = take(&mut self.row, &mut self.slots, k);
                     Ok(ReschedulingResult::Removed(timer.node))
                 }
                 Some(due) => {
-                    move_timer(&mut self.timers, &mut self.slots, k, due);
+                    move_timer(&mut self.row, &mut self.slots, k, due);
                     Ok(ReschedulingResult::Rescheduled)
                 }
             },
@@ -227,10 +227,10 @@ impl<K> TimerWheel<K> {
         ensures stale { OnErr result (All (λ t. t.id ≢ id) self.old.timers) }
         ensures unchanged { OnErr result (self.new ≡ self.old) }
     {
-        match find(&self.timers, &self.slots, id) {
+        match find(&self.row, &self.slots, id) {
             None => Err(StaleTimer),
             Some(k) => {
-                let timer = take(&mut self.timers, &mut self.slots, k);
+                let timer = take(&mut self.row, &mut self.slots, k);
                 Ok(timer.node)
             }
         }
@@ -240,10 +240,10 @@ impl<K> TimerWheel<K> {
     pub(crate) fn first_due(&self, now: Instant) -> Option<Timer>
         ensures { MatchOption result (All (λ t. now < t.placed) self.now.timers) (λ t. (0 < length self.now.timers) × (t ≡ slice_index_or self.now.timers 0 t) × (t.placed ≤ now)) }
     {
-        match self.timers.front() {
+        match self.row.first() {
             Some(first) => {
                 if first.placed.as_nanos() <= now.as_nanos() {
-                    Some(*first)
+                    Some(first)
                 } else {
                     None
                 }
@@ -258,7 +258,12 @@ impl<K> TimerWheel<K> {
         ensures first { (t : TheTimer) × (self.old.timers ≡ t ∷ self.new.timers) }
         ensures keeps { Keeps self.old self.new }
     {
-        let _timer = take(&mut self.timers, &mut self.slots, 0);
+        match self.row.first() {
+            Some(_) => {
+                let _timer = take(&mut self.row, &mut self.slots, 0);
+            }
+            None => unreachable!(),
+        }
     }
 
     /// Puts the first timer at another time.
@@ -267,7 +272,10 @@ impl<K> TimerWheel<K> {
         ensures first { (t : TheTimer) × (rest : List TheTimer) × (self.old.timers ≡ t ∷ rest) × IsPermutation (moved t due.time due.expiry_gen ∷ rest) self.new.timers }
         ensures keeps { Keeps self.old self.new }
     {
-        move_timer(&mut self.timers, &mut self.slots, 0, due);
+        match self.row.first() {
+            Some(_) => move_timer(&mut self.row, &mut self.slots, 0, due),
+            None => unreachable!(),
+        }
     }
 
     /// Sets the moment up to which timers were given.

@@ -1,5 +1,4 @@
 use Rattle.std.proofs.Common.{◌≡◌, ◌∷◌, sym, ap, ◌∙◌, get_or, Bool, true, false, subst, ℕ, Some, refl}
-use Rattle.std.specs.List.{remove}
 use Rattle.policy_timers.proofs.Wheels.{first_split}
 use Rattle.policy_timers.specs.Events.{EventIs}
 use Rattle.std.specs.Bool.{OnTrue}
@@ -70,7 +69,7 @@ pub pop_first-requires : goal.pop_first-requires
 pop_first-requires g c = c.in-Some.ensures.0
 
 pub settle-event-requires-clause-there : goal.settle-event-requires-clause-there
-settle-event-requires-clause-there g c = (remove c.loop-timer.self.wheel.now.timers 0, first_split c.loop-timer.self.wheel.now.timers c.in-Some.timer c.in-Some.ensures.0 c.in-Some.ensures.1)
+settle-event-requires-clause-there g c = first_split c.loop-timer.self.wheel.now.timers c.in-Some.timer c.in-Some.ensures.0 c.in-Some.ensures.1
 
 pub settle-event-requires-clause-due : goal.settle-event-requires-clause-due
 settle-event-requires-clause-due g c = sym c.due_of.ensures ∙ c.in-Some-due_of.is
