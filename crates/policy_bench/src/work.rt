@@ -126,7 +126,12 @@ fn time_of(work: Work, number: u64, draw: u64) -> Instant {
             } else {
                 86_400_000_000_000
             };
-            moment_of(number.saturating_mul(1_000_000).saturating_add(life).saturating_mul(4))
+            moment_of(
+                number
+                    .saturating_mul(1_000_000)
+                    .saturating_add(life)
+                    .saturating_mul(4),
+            )
         }
         _ => moment_of(draw),
     }
@@ -151,7 +156,7 @@ fn due_entries(alloc: Global, size: usize, work: Work) -> Option<Slab<Slot<u64>>
     Some(entries)
 }
 
-/// Schedules so many timers, if there is a round at all, lets them expire one by one, and counts those that did.
+/// Makes entries; in one round schedules their timers; in two lets them expire one by one, and counts those that did.
 fn timers(alloc: Global, size: usize, rounds: u64, work: Work) -> Option<u64> {
     let mut entries = due_entries(alloc, size, work)?;
     if rounds == 0 {
@@ -163,6 +168,9 @@ fn timers(alloc: Global, size: usize, rounds: u64, work: Work) -> Option<u64> {
         if !wheel.is_enabled() || wheel.schedule(entry, &entries).is_err() {
             return None;
         }
+    }
+    if rounds == 1 {
+        return Some(wheel.len() as u64);
     }
     let mut expired = 0u64;
     for _ in 0..size {

@@ -101,6 +101,13 @@ all_later ts s now first h up late k d lt =
     let fits = fits_at ts k d h.apart lt in
     omega arith
 
+-- the timer of the least key was placed first
+pub all_behind : (ts : List Timer) (s : Slab ℕ) (first : Timer) → IsArranged ts s → All (λ (t : Timer). key_of first ≤ key_of t) ts → All (λ (t : Timer). first.placed ≤ t.placed) ts
+all_behind ts s first h up k d lt =
+    let le = up k d lt in
+    let fits = fits_at ts k d h.apart lt in
+    omega arith
+
 -- a list that begins with a timer, and with one before these others
 pub leads : (ts rest after : List Timer) (t u : Timer) → ts ≡ t ∷ rest → ts ≡ u ∷ after → ts ≡ t ∷ after
 leads ts rest after t u e f = f ∙ ap (λ (v : Timer). v ∷ after) (sym (ap (λ xs. get_or xs 0 t) (sym e ∙ f)))

@@ -28,9 +28,9 @@ pub struct Timer {
 
 /// When an entry is due, with the generation of its own expiration.
 #[derive(Clone, Copy)]
-pub(crate) struct Due {
-    pub(crate) time: Instant,
-    pub(crate) expiry_gen: u16,
+pub struct Due {
+    pub time: Instant,
+    pub expiry_gen: u16,
 }
 
 /// The place of the timer of this name.

@@ -9,6 +9,6 @@ mod places;
 mod row;
 mod wheel;
 
-pub use array::{Timer, TimerNode};
+pub use array::{Due, Timer, TimerNode};
 pub use events::{TimerEvent, TimerEventsIter};
 pub use wheel::{ReschedulingResult, ScheduleError, StaleTimer, TimerWheel};

@@ -1,10 +1,10 @@
 //! Timers of a cache's entries.
-ghost use Rattle.std.specs.Prelude.{◌≡◌, ◌≢◌, ℕ, ◌+◌, ◌-◌, ◌^◌, ◌<◌, ◌≤◌, ◌↔◌, true, false, List, [], ◌∷◌, length, IsTrue, IsOk, IfOk, IfErr, OnOk, OnErr, MatchOption, Some, None, slice_index_or};
+ghost use Rattle.std.specs.Prelude.{◌≡◌, ◌≢◌, ℕ, ◌+◌, ◌-◌, ◌^◌, ◌<◌, ◌≤◌, ◌↔◌, true, false, List, [], ◌∷◌, length, IsTrue, IsOk, IfOk, IfErr, OnOk, OnErr, MatchOption, IfSome, Some, None, slice_index_or};
 ghost use Rattle.std.specs.List.{All};
 ghost use Rattle.std.specs.List.Sorted.{IsPermutation};
 ghost use Rattle.slab.specs.Slab.{get};
 ghost use Rattle.policy_timers.specs.Entries.{due_of};
-ghost use Rattle.policy_timers.specs.Timers.{TheTimer, moved, Keeps, Stays, ScheduledWell, RefusedWell, Leaves, RescheduledWell, Schedules};
+ghost use Rattle.policy_timers.specs.Timers.{TheTimer, moved, Keeps, Stays, ScheduledWell, RefusedWell, Leaves, RescheduledWell, Replaces, Schedules};
 
 use crate::array::{Due, Timer, TimerNode, add, find, move_timer, take};
 use crate::entries::due_of;
@@ -169,8 +169,8 @@ impl<K> TimerWheel<K> {
         }
     }
 
-    /// Adds a timer. There is room.
-    fn place(&mut self, entry: usize, due: Due) -> NodeId
+    /// Adds a timer for an entry at a time, and answers its name. It needs no memory: there is room.
+    pub fn place(&mut self, entry: usize, due: Due) -> NodeId
         requires { 0 < self.old.room }
         ensures { Schedules self.old self.new entry result due }
     {
@@ -219,6 +219,22 @@ impl<K> TimerWheel<K> {
         }
     }
 
+    /// Puts a timer at another time. It keeps its name, and no memory is needed.
+    pub fn replace(&mut self, id: NodeId, due: Due) -> Result<(), StaleTimer>
+        ensures replaces { OnOk result (Replaces self.old.timers self.new.timers id due) }
+        ensures keeps { OnOk result (Keeps self.old self.new) }
+        ensures stale { OnErr result (All (λ t. t.id ≢ id) self.old.timers) }
+        ensures unchanged { OnErr result (self.new ≡ self.old) }
+    {
+        match find(&self.row, &self.slots, id) {
+            None => Err(StaleTimer),
+            Some(k) => {
+                move_timer(&mut self.row, &mut self.slots, k, due);
+                Ok(())
+            }
+        }
+    }
+
     /// Takes a timer out.
     pub fn deschedule(&mut self, id: NodeId) -> Result<TimerNode, StaleTimer>
         requires { self.old.is_enabled ≡ true }
@@ -236,9 +252,10 @@ impl<K> TimerWheel<K> {
         }
     }
 
-    /// The first timer, where it was placed at or before `now`.
-    pub(crate) fn first_due(&self, now: Instant) -> Option<Timer>
-        ensures { MatchOption result (All (λ t. now < t.placed) self.now.timers) (λ t. (0 < length self.now.timers) × (t ≡ slice_index_or self.now.timers 0 t) × (t.placed ≤ now)) }
+    /// The first timer, where it was placed at or before `now`. It stays.
+    pub fn first_due(&self, now: Instant) -> Option<Timer>
+        ensures earliest { IfSome result (λ t. All (λ u. t.placed ≤ u.placed) self.now.timers) }
+        ensures first { MatchOption result (All (λ t. now < t.placed) self.now.timers) (λ t. (0 < length self.now.timers) × (t ≡ slice_index_or self.now.timers 0 t) × (t.placed ≤ now)) }
     {
         match self.row.first() {
             Some(first) => {
@@ -253,7 +270,7 @@ impl<K> TimerWheel<K> {
     }
 
     /// Takes the first timer out.
-    pub(crate) fn pop_first(&mut self)
+    pub fn pop_first(&mut self)
         requires { 0 < length self.old.timers }
         ensures first { (t : TheTimer) × (self.old.timers ≡ t ∷ self.new.timers) }
         ensures keeps { Keeps self.old self.new }
