@@ -38,9 +38,10 @@ def main():
     print(f"the first node moved to the back: {small:.0f} ns at 1,000 nodes, {large:.0f} ns at 1,000,000")
     drawn = [nanos_a_round("moves", size, 10_000_000) for size in (1_000, 1_000_000)]
     print(f"a drawn node moved to the back: {drawn[0]:.0f} ns at 1,000 nodes, {drawn[1]:.0f} ns at 1,000,000")
-    for what, size in [("rising", 100_000), ("rising", 1_000_000), ("random", 10_000), ("random", 100_000)]:
-        whole = seconds_of(what, size, 0) / size * 1e9
-        print(f"{size:,} timers in {what} order: {whole:.0f} ns each, made, scheduled and expired")
+    for what in ["rising", "random", "lives"]:
+        for size in [10_000, 100_000, 1_000_000]:
+            made, scheduled, expired = [seconds_of(what, size, rounds) / size * 1e9 for rounds in (0, 1, 2)]
+            print(f"{size:,} timers, {what}: {scheduled - made:.0f} ns a schedule, {expired - scheduled:.0f} ns an expiration")
     for what in ["counts", "frequencies"]:
         for size in [1_000, 1_000_000]:
             once = nanos_a_round(what, size, 10_000_000)

@@ -10,8 +10,8 @@ pub use policy_deques::Deques;
 pub use policy_queue::{Cursor, Deque, Node, PushError, ReserveError, Stale};
 pub use policy_sketch::FrequencySketch;
 pub use policy_timers::{
-    ReschedulingResult, ScheduleError, StaleTimer, Timer, TimerEvent, TimerEventsIter, TimerNode,
-    TimerWheel,
+    Due, ReschedulingResult, ScheduleError, StaleTimer, Timer, TimerEvent, TimerEventsIter,
+    TimerNode, TimerWheel,
 };
 
 /// Functions whose contracts are laws.

@@ -20,6 +20,8 @@ pub enum Work {
     Rising,
     /// Timers that are scheduled in no order and then all expire.
     Random,
+    /// Timers that are scheduled one a millisecond, each a minute or a day ahead as is drawn, and then all expire.
+    Lives,
     /// Hashes that are counted by a sketch.
     Counts,
     /// Look-ups of a sketch.
@@ -34,6 +36,7 @@ impl Work {
             "fronts" => Some(Work::Fronts),
             "rising" => Some(Work::Rising),
             "random" => Some(Work::Random),
+            "lives" => Some(Work::Lives),
             "counts" => Some(Work::Counts),
             "frequencies" => Some(Work::Frequencies),
             _ => None,
@@ -46,8 +49,7 @@ pub fn run(alloc: Global, work: Work, size: usize, rounds: u64) -> Option<u64> {
     match work {
         Work::Moves => moves(alloc, size, rounds),
         Work::Fronts => fronts(alloc, size, rounds),
-        Work::Rising => timers(alloc, size, true),
-        Work::Random => timers(alloc, size, false),
+        Work::Rising | Work::Random | Work::Lives => timers(alloc, size, rounds, work),
         Work::Counts => counts(alloc, size, rounds),
         Work::Frequencies => frequencies(alloc, size, rounds),
     }
@@ -114,8 +116,29 @@ fn moment_of(draw: u64) -> Instant {
     Instant::from_nanos(draw / 4)
 }
 
-/// Entries that are due in rising order, or in none.
-fn due_entries(alloc: Global, size: usize, is_rising: bool) -> Option<Slab<Slot<u64>>> {
+/// When an entry is due, by its number and what was drawn.
+fn time_of(work: Work, number: u64, draw: u64) -> Instant {
+    match work {
+        Work::Rising => moment_of(number.saturating_mul(1 << 40)),
+        Work::Lives => {
+            let life: u64 = if draw >> 63 == 0 {
+                60_000_000_000
+            } else {
+                86_400_000_000_000
+            };
+            moment_of(
+                number
+                    .saturating_mul(1_000_000)
+                    .saturating_add(life)
+                    .saturating_mul(4),
+            )
+        }
+        _ => moment_of(draw),
+    }
+}
+
+/// Entries that are due as the work says.
+fn due_entries(alloc: Global, size: usize, work: Work) -> Option<Slab<Slot<u64>>> {
     let mut entries = Slab::new(alloc);
     let mut draw = 7;
     for number in 0..size {
@@ -125,12 +148,7 @@ fn due_entries(alloc: Global, size: usize, is_rising: bool) -> Option<Slab<Slot<
             Err(_) => return None,
         };
         let mut info = EntryInfo::new(KeyHash::new(key, draw), Instant::from_nanos(0), 1);
-        let time = if is_rising {
-            moment_of((number as u64).saturating_mul(1 << 40))
-        } else {
-            moment_of(draw)
-        };
-        info.set_expiration_time(Some(time));
+        info.set_expiration_time(Some(time_of(work, number as u64, draw)));
         if entries.insert(Slot::new(info)).is_err() {
             return None;
         }
@@ -138,15 +156,21 @@ fn due_entries(alloc: Global, size: usize, is_rising: bool) -> Option<Slab<Slot<
     Some(entries)
 }
 
-/// Schedules so many timers, lets them expire one by one, and counts those that did.
-fn timers(alloc: Global, size: usize, is_rising: bool) -> Option<u64> {
-    let mut entries = due_entries(alloc, size, is_rising)?;
+/// Makes entries; in one round schedules their timers; in two lets them expire one by one, and counts those that did.
+fn timers(alloc: Global, size: usize, rounds: u64, work: Work) -> Option<u64> {
+    let mut entries = due_entries(alloc, size, work)?;
+    if rounds == 0 {
+        return Some(entries.len() as u64);
+    }
     let mut wheel: TimerWheel<u64> = TimerWheel::new(alloc, Instant::from_nanos(0));
     wheel.enable();
     for entry in 0..size {
         if !wheel.is_enabled() || wheel.schedule(entry, &entries).is_err() {
             return None;
         }
+    }
+    if rounds == 1 {
+        return Some(wheel.len() as u64);
     }
     let mut expired = 0u64;
     for _ in 0..size {

@@ -1,6 +1,8 @@
 //! Timers. What is refused for memory is tried once more, and has changed nothing; so the tests pass with any one allocation refused.
 use crate::outcome::none_wrong;
-use moka_policy::{EntryInfo, Instant, KeyHash, ScheduleError, Slot, TimerEvent, TimerWheel};
+use moka_policy::{
+    Due, EntryInfo, Instant, KeyHash, NodeId, ScheduleError, Slot, TimerEvent, TimerWheel,
+};
 use slab::Slab;
 use std::alloc::Global;
 use std::sync::Arc;
@@ -13,6 +15,8 @@ struct Timers {
     alloc: Global,
     entries: Slab<Slot<u8>>,
     wheel: TimerWheel<u8>,
+    /// The name of the timer that was placed last by itself.
+    last: Option<NodeId>,
 }
 
 /// What is done with the timers, and what has to come of it.
@@ -36,6 +40,18 @@ enum Act {
     Waits(u64),
     Len(usize),
     Moment(u64),
+    /// A timer is placed at that moment, for an entry of that number, which need not be there.
+    Place(u64, usize),
+    /// That timer is put at that moment.
+    Replace(u64),
+    /// It is unknown.
+    ReplaceUnknown,
+    /// The first timer up to that moment is of the entry of that number.
+    First(u64, usize),
+    /// No timer was placed up to that moment.
+    NoFirst(u64),
+    /// The first timer leaves.
+    PopFirst,
 }
 
 fn new_timers(alloc: Global) -> Timers {
@@ -45,6 +61,7 @@ fn new_timers(alloc: Global) -> Timers {
         alloc,
         entries: Slab::new(alloc),
         wheel,
+        last: None,
     }
 }
 
@@ -171,6 +188,48 @@ fn expires_at_each_tick(timers: &mut Timers) -> bool {
     true
 }
 
+/// A due time, without an own expiration's generation.
+fn due(time: u64) -> Due {
+    Due {
+        time: Instant::from_nanos(time.min(9_000_000_000_000)),
+        expiry_gen: 0,
+    }
+}
+
+/// Places a timer by itself, within a reservation.
+fn place_alone(timers: &mut Timers, time: u64, entry: usize) -> bool {
+    if timers.wheel.reserve(1).is_err() && timers.wheel.reserve(1).is_err() {
+        return false;
+    }
+    timers.last = Some(timers.wheel.place(entry, due(time)));
+    true
+}
+
+/// Whether the timer that was placed last is known, and then stands at that moment; nothing where none was placed.
+fn replace(timers: &mut Timers, time: u64) -> Option<bool> {
+    match timers.last {
+        Some(id) => Some(timers.wheel.replace(id, due(time)).is_ok()),
+        None => None,
+    }
+}
+
+/// Takes the first timer out, if there is one.
+fn pop_first(timers: &mut Timers) -> bool {
+    if timers.wheel.len() == 0 {
+        return false;
+    }
+    timers.wheel.pop_first();
+    true
+}
+
+/// The entry of the first timer up to that moment.
+fn first_entry(timers: &Timers, now: u64) -> Option<usize> {
+    match timers.wheel.first_due(due(now).time) {
+        Some(timer) => Some(timer.node.entry_info),
+        None => None,
+    }
+}
+
 /// Schedules, and answers whether it came out so.
 fn comes_so(timers: &mut Timers, act: Act) -> bool {
     match act {
@@ -178,6 +237,10 @@ fn comes_so(timers: &mut Timers, act: Act) -> bool {
         Act::ScheduleThousand => schedule_thousand(timers),
         Act::Reserve(n) => reserve(&mut timers.wheel, n),
         Act::ScheduleReserved(time, times) => schedule_reserved_often(timers, time, times),
+        Act::Place(time, entry) => place_alone(timers, time, entry),
+        Act::Replace(time) => replace(timers, time) == Some(true),
+        Act::ReplaceUnknown => replace(timers, 0) == Some(false),
+        Act::PopFirst => pop_first(timers),
         act => shows_so(timers, act),
     }
 }
@@ -191,6 +254,8 @@ fn shows_so(timers: &mut Timers, act: Act) -> bool {
         Act::Waits(now) => next_event(timers, now).is_none(),
         Act::Len(wanted) => timers.wheel.len() == wanted,
         Act::Moment(wanted) => timers.wheel.moment().as_nanos() == wanted,
+        Act::First(now, entry) => first_entry(timers, now) == Some(entry),
+        Act::NoFirst(now) => first_entry(timers, now).is_none(),
         _ => false,
     }
 }
@@ -240,6 +305,27 @@ const CASES: &[&[Act]] = &[
     ],
     // a thousand timers in falling order
     &[Act::ScheduleThousand, Act::ExpiresAtEachTick, Act::Len(0)],
+    // timers placed, looked at, put at another time and taken one by one
+    &[
+        Act::Place(30, 3),
+        Act::Place(10, 1),
+        Act::Place(20, 2),
+        Act::NoFirst(9),
+        Act::First(10, 1),
+        Act::Replace(5),
+        Act::First(10, 2),
+        Act::Replace(25),
+        Act::First(25, 1),
+        Act::PopFirst,
+        Act::NoFirst(24),
+        Act::First(25, 2),
+        Act::PopFirst,
+        Act::ReplaceUnknown,
+        Act::First(30, 3),
+        Act::PopFirst,
+        Act::NoFirst(1000),
+        Act::Len(0),
+    ],
     // timers within a reservation
     &[
         Act::Reserve(20),

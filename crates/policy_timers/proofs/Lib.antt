@@ -1,3 +1,6 @@
+pub mod Spreads
+pub mod Shifts
+pub mod Comings
 pub mod Arrays
 pub mod Wheels
 pub mod Advance

@@ -1,8 +1,8 @@
--- The array of timers behind a wheel.
-use Rattle.std.specs.Prelude.{◌≡◌, ◌≢◌, ℕ, ◌+◌, ◌*◌, ◌^◌, ◌<◌, List, [], ◌∷◌, length, Some}
-use Rattle.std.specs.List.Sorted.{IsNonDecreasingBy}
+-- The timers of a wheel, and the slab that leads from a timer's name to its key.
+use Rattle.std.specs.Prelude.{◌≡◌, ◌≢◌, ℕ, ◌+◌, ◌*◌, ◌^◌, ◌<◌, List, [], ◌∷◌, ◌++◌, length, Some}
 use Rattle.slab.specs.Slab.{Slab, get, slab_len}
 use Rattle.policy_timers.specs.declared.array.Timer.{Timer}
+use Rattle.policy_timers.specs.Timers.{moved}
 
 -- the number by which timers are in order
 abbrev pub key_at : ℕ → ℕ → ℕ
@@ -10,10 +10,6 @@ key_at placed serial = placed * 18446744073709551616 + serial
 
 abbrev pub key_of : Timer → ℕ
 key_of t = key_at t.placed t.id.serial
-
--- the timers are in order
-abbrev pub IsRising : List Timer → Type 0
-IsRising ts = IsNonDecreasingBy key_of ts
 
 -- no timer has this serial
 abbrev pub LacksSerial : ℕ → List Timer → Type 0
@@ -39,14 +35,24 @@ abbrev pub AreStored : Slab (ℕ × ℕ) → List Timer → Type 0
 AreStored slots [] = Unit {0}
 AreStored slots (t ∷ rest) = (get slots t.id.slot ≡ Some (stored_of t)) × AreStored slots rest
 
--- array and slab fit together
+-- timers and slab fit together
 pub record IsArranged (timers : List Timer) (slots : Slab (ℕ × ℕ)) : Type 0 where
-  pub rising : IsRising timers
   pub apart : AreApart timers
   pub stored : AreStored slots timers
   pub counted : slab_len slots ≡ length timers
 
--- the array of a wheel
+-- the timers of a wheel
 pub record IsWheel (timers : List Timer) (slots : Slab (ℕ × ℕ)) (next : ℕ) : Type 0 where
   pub arranged : IsArranged timers slots
   pub below : AreBelow next timers
+
+-- a timer, the one in the place of this number, was put at another time
+pub record MovesTo (k : ℕ) (old new : List Timer) (t : Timer) (time generation : ℕ) : Type 0 where
+  pub before : List Timer
+  pub after : List Timer
+  pub first : k ≡ 0 → before ≡ []
+  pub was : old ≡ before ++ t ∷ after
+  pub low : List Timer
+  pub high : List Timer
+  pub others : before ++ after ≡ low ++ high
+  pub is : new ≡ low ++ moved t time generation ∷ high

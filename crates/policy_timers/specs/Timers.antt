@@ -87,6 +87,14 @@ pub record Moves {K : Type 0} (entries : Slab (Slot K)) (old new : List Timer) (
   pub is_due : due_of entries timer.node.entry_info ≡ Some due
   pub after : IsPermutation (moved timer due.time due.expiry_gen ∷ others) new
 
+-- a timer was put at another time, and keeps its name
+pub record Replaces (old new : List Timer) (id : NodeId) (due : Due) : Type 0 where
+  pub timer : Timer
+  pub named : timer.id ≡ id
+  pub others : List Timer
+  pub before : IsPermutation old (timer ∷ others)
+  pub after : IsPermutation (moved timer due.time due.expiry_gen ∷ others) new
+
 -- what a call of `reschedule` did
 abbrev pub RescheduledWell : {K : Type 0} → Slab (Slot K) → List Timer → List Timer → NodeId → ReschedulingResult → Type 0
 RescheduledWell entries old new id Rescheduled = Moves entries old new id

@@ -1,18 +1,19 @@
 //! Timers of a cache's entries.
-ghost use Rattle.std.specs.Prelude.{◌≡◌, ◌≢◌, ℕ, ◌+◌, ◌-◌, ◌^◌, ◌<◌, ◌≤◌, ◌↔◌, true, false, List, [], ◌∷◌, length, IsTrue, IsOk, IfOk, IfErr, OnOk, OnErr, MatchOption, Some, None, slice_index_or};
+ghost use Rattle.std.specs.Prelude.{◌≡◌, ◌≢◌, ℕ, ◌+◌, ◌-◌, ◌^◌, ◌<◌, ◌≤◌, ◌↔◌, true, false, List, [], ◌∷◌, length, IsTrue, IsOk, IfOk, IfErr, OnOk, OnErr, MatchOption, IfSome, Some, None, slice_index_or};
 ghost use Rattle.std.specs.List.{All};
 ghost use Rattle.std.specs.List.Sorted.{IsPermutation};
 ghost use Rattle.slab.specs.Slab.{get};
 ghost use Rattle.policy_timers.specs.Entries.{due_of};
-ghost use Rattle.policy_timers.specs.Timers.{TheTimer, moved, Keeps, Stays, ScheduledWell, RefusedWell, Leaves, RescheduledWell, Schedules};
+ghost use Rattle.policy_timers.specs.Timers.{TheTimer, moved, Keeps, Stays, ScheduledWell, RefusedWell, Leaves, RescheduledWell, Replaces, Schedules};
 
 use crate::array::{Due, Timer, TimerNode, add, find, move_timer, take};
 use crate::entries::due_of;
+use crate::places::Place;
+use crate::row::Row;
 use policy_base::{CacheRegion, Instant, NodeId, Slot};
 use policy_cells::Cells;
 use slab::Slab;
 use std::alloc::{AllocError, Global};
-use std::collections::VecDeque;
 use std::marker::{Model, PhantomData};
 
 /// What became of a timer whose entry's time may have changed.
@@ -42,17 +43,17 @@ pub struct TimerWheel<K> {
     origin: Instant,
     moment: Instant,
     next_serial: u64,
-    timers: VecDeque<Timer>,
+    row: Row,
     slots: Cells<Instant, u64>,
     keys: PhantomData<K>,
 }
 
 impl<K> Model for TimerWheel<K> {
-    ghost use Rattle.std.specs.Prelude.{◌-◌, ◌^◌, min};
-    ghost use Rattle.std.specs.VecDeque.{deque_len, deque_capacity};
+    ghost use Rattle.std.specs.Prelude.{◌-◌, ◌^◌, min, length};
     ghost use Rattle.slab.specs.Slab.{slab_len};
     ghost use Rattle.policy_timers.specs.Timers.{Timers};
     ghost use Rattle.policy_timers.specs.Array.{IsWheel};
+    ghost use Rattle.policy_timers.specs.Places.{taken};
 
     ghost Value = { Timers };
 
@@ -60,12 +61,12 @@ impl<K> Model for TimerWheel<K> {
       is_enabled = w.is_enabled;
       origin = w.origin;
       moment = w.moment;
-      timers = w.timers.items;
+      timers = taken w.row.places;
       next_serial = w.next_serial;
-      room = min (deque_capacity w.timers - deque_len w.timers) (min (w.slots.capacity - slab_len w.slots) (2 ^ 64 - 1 - w.next_serial));
+      room = min (w.row.capacity - length (taken w.row.places)) (min (w.slots.capacity - slab_len w.slots) (2 ^ 64 - 1 - w.next_serial));
     } };
 
-    ghost invariant = { λ w. IsWheel w.timers.items w.slots w.next_serial };
+    ghost invariant = { λ w. IsWheel (taken w.row.places) w.slots w.next_serial };
 }
 
 impl<K> TimerWheel<K> {
@@ -82,7 +83,7 @@ impl<K> TimerWheel<K> {
             origin: moment,
             moment,
             next_serial: 0,
-            timers: VecDeque::new(alloc),
+            row: Row::new(alloc),
             slots: Cells::new(alloc),
             keys: PhantomData,
         }
@@ -107,7 +108,7 @@ impl<K> TimerWheel<K> {
     pub fn len(&self) -> usize
         ensures { result ≡ length self.now.timers }
     {
-        self.timers.len()
+        self.slots.len()
     }
 
     /// The moment up to which timers were given.
@@ -137,7 +138,7 @@ impl<K> TimerWheel<K> {
         if n == 0 {
             return Ok(());
         }
-        if self.timers.reserve(n).is_err() {
+        if !self.row.reserve(self.slots.len(), n) {
             return Err(ScheduleError::OutOfMemory);
         }
         if self.slots.reserve(n).is_err() {
@@ -169,8 +170,8 @@ impl<K> TimerWheel<K> {
         }
     }
 
-    /// Adds a timer. There is room.
-    fn place(&mut self, entry: usize, due: Due) -> NodeId
+    /// Adds a timer for an entry at a time, and answers its name. It needs no memory: there is room.
+    pub fn place(&mut self, entry: usize, due: Due) -> NodeId
         requires { 0 < self.old.room }
         ensures { Schedules self.old self.new entry result due }
     {
@@ -179,16 +180,15 @@ impl<K> TimerWheel<K> {
             serial: self.next_serial,
             slot: self.slots.vacant_key(),
         };
-        let node = TimerNode {
-            entry_info: entry,
-            expiry_gen: due.expiry_gen,
-        };
-        let timer = Timer {
+        let place = Place {
             placed: due.time,
-            id,
-            node,
+            serial: id.serial,
+            entry,
+            slot: id.slot,
+            expiry_gen: due.expiry_gen,
+            is_taken: true,
         };
-        add(&mut self.timers, &mut self.slots, timer);
+        add(&mut self.row, &mut self.slots, place);
         self.next_serial += 1;
         id
     }
@@ -205,18 +205,34 @@ impl<K> TimerWheel<K> {
         ensures stale { OnErr result (All (λ t. t.id ≢ id) self.old.timers) }
         ensures unchanged { OnErr result (self.new ≡ self.old) }
     {
-        match find(&self.timers, &self.slots, id) {
+        match find(&self.row, &self.slots, id) {
             None => Err(StaleTimer),
-            Some(k) => match due_of(entries, self.timers[k].node.entry_info) {
+            Some(k) => match due_of(entries, self.row.at(k).node.entry_info) {
                 None => {
-                    let timer = take(&mut self.timers, &mut self.slots, k);
+                    let timer = take(&mut self.row, &mut self.slots, k);
                     Ok(ReschedulingResult::Removed(timer.node))
                 }
                 Some(due) => {
-                    move_timer(&mut self.timers, &mut self.slots, k, due);
+                    move_timer(&mut self.row, &mut self.slots, k, due);
                     Ok(ReschedulingResult::Rescheduled)
                 }
             },
+        }
+    }
+
+    /// Puts a timer at another time. It keeps its name, and no memory is needed.
+    pub fn replace(&mut self, id: NodeId, due: Due) -> Result<(), StaleTimer>
+        ensures replaces { OnOk result (Replaces self.old.timers self.new.timers id due) }
+        ensures keeps { OnOk result (Keeps self.old self.new) }
+        ensures stale { OnErr result (All (λ t. t.id ≢ id) self.old.timers) }
+        ensures unchanged { OnErr result (self.new ≡ self.old) }
+    {
+        match find(&self.row, &self.slots, id) {
+            None => Err(StaleTimer),
+            Some(k) => {
+                move_timer(&mut self.row, &mut self.slots, k, due);
+                Ok(())
+            }
         }
     }
 
@@ -228,23 +244,24 @@ impl<K> TimerWheel<K> {
         ensures stale { OnErr result (All (λ t. t.id ≢ id) self.old.timers) }
         ensures unchanged { OnErr result (self.new ≡ self.old) }
     {
-        match find(&self.timers, &self.slots, id) {
+        match find(&self.row, &self.slots, id) {
             None => Err(StaleTimer),
             Some(k) => {
-                let timer = take(&mut self.timers, &mut self.slots, k);
+                let timer = take(&mut self.row, &mut self.slots, k);
                 Ok(timer.node)
             }
         }
     }
 
-    /// The first timer, where it was placed at or before `now`.
-    pub(crate) fn first_due(&self, now: Instant) -> Option<Timer>
-        ensures { MatchOption result (All (λ t. now < t.placed) self.now.timers) (λ t. (0 < length self.now.timers) × (t ≡ slice_index_or self.now.timers 0 t) × (t.placed ≤ now)) }
+    /// The first timer, where it was placed at or before `now`. It stays.
+    pub fn first_due(&self, now: Instant) -> Option<Timer>
+        ensures earliest { IfSome result (λ t. All (λ u. t.placed ≤ u.placed) self.now.timers) }
+        ensures first { MatchOption result (All (λ t. now < t.placed) self.now.timers) (λ t. (0 < length self.now.timers) × (t ≡ slice_index_or self.now.timers 0 t) × (t.placed ≤ now)) }
     {
-        match self.timers.front() {
+        match self.row.first() {
             Some(first) => {
                 if first.placed.as_nanos() <= now.as_nanos() {
-                    Some(*first)
+                    Some(first)
                 } else {
                     None
                 }
@@ -254,12 +271,17 @@ impl<K> TimerWheel<K> {
     }
 
     /// Takes the first timer out.
-    pub(crate) fn pop_first(&mut self)
+    pub fn pop_first(&mut self)
         requires { 0 < length self.old.timers }
         ensures first { (t : TheTimer) × (self.old.timers ≡ t ∷ self.new.timers) }
         ensures keeps { Keeps self.old self.new }
     {
-        let _timer = take(&mut self.timers, &mut self.slots, 0);
+        match self.row.first() {
+            Some(_) => {
+                let _timer = take(&mut self.row, &mut self.slots, 0);
+            }
+            None => unreachable!(),
+        }
     }
 
     /// Puts the first timer at another time.
@@ -268,7 +290,10 @@ impl<K> TimerWheel<K> {
         ensures first { (t : TheTimer) × (rest : List TheTimer) × (self.old.timers ≡ t ∷ rest) × IsPermutation (moved t due.time due.expiry_gen ∷ rest) self.new.timers }
         ensures keeps { Keeps self.old self.new }
     {
-        move_timer(&mut self.timers, &mut self.slots, 0, due);
+        match self.row.first() {
+            Some(_) => move_timer(&mut self.row, &mut self.slots, 0, due),
+            None => unreachable!(),
+        }
     }
 
     /// Sets the moment up to which timers were given.

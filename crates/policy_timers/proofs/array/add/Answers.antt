@@ -1,12 +1,19 @@
-use Rattle.std.proofs.Common.{rules, ◌≡◌, sym, ap, ◌∙◌, arith}
+use Rattle.std.proofs.Common.{rules, ◌≡◌, sym, ap, ◌∙◌, subst}
 use Rattle.slab.specs.Slab.{get}
-use Rattle.policy_timers.proofs.Arrays.{IsArranged-added}
+use Rattle.policy_timers.specs.Array.{IsArranged, LacksSerial}
+use Rattle.policy_timers.specs.Places.{taken, timer_at}
+use Rattle.policy_timers.proofs.Arrays.{IsArranged-added, lacks_key}
 use Rattle.policy_timers.proofs.array.add.Goals as goal
+
+pub put-requires-clause-new : goal.put-requires-clause-new
+put-requires-clause-new c = lacks_key (taken c.args.row.now.places) c.args.place.placed c.args.place.serial c.requires.arranged.apart (search rules) c.requires.new
 
 pub returns-clause-arranged : goal.returns-clause-arranged
 returns-clause-arranged c =
-    let at = c.lower_bound-at.ensures in
-    let slot : c.insert_reserved-slot.result ≡ c.args.timer.id.slot = c.insert_reserved-slot.ensures.key ∙ sym c.requires.slot in
-    rw c.in-Ok.ensures.items (IsArranged-added c.args.timers.now.items c.args.slots.now c.insert_reserved-slot.new.self c.lower_bound-at.result c.args.timer c.requires.arranged at.within (search rules) c.requires.new
-    (ap (get c.args.slots.now) (sym slot) ∙ c.insert_reserved-slot.ensures.was_vacant) (rw (← slot) c.insert_reserved-slot.ensures.updates) c.insert_reserved-slot.ensures.len
-    (λ k d lt. let h = at.below k d lt in let e = c.key-bound.ensures in omega arith) (λ k d ge lt. let h = at.above k d ge lt in let e = c.key-bound.ensures in omega arith))
+    let s = c.args.slots.now in
+    let s' = c.insert_reserved-slot.new.self in
+    let h = c.put.ensures.comes in
+    let slot : c.insert_reserved-slot.result ≡ c.args.place.slot = c.insert_reserved-slot.ensures.key ∙ sym c.requires.slot in
+    let added = IsArranged-added h.before h.after s s' (timer_at c.args.place) (subst (λ ts. IsArranged ts s) h.was c.requires.arranged) (search rules) (subst (λ ts. LacksSerial c.args.place.serial ts) h.was c.requires.new)
+    (ap (get s) (sym slot) ∙ c.insert_reserved-slot.ensures.was_vacant) (rw (← slot) c.insert_reserved-slot.ensures.updates) c.insert_reserved-slot.ensures.len in
+    subst (λ ts. IsArranged ts s') (sym h.is) added

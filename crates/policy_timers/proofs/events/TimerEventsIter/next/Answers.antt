@@ -1,5 +1,4 @@
 use Rattle.std.proofs.Common.{◌≡◌, ◌∷◌, sym, ap, ◌∙◌, get_or, Bool, true, false, subst, ℕ, Some, refl}
-use Rattle.std.specs.List.{remove}
 use Rattle.policy_timers.proofs.Wheels.{first_split}
 use Rattle.policy_timers.specs.Events.{EventIs}
 use Rattle.std.specs.Bool.{OnTrue}
@@ -16,7 +15,7 @@ loop-timer-preserved g c =
     let h = c.loop-timer.invariant in
     let t = c.in-Some.timer in
     let first = c.pop_first.ensures.first in
-    let same : t ≡ first.0 = c.in-Some.ensures.1 ∙ ap (λ ts. get_or ts 0 t) first.1 in
+    let same : t ≡ first.0 = c.in-Some.ensures.first.1 ∙ ap (λ ts. get_or ts 0 t) first.1 in
     (h.0, h.1, h.2, h.3, Advancing-gone _ c.loop-timer.self.entries.now _ c.loop-timer.self.wheel.now h.4 _ c.pop_first.new.self t c.pop_first.ensures.keeps (first.1 ∙ ap (λ (u : Timer). u ∷ c.pop_first.new.self.timers) (sym same)) (sym c.due_of.ensures ∙ c.in-None.is) c.forget_timer.ensures)
 
 pub returns-in-Some-due_of-clause-times : goal.returns-in-Some-due_of-clause-times
@@ -67,16 +66,16 @@ pub loop-timer-init : goal.loop-timer-init
 loop-timer-init g c = (refl, refl, refl, refl, Advancing-start _ _)
 
 pub pop_first-requires : goal.pop_first-requires
-pop_first-requires g c = c.in-Some.ensures.0
+pop_first-requires g c = c.in-Some.ensures.first.0
 
 pub settle-event-requires-clause-there : goal.settle-event-requires-clause-there
-settle-event-requires-clause-there g c = (remove c.loop-timer.self.wheel.now.timers 0, first_split c.loop-timer.self.wheel.now.timers c.in-Some.timer c.in-Some.ensures.0 c.in-Some.ensures.1)
+settle-event-requires-clause-there g c = first_split c.loop-timer.self.wheel.now.timers c.in-Some.timer c.in-Some.ensures.first.0 c.in-Some.ensures.first.1
 
 pub settle-event-requires-clause-due : goal.settle-event-requires-clause-due
 settle-event-requires-clause-due g c = sym c.due_of.ensures ∙ c.in-Some-due_of.is
 
 pub settle-event-requires-clause-placed : goal.settle-event-requires-clause-placed
-settle-event-requires-clause-placed g c = c.in-Some.ensures.2
+settle-event-requires-clause-placed g c = c.in-Some.ensures.first.2
 
 pub returns-in-Some-due_of-clause-same_wheel : goal.returns-in-Some-due_of-clause-same_wheel
 returns-in-Some-due_of-clause-same_wheel g c = c.loop-timer.invariant.0

@@ -1,12 +1,13 @@
 use Rattle.std.proofs.Common.{refl, arith}
+use Rattle.policy_timers.specs.Places.{taken}
 use Rattle.policy_timers.proofs.Wheels.{IsWheel-same}
 use Rattle.policy_timers.proofs.wheel.TimerWheel.reserve.Goals as goal
 
-pub invariant_of-self-then-is_err-2 : goal.invariant_of-self-then-is_err-2
-invariant_of-self-then-is_err-2 g c = rw c.reserve.ensures.items (IsWheel-same c.self.inside.timers.items c.self.inside.slots c.reserve-2.new.self c.self.inside.next_serial c.reserve-2.ensures.rest_kept c.self.invariant)
+pub invariant_of-self-then-is_err : goal.invariant_of-self-then-is_err
+invariant_of-self-then-is_err g c = rw c.reserve.ensures.places (IsWheel-same (taken c.self.inside.row.places) c.self.inside.slots c.reserve-2.new.self c.self.inside.next_serial c.reserve-2.ensures.rest_kept c.self.invariant)
 
 pub invariant_of-self-2 : goal.invariant_of-self-2
-invariant_of-self-2 g c = rw c.reserve.ensures.items (IsWheel-same c.self.inside.timers.items c.self.inside.slots c.reserve-2.new.self c.self.inside.next_serial c.reserve-2.ensures.rest_kept c.self.invariant)
+invariant_of-self-2 g c = rw c.reserve.ensures.places (IsWheel-same (taken c.self.inside.row.places) c.self.inside.slots c.reserve-2.new.self c.self.inside.next_serial c.reserve-2.ensures.rest_kept c.self.invariant)
 
 pub overflow_sub-self-inside : goal.overflow_sub-self-inside
 overflow_sub-self-inside g c = omega arith
@@ -33,13 +34,10 @@ pub returns-then-n-eq0-clause-used_up : goal.returns-then-n-eq0-clause-used_up
 returns-then-n-eq0-clause-used_up g c = ((λ e. cc), λ h. let h' = rw (← c.self.view_is) at h in absurd (omega arith))
 
 pub invariant_of-self : goal.invariant_of-self
-invariant_of-self g c = rw c.reserve.ensures.items c.self.invariant
+invariant_of-self g c = rw c.reserve.ensures.places c.self.invariant
 
 pub returns-then-is_err-clause-used_up : goal.returns-then-is_err-clause-used_up
 returns-then-is_err-clause-used_up g c = ((λ e. cc), λ h. let h' = rw (← c.self.view_is) at h in absurd (omega arith))
-
-pub returns-then-is_err-2-clause-used_up : goal.returns-then-is_err-2-clause-used_up
-returns-then-is_err-2-clause-used_up g c = ((λ e. cc), λ h. let h' = rw (← c.self.view_is) at h in absurd (omega arith))
 
 pub returns-clause-had_room : goal.returns-clause-had_room
 returns-clause-had_room g c = λ _. refl
