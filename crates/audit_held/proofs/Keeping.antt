@@ -12,8 +12,8 @@ use Rattle.audit_model.specs.Bytewise.{same}
 use Rattle.audit_model.specs.History.{Value}
 use Rattle.audit_model.specs.Situation.{HeldValue}
 use Rattle.audit_model.specs.Values.{without_key}
-use Rattle.audit_table.specs.Slots.{Slot, slot_at, without}
-use Rattle.audit_table.specs.Slots.{used_at as used_slot}
+use Rattle.audit_held.specs.Slots.{Slot, slot_at, without}
+use Rattle.audit_held.specs.Slots.{used_at as used_slot}
 use Rattle.audit_held.specs.Weights.{weight_of_part, values_of}
 use Rattle.audit_held.specs.Holds.{Open, is_open, held_by, are_sound, are_past_marks, values_in, used_at, covered_by, marked_in, Keeps}
 use Rattle.audit_held.proofs.Weighing.{weight-push, weight-without, sum-without}

@@ -9,7 +9,7 @@ use Rattle.std.specs.declared.alloc.Global.{Global}
 use Rattle.audit_model.specs.Bytewise.{same}
 use Rattle.audit_model.specs.History.{Value}
 use Rattle.audit_model.specs.Situation.{HeldValue}
-use Rattle.audit_table.specs.Slots.{Slot}
+use Rattle.audit_held.specs.Slots.{Slot}
 use Rattle.audit_held.specs.Weights.{weight_of_part}
 
 -- the keys of the values that no prefix covers

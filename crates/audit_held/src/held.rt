@@ -1,11 +1,11 @@
 //! A value that is held.
 ghost use Rattle.std.specs.Prelude.{◌≡◌, true};
 ghost use Rattle.audit_model.specs.Changes.{newly_held};
-ghost use Rattle.audit_table.specs.Slots.{slot_of};
+ghost use Rattle.audit_held.specs.Slots.{slot_of};
 ghost use Rattle.audit_held.specs.Seeing.{held_of};
 
+use crate::kept::Kept;
 use audit_model::{Bytes, Seq};
-use audit_table::Kept;
 use std::marker::Model;
 
 /// A value that is held.

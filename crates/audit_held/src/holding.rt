@@ -3,16 +3,17 @@ ghost use Rattle.std.specs.Prelude.{◌≡◌, ℕ, List, ◌<◌, ◌++◌, ◌
 ghost use Rattle.std.specs.List.{find, list_all, sum_by};
 ghost use Rattle.audit_model.specs.Bytewise.{same};
 ghost use Rattle.audit_model.specs.Values.{without_key};
-ghost use Rattle.audit_table.specs.Slots.{slot_of};
+ghost use Rattle.audit_held.specs.Slots.{slot_of};
 ghost use Rattle.audit_held.specs.Seeing.{held_of};
 ghost use Rattle.audit_held.specs.Weights.{weight_of_part, values_of};
 ghost use Rattle.audit_held.specs.Holds.{held_by, is_open, used_at, covered_by, marked_in, Keeps};
 
 use crate::held::{Held, Seen};
+use crate::kept::Kept;
 use crate::open::{close_all, close_key, is_open, open_key};
 use crate::sums::{mark_after, mark_at, next_number, put_mark, put_weight, sum_with, weight_at};
+use crate::table::Table;
 use audit_model::Seq;
-use audit_table::{Kept, Table};
 use std::alloc::{AllocError, Global};
 use std::collections::BTreeSet;
 use std::marker::Model;

@@ -13,7 +13,7 @@ use Rattle.audit_model.specs.Steps.{Task, is_right}
 use Rattle.audit_model.specs.declared.config.Config.{Config}
 use Rattle.audit_model.specs.declared.transcript.Record.{Record}
 use Rattle.audit_model.specs.declared.transcript.Step.{Step}
-use Rattle.audit_parts.specs.Known.{KeyPart, agrees_with, with_value}
+use Rattle.audit_held.specs.Known.{KeyPart, agrees_with, with_value}
 
 -- a situation, and the part of each key of which a value was accepted
 pub record Reached : Type 0 where

@@ -18,7 +18,7 @@ use crate::duties::{
 };
 use audit_laws::breaks_agree;
 use audit_model::{Bytes, Config, Event, Instant, Outcome, Record, Step, Transcript};
-use audit_parts::Parts;
+use audit_held::Parts;
 use audit_situation::{State, begin, close, feed, find_pending, is_holding, open, settle};
 use audit_steps::{Duty, Shown, judge, show};
 use std::alloc::{AllocError, Global};

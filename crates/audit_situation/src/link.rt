@@ -6,7 +6,7 @@ ghost use Rattle.audit_model.specs.Situation.{Ready, is_ready, is_holding, is_wa
 ghost use Rattle.audit_situation.specs.Standings.{kept_line, standing_of, left_standing, waits_after, moved_on, fed_with};
 
 use audit_model::{Bytes, Seq};
-use cache_lines::Buffer;
+use audit_lines::Buffer;
 use memchr::memchr;
 use std::alloc::{AllocError, Global};
 use std::marker::Model;

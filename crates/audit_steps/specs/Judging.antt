@@ -13,9 +13,9 @@ use Rattle.audit_model.specs.Steps.{Task, PlacedStep, effect_in, is_right, is_in
 use Rattle.audit_model.specs.View.{View}
 use Rattle.audit_model.specs.declared.config.Config.{Config}
 use Rattle.audit_model.specs.declared.transcript.Step.{Step}
-use Rattle.audit_judge.specs.After.{IsNew}
+use Rattle.audit_notes.specs.After.{IsNew}
 use Rattle.audit_steps.specs.declared.accepting.Proposal.{Proposal}
-use Rattle.audit_parts.specs.Known.{KeyPart, agrees_with, with_value}
+use Rattle.audit_held.specs.Known.{KeyPart, agrees_with, with_value}
 
 -- the step in its place, doing that and accepting that value
 abbrev pub placed_with : Config → Situation → Option Task → Action → Step → Option Value → PlacedStep

@@ -6,19 +6,19 @@ ghost use Rattle.audit_model.specs.Replies.{offered, offer_of, value_with};
 ghost use Rattle.audit_model.specs.Situation.{view_in};
 ghost use Rattle.audit_model.specs.Values.{own_deadline_from, after_ms};
 ghost use Rattle.audit_model.specs.declared.command.Command.TheVariants as says;
-ghost use Rattle.audit_judge.specs.After.{IsNew};
+ghost use Rattle.audit_notes.specs.After.{IsNew};
 ghost use Rattle.audit_situation.specs.States.{situation_of};
 ghost use Rattle.audit_model.specs.declared.config.Config.{Config};
-ghost use Rattle.audit_owing.specs.Doings.{action_of};
-ghost use Rattle.audit_parts.specs.Known.{agrees, agrees_with, with_part, with_value};
+ghost use Rattle.audit_actions.specs.Doings.{action_of};
+ghost use Rattle.audit_held.specs.Known.{agrees, agrees_with, with_part, with_value};
 ghost use Rattle.audit_steps.specs.Judging.{offer_from, Takes, Accepts};
 
 use crate::replies::{accepts, digits_of, sum_with};
 use audit_held::Held;
-use audit_judge::part_count;
+use audit_notes::part_count;
 use audit_model::{Accepted, Bytes, Config, Outcome, Seq, Weight};
-use audit_owing::{Doing, found};
-use audit_parts::Parts;
+use audit_actions::{Doing, found};
+use audit_held::Parts;
 use audit_situation::State;
 use std::alloc::{AllocError, Global};
 

@@ -10,14 +10,14 @@ ghost use Rattle.audit_model.specs.Loads.{key_loaded};
 ghost use Rattle.audit_model.specs.Notes.{is_silent};
 ghost use Rattle.audit_model.specs.Steps.{action_by, may_hold, RunAgain, RunLines};
 ghost use Rattle.audit_model.specs.Stream.{is_held};
-ghost use Rattle.audit_judge.specs.Deeds.{covering_of, deed_with};
-ghost use Rattle.audit_owing.specs.Doings.{action_of};
+ghost use Rattle.audit_notes.specs.Deeds.{covering_of, deed_with};
+ghost use Rattle.audit_actions.specs.Doings.{action_of};
 ghost use Rattle.audit_steps.specs.Doings.{acting};
 
-use audit_judge::{Covering, Deed};
+use audit_notes::{Covering, Deed};
 use audit_model::Config;
-use audit_owing::Doing;
-use cache_lines::{Request, read_line};
+use audit_actions::Doing;
+use audit_lines::{Request, read_line};
 
 /// What a line does.
 pub fn do_line<'a>(config: &Config, line: &'a [u8]) -> Doing<'a>

@@ -8,7 +8,7 @@ ghost use Rattle.audit_model.specs.declared.command.Command.TheVariants as says;
 ghost use Rattle.audit_model.specs.Replies.{reply_of};
 ghost use Rattle.audit_model.specs.Situation.{view_in};
 ghost use Rattle.audit_situation.specs.States.{situation_of};
-ghost use Rattle.audit_owing.specs.Doings.{action_of};
+ghost use Rattle.audit_actions.specs.Doings.{action_of};
 ghost use Rattle.audit_steps.specs.Judging.{reply_fits};
 
 use crate::doing::is_sync;
@@ -18,7 +18,7 @@ use crate::replies::{
     value_reply, yes_or_no,
 };
 use audit_model::Config;
-use audit_owing::{Doing, found, may_refuse};
+use audit_actions::{Doing, found, may_refuse};
 use audit_situation::State;
 use std::alloc::{AllocError, Global};
 

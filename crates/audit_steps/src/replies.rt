@@ -9,7 +9,7 @@ ghost use Rattle.audit_held.specs.Weights.{values_of};
 
 use audit_held::{Holding, Seen};
 use audit_model::{Config, LineError, Outcome};
-use cache_numbers::number;
+use audit_lines::number;
 use itoa::Buffer;
 use std::alloc::{AllocError, Global};
 

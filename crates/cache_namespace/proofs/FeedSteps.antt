@@ -21,8 +21,8 @@ use Rattle.audit_model.specs.declared.config.Config.{Config}
 use Rattle.audit_model.specs.declared.transcript.Accepted.{Accepted}
 use Rattle.audit_model.specs.declared.transcript.Note.{Note}
 use Rattle.audit_model.specs.declared.transcript.Step.{Step}
-use Rattle.cache_lines.specs.Next.{IsLine, IsPartial}
-use Rattle.cache_lines.proofs.Lines.{IsLine-first_line, IsPartial-first_line, IsPartial-not_long}
+use Rattle.audit_lines.specs.Next.{IsLine, IsPartial}
+use Rattle.audit_lines.proofs.Lines.{IsLine-first_line, IsPartial-first_line, IsPartial-not_long}
 use Rattle.cache_steps.specs.Right.{step_saying, placed_by, held_when_run}
 use Rattle.cache_steps.proofs.Answering.{same-refl, none_succeeded}
 use Rattle.cache_store.specs.Promises.{no_deed}

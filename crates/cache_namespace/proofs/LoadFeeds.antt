@@ -19,8 +19,8 @@ use Rattle.audit_model.specs.Stream.{behind_lines, without_return}
 use Rattle.audit_model.specs.declared.command.Command.TheVariants as says
 use Rattle.audit_model.specs.declared.config.Config.{Config}
 use Rattle.audit_model.specs.declared.transcript.Step.{Step}
-use Rattle.cache_lines.specs.Next.{IsLine}
-use Rattle.cache_lines.proofs.Lines.{IsLine-first_line}
+use Rattle.audit_lines.specs.Next.{IsLine}
+use Rattle.audit_lines.proofs.Lines.{IsLine-first_line}
 use Rattle.cache_loads.specs.Pending.{SameLoads, number_to_send, pending_of, sent_of, when_joined, when_sent}
 use Rattle.cache_loads.specs.declared.loads.Loads.{Loads}
 use Rattle.cache_steps.specs.Loading.{Waits, step_silent}

@@ -12,8 +12,8 @@ use Rattle.audit_model.specs.Stream.{behind_lines, without_return}
 use Rattle.audit_model.specs.declared.config.Config.{Config}
 use Rattle.audit_model.specs.declared.command.Closing.{Closing}
 use Rattle.audit_model.specs.declared.command.Closing.TheVariants as by
-use Rattle.cache_lines.proofs.Cuts.{Cut}
-use Rattle.cache_lines.proofs.Lines.{cut_at-append, cut_with}
+use Rattle.audit_lines.proofs.Cuts.{Cut}
+use Rattle.audit_lines.proofs.Lines.{cut_at-append, cut_with}
 use Rattle.cache_namespace.specs.Drawing.{Workings, identifiers_in}
 use Rattle.cache_namespace.specs.Gathered.{Gathered}
 use Rattle.cache_namespace.specs.Lines.{IsThere, set_in, with_drops}

@@ -19,8 +19,8 @@ use Rattle.audit_model.specs.Steps.{RunLines, action_by, is_right}
 use Rattle.audit_model.specs.Stream.{behind_lines, first_line, without_return}
 use Rattle.audit_model.specs.declared.config.Config.{Config}
 use Rattle.audit_model.specs.declared.transcript.Step.{Step}
-use Rattle.cache_lines.specs.Next.{IsLine}
-use Rattle.cache_lines.proofs.Lines.{IsLine-first_line, IsLine-behind_lines, IsLine-not_long}
+use Rattle.audit_lines.specs.Next.{IsLine}
+use Rattle.audit_lines.proofs.Lines.{IsLine-first_line, IsLine-behind_lines, IsLine-not_long}
 use Rattle.cache_steps.specs.Right.{step_saying, placed_by, held_when_run}
 use Rattle.cache_namespace.specs.Drawing.{Workings, identifiers_in, Spends}
 use Rattle.cache_namespace.specs.Making.{Making}

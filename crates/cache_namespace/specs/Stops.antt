@@ -1,7 +1,7 @@
 -- Why no further line runs.
 use Rattle.std.specs.Prelude.{ℕ, ◌<◌, ◌≤◌, Bool, true, false, List, length, IsTrue}
 use Rattle.audit_model.specs.Bytewise.{cut_at}
-use Rattle.cache_lines.specs.Next.{IsLine, IsPartial}
+use Rattle.audit_lines.specs.Next.{IsLine, IsPartial}
 use Rattle.cache_namespace.specs.Whole.{has_line}
 use Rattle.cache_namespace.specs.declared.feeding.End.{End}
 use Rattle.cache_namespace.specs.declared.feeding.End.TheVariants as at

@@ -5,7 +5,7 @@ ghost use Rattle.cache_namespace.specs.Whole.{has_line, is_long_line, is_near, i
 ghost use Rattle.cache_loads.specs.declared.standing.Standing.TheVariants as now;
 
 use audit_model::Closing;
-use cache_lines::Buffer;
+use audit_lines::Buffer;
 use cache_loads::Standing;
 use std::alloc::Global;
 

@@ -23,7 +23,7 @@ use crate::joining::join_first;
 use crate::kept::Kept;
 use crate::lines::{Done, Stop, release, run_lines};
 use audit_model::Config;
-use cache_lines::{Buffer, Next};
+use audit_lines::{Buffer, Next};
 use cache_loads::Loads;
 use cache_store::Store;
 use std::alloc::Global;

@@ -12,7 +12,7 @@ ghost use Rattle.cache_steps.specs.Loading.{step_silent};
 
 use crate::kept::Kept;
 use audit_model::Config;
-use cache_lines::{Buffer, Next, Request, read_line};
+use audit_lines::{Buffer, Next, Request, read_line};
 use cache_loads::Loads;
 use std::alloc::{AllocError, Global};
 

@@ -8,7 +8,7 @@ ghost use Rattle.cache_steps.specs.Right.{step_saying};
 
 use crate::spare::{Spare, new_spare};
 use audit_model::{Accepted, Note, Seq, Step};
-use cache_lines::MAX_LINE;
+use audit_lines::MAX_LINE;
 use std::alloc::{AllocError, Global};
 use std::mem;
 

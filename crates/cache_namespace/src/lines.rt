@@ -27,7 +27,7 @@ ghost use Rattle.std.specs.Prelude.{IsTrue};
 
 use crate::kept::Kept;
 use audit_model::{Accepted, Config, Note};
-use cache_lines::{Buffer, Next, Request, read_line};
+use audit_lines::{Buffer, Next, Request, read_line};
 use cache_steps::{add, clear, del, drop_prefix, fault, get, has, keys, load, quit, set, sync};
 use cache_store::Store;
 use std::alloc::{AllocError, Global};

@@ -11,7 +11,7 @@ ghost use Rattle.cache_loads.specs.declared.standing.Standing.TheVariants as now
 
 use crate::connection::Connection;
 use audit_model::Closing;
-use cache_lines::{Buffer, Next};
+use audit_lines::{Buffer, Next};
 use cache_loads::Standing;
 use std::alloc::{AllocError, Global};
 use std::mem;

@@ -25,8 +25,8 @@ use Rattle.cache_spaces.specs.Serves as served
 use Rattle.cache_spaces.specs.Serves.{SameSpace, Takes, TakesLoads, TakesOutput, known_of}
 use Rattle.cache_spaces.specs.Spaces.{Stands, closing_of, config_of, connections_of, outgoing_of, place_of, taken_of}
 use Rattle.cache_spaces.specs.declared.space.Space.{Space}
-use Rattle.run_laws.specs.Sending.{IsSettlingOf, are_all, are_others, are_old_or_later, is_under_way}
-use Rattle.run_laws.proofs.Sending.{all-from, all-own, all-without, one-of, passes-record, settle}
+use Rattle.audit_waiting_laws.specs.Sending.{IsSettlingOf, are_all, are_others, are_old_or_later, is_under_way}
+use Rattle.audit_waiting_laws.proofs.Sending.{all-from, all-own, all-without, one-of, passes-record, settle}
 use Rattle.cache_run.specs.Accounts.{Accounts, AddsNoLoads, HasTakenAll, KeepsLoads, SendsLater, SettlesLoad, are_accounted, is_left, pending_of, were_taken}
 use Rattle.cache_run.specs.Connected.{Connected}
 use Rattle.cache_run.proofs.Placing.{at-is, at-map, at-more, at-same, at-was}

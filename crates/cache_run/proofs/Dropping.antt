@@ -13,7 +13,7 @@ use Rattle.audit_model.specs.declared.transcript.Note.{Note}
 use Rattle.audit_model.specs.declared.transcript.Record.{Record}
 use Rattle.audit_model.specs.declared.input.LoadId.{LoadId}
 use Rattle.cache_loads.specs.Keys.{agrees_on, are_in_turn, has_its_key, have_their_keys}
-use Rattle.run_laws.specs.Keys.{HasKey}
+use Rattle.audit_waiting_laws.specs.Keys.{HasKey}
 use Rattle.cache_namespace.specs.Taken.{closing_at, text_at}
 use Rattle.cache_settling.specs.Answered.{giving_up}
 use Rattle.cache_spaces.proofs.Putting.{same-space}

@@ -22,8 +22,8 @@ use Rattle.cache_spaces.specs.Serves.{SameSpace, Takes}
 use Rattle.cache_spaces.specs.Spaces.{closing_of, config_of, connections_of, notices_of}
 use Rattle.cache_spaces.specs.declared.space.Space.{Space}
 use Rattle.audit_model.specs.declared.event.Outcome.{Outcome}
-use Rattle.run_laws.specs.Alone.{WaitsAlone}
-use Rattle.run_laws.proofs.Events.{quiet}
+use Rattle.audit_waiting_laws.specs.Alone.{WaitsAlone}
+use Rattle.audit_waiting_laws.proofs.Events.{quiet}
 use Rattle.cache_run.specs.Accounts.{Accounts, AddsNoLoads, DropsAll, KeepsLoads, SendsLater, nobody_waits, pending_of}
 use Rattle.cache_run.specs.Carried.{Broken, Carried, nothing_left}
 use Rattle.cache_run.specs.Connected.{Connected, IsEnded, IsFed, IsOver, IsReady}

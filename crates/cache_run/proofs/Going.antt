@@ -10,7 +10,7 @@ use Rattle.audit_model.specs.declared.config.Config.{Config}
 use Rattle.audit_model.specs.declared.transcript.Note.{Note}
 use Rattle.audit_model.specs.declared.transcript.Step.{Step}
 use Rattle.std.proofs.lemmas.List.{append-nil}
-use Rattle.run_laws.proofs.Events.{records}
+use Rattle.audit_waiting_laws.proofs.Events.{records}
 use Rattle.cache_run.proofs.Carrying.{record-one}
 use Rattle.cache_namespace.specs.declared.connection.Connection.{Connection}
 use Rattle.cache_spaces.specs.Moves.{At}

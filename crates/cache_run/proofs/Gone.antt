@@ -26,11 +26,11 @@ use Rattle.cache_spaces.specs.Serves as served
 use Rattle.cache_spaces.specs.Serves.{SameSpace, TakesLoads, known_of}
 use Rattle.cache_spaces.specs.Spaces.{closing_of, config_of, connections_of, loads_of, place_of, taken_of}
 use Rattle.cache_spaces.specs.declared.space.Space.{Space}
-use Rattle.run_laws.specs.Alone.{WaitsAlone}
-use Rattle.run_laws.specs.Closed.{NobodyWaits}
-use Rattle.run_laws.specs.Sending.{are_all, is_under_way}
-use Rattle.run_laws.proofs.Closed.{closed, given-up}
-use Rattle.run_laws.proofs.Sending.{all-but, all-from, all-own, one-of}
+use Rattle.audit_waiting_laws.specs.Alone.{WaitsAlone}
+use Rattle.audit_waiting_laws.specs.Closed.{NobodyWaits}
+use Rattle.audit_waiting_laws.specs.Sending.{are_all, is_under_way}
+use Rattle.audit_waiting_laws.proofs.Closed.{closed, given-up}
+use Rattle.audit_waiting_laws.proofs.Sending.{all-but, all-from, all-own, one-of}
 use Rattle.cache_run.specs.Accounts.{Accounts, AddsNoLoads, DropsAll, DropsUnwaited, is_left, nobody_waits, pending_of}
 use Rattle.cache_run.specs.Goes.{Goes}
 use Rattle.cache_run.proofs.Accounting.{accounts-begun, in-turn-has, others-unknown, own-loads, pending-is, pending-same, sent-under, taken-count}

@@ -27,10 +27,10 @@ use Rattle.cache_spaces.specs.Serves as served
 use Rattle.cache_spaces.specs.Serves.{SameSpace, Settles, TakesOutput, known_of}
 use Rattle.cache_spaces.specs.Spaces.{Stands, closing_of, config_of, connections_of, loads_of, notices_of, output_of}
 use Rattle.cache_spaces.specs.declared.space.Space.{Space}
-use Rattle.run_laws.specs.Alone.{IsTurnOf, StepsOf, WaitsAlone}
-use Rattle.run_laws.proofs.Events.{records}
-use Rattle.run_laws.proofs.Keys.{answered-key, given-up-key}
-use Rattle.run_laws.specs.Keys.{IsKnown}
+use Rattle.audit_waiting_laws.specs.Alone.{IsTurnOf, StepsOf, WaitsAlone}
+use Rattle.audit_waiting_laws.proofs.Events.{records}
+use Rattle.audit_waiting_laws.proofs.Keys.{answered-key, given-up-key}
+use Rattle.audit_waiting_laws.specs.Keys.{IsKnown}
 use Rattle.cache_run.specs.Connected.{Connected, IsEnded, IsFed, IsTaken}
 use Rattle.cache_run.specs.Delivered.{AnsweredLoad}
 use Rattle.cache_run.specs.Goes.{Goes}

@@ -14,7 +14,7 @@ use Rattle.cache_devices.specs.Failures.{HasFailed}
 use Rattle.cache_run.specs.Turns.{HasAsked, HasRead}
 use Rattle.cache_spaces.specs.Moves.{At}
 use Rattle.cache_run.specs.Loading.{AreKnown, Breaks, Carries, SameButLoads, TakesMore}
-use Rattle.run_laws.specs.Keys.{IsKnown}
+use Rattle.audit_waiting_laws.specs.Keys.{IsKnown}
 use Rattle.cache_spaces.specs.Spaces.{config_of, notices_of}
 use Rattle.cache_spaces.specs.declared.space.Space.{Space}
 use Rattle.audit_model.specs.declared.event.Outcome.{Outcome}

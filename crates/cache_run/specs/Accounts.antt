@@ -6,7 +6,7 @@ use Rattle.audit_model.specs.Situation.{PendingLoad}
 use Rattle.audit_model.specs.declared.input.LoadId.{LoadId}
 use Rattle.cache_spaces.specs.Spaces.{loads_of, outgoing_of, taken_of}
 use Rattle.cache_spaces.specs.declared.space.Space.{Space}
-use Rattle.run_laws.specs.Sending.{are_all, are_others, are_old_or_later, is_under_way}
+use Rattle.audit_waiting_laws.specs.Sending.{are_all, are_others, are_old_or_later, is_under_way}
 
 -- the loads under way
 abbrev pub pending_of : Space → List PendingLoad

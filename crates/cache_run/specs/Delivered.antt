@@ -5,7 +5,7 @@ use Rattle.audit_model.specs.Follows.{after_records}
 use Rattle.audit_model.specs.Situation.{Situation}
 use Rattle.audit_model.specs.declared.config.Config.{Config}
 use Rattle.audit_model.specs.declared.transcript.Note.{Note}
-use Rattle.run_laws.specs.Keys.{IsKnown}
+use Rattle.audit_waiting_laws.specs.Keys.{IsKnown}
 use Rattle.cache_run.specs.Happened.{Asking, Turn, IsInPlace, IsRight, asked_in, moment_in, notes_in, piece_in, records_in, replies_in}
 use Rattle.cache_run.specs.declared.errors.RunError.{RunError}
 use Rattle.cache_run.specs.declared.errors.RunError.TheVariants.{OutOfMemory, Moment}

@@ -11,7 +11,7 @@ use Rattle.audit_model.specs.declared.input.LoadId.{LoadId}
 use Rattle.cache_spaces.specs.Moves.{At}
 use Rattle.cache_spaces.specs.Spaces.{Stands, closing_of, config_of, connections_of, notices_of, output_of}
 use Rattle.cache_spaces.specs.declared.space.Space.{Space}
-use Rattle.run_laws.specs.Keys.{IsKnown}
+use Rattle.audit_waiting_laws.specs.Keys.{IsKnown}
 use Rattle.cache_run.specs.Carried.{Broken, Carried, nothing_left}
 use Rattle.cache_run.specs.Goes.{Goes}
 use Rattle.cache_run.specs.Happened.{AreDrops, notes_of}

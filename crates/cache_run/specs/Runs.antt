@@ -14,7 +14,7 @@ use Rattle.cache_namespace.specs.Taken.{record_of}
 use Rattle.cache_spaces.specs.Spaces.{closing_of, config_of, connections_of, notices_of}
 use Rattle.cache_spaces.specs.declared.space.Space.{Space}
 use Rattle.audit_model.specs.declared.event.Outcome.{Outcome}
-use Rattle.run_laws.specs.Alone.{WaitsAlone}
+use Rattle.audit_waiting_laws.specs.Alone.{WaitsAlone}
 use Rattle.cache_run.specs.Accounts.{AddsNoLoads, pending_of}
 use Rattle.cache_run.specs.Carried.{Broken, Carried, nothing_left}
 use Rattle.cache_run.specs.Connected.{IsEnded}

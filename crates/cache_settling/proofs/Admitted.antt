@@ -17,8 +17,8 @@ use Rattle.cache_namespace.specs.Shown.{situation}
 use Rattle.cache_namespace.specs.Taken.{SameConnections}
 use Rattle.cache_namespace.specs.Waiting.{UnderWay, no_loads}
 use Rattle.cache_namespace.specs.declared.connection.Connection.{Connection}
-use Rattle.load_laws.specs.Tidy.{Tidy}
-use Rattle.load_laws.proofs.Records.{settled-tidy}
+use Rattle.audit_waiting_laws.specs.Tidy.{Tidy}
+use Rattle.audit_waiting_laws.proofs.Records.{settled-tidy}
 use Rattle.cache_settling.specs.Answered.{answering, giving_up, knows_loads, waiting_for}
 
 or-first : (a b : Option ServiceError) → option_or a b ≡ None → a ≡ None

@@ -26,10 +26,10 @@ use Rattle.cache_namespace.specs.Whole.{held_line}
 use Rattle.cache_namespace.specs.declared.connection.Connection.{Connection}
 use Rattle.cache_loads.specs.declared.standing.Standing.TheVariants as now
 use Rattle.cache_namespace.proofs.Places.{replaced-is, replaced-others, replaced-seen, text-is}
-use Rattle.load_laws.specs.Tidy.{Tidy, times_in}
-use Rattle.load_laws.proofs.Counts.{one_if}
-use Rattle.load_laws.proofs.Records.{told-delivers}
-use Rattle.load_laws.proofs.Turns.{told-once}
+use Rattle.audit_waiting_laws.specs.Tidy.{Tidy, times_in}
+use Rattle.audit_waiting_laws.proofs.Counts.{one_if}
+use Rattle.audit_waiting_laws.proofs.Records.{told-delivers}
+use Rattle.audit_waiting_laws.proofs.Turns.{told-once}
 use Rattle.cache_settling.specs.Leads.{Leads, told_in}
 use Rattle.cache_settling.specs.Told.{TellsThem, WritesTo, line_of, own_steps, replies_to, steps_told, to_tell, when_idle}
 use Rattle.cache_settling.proofs.Leading.{nothing, on}

@@ -25,8 +25,8 @@ use Rattle.cache_namespace.specs.Whole.{has_line, held_line}
 use Rattle.cache_namespace.specs.declared.connection.Connection.{Connection}
 use Rattle.cache_namespace.proofs.Following.{listed-open, put-situation}
 use Rattle.cache_namespace.proofs.Receiving.{whole-line}
-use Rattle.load_laws.specs.Tidy.{Tidy, times_in}
-use Rattle.load_laws.proofs.Counts.{one_if}
+use Rattle.audit_waiting_laws.specs.Tidy.{Tidy, times_in}
+use Rattle.audit_waiting_laws.proofs.Counts.{one_if}
 use Rattle.cache_settling.specs.Answered.{KeepsRecord, but_for, giving_up, knows_loads, waiting_for}
 use Rattle.cache_settling.specs.GivenUp.{GivesUp, GivesUpLoad, HaveLoads, IsWaitingLoad, RunsAgain, WaitForLoads}
 use Rattle.cache_settling.specs.Leads.{BeginsUnknown, Leads, Settles}

@@ -22,9 +22,9 @@ use Rattle.cache_namespace.specs.Lines.{ArePartedIn, are_timely, has_its_part, i
 use Rattle.cache_namespace.specs.Making.{Making}
 use Rattle.cache_namespace.proofs.Drawn.{draws-first, spends-more}
 use Rattle.cache_namespace.proofs.Framing.{frames, same-due, same-due-placed, same-due-timely}
-use Rattle.load_laws.specs.Tidy.{IsFit, Tidy, told_by}
-use Rattle.load_laws.proofs.Records.{has_no_held, fit-due, no-held-due, no-held-left, told-due, told-left}
-use Rattle.load_laws.proofs.Turns.{steps}
+use Rattle.audit_waiting_laws.specs.Tidy.{IsFit, Tidy, told_by}
+use Rattle.audit_waiting_laws.proofs.Records.{has_no_held, fit-due, no-held-due, no-held-left, told-due, told-left}
+use Rattle.audit_waiting_laws.proofs.Turns.{steps}
 use Rattle.cache_settling.specs.Leads.{Leads, told_in}
 
 pub nothing : (config : Config) (making : Making) (s : Situation) (tasks : List Task) (drawn : Identifiers) → Leads config making s tasks [] s tasks drawn drawn

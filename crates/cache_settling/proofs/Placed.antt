@@ -15,7 +15,7 @@ use Rattle.audit_model.specs.Stream.{behind_lines}
 use Rattle.audit_model.specs.declared.command.Closing.{Closing}
 use Rattle.audit_model.specs.declared.config.Config.{Config}
 use Rattle.audit_model.specs.declared.event.Outcome.{Outcome}
-use Rattle.cache_lines.proofs.Cuts.{Cut, cut_at-here, cut_at-other}
+use Rattle.audit_lines.proofs.Cuts.{Cut, cut_at-here, cut_at-other}
 use Rattle.cache_steps.proofs.LoadSteps.{delivers}
 use Rattle.cache_steps.specs.Right.{step_saying}
 use Rattle.cache_store.specs.Promises.{no_deed}
@@ -31,7 +31,7 @@ use Rattle.cache_namespace.specs.declared.connection.Connection.{Connection}
 use Rattle.cache_loads.specs.declared.standing.Standing.{Standing}
 use Rattle.cache_loads.specs.declared.standing.Standing.TheVariants as now
 use Rattle.cache_namespace.proofs.Following.{found-open, listed-open, put-situation}
-use Rattle.load_laws.specs.Tidy.{Tidy}
+use Rattle.audit_waiting_laws.specs.Tidy.{Tidy}
 use Rattle.cache_settling.specs.Leads.{Leads}
 use Rattle.cache_settling.proofs.Turns.{delivered, told-waits}
 

@@ -5,8 +5,8 @@ use Rattle.std.specs.List.{slice_get}
 use Rattle.std.proofs.lemmas.Bool.{eqb-true, eq-eqb}
 use Rattle.cache_namespace.specs.Taken.{SameConnections}
 use Rattle.cache_namespace.specs.declared.connection.Connection.{Connection}
-use Rattle.load_laws.specs.Tidy.{times_in}
-use Rattle.load_laws.proofs.Counts.{one_if}
+use Rattle.audit_waiting_laws.specs.Tidy.{times_in}
+use Rattle.audit_waiting_laws.proofs.Counts.{one_if}
 use Rattle.cache_settling.specs.Told.{HaveRoom}
 
 -- connections that stand for the same as others that do

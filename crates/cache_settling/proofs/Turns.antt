@@ -31,11 +31,11 @@ use Rattle.cache_namespace.specs.Making.{Making}
 use Rattle.cache_namespace.specs.Waiting.{holding_load, waiting, with_loads}
 use Rattle.cache_namespace.proofs.Drawn.{held-draws}
 use Rattle.cache_namespace.proofs.LoadTurns.{joins, placed-is, right-turn, sends}
-use Rattle.load_laws.specs.Tidy.{IsFit, Tidy}
-use Rattle.load_laws.proofs.Counts.{one_if}
-use Rattle.load_laws.proofs.Records.{settled-tidy, told-again, told-delivers, told-lines}
-use Rattle.load_laws.proofs.Standing.{wait_of}
-use Rattle.load_laws.proofs.Turns.{found-number}
+use Rattle.audit_waiting_laws.specs.Tidy.{IsFit, Tidy}
+use Rattle.audit_waiting_laws.proofs.Counts.{one_if}
+use Rattle.audit_waiting_laws.proofs.Records.{settled-tidy, told-again, told-delivers, told-lines}
+use Rattle.audit_waiting_laws.proofs.Standing.{wait_of}
+use Rattle.audit_waiting_laws.proofs.Turns.{found-number}
 use Rattle.cache_settling.specs.Leads.{Leads, told_in}
 use Rattle.cache_settling.proofs.Leading.{one}
 

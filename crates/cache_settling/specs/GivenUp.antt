@@ -22,7 +22,7 @@ use Rattle.cache_namespace.specs.Waiting.{UnderWay, is_load, with_under_way}
 use Rattle.cache_namespace.specs.Whole.{held_line}
 use Rattle.cache_namespace.specs.declared.connection.Connection.{Connection}
 use Rattle.cache_loads.specs.declared.standing.Standing.TheVariants as now
-use Rattle.load_laws.specs.Tidy.{times_in}
+use Rattle.audit_waiting_laws.specs.Tidy.{times_in}
 use Rattle.cache_settling.specs.Laws.{record_given_up}
 use Rattle.cache_settling.specs.Leads.{BeginsUnknown, Leads, Settles}
 use Rattle.cache_settling.specs.Noted.{Noted, gathered_with, is_loose, with_steps}

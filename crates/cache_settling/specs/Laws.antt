@@ -24,7 +24,7 @@ use Rattle.cache_namespace.specs.Making.{Making}
 use Rattle.cache_namespace.specs.Waiting.{holding_load, waiting, with_loads}
 use Rattle.cache_steps.specs.Loading.{step_silent, step_waiting}
 use Rattle.cache_steps.specs.Right.{DoesRight, held_when_run, step_saying}
-use Rattle.load_laws.specs.Tidy.{Tidy}
+use Rattle.audit_waiting_laws.specs.Tidy.{Tidy}
 use Rattle.cache_settling.specs.Leads.{BeginsUnknown, Leads, Settles, told_in}
 
 -- no step leads nowhere else

@@ -15,7 +15,7 @@ use Rattle.cache_namespace.specs.Lines.{ArePartedIn, are_timely}
 use Rattle.cache_namespace.specs.Making.{Making}
 use Rattle.cache_namespace.specs.Ordered.{HaveKeys, order_after, order_behind}
 use Rattle.cache_steps.specs.Order.{Order, Unknown}
-use Rattle.load_laws.specs.Tidy.{Tidy, told_by}
+use Rattle.audit_waiting_laws.specs.Tidy.{Tidy, told_by}
 
 -- those whom the tasks still tell of their load
 abbrev pub told_in : List Task → List ℕ

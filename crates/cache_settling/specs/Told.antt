@@ -21,7 +21,7 @@ use Rattle.cache_namespace.specs.Taken.{closing_at, text_at}
 use Rattle.cache_namespace.specs.Waiting.{UnderWay}
 use Rattle.cache_namespace.specs.Whole.{has_line, held_line}
 use Rattle.cache_namespace.specs.declared.connection.Connection.{Connection}
-use Rattle.load_laws.specs.Tidy.{times_in}
+use Rattle.audit_waiting_laws.specs.Tidy.{times_in}
 use Rattle.cache_settling.specs.Leads.{Leads}
 
 -- the values held after so many steps that do nothing to values

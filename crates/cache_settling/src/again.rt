@@ -23,7 +23,7 @@ ghost use Rattle.cache_settling.specs.Noted.{noted_in};
 
 use crate::telling::pass_line;
 use audit_model::Config;
-use cache_lines::Buffer;
+use audit_lines::Buffer;
 use cache_loads::Loads;
 use cache_namespace::{
     Connection, Done, Kept, Standing, hold_first, join_first, release, say_first,

@@ -8,7 +8,7 @@ ghost use Rattle.cache_namespace.specs.Kept.{HasMore, steps_of};
 ghost use Rattle.cache_namespace.specs.Making.{making_of};
 ghost use Rattle.cache_namespace.specs.Shown.{situation};
 ghost use Rattle.cache_namespace.specs.Waiting.{no_loads, under_way};
-ghost use Rattle.load_laws.specs.Tidy.{Tidy};
+ghost use Rattle.audit_waiting_laws.specs.Tidy.{Tidy};
 ghost use Rattle.cache_loads.specs.Pending.{load_numbered, pending_of, SameTaken};
 ghost use Rattle.cache_settling.specs.Answered.{HandsOut, but_for, waiting_for};
 ghost use Rattle.cache_settling.specs.Noted.{NothingWaits, none_noted, noted_in};

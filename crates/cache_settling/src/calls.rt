@@ -12,7 +12,7 @@ ghost use Rattle.cache_namespace.specs.Making.{making_of};
 ghost use Rattle.cache_namespace.specs.Shown.{situation};
 ghost use Rattle.cache_namespace.specs.Taken.{IsSound, SameConnections};
 ghost use Rattle.cache_namespace.specs.Waiting.{under_way};
-ghost use Rattle.load_laws.specs.Tidy.{Tidy};
+ghost use Rattle.audit_waiting_laws.specs.Tidy.{Tidy};
 ghost use Rattle.cache_settling.specs.Answered.{AnswersLoad, answering, giving_up, knows_loads};
 ghost use Rattle.cache_settling.specs.GivenUp.{GivesUpLoad, WaitForLoads};
 

@@ -11,7 +11,7 @@ ghost use Rattle.cache_settling.specs.Answered.{waiting_for};
 ghost use Rattle.cache_settling.specs.Told.{HaveLines, line_of, steps_told};
 
 use audit_model::{Outcome, Seq, Step};
-use cache_lines::{Buffer, Next};
+use audit_lines::{Buffer, Next};
 use cache_loads::Loads;
 use cache_namespace::{Connection, Kept};
 use cache_steps::write_outcome;

@@ -13,7 +13,7 @@ ghost use Rattle.cache_namespace.specs.Shown.{shown, situation};
 ghost use Rattle.cache_namespace.specs.Taken.{IsSound, ReplacedAt, text_at};
 ghost use Rattle.cache_namespace.specs.Waiting.{loads_in, under_way};
 ghost use Rattle.cache_namespace.specs.declared.connection.Connection.{Connection as Waiter};
-ghost use Rattle.load_laws.specs.Tidy.{Tidy, times_in};
+ghost use Rattle.audit_waiting_laws.specs.Tidy.{Tidy, times_in};
 ghost use Rattle.cache_settling.specs.Answered.{but_for, giving_up, knows_loads, waiting_for};
 ghost use Rattle.cache_settling.specs.Noted.{NothingWaits, noted_in};
 ghost use Rattle.cache_settling.specs.GivenUp.{GivesUp, GivesUpLoad, HaveLoads, IsWaitingLoad, RunsAgain, WaitForLoads};

@@ -13,7 +13,7 @@ ghost use Rattle.cache_namespace.specs.Making.{making_of};
 ghost use Rattle.cache_namespace.specs.Shown.{situation};
 ghost use Rattle.cache_namespace.specs.Taken.{IsSound, text_at};
 ghost use Rattle.cache_namespace.specs.Waiting.{under_way};
-ghost use Rattle.load_laws.specs.Tidy.{Tidy};
+ghost use Rattle.audit_waiting_laws.specs.Tidy.{Tidy};
 ghost use Rattle.cache_settling.specs.Answered.{KeepsRecord, answering, giving_up, knows_loads};
 ghost use Rattle.cache_settling.specs.GivenUp.{WaitForLoads};
 ghost use Rattle.cache_settling.specs.Laws.{record_answered, record_given_up};

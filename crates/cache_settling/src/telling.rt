@@ -13,11 +13,11 @@ ghost use Rattle.cache_namespace.specs.Waiting.{UnderWay, no_loads};
 ghost use Rattle.cache_namespace.specs.Whole.{has_line};
 ghost use Rattle.cache_namespace.specs.declared.connection.Connection.{Connection as Waiter};
 ghost use Rattle.cache_loads.specs.declared.standing.Standing.TheVariants as now;
-ghost use Rattle.load_laws.specs.Tidy.{Tidy};
+ghost use Rattle.audit_waiting_laws.specs.Tidy.{Tidy};
 ghost use Rattle.cache_settling.specs.Told.{HaveRoom, TellsThem, WritesTo, steps_told};
 
 use audit_model::{Config, Outcome};
-use cache_lines::{Buffer, Next};
+use audit_lines::{Buffer, Next};
 use cache_namespace::{Connection, Standing};
 use cache_steps::write_outcome;
 

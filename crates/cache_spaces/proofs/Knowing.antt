@@ -15,8 +15,8 @@ use Rattle.cache_namespace.specs.Waiting.{UnderWay}
 use Rattle.cache_namespace.specs.declared.connection.Connection.{Connection}
 use Rattle.cache_settling.proofs.Waits.{records-wait}
 use Rattle.cache_settling.specs.GivenUp.{WaitForLoads}
-use Rattle.load_laws.proofs.Records.{records}
-use Rattle.load_laws.specs.Tidy.{Tidy}
+use Rattle.audit_waiting_laws.proofs.Records.{records}
+use Rattle.audit_waiting_laws.specs.Tidy.{Tidy}
 use Rattle.cache_spaces.specs.Knowing.{KnowsWaiting}
 
 -- a record that leads on from a situation, to one in which values that may be held are held

@@ -14,7 +14,7 @@ ghost use Rattle.cache_steps.specs.Sums.{sum_of_bytes};
 use crate::commands::{SHORT, accepts};
 use crate::writing::{take_back, write};
 use audit_model::Accepted;
-use cache_numbers::number;
+use audit_lines::number;
 use cache_store::Store;
 use itoa::Buffer;
 use std::alloc::AllocError;

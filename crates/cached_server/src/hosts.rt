@@ -7,7 +7,7 @@ use cache_live::LiveService;
 use cache_serve::host;
 use cache_shared::{Seating, SharedService};
 use cached_config::Hosted;
-use cached_program::Fault;
+use cached_script::Fault;
 use rand_core::SeedableRng;
 use rand_xoshiro::Xoshiro256PlusPlus;
 use std::alloc::Global;

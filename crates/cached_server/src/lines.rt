@@ -3,13 +3,13 @@ ghost use Rattle.std.specs.Prelude.{◌≡◌, ◌≤◌, ◌++◌, ◌∷◌, [
 ghost use Rattle.std.specs.Io.KnownBytes.{Appends};
 ghost use Rattle.cache_devices.specs.Failures.{HasFailed};
 ghost use Rattle.cache_devices.specs.Watched.{device, failures};
-ghost use Rattle.cached_program.specs.Gathering.{Gathers};
-ghost use Rattle.cached_program.specs.Notes.{note_text};
+ghost use Rattle.cached_script.specs.Gathering.{Gathers};
+ghost use Rattle.cached_script.specs.Notes.{note_text};
 ghost use Rattle.cached_server.specs.Lines.{listening_line, note_line};
 
 use audit_model::Note;
 use cache_devices::{SendError, Watched};
-use cached_program::{put, write_note, write_out};
+use cached_script::{put, write_note, write_out};
 use itoa::Buffer;
 use std::alloc::{AllocError, Global};
 use std::io::Write;

@@ -3,7 +3,7 @@ ghost use Rattle.std.specs.Prelude.{◌≡◌, ◌⊎◌, IfErr};
 
 use crate::announcing::SharedLines;
 use cached_config::Hosted;
-use cached_program::Fault;
+use cached_script::Fault;
 use std::alloc::Global;
 use std::io::Write;
 use std::net::{Ipv4Addr, Net, SocketAddr, TcpListener, TcpStream};

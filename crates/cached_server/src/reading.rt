@@ -4,7 +4,7 @@ ghost use Rattle.toml.specs.Parse.{parse_document};
 ghost use Rattle.cached_config.specs.Good.{are_good};
 
 use cached_config::{ConfigError, Hosted, read_config};
-use cached_program::Fault;
+use cached_script::Fault;
 use std::alloc::Global;
 use std::fs;
 use std::io::ErrorKind;

@@ -8,7 +8,7 @@ use moka_audit::Verdict;
 use std::alloc::Global;
 use std::convert::AsStr;
 use std::io::{ErrorKind, Read, Write};
-use text_reader::TextError;
+use audit_text_reader::TextError;
 
 const USAGE: &[u8] = b"usage: transcript audit | transcript replay\n";
 

@@ -9,7 +9,7 @@ use itoa::Buffer;
 use rand_core::SeedableRng;
 use rand_xoshiro::Xoshiro256PlusPlus;
 use std::alloc::{AllocError, Global};
-use text_reader::{TextError, read_inputs};
+use audit_text_reader::{TextError, read_inputs};
 
 /// A replay's generator is seeded by this number, so that it prints the same each time.
 const SEED: u64 = 0;

@@ -25,7 +25,7 @@ use Rattle.cache_namespace.proofs.Running.{fresh-gather, ran-as}
 use Rattle.cache_namespace.proofs.feeding.feed_lines.Goals as goal
 use Rattle.std.specs.Prelude.{Ok, not, ◌||◌}
 use Rattle.audit_model.specs.declared.command.Command.TheVariants as says
-use Rattle.cache_lines.specs.Unread.{Unread}
+use Rattle.audit_lines.specs.Unread.{Unread}
 use Rattle.cache_namespace.specs.declared.feeding.End.TheVariants as at
 
 pub returns-then-not-held-clause-ran : goal.returns-then-not-held-clause-ran

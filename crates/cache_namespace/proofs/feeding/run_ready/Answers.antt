@@ -5,7 +5,7 @@ use Rattle.audit_model.specs.Situation.{live_at}
 use Rattle.audit_model.specs.Stream.{behind_lines, without_return}
 use Rattle.audit_model.specs.declared.config.Config.{Config}
 use Rattle.cache_store.specs.Promises.{Frame, no_deed}
-use Rattle.cache_lines.proofs.Lines.{IsLine-first_line, long_from}
+use Rattle.audit_lines.proofs.Lines.{IsLine-first_line, long_from}
 use Rattle.cache_steps.specs.Loading.{step_silent}
 use Rattle.cache_namespace.specs.Drawing.{workings}
 use Rattle.cache_namespace.specs.Kept.{gathered}

@@ -1,7 +1,7 @@
 use Rattle.std.proofs.Common.{◌≡◌, ◌||◌, false, true, List, None, sym, ap, refl, ◌∙◌}
 use Rattle.audit_model.specs.Situation.{Situation, HeldValue}
 use Rattle.audit_model.specs.declared.command.Closing.TheVariants as by
-use Rattle.cache_lines.proofs.Lines.{long_from, IsPartial-not_long}
+use Rattle.audit_lines.proofs.Lines.{long_from, IsPartial-not_long}
 use Rattle.cache_namespace.specs.Drawing.{workings}
 use Rattle.cache_namespace.specs.Lines.{ended, ready, with_drops}
 use Rattle.cache_namespace.specs.Ran.{standing_with}

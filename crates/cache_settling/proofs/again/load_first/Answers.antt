@@ -9,7 +9,7 @@ use Rattle.cache_namespace.specs.Whole.{held_line}
 use Rattle.cache_settling.proofs.again.load_first.Goals as goal
 use Rattle.cache_steps.proofs.Drawn.{spends-none}
 use Rattle.cache_namespace.specs.Stops.{misses_now}
-use Rattle.cache_lines.specs.declared.buffer.Buffer.{Buffer}
+use Rattle.audit_lines.specs.declared.buffer.Buffer.{Buffer}
 
 -- src/again.rt:50:1
 pub returns-in-Ok-clause-waits : goal.returns-in-Ok-clause-waits

@@ -1,7 +1,7 @@
 use Rattle.std.proofs.Common.{true, cond, ◌≡◌, ◌++◌, ◌∷◌, [], ◌+◌, sym, ap, ◌∙◌, map, set, get_or, subst}
 use Rattle.std.specs.List.{find}
 use Rattle.audit_model.specs.Bytewise.{same}
-use Rattle.audit_table.specs.Slots.{Slot, slot_of, slot_at}
+use Rattle.audit_held.specs.Slots.{Slot, slot_of, slot_at}
 use Rattle.audit_held.specs.Holds.{held_by, is_open, Keeps}
 use Rattle.audit_held.proofs.Keeping.{keeps-more, view-more, absent-slot}
 use Rattle.audit_held.proofs.holding.Holding.add.Goals as goal

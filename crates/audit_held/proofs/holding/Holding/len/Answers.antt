@@ -2,7 +2,7 @@ use Rattle.std.proofs.Common.{sym, ap, ◌∙◌, nat_lt, option_map}
 use Rattle.std.specs.List.{list_all, find}
 use Rattle.audit_model.specs.Bytewise.{same}
 use Rattle.audit_model.specs.Values.{without_key}
-use Rattle.audit_table.specs.Slots.{without}
+use Rattle.audit_held.specs.Slots.{without}
 use Rattle.audit_held.specs.Holds.{held_by}
 use Rattle.audit_held.proofs.Keeping.{small-view, find-held, without-held}
 use Rattle.audit_held.proofs.holding.Holding.len.Goals as goal

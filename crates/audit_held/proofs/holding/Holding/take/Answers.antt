@@ -2,7 +2,7 @@ use Rattle.std.proofs.Common.{false, cond, sym, ap, ◌∙◌, ◌-◌, ◌<◌,
 use Rattle.std.specs.List.{find}
 use Rattle.audit_model.specs.Bytewise.{same}
 use Rattle.audit_model.specs.Values.{without_key}
-use Rattle.audit_table.specs.Slots.{slot_of, without}
+use Rattle.audit_held.specs.Slots.{slot_of, without}
 use Rattle.audit_held.specs.Holds.{held_by, is_open, Keeps}
 use Rattle.audit_held.proofs.Keeping.{keeps-taken, keeps-missed, enough-weight, enough-total, part-small, find-held, without-held, view-beside, found-key}
 use Rattle.audit_held.proofs.holding.Holding.take.Goals as goal
