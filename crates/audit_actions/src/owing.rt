@@ -7,13 +7,13 @@ ghost use Rattle.audit_model.specs.Replies.{may_refuse, load_sent_by};
 ghost use Rattle.audit_model.specs.Situation.{live_at, view_in, load_in};
 ghost use Rattle.audit_model.specs.declared.config.Config.{Config};
 ghost use Rattle.audit_held.specs.Seeing.{held_of};
-ghost use Rattle.audit_situation.specs.States.{situation_of};
+ghost use Rattle.audit_situation.specs.States.{shown_situation};
 ghost use Rattle.audit_actions.specs.Doings.{action_of};
 
 use crate::doing::Doing;
 use audit_held::Seen;
-use audit_notes::live;
 use audit_model::Config;
+use audit_notes::live;
 use audit_situation::{State, find_load};
 
 /// The live value of a key.
@@ -25,7 +25,7 @@ pub fn found<'a>(config: &Config, s: &'a State, key: &'a [u8]) -> Option<Seen<'a
 
 /// Whether a step may refuse its identifier.
 pub fn may_refuse(s: &State, doing: Doing<'_>) -> bool
-    ensures { (config : Config) → result ≡ may_refuse (view_in config (situation_of s.now)) (action_of doing.entry) }
+    ensures { (config : Config) → result ≡ may_refuse (view_in config (shown_situation s.now)) (action_of doing.entry) }
 {
     match doing {
         Doing::DropIf { .. } => s.dropped,
@@ -48,14 +48,14 @@ fn is_next(sent: u64, load: Option<u64>) -> bool
 
 /// Whether a `LOAD` needs no load of its own.
 fn needs_none(config: &Config, s: &State, key: &[u8]) -> bool
-    ensures { result ≡ (is_some (live_at config.now s.now.latest s.now.held key.now) || is_some (load_in (situation_of s.now) key.now)) }
+    ensures { result ≡ (is_some (live_at config.now s.now.latest s.now.held key.now) || is_some (load_in (shown_situation s.now) key.now)) }
 {
     found(config, s, key).is_some() || find_load(&s.pending, key).is_some()
 }
 
 /// Whether a `LOAD` sends the load that it should.
 fn loads_key_rightly(config: &Config, s: &State, key: &[u8], load: Option<u64>) -> bool
-    ensures { result ≡ option_eq nat_eq load (load_sent_by (view_in config.now (situation_of s.now)) (Running (says.Load key.now))) }
+    ensures { result ≡ option_eq nat_eq load (load_sent_by (view_in config.now (shown_situation s.now)) (Running (says.Load key.now))) }
 {
     if needs_none(config, s, key) {
         load.is_none()
@@ -66,7 +66,7 @@ fn loads_key_rightly(config: &Config, s: &State, key: &[u8], load: Option<u64>) 
 
 /// Whether a step sends the load that it should, with its number, or none.
 pub fn loads_rightly(config: &Config, s: &State, doing: Doing<'_>, load: Option<u64>) -> bool
-    ensures { result ≡ option_eq nat_eq load (load_sent_by (view_in config.now (situation_of s.now)) (action_of doing.entry)) }
+    ensures { result ≡ option_eq nat_eq load (load_sent_by (view_in config.now (shown_situation s.now)) (action_of doing.entry)) }
 {
     match doing {
         Doing::Load { key } => loads_key_rightly(config, s, key, load),

@@ -17,12 +17,12 @@ abbrev pub parts_of : List (Vec ℕ Global × ℕ) → List KeyPart
 parts_of entries = map (λ e. record { key = e.0.items; part = e.1 }) entries
 
 -- the part of a key
-abbrev pub part_in : List KeyPart → List ℕ → Option ℕ
-part_in parts key = option_map (λ p. p.part) (find (λ p. same key p.key) parts)
+abbrev pub part_of_key : List KeyPart → List ℕ → Option ℕ
+part_of_key parts key = option_map (λ p. p.part) (find (λ p. same key p.key) parts)
 
 -- the key has that part, or none yet
 abbrev pub agrees : List KeyPart → List ℕ → ℕ → Bool
-agrees parts key part = option_map_or (λ p. p == part) (part_in parts key) true
+agrees parts key part = option_map_or (λ p. p == part) (part_of_key parts key) true
 
 -- the same of a value, if there is one
 abbrev pub agrees_with : List KeyPart → Option Value → Bool
@@ -31,7 +31,7 @@ agrees_with parts (Some v) = agrees parts v.key v.part
 
 -- the parts with that of a key, if it had none
 abbrev pub with_part : List KeyPart → List ℕ → ℕ → List KeyPart
-with_part parts key part = if is_some (part_in parts key) then parts else record { key = key; part = part } ∷ parts
+with_part parts key part = if is_some (part_of_key parts key) then parts else record { key = key; part = part } ∷ parts
 
 -- the same of a value, if there is one
 abbrev pub with_value : List KeyPart → Option Value → List KeyPart

@@ -3,7 +3,7 @@ use audit_model::Bytes;
 
 /// A value without its key. Moments are nanoseconds.
 #[derive(Drop)]
-pub struct Kept {
+pub struct StoredValue {
     /// Its bytes.
     pub bytes: Bytes,
     /// The part that it is in.

@@ -1,6 +1,6 @@
 //! The map from keys to parts.
 ghost use Rattle.std.specs.Prelude.{◌≡◌, ◌∷◌, ◌^◌, ◌-◌, [], true, None, IfOk, OnOk};
-ghost use Rattle.audit_held.specs.Known.{parts_of, part_in, agrees, with_part};
+ghost use Rattle.audit_held.specs.Known.{parts_of, part_of_key, agrees, with_part};
 
 use lru::LruCache;
 use std::alloc::{AllocError, Global};
@@ -39,7 +39,7 @@ impl Parts {
 
     /// The part of a key.
     pub fn get(&self, key: &[u8]) -> Option<u64>
-        ensures { result ≡ part_in self.now key.now }
+        ensures { result ≡ part_of_key self.now key.now }
     {
         self.cache.peek(key).copied()
     }
@@ -56,7 +56,7 @@ impl Parts {
 
     /// Adds a key that has no part.
     fn insert(&mut self, key: Vec<u8>, part: u64) -> Result<(), AllocError>
-        requires { part_in self.old key.items ≡ None }
+        requires { part_of_key self.old key.items ≡ None }
         ensures { OnOk result (self.new ≡ record { key = key.items; part = part } ∷ self.old) }
     {
         if self.cache.len() >= MANY {

@@ -1,6 +1,6 @@
 use crate::outcome::none_wrong;
-use audit_model::{Config, EvictionPolicy, LineError, Weight};
 use audit_lines::{Request, read_line};
+use audit_model::{Config, EvictionPolicy, LineError, Weight};
 
 fn config(own_deadlines: bool) -> Config {
     Config {

@@ -5,7 +5,7 @@ use Rattle.audit_model.specs.Situation.{Situation, Ready, empty_situation}
 use Rattle.audit_model.specs.declared.input.Input.{Input}
 use Rattle.audit_model.specs.declared.input.Input.TheVariants as input
 use Rattle.audit_model.specs.declared.transcript.Record.{Record}
-use Rattle.audit_model_tests.specs.Making.{text, at, opened, closed, fed, says, plain}
+use Rattle.audit_model_tests.specs.Making.{text, at, opened, closed, made_feed, says, plain_config}
 
 -- ---- good
 
@@ -19,21 +19,21 @@ inputs_of_both = input.Open 1
     ∷ input.Open 1 ∷ []
 
 abbrev pub first_records : List Record
-first_records = opened 1 ∷ fed 1 5 (text "GET a") (says 1 "GET a" (text "NONE") ∷ []) ∷ []
+first_records = opened 1 ∷ made_feed 1 5 (text "GET a") (says 1 "GET a" (text "NONE") ∷ []) ∷ []
 
 abbrev pub first_last : Situation
 first_last =
     record (empty_situation 0) { latest = 5; opened = 1; connections = record { number = 1; unread = []; standing = Ready; waited = 0 } ∷ [] }
 
 pub record GoodBelonging : Type 0 where
-  pub first_belongs : BelongsIn plain 1 (empty_situation 0) inputs_of_both first_records first_last
-  pub other_left_out : BelongsIn plain 2 (empty_situation 0) inputs_of_both [] (empty_situation 0)
+  pub first_belongs : BelongsIn plain_config 1 (empty_situation 0) inputs_of_both first_records first_last
+  pub other_left_out : BelongsIn plain_config 2 (empty_situation 0) inputs_of_both [] (empty_situation 0)
 
 -- ---- broken
 
 -- records that belong to no such inputs, wherever they would lead
 abbrev pub NeverBelong : ℕ → List Input → List Record → Type 0
-NeverBelong namespace inputs records = (last : Situation) → ¬ BelongsIn plain namespace (empty_situation 0) inputs records last
+NeverBelong namespace inputs records = (last : Situation) → ¬ BelongsIn plain_config namespace (empty_situation 0) inputs records last
 
 pub record BrokenBelonging : Type 0 where
   pub record_of_nothing : NeverBelong 1 [] (opened 1 ∷ [])

@@ -36,8 +36,8 @@ abbrev pub closed : ℕ → Record
 closed conn = record { event = event.Close conn; own = None; notices = []; steps = [] }
 
 -- a feed of a connection at a moment
-abbrev pub fed : ℕ → ℕ → List ℕ → List Step → Record
-fed conn moment piece steps = record { event = event.Feed conn piece (at moment); own = None; notices = []; steps = steps }
+abbrev pub made_feed : ℕ → ℕ → List ℕ → List Step → Record
+made_feed conn moment piece steps = record { event = event.Feed conn piece (at moment); own = None; notices = []; steps = steps }
 
 -- a load's answer, whose value no part takes, with notes
 abbrev pub answered : ℕ → ℕ → Outcome → List Note → List Step → Record
@@ -57,12 +57,12 @@ came value = outcome.Value (codes value) None
 abbrev pub failed : String → Outcome
 failed why = outcome.Fault (codes why)
 
-abbrev pub step_of : ℕ → List ℕ → List ℕ → Option Accepted → List Note → Step
-step_of conn line reply accepted notes = record { conn = conn; line = line; held = false; reply = Some reply; load = None; accepted = accepted; notices = notes }
+abbrev pub made_step : ℕ → List ℕ → List ℕ → Option Accepted → List Note → Step
+made_step conn line reply accepted notes = record { conn = conn; line = line; held = false; reply = Some reply; load = None; accepted = accepted; notices = notes }
 
 -- a step that accepts nothing, with its reply and its notes
 abbrev pub tells : ℕ → String → List ℕ → List Note → Step
-tells conn line reply notes = step_of conn (codes line) reply None notes
+tells conn line reply notes = made_step conn (codes line) reply None notes
 
 -- a step that accepts nothing and tells nothing
 abbrev pub says : ℕ → String → List ℕ → Step
@@ -70,21 +70,21 @@ says conn line reply = tells conn line reply []
 
 -- a step that accepts a value into the first part
 abbrev pub takes : ℕ → String → List ℕ → List Note → Step
-takes conn line reply notes = step_of conn (codes line) reply (Some (record { part = 0 })) notes
+takes conn line reply notes = made_step conn (codes line) reply (Some (record { part = 0 })) notes
 
 -- a `LOAD` that begins to wait: it sends the load of that number, or joins one
-abbrev pub waits : ℕ → String → Option ℕ → Step
-waits conn line load = record { conn = conn; line = codes line; held = false; reply = None; load = load; accepted = None; notices = [] }
+abbrev pub made_waiting_step : ℕ → String → Option ℕ → Step
+made_waiting_step conn line load = record { conn = conn; line = codes line; held = false; reply = None; load = load; accepted = None; notices = [] }
 
 abbrev pub sends : ℕ → String → ℕ → Step
-sends conn line load = waits conn line (Some load)
+sends conn line load = made_waiting_step conn line (Some load)
 
 abbrev pub joins : ℕ → String → Step
-joins conn line = waits conn line None
+joins conn line = made_waiting_step conn line None
 
 -- a command held back
-abbrev pub holds : ℕ → String → Step
-holds conn line = record { conn = conn; line = codes line; held = true; reply = None; load = None; accepted = None; notices = [] }
+abbrev pub made_held_step : ℕ → String → Step
+made_held_step conn line = record { conn = conn; line = codes line; held = true; reply = None; load = None; accepted = None; notices = [] }
 
 abbrev pub note : RemovalCause → String → String → Note
 note cause key value = record { cause = cause; key = codes key; value = codes value }
@@ -95,21 +95,21 @@ history records = record { made = at 0; records = records }
 -- ---- configurations
 
 -- one part, weight one, no capacity and no times
-abbrev pub plain : Config
-plain = record { capacity = None; policy = Lru; parts = 1; weight = weigh.One; live_ms = None; idle_ms = None; own_deadlines = false }
+abbrev pub plain_config : Config
+plain_config = record { capacity = None; policy = Lru; parts = 1; weight = weigh.One; live_ms = None; idle_ms = None; own_deadlines = false }
 
 abbrev pub of_capacity : ℕ → Config
-of_capacity n = record plain { capacity = Some n }
+of_capacity n = record plain_config { capacity = Some n }
 
 -- the capacity is in bytes of values
 abbrev pub of_bytes : ℕ → Config
-of_bytes n = record plain { capacity = Some n; weight = weigh.Bytes }
+of_bytes n = record plain_config { capacity = Some n; weight = weigh.Bytes }
 
 abbrev pub of_idle_ms : ℕ → Config
-of_idle_ms n = record plain { idle_ms = Some n }
+of_idle_ms n = record plain_config { idle_ms = Some n }
 
 abbrev pub of_live_ms : ℕ → Config
-of_live_ms n = record plain { live_ms = Some n }
+of_live_ms n = record plain_config { live_ms = Some n }
 
 abbrev pub with_deadlines : Config → Config
 with_deadlines config = record config { own_deadlines = true }

@@ -15,7 +15,7 @@ use Rattle.audit_model.specs.View.{Candidate}
 use Rattle.audit_model.specs.declared.config.Config.{Config}
 use Rattle.audit_model.specs.declared.transcript.Note.{Note}
 use Rattle.audit_held.proofs.Keeping.{find-map, without-map}
-use Rattle.audit_notes.specs.Scenes.{new_candidate_at, newcomer_in, deed_in, rest_of, may_be_told, told_in, IsTaken}
+use Rattle.audit_notes.specs.Scenes.{new_candidate_at, newcomer_in, deed_in, rest_of, may_be_told, candidates_in, TakesFirstValue}
 use Rattle.audit_notes.specs.declared.notes.Scene.{Scene}
 
 -- ---- the same bytes
@@ -100,18 +100,18 @@ module _ (config : Config) (now : ℕ) (key : List ℕ) (held rest : List HeldVa
       ∙ sym (without-there (λ c. c.value.key) key (map (candidate_at config now) held) (map (new_candidate_at config now) rest) (in-view ∙ ap (option_map (candidate_at config now)) e))
 
 pub taken-old : (scene : Scene) (key : List ℕ) (held : List HeldValue) (left : Bool) (h : HeldValue) (others : List HeldValue)
-    → find (λ h. same key h.value.key) held ≡ Some h → others ≡ without_key (λ h. h.value.key) key held → IsTaken scene key held left others left
+    → find (λ h. same key h.value.key) held ≡ Some h → others ≡ without_key (λ h. h.value.key) key held → TakesFirstValue scene key held left others left
 taken-old scene key held left h others e o = record {
-  told = ap (λ hs. told_in scene hs left) o ∙ left-old scene.config.now scene.moment key held (rest_of left (newcomer_in scene)) h e;
+  told = ap (λ hs. candidates_in scene hs left) o ∙ left-old scene.config.now scene.moment key held (rest_of left (newcomer_in scene)) h e;
   all = ap (λ hs. hs ++ rest_of left (newcomer_in scene)) o ∙ sym (without-here (λ h. h.value.key) key held (rest_of left (newcomer_in scene)) h e);
 }
 
 pub taken-new : (scene : Scene) (key : List ℕ) (held : List HeldValue) (left leaves : Bool) (others : List HeldValue)
     → find (λ h. same key h.value.key) held ≡ None → others ≡ held → without_key (λ h. h.value.key) key (rest_of left (newcomer_in scene)) ≡ [] → leaves ≡ false
-    → IsTaken scene key held left others leaves
+    → TakesFirstValue scene key held left others leaves
 taken-new scene key held left leaves others e o w l = record {
   told =
-      ap (λ hs. told_in scene hs leaves) o ∙ ap (λ b. told_in scene held b) l
+      ap (λ hs. candidates_in scene hs leaves) o ∙ ap (λ b. candidates_in scene held b) l
       ∙ left-new scene.config.now scene.moment key held (rest_of left (newcomer_in scene)) e w;
   all =
       ap (λ hs. hs ++ rest_of leaves (newcomer_in scene)) o ∙ ap (λ b. held ++ rest_of b (newcomer_in scene)) l

@@ -19,9 +19,9 @@ use Rattle.audit_model.specs.Values.{without_key}
 use Rattle.audit_model.specs.declared.config.Config.{Config}
 use Rattle.audit_model.specs.declared.transcript.Note.{Note}
 use Rattle.audit_held.specs.Weights.{values_of}
-use Rattle.audit_held.specs.Holds.{used_at, marked_in}
+use Rattle.audit_held.specs.Holds.{value_used_at, marked_in}
 use Rattle.audit_held.proofs.Keeping.{find-map}
-use Rattle.audit_notes.specs.After.{AreSized, IsNew, held_values, is_among, used_in, covered_in, marked_by, passed_on_by}
+use Rattle.audit_notes.specs.After.{AreSized, IsJustAccepted, values_to_tell, is_among, used_in, covered_in, marked_by, passed_on_by}
 use Rattle.audit_notes.specs.Scenes.{may_be_told, new_candidate_at}
 use Rattle.audit_notes.proofs.Judging.{first-here, first-there}
 
@@ -59,17 +59,17 @@ module _ (config : Config) (now : ℕ) (key : List ℕ) where
   live h = is_live_at config now h
 
   -- none of the key
-  unused : (hs : List HeldValue) → find (λ h. same key h.value.key) hs ≡ None → map (used_at key now) hs ≡ map (used_in config now (Some key)) hs
+  unused : (hs : List HeldValue) → find (λ h. same key h.value.key) hs ≡ None → map (value_used_at key now) hs ≡ map (used_in config now (Some key)) hs
   unused [] e = refl
   unused (h ∷ hs) e = go (same key h.value.key) e (unused hs)
     where
-      go : (b : Bool) → cond b (Some h) (find (λ h. same key h.value.key) hs) ≡ None → (find (λ h. same key h.value.key) hs ≡ None → map (used_at key now) hs ≡ map (used_in config now (Some key)) hs)
-          → (if b then record h { last_use = now } else h) ∷ map (used_at key now) hs ≡ record h { last_use = if b && live h then now else h.last_use } ∷ map (used_in config now (Some key)) hs
+      go : (b : Bool) → cond b (Some h) (find (λ h. same key h.value.key) hs) ≡ None → (find (λ h. same key h.value.key) hs ≡ None → map (value_used_at key now) hs ≡ map (used_in config now (Some key)) hs)
+          → (if b then record h { last_use = now } else h) ∷ map (value_used_at key now) hs ≡ record h { last_use = if b && live h then now else h.last_use } ∷ map (used_in config now (Some key)) hs
       go true e ih = absurd (none-some h (sym e))
       go false e ih = ap (λ hs. h ∷ hs) (ih e)
 
   pub used-live : (hs : List HeldValue) → find (λ h. same key h.value.key) (without_key (λ h. h.value.key) key hs) ≡ None → is_some (find (λ h. same key h.value.key && live h) hs) ≡ true
-      → map (used_at key now) hs ≡ map (used_in config now (Some key)) hs
+      → map (value_used_at key now) hs ≡ map (used_in config now (Some key)) hs
   used-live [] a e = refl
   used-live (h ∷ hs) a e = go (same key h.value.key) refl a e (used-live hs)
     where
@@ -79,10 +79,10 @@ module _ (config : Config) (now : ℕ) (key : List ℕ) where
 
       go : (b : Bool) → same key h.value.key ≡ b → find (λ h. same key h.value.key) (cond b hs (h ∷ without_key (λ h. h.value.key) key hs)) ≡ None
           → is_some (cond (b && live h) (Some h) (find (λ h. same key h.value.key && live h) hs)) ≡ true
-          → (find (λ h. same key h.value.key) (without_key (λ h. h.value.key) key hs) ≡ None → is_some (find (λ h. same key h.value.key && live h) hs) ≡ true → map (used_at key now) hs ≡ map (used_in config now (Some key)) hs)
-          → (if b then record h { last_use = now } else h) ∷ map (used_at key now) hs ≡ record h { last_use = if b && live h then now else h.last_use } ∷ map (used_in config now (Some key)) hs
+          → (find (λ h. same key h.value.key) (without_key (λ h. h.value.key) key hs) ≡ None → is_some (find (λ h. same key h.value.key && live h) hs) ≡ true → map (value_used_at key now) hs ≡ map (used_in config now (Some key)) hs)
+          → (if b then record h { last_use = now } else h) ∷ map (value_used_at key now) hs ≡ record h { last_use = if b && live h then now else h.last_use } ∷ map (used_in config now (Some key)) hs
       go true f a e ih =
-          ap (λ b. record h { last_use = if b then now else h.last_use } ∷ map (used_at key now) hs) (sym (by_live (live h) e (none-good key live hs a)))
+          ap (λ b. record h { last_use = if b then now else h.last_use } ∷ map (value_used_at key now) hs) (sym (by_live (live h) e (none-good key live hs a)))
           ∙ ap (λ hs. record h { last_use = if live h then now else h.last_use } ∷ hs) (unused hs a)
       go false f a e ih = ap (λ hs. h ∷ hs) (ih (sym (ap (λ b. cond b (Some h) (find (λ h. same key h.value.key) (without_key (λ h. h.value.key) key hs))) f) ∙ a) e)
 
@@ -200,7 +200,7 @@ pub copied-held : (r : Option (Bor HeldValue)) → option_map (λ h. h.now) r �
 copied-held None = refl
 copied-held (Some x) = refl
 
-pub new-list : (now : ℕ) (o : Option HeldValue) → IfSome o (IsNew now) → option_to_list o ≡ option_to_list (option_map newly_held (option_map (λ h. h.value) o))
+pub new-list : (now : ℕ) (o : Option HeldValue) → IfSome o (IsJustAccepted now) → option_to_list o ≡ option_to_list (option_map newly_held (option_map (λ h. h.value) o))
 new-list now None h = refl
 new-list now (Some x) h = ap (λ y. y ∷ []) h.held
 
@@ -214,13 +214,13 @@ all-passed config now held deed notes parts sized =
 -- ---- the part of a note that tells `Size`
 
 pub size-old : (key : List ℕ) (held : List HeldValue) (newcomer : Option HeldValue) (h : HeldValue) → find (λ h. same key h.value.key) held ≡ Some h
-    → option_map (λ (v : Value). v.part) (find (λ v. same key v.key) (held_values held newcomer)) ≡ Some h.value.part
+    → option_map (λ (v : Value). v.part) (find (λ v. same key v.key) (values_to_tell held newcomer)) ≡ Some h.value.part
 size-old key held newcomer h e =
     ap (option_map (λ (v : Value). v.part)) (find-map (λ (h : HeldValue). h.value) (λ (v : Value). same key v.key) (held ++ option_to_list newcomer)
     ∙ ap (option_map (λ (h : HeldValue). h.value)) (first-here (λ h. h.value.key) key held (option_to_list newcomer) h e))
 
 pub size-new : (key : List ℕ) (held : List HeldValue) (newcomer : Option HeldValue) → find (λ h. same key h.value.key) held ≡ None
-    → option_map (λ (v : Value). v.part) (find (λ v. same key v.key) (held_values held newcomer)) ≡ option_map (λ h. h.value.part) (find (λ h. same key h.value.key) (option_to_list newcomer))
+    → option_map (λ (v : Value). v.part) (find (λ v. same key v.key) (values_to_tell held newcomer)) ≡ option_map (λ h. h.value.part) (find (λ h. same key h.value.key) (option_to_list newcomer))
 size-new key held newcomer e =
     ap (option_map (λ (v : Value). v.part)) (find-map (λ (h : HeldValue). h.value) (λ (v : Value). same key v.key) (held ++ option_to_list newcomer)
     ∙ ap (option_map (λ (h : HeldValue). h.value)) (first-there (λ h. h.value.key) key held (option_to_list newcomer) e))
@@ -232,17 +232,17 @@ size-new key held newcomer e =
 
 -- ---- the values that may be told are those of the definition
 
-module _ (config : Config) (now : ℕ) (held : List HeldValue) (deed : Deed) (newcomer : Option HeldValue) (is : deed.value ≡ option_map (λ h. h.value) newcomer) (new : IfSome newcomer (IsNew now)) where
+module _ (config : Config) (now : ℕ) (held : List HeldValue) (deed : Deed) (newcomer : Option HeldValue) (is : deed.value ≡ option_map (λ h. h.value) newcomer) (new : IfSome newcomer (IsJustAccepted now)) where
   pub told-all : may_be_told config now held (option_to_list newcomer) ≡ candidates_of config (map (candidate_at config now) held) deed
   told-all = go newcomer new ∙ ap (λ o. candidates_of config (map (candidate_at config now) held) (record deed { value = o })) (sym is)
     where
-      go : (n : Option HeldValue) → IfSome n (IsNew now) → may_be_told config now held (option_to_list n) ≡ candidates_of config (map (candidate_at config now) held) (record deed { value = option_map (λ h. h.value) n })
+      go : (n : Option HeldValue) → IfSome n (IsJustAccepted now) → may_be_told config now held (option_to_list n) ≡ candidates_of config (map (candidate_at config now) held) (record deed { value = option_map (λ h. h.value) n })
       go None k = refl
       go (Some h) k =
           ap (λ x. map (candidate_at config now) held ++ new_candidate_at config now x ∷ []) k.held
           ∙ ap (λ t. map (candidate_at config now) held ++ new_candidate_at config t (newly_held h.value) ∷ []) (sym k.moment)
 
-  pub values-all : held_values held newcomer ≡ map (λ c. c.value) (candidates_of config (map (candidate_at config now) held) deed)
+  pub values-all : values_to_tell held newcomer ≡ map (λ c. c.value) (candidates_of config (map (candidate_at config now) held) deed)
   values-all = sym (ap (map (λ c. c.value)) (sym told-all) ∙ go held)
     where
       news : (n : Option HeldValue) → map (λ c. c.value) (map (new_candidate_at config now) (option_to_list n)) ≡ values_of (option_to_list n)

@@ -11,7 +11,7 @@ use Rattle.audit_model.specs.Notes.{is_over, just_accepted, overfills}
 use Rattle.audit_model.specs.Situation.{HeldValue, candidate_at}
 use Rattle.audit_model.specs.Values.{without_key}
 use Rattle.audit_model.specs.declared.config.Config.{Config}
-use Rattle.audit_held.specs.Weights.{weight_in, weight_of_part, values_of}
+use Rattle.audit_held.specs.Weights.{weight_if_in, weight_of_part, values_of}
 use Rattle.audit_held.proofs.Weighing.{weight-cons, weight-push}
 use Rattle.audit_notes.specs.Weights.{AreOverfilled}
 
@@ -20,25 +20,25 @@ swapped a w x y e = omega arith
 
 -- the key's first value, and the others
 pub without-weighs : (key : List ℕ) (part : ℕ) (hs : List HeldValue)
-    → option_map_or (weight_in part) (find (λ h. same key h.value.key) hs) 0 + weight_of_part part (without_key (λ v. v.key) key (values_of hs)) ≡ weight_of_part part (values_of hs)
+    → option_map_or (weight_if_in part) (find (λ h. same key h.value.key) hs) 0 + weight_of_part part (without_key (λ v. v.key) key (values_of hs)) ≡ weight_of_part part (values_of hs)
 without-weighs key part [] = refl
 without-weighs key part (h ∷ hs) = go (same key h.value.key) (without-weighs key part hs) ∙ sym (weight-cons part h.value (values_of hs))
   where
     go : (b : Bool)
-        → option_map_or (weight_in part) (find (λ k. same key k.value.key) hs) 0 + weight_of_part part (without_key (λ v. v.key) key (values_of hs)) ≡ weight_of_part part (values_of hs)
-        → option_map_or (weight_in part) (cond b (Some h) (find (λ k. same key k.value.key) hs)) 0
-        + weight_of_part part (cond b (values_of hs) (h.value ∷ without_key (λ v. v.key) key (values_of hs))) ≡ weight_in part h + weight_of_part part (values_of hs)
+        → option_map_or (weight_if_in part) (find (λ k. same key k.value.key) hs) 0 + weight_of_part part (without_key (λ v. v.key) key (values_of hs)) ≡ weight_of_part part (values_of hs)
+        → option_map_or (weight_if_in part) (cond b (Some h) (find (λ k. same key k.value.key) hs)) 0
+        + weight_of_part part (cond b (values_of hs) (h.value ∷ without_key (λ v. v.key) key (values_of hs))) ≡ weight_if_in part h + weight_of_part part (values_of hs)
     go true e = refl
     go false e =
-        ap (λ n. option_map_or (weight_in part) (find (λ k. same key k.value.key) hs) 0 + n) (weight-cons part h.value (without_key (λ v. v.key) key (values_of hs)))
-        ∙ swapped _ (weight_in part h) _ (weight_of_part part (values_of hs)) e
+        ap (λ n. option_map_or (weight_if_in part) (find (λ k. same key k.value.key) hs) 0 + n) (weight-cons part h.value (without_key (λ v. v.key) key (values_of hs)))
+        ∙ swapped _ (weight_if_in part h) _ (weight_of_part part (values_of hs)) e
 
 -- the same by numbers
-pub enough : (key : List ℕ) (part older : ℕ) (hs : List HeldValue) → older ≡ option_map_or (weight_in part) (find (λ h. same key h.value.key) hs) 0 → older ≤ weight_of_part part (values_of hs)
+pub enough : (key : List ℕ) (part older : ℕ) (hs : List HeldValue) → older ≡ option_map_or (weight_if_in part) (find (λ h. same key h.value.key) hs) 0 → older ≤ weight_of_part part (values_of hs)
 enough key part older hs e = let w = without-weighs key part hs in omega arith
 
 pub accepted-weighs : (newcomer : HeldValue) (part older own all weight : ℕ) (hs : List HeldValue)
-    → older ≡ option_map_or (weight_in part) (find (λ h. same newcomer.value.key h.value.key) hs) 0 → own ≡ weight_in part newcomer → all ≡ weight_of_part part (values_of hs)
+    → older ≡ option_map_or (weight_if_in part) (find (λ h. same newcomer.value.key h.value.key) hs) 0 → own ≡ weight_if_in part newcomer → all ≡ weight_of_part part (values_of hs)
     → weight ≡ (all - older) + own → weight ≡ weight_of_part part (just_accepted (values_of hs) (Some newcomer.value))
 accepted-weighs newcomer part older own all weight hs e f g is =
     let w = without-weighs newcomer.value.key part hs in

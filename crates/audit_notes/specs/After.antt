@@ -14,8 +14,8 @@ use Rattle.audit_model.specs.declared.transcript.RemovalCause.TheVariants.{Size}
 use Rattle.audit_held.specs.Weights.{values_of}
 
 -- the values that may be told: those held, and the newcomer
-abbrev pub held_values : List HeldValue → Option HeldValue → List Value
-held_values held newcomer = values_of (held ++ option_to_list newcomer)
+abbrev pub values_to_tell : List HeldValue → Option HeldValue → List Value
+values_to_tell held newcomer = values_of (held ++ option_to_list newcomer)
 
 -- the part of which the note tells a value `Size`
 abbrev pub sized_part : List Value → Note → Option ℕ
@@ -43,7 +43,7 @@ passed_on_by config now deed sized values h =
     record { value = h.value; last_use = use_after config now deed h; covered = h.covered || covers_key h.value.key deed.covers; evictable = is_over config h.value.part values || (not (deed.syncs || is_among sized h.value.part) && h.evictable) }
 
 -- it was just accepted
-pub record IsNew (now : ℕ) (h : HeldValue) : Type 0 where
+pub record IsJustAccepted (now : ℕ) (h : HeldValue) : Type 0 where
   pub held : h ≡ newly_held h.value
   pub moment : h.value.accepted_at ≡ now
 

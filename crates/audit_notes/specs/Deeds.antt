@@ -8,12 +8,12 @@ use Rattle.audit_notes.specs.declared.deed.Covering.TheVariants as covered
 use Rattle.audit_notes.specs.declared.deed.Deed.{Deed as Done}
 
 -- which keys are covered
-abbrev pub covering_of : Covered → Covering
-covering_of covered.Nothing = Nothing
-covering_of covered.Everything = Everything
-covering_of (covered.Prefixed prefix) = Prefixed prefix.now
+abbrev pub covering_by : Covered → Covering
+covering_by covered.Nothing = Nothing
+covering_by covered.Everything = Everything
+covering_by (covered.Prefixed prefix) = Prefixed prefix.now
 
 -- the deed with the value that the step accepts
 abbrev pub deed_with : Done → Option Value → Deed
 deed_with done value =
-    record { uses = option_map (λ k. k.now) done.uses; value = value; deletes = option_map (λ k. k.now) done.deletes; covers = covering_of done.covers; syncs = done.syncs }
+    record { uses = option_map (λ k. k.now) done.uses; value = value; deletes = option_map (λ k. k.now) done.deletes; covers = covering_by done.covers; syncs = done.syncs }

@@ -10,8 +10,8 @@ ghost use Rattle.audit_model.specs.Situation.{candidate_at};
 ghost use Rattle.audit_model.specs.Values.{untold};
 ghost use Rattle.audit_held.specs.Seeing.{held_of};
 ghost use Rattle.audit_held.specs.Weights.{values_of};
-ghost use Rattle.audit_notes.specs.After.{has_true_notes, sized_part, held_values, is_among, used_in, covered_in, marked_by, passed_on_by, AreSized, IsNew};
-ghost use Rattle.audit_notes.specs.Deeds.{covering_of, deed_with};
+ghost use Rattle.audit_notes.specs.After.{has_true_notes, sized_part, values_to_tell, is_among, used_in, covered_in, marked_by, passed_on_by, AreSized, IsJustAccepted};
+ghost use Rattle.audit_notes.specs.Deeds.{covering_by, deed_with};
 ghost use Rattle.audit_notes.specs.Scenes.{rest_of, may_be_told};
 
 use crate::deed::{Covering, Deed};
@@ -29,7 +29,7 @@ fn sized_parts(
     newcomer: Option<&Held>,
     notes: &[Note],
 ) -> Result<Vec<u64>, AllocError>
-    ensures { IfOk result (λ parts. (part : ℕ) → is_among parts.items part ≡ tells_size part (held_values held.now (option_map (λ h. h.now) newcomer.entry)) notes.now) }
+    ensures { IfOk result (λ parts. (part : ℕ) → is_among parts.items part ≡ tells_size part (values_to_tell held.now (option_map (λ h. h.now) newcomer.entry)) notes.now) }
 {
     let mut parts = Vec::new(alloc);
     for note in notes {
@@ -42,7 +42,7 @@ fn sized_parts(
 
 /// The part of which the note tells a value `Size`.
 fn sized_part(held: &Holding, newcomer: Option<&Held>, note: &Note) -> Option<u64>
-    ensures { result ≡ sized_part (held_values held.now (option_map (λ h. h.now) newcomer.entry)) note.now }
+    ensures { result ≡ sized_part (values_to_tell held.now (option_map (λ h. h.now) newcomer.entry)) note.now }
 {
     if !same_cause(note.cause, RemovalCause::Size) {
         return None;
@@ -141,7 +141,7 @@ fn use_live(config: &Config, now: u64, uses: Option<&[u8]>, held: &mut Holding)
 
 /// Covers the values that a step covers.
 fn cover(covers: Covering<'_>, held: &mut Holding) -> Result<(), AllocError>
-    ensures { OnOk result (held.new ≡ map (covered_in (covering_of covers.entry)) held.old) }
+    ensures { OnOk result (held.new ≡ map (covered_in (covering_by covers.entry)) held.old) }
 {
     match covers {
         Covering::Nothing => Ok(()),
@@ -197,7 +197,7 @@ pub fn do_deed(
     newcomer: Option<Held>,
     notes: &[Note],
 ) -> Result<bool, AllocError>
-    requires new { IfSome newcomer (IsNew now) }
+    requires new { IfSome newcomer (IsJustAccepted now) }
     requires small { IfSome newcomer (λ h. h.value.part < 256) }
     ensures told { IfOk result (λ b. b ≡ has_true_notes config.now now held.old (deed_with deed.entry.now (option_map (λ h. h.value) newcomer)) notes.now) }
     ensures left { IfOk result (λ b. b ≡ true → held.new ≡ all_held_after config.now now held.old (deed_with deed.entry.now (option_map (λ h. h.value) newcomer)) notes.now) }
@@ -217,7 +217,7 @@ fn do_sized(
     notes: &[Note],
     sized: &[u64],
 ) -> Result<bool, AllocError>
-    requires new { IfSome newcomer (IsNew now) }
+    requires new { IfSome newcomer (IsJustAccepted now) }
     requires small { IfSome newcomer (λ h. h.value.part < 256) }
     requires sized { AreSized config.now now held.old (deed_with deed.now (option_map (λ h. h.value) newcomer)) notes.now sized.now }
     ensures told { IfOk result (λ b. b ≡ has_true_notes config.now now held.old (deed_with deed.entry.now (option_map (λ h. h.value) newcomer)) notes.now) }

@@ -2,7 +2,7 @@
 ghost use Rattle.std.specs.Prelude.{◌≡◌};
 ghost use Rattle.std.specs.Option.{option_map};
 ghost use Rattle.audit_model.specs.Commands.{is_this, covers_key};
-ghost use Rattle.audit_notes.specs.Deeds.{covering_of};
+ghost use Rattle.audit_notes.specs.Deeds.{covering_by};
 
 /// Which keys a step covers.
 #[derive(Clone, Copy)]
@@ -36,7 +36,7 @@ pub fn is_this(key: &[u8], this: Option<&[u8]>) -> bool
 
 /// Whether the key is covered.
 pub fn covers_key(key: &[u8], covering: Covering<'_>) -> bool
-    ensures { result ≡ covers_key key.now (covering_of covering.entry) }
+    ensures { result ≡ covers_key key.now (covering_by covering.entry) }
 {
     match covering {
         Covering::Nothing => false,

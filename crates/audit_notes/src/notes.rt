@@ -7,7 +7,7 @@ ghost use Rattle.audit_model.specs.Notes.{same_cause, overfills, is_rewritten, i
 ghost use Rattle.audit_model.specs.Situation.{candidate_at};
 ghost use Rattle.audit_model.specs.Values.{untold, without_key};
 ghost use Rattle.audit_model.specs.View.{Candidate as Eligible};
-ghost use Rattle.audit_notes.specs.Scenes.{candidate_in, new_candidate_at, newcomer_in, deed_in, rest_of, told_in, IsBefore, IsTaken};
+ghost use Rattle.audit_notes.specs.Scenes.{candidate_in, new_candidate_at, newcomer_in, deed_in, rest_of, candidates_in, IsBefore, TakesFirstValue};
 
 use crate::deed::{Deed, is_this};
 use crate::times::is_dead;
@@ -146,8 +146,8 @@ fn is_true_of_new(scene: &Scene<'_>, left: &mut bool, note: &Note) -> bool
 /// Takes the key's first value that is not told yet, and answers whether the note tells it with a true cause.
 fn is_true_of_first(scene: &Scene<'_>, held: &mut Holding, left: &mut bool, note: &Note) -> bool
     requires { IfSome (newcomer_in scene.now) (λ h. h.value.part < 256) }
-    ensures right { (before : List Eligible) → IsBefore scene.now before → result ≡ is_true_note scene.now.config.now before (deed_in scene.now) note.now (first_of note.now.key (told_in scene.now held.old left.old)) }
-    ensures taken { result ≡ true → IsTaken scene.now note.now.key held.old left.old held.new left.new }
+    ensures right { (before : List Eligible) → IsBefore scene.now before → result ≡ is_true_note scene.now.config.now before (deed_in scene.now) note.now (first_of note.now.key (candidates_in scene.now held.old left.old)) }
+    ensures taken { result ≡ true → TakesFirstValue scene.now note.now.key held.old left.old held.new left.new }
 {
     match held.take(note.key.as_slice()) {
         Some(told) => {
@@ -193,7 +193,7 @@ fn new_key<'a>(scene: &Scene<'a>) -> Option<&'a [u8]>
 
 /// Whether the step writes or deletes the key of none that is left.
 fn are_none_succeeded(scene: &Scene<'_>, held: &Holding, left: bool) -> bool
-    ensures none { result ≡ list_all (λ c. not (is_succeeded (deed_in scene.now) c)) (told_in scene.now held.now left) }
+    ensures none { result ≡ list_all (λ c. not (is_succeeded (deed_in scene.now) c)) (candidates_in scene.now held.now left) }
     ensures absent { result ≡ true → IfSome (newcomer_in scene.now) (λ n. find (λ h. same n.value.key h.value.key) held.now ≡ None) }
 {
     let written = is_absent(held, new_key(scene));
@@ -219,7 +219,7 @@ pub fn are_true_notes(
 ) -> bool
     requires small { IfSome (newcomer_in scene.now) (λ h. h.value.part < 256) }
     requires before { IsBefore scene.now (map (candidate_at scene.now.config.now scene.now.moment) held.old) }
-    ensures right { result ≡ are_true_notes scene.now.config.now (map (candidate_at scene.now.config.now scene.now.moment) held.old) (deed_in scene.now) (told_in scene.now held.old left.old) notes.now }
+    ensures right { result ≡ are_true_notes scene.now.config.now (map (candidate_at scene.now.config.now scene.now.moment) held.old) (deed_in scene.now) (candidates_in scene.now held.old left.old) notes.now }
     ensures all { result ≡ true → held.new ++ rest_of left.new (newcomer_in scene.now) ≡ untold (λ h. h.value.key) notes.now (held.old ++ rest_of left.old (newcomer_in scene.now)) }
     ensures absent { result ≡ true → IfSome (newcomer_in scene.now) (λ n. find (λ h. same n.value.key h.value.key) held.new ≡ None) }
 {

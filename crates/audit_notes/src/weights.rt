@@ -8,7 +8,7 @@ ghost use Rattle.audit_model.specs.History.{part_count, share};
 ghost use Rattle.audit_model.specs.Notes.{is_over, just_accepted, overfills};
 ghost use Rattle.audit_model.specs.Situation.{candidate_at};
 ghost use Rattle.audit_held.specs.Seeing.{held_of};
-ghost use Rattle.audit_held.specs.Weights.{weight_in, weight_of_part, values_of};
+ghost use Rattle.audit_held.specs.Weights.{weight_if_in, weight_of_part, values_of};
 ghost use Rattle.audit_notes.specs.Weights.{IsShare, AreOverfilled};
 
 use audit_held::{Held, Holding, Seen};
@@ -77,7 +77,7 @@ pub fn is_over(config: &Config, limit: u128, held: &Holding, part: usize) -> boo
 
 /// What a held value weighs in a part, if there is one.
 fn weight_seen(held: Option<Seen<'_>>, part: usize) -> u64
-    ensures { result ≡ option_map_or (weight_in part) (option_map held_of held.entry) 0 }
+    ensures { result ≡ option_map_or (weight_if_in part) (option_map held_of held.entry) 0 }
 {
     match held {
         Some(held) => {

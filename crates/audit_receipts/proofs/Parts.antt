@@ -4,9 +4,9 @@ use Rattle.std.specs.Prelude.{MatchOption}
 use Rattle.std.specs.List.{slice_get}
 use Rattle.std.proofs.lemmas.Option.{none-some, same_Some}
 use Rattle.audit_model.specs.declared.transcript.Record.{Record}
-use Rattle.audit_receipts.specs.Receipts.{IsOfRecord, Stands, StandFrom}
+use Rattle.audit_receipts.specs.Receipts.{IsOfRecord, StandsInJournal, StandFrom}
 use Rattle.audit_receipts.specs.declared.receipt.Receipt.{Receipt}
-use Rattle.audit_receipts.specs.Laws.{IsPart, AreOfRecords, AreInOrder}
+use Rattle.audit_receipts.specs.Laws.{IsPart, AreOfRecords, AreReceiptsInOrder}
 
 module _ {X : Type 0} where
   -- a part, behind an element that stands at a place or after it
@@ -18,7 +18,7 @@ module _ {X : Type 0} where
   part-with (z ∷ zs) ys x (suc i) (suc k) le at part = part-with zs ys x i k (omega arith) at part
 
 -- the record that a receipt is of
-record-of : (records : List Record) (receipt : Receipt) → Stands records receipt → (entry : Record) × (slice_get records (receipt.number - 1) ≡ Some entry) × IsOfRecord receipt entry
+record-of : (records : List Record) (receipt : Receipt) → StandsInJournal records receipt → (entry : Record) × (slice_get records (receipt.number - 1) ≡ Some entry) × IsOfRecord receipt entry
 record-of records receipt s = go (slice_get records (receipt.number - 1)) refl s.1
   where
     go : (found : Option Record) → slice_get records (receipt.number - 1) ≡ found → MatchOption found ⊥ (IsOfRecord receipt) → (entry : Record) × (slice_get records (receipt.number - 1) ≡ Some entry) × IsOfRecord receipt entry
@@ -44,5 +44,5 @@ behind last records (receipt ∷ receipts) s =
       each = (r.2, rest.each);
     }
 
-pub in-order : (records : List Record) (receipts : List Receipt) → StandFrom 0 records receipts → AreInOrder records receipts
+pub in-order : (records : List Record) (receipts : List Receipt) → StandFrom 0 records receipts → AreReceiptsInOrder records receipts
 in-order records receipts s = let b = behind 0 records receipts s in record { entries = b.entries; part = b.part; each = b.each }

@@ -18,11 +18,11 @@ AreOfRecords (receipt ∷ receipts) [] = ⊥
 AreOfRecords (receipt ∷ receipts) (entry ∷ entries) = IsOfRecord receipt entry × AreOfRecords receipts entries
 
 -- the receipts are of some of the records, in their order
-pub record AreInOrder (records : List Record) (receipts : List Receipt) : Type 0 where
+pub record AreReceiptsInOrder (records : List Record) (receipts : List Receipt) : Type 0 where
   pub entries : List Record
   pub part : IsPart entries records
   pub each : AreOfRecords receipts entries
 
 -- so it is of receipts that stand
 abbrev pub ReceiptsInOrder : Type 0
-ReceiptsInOrder = (records : List Record) (receipts : List Receipt) → StandFrom 0 records receipts → AreInOrder records receipts
+ReceiptsInOrder = (records : List Record) (receipts : List Receipt) → StandFrom 0 records receipts → AreReceiptsInOrder records receipts

@@ -63,5 +63,5 @@ reached_by parts values more None = None
 reached_by parts values more (Some t) = if agree_on_parts (values ++ more) then Some (record { situation = t; parts = with_values parts more }) else None
 
 -- an answer's own step
-abbrev pub own_step : Record → Step
-own_step entry = record { conn = 0; line = []; held = false; reply = None; load = None; accepted = entry.own; notices = entry.notices }
+abbrev pub step_of_answer : Record → Step
+step_of_answer entry = record { conn = 0; line = []; held = false; reply = None; load = None; accepted = entry.own; notices = entry.notices }

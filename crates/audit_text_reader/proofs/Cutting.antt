@@ -4,7 +4,7 @@ use Rattle.std.specs.List.{flat_map}
 use Rattle.std.proofs.lemmas.Bool.{eqb-true, eq-eqb, ne_eqb}
 use Rattle.memchr.specs.Find.{IsFirstByte, is_byte}
 use Rattle.audit_model.specs.Bytewise.{onto_first}
-use Rattle.audit_text_reader.specs.Lines.{pieces, kept, kept_line}
+use Rattle.audit_text_reader.specs.Lines.{pieces, kept, telling_line}
 
 -- none of the first n bytes is b
 abbrev pub NoneBelow : ℕ → ℕ → List ℕ → Type 0

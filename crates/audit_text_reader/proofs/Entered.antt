@@ -20,8 +20,8 @@ use Rattle.audit_text_reader.specs.Fields.{◌>>=◌}
 use Rattle.audit_text_reader.specs.Fits.{Each, FitsNumber, FitsConfig, FitsOutcome}
 use Rattle.audit_text_reader.specs.Gathering.{IsReadText}
 use Rattle.audit_text_reader.specs.Inputs.{input_words, replay_text, FitsInput, FitsReplay}
-use Rattle.audit_text_reader.specs.Items.{event_of, feed_of, answer_of, give_up_of, outcome_of, value_of}
-use Rattle.audit_text_reader.specs.Lines.{words, is_skipped, kept, said_lines}
+use Rattle.audit_text_reader.specs.Items.{event_of, feed_in_words, answer_in_words, give_up_in_words, outcome_of, value_in_words}
+use Rattle.audit_text_reader.specs.Lines.{line_words, is_skipped, kept, said_lines}
 use Rattle.audit_text_reader.specs.declared.fields.TextError.{TextError}
 use Rattle.audit_text_reader.specs.declared.fields.TextError.TheVariants as error
 use Rattle.audit_text_reader.specs.declared.inputs.Begun.{Begun}
@@ -38,7 +38,7 @@ FitsEntry (entry.Config config) = FitsConfig config
 FitsEntry (entry.Made made) = FitsNumber made.nanos
 FitsEntry (entry.Input input) = FitsInput input
 
--- the words of an entry
+-- the line_words of an entry
 abbrev entry_words : Entry → List (List ℕ)
 entry_words (entry.Config config) = config_words config
 entry_words (entry.Made made) = made_words made.nanos
@@ -47,13 +47,13 @@ entry_words (entry.Input input) = input_words input
 -- ---- one line
 
 entry_words_in-answer : (load : LoadId) (o : Outcome) (moment : Instant) → FitsInput (input.Answer load o moment) → entry_words_in (input_words (input.Answer load o moment)) ≡ Some (entry.Input (input.Answer load o moment))
-unfolding entry_words_in entry_of input_in asked_of event_of answer_of outcome_of value_of
+unfolding entry_words_in entry_of input_in asked_of event_of answer_in_words outcome_of value_in_words
 entry_words_in-answer load (outcome.Value bytes ms) moment fits = rw (number_in-decimal load.namespace fits.0, number_in-decimal load.number fits.1, number_in-decimal moment.nanos fits.2, bytes_in-word bytes fits.3.0, number_or_none ms fits.3.1)
 entry_words_in-answer load outcome.None moment fits = rw (number_in-decimal load.namespace fits.0, number_in-decimal load.number fits.1, number_in-decimal moment.nanos fits.2)
 entry_words_in-answer load (outcome.Fault text) moment fits = rw (number_in-decimal load.namespace fits.0, number_in-decimal load.number fits.1, number_in-decimal moment.nanos fits.2, bytes_in-word text fits.3)
 
 entry_words_in-input : (i : Input) → FitsInput i → entry_words_in (input_words i) ≡ Some (entry.Input i)
-unfolding entry_words_in entry_of input_in asked_of event_of feed_of give_up_of
+unfolding entry_words_in entry_of input_in asked_of event_of feed_in_words give_up_in_words
 entry_words_in-input (input.Open namespace) fits = rw (number_in-decimal namespace fits)
 entry_words_in-input (input.Close conn) fits = rw (number_in-decimal conn.namespace fits.0, number_in-decimal conn.number fits.1)
 entry_words_in-input (input.Feed conn piece moment) fits = rw (number_in-decimal conn.namespace fits.0, number_in-decimal conn.number fits.1, number_in-decimal moment.nanos fits.2, bytes_in-word piece fits.3)
@@ -95,9 +95,9 @@ text-entry (entry.Config config) = line-joined (config_words config)
 text-entry (entry.Made made) = line-joined (made_words made.nanos)
 text-entry (entry.Input input) = line-joined (input_words input)
 
-entry_in-line : (e : Entry) (l : List ℕ) → entry_words_in (words l) ≡ Some e → entry_line e ≡ l ++ 10 ∷ [] → entry_in l ≡ Some e
+entry_in-line : (e : Entry) (l : List ℕ) → entry_words_in (line_words l) ≡ Some e → entry_line e ≡ l ++ 10 ∷ [] → entry_in l ≡ Some e
 unfolding entry_in
-entry_in-line e l said text = bind-some (entry_words_in (words l)) e _ said ∙ cond-true (bytes_eq (entry_line e) (l ++ 10 ∷ [])) _ _ ((bytes_eq-Decides (entry_line e) (l ++ 10 ∷ [])).1 text)
+entry_in-line e l said text = bind-some (entry_words_in (line_words l)) e _ said ∙ cond-true (bytes_eq (entry_line e) (l ++ 10 ∷ [])) _ _ ((bytes_eq-Decides (entry_line e) (l ++ 10 ∷ [])).1 text)
 
 entry_in-entry : (e : Entry) → FitsEntry e → entry_in (joined (entry_words e)) ≡ Some e
 entry_in-entry e fits =

@@ -19,8 +19,8 @@ use Rattle.audit_text.specs.Words.{bytes_word, option_word, flag_word, held_word
 use Rattle.audit_text_reader.specs.Fields.{◌>>=◌, field, whole}
 use Rattle.audit_text_reader.specs.Fits.{Each, IfAny, FitsNumber, FitsBytes, FitsPart, FitsConfig, FitsOutcome, FitsEvent, FitsNote, FitsStep}
 use Rattle.audit_text_reader.specs.Gathered.{item_line}
-use Rattle.audit_text_reader.specs.Items.{config_of, feed_of, value_of, outcome_of, answer_of, give_up_of, event_of, note_of, step_of, item_of, words_in, item_in}
-use Rattle.audit_text_reader.specs.Lines.{words, is_skipped}
+use Rattle.audit_text_reader.specs.Items.{config_in_words, feed_in_words, value_in_words, outcome_of, answer_in_words, give_up_in_words, event_of, note_in_words, step_in_words, item_of, words_in, item_in}
+use Rattle.audit_text_reader.specs.Lines.{line_words, is_skipped}
 use Rattle.audit_text_reader.specs.declared.item.Item.{Item}
 use Rattle.audit_text_reader.specs.declared.item.Item.TheVariants as item
 use Rattle.audit_text_reader.proofs.Joined.{Lacks, IsWord, Each-append, joined, words-joined, lacks-joined, line-joined}
@@ -46,26 +46,26 @@ bind-some o a f e = ap (λ o. o >>= f) e
 -- ---- by kind
 
 pub config_of-words : (c : Config) → FitsConfig c
-    → config_of ((codes "capacity=" ++ option_word decimal c.capacity) ∷ (codes "policy=" ++ policy_word c.policy) ∷ (codes "parts=" ++ decimal c.parts) ∷ (codes "weight=" ++ weight_word c.weight) ∷ deadline_words c) ≡ Some (c, [])
-unfolding config_of
+    → config_in_words ((codes "capacity=" ++ option_word decimal c.capacity) ∷ (codes "policy=" ++ policy_word c.policy) ∷ (codes "parts=" ++ decimal c.parts) ∷ (codes "weight=" ++ weight_word c.weight) ∷ deadline_words c) ≡ Some (c, [])
+unfolding config_in_words
 config_of-words c fits =
     let parts : c.parts < 2 ^ 64 = (let small = fits.parts in omega arith) in
     rw (number_or_none c.capacity fits.capacity, policy_in-word c.policy, number_in-decimal c.parts parts, weight_in-word c.weight, number_or_none c.live_ms fits.live_ms, number_or_none c.idle_ms fits.idle_ms, flag_in-word c.own_deadlines, lt-ltb c.parts (2 ^ 32) fits.parts)
 
-pub note_of-words : (note : Note) → FitsNote note → note_of (note_words note) ≡ Some (note, [])
-unfolding note_of
+pub note_of-words : (note : Note) → FitsNote note → note_in_words (note_words note) ≡ Some (note, [])
+unfolding note_in_words
 note_of-words note fits = rw (cause_in-word note.cause, bytes_in-word note.key fits.key, bytes_in-word note.value fits.value)
 
 pub step_of-words : (s : Step) → FitsStep s → s.notices ≡ []
-    → step_of (decimal s.conn ∷ held_word s.held ∷ bytes_word s.line ∷ option_word bytes_word s.reply ∷ option_word decimal s.load ∷ option_word part_word s.accepted ∷ []) ≡ Some (s, [])
-unfolding step_of
+    → step_in_words (decimal s.conn ∷ held_word s.held ∷ bytes_word s.line ∷ option_word bytes_word s.reply ∷ option_word decimal s.load ∷ option_word part_word s.accepted ∷ []) ≡ Some (s, [])
+unfolding step_in_words
 step_of-words s fits bare =
     rw (number_in-decimal s.conn fits.conn, held_in-word s.held, bytes_in-word s.line fits.line, bytes_or_none s.reply fits.reply, number_or_none s.load fits.load, part_or_none s.accepted fits.accepted)
     (ap (λ n. Some (record s { notices = n }, [])) (sym bare))
 
 -- ---- whole lines
 
--- the words of an item
+-- the line_words of an item
 abbrev pub item_words : Item → List (List ℕ)
 item_words (item.Config config) = config_words config
 item_words (item.Made made) = made_words made.nanos
@@ -77,13 +77,13 @@ item_words (item.Note note) = codes "note" ∷ note_words note
 
 words_in-answer : (load : ℕ) (o : Outcome) (nanos : ℕ) → FitsNumber load → FitsOutcome o → FitsNumber nanos
     → words_in (codes "answer" ∷ decimal load ∷ decimal nanos ∷ outcome_words o) ≡ Some (item.Event (event.Answer load o (record { nanos = nanos })))
-unfolding words_in item_of event_of answer_of outcome_of value_of
+unfolding words_in item_of event_of answer_in_words outcome_of value_in_words
 words_in-answer load (outcome.Value bytes ms) nanos l o n = rw (number_in-decimal load l, number_in-decimal nanos n, bytes_in-word bytes o.0, number_or_none ms o.1)
 words_in-answer load outcome.None nanos l o n = rw (number_in-decimal load l, number_in-decimal nanos n)
 words_in-answer load (outcome.Fault text) nanos l o n = rw (number_in-decimal load l, number_in-decimal nanos n, bytes_in-word text o)
 
 words_in-event : (e : Event) → FitsEvent e → words_in (event_words e) ≡ Some (item.Event e)
-unfolding words_in item_of event_of feed_of give_up_of
+unfolding words_in item_of event_of feed_in_words give_up_in_words
 words_in-event (event.Open conn) fits = rw (number_in-decimal conn fits)
 words_in-event (event.Close conn) fits = rw (number_in-decimal conn fits)
 words_in-event (event.Feed conn piece moment) fits = rw (number_in-decimal conn fits.0, number_in-decimal moment.nanos fits.2, bytes_in-word piece fits.1)
@@ -100,7 +100,7 @@ words_in-item (item.OwnNote note) fits = rw (note_of-words note fits)
 words_in-item (item.Step step) fits = rw (step_of-words step fits.0 fits.1)
 words_in-item (item.Note note) fits = rw (note_of-words note fits)
 
--- ---- words are words
+-- ---- line_words are line_words
 
 word-setting : (name w : List ℕ) → IsWord name → IsWord w → IsWord (name ++ w)
 word-setting name w a b = Each-append (λ x. 32 < x) name w a b
@@ -204,7 +204,7 @@ text-item (item.Step step) fits =
     ap (λ n. line (step_words step) ++ flat_map (note_line (codes "note")) n) fits.1 ∙ append-nil (line (step_words step)) ∙ line-joined (step_words step)
 text-item (item.Note note) fits = line-joined (codes "note" ∷ note_words note)
 
-pub words-said : (ws : List (List ℕ)) → is_skipped (joined ws) ≡ false → Each IsWord ws → words (joined ws) ≡ ws
+pub words-said : (ws : List (List ℕ)) → is_skipped (joined ws) ≡ false → Each IsWord ws → line_words (joined ws) ≡ ws
 words-said [] says all = cc
 words-said (w ∷ ws) says all = words-joined w ws all
 
@@ -215,9 +215,9 @@ pub record LineOf (i : Item) (l : List ℕ) : Type 0 where
   pub said : item_in l ≡ Some i
   pub text : item_line i ≡ l ++ 10 ∷ []
 
-item_in-line : (i : Item) (l : List ℕ) → words_in (words l) ≡ Some i → item_line i ≡ l ++ 10 ∷ [] → item_in l ≡ Some i
+item_in-line : (i : Item) (l : List ℕ) → words_in (line_words l) ≡ Some i → item_line i ≡ l ++ 10 ∷ [] → item_in l ≡ Some i
 unfolding item_in
-item_in-line i l said text = bind-some (words_in (words l)) i _ said ∙ cond-true (bytes_eq (item_line i) (l ++ 10 ∷ [])) _ _ ((bytes_eq-Decides (item_line i) (l ++ 10 ∷ [])).1 text)
+item_in-line i l said text = bind-some (words_in (line_words l)) i _ said ∙ cond-true (bytes_eq (item_line i) (l ++ 10 ∷ [])) _ _ ((bytes_eq-Decides (item_line i) (l ++ 10 ∷ [])).1 text)
 
 pub line-of : (i : Item) → FitsItem i → LineOf i (joined (item_words i))
 line-of i fits = record {

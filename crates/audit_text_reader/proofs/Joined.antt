@@ -7,7 +7,7 @@ use Rattle.std.proofs.lemmas.List.{append_assoc, append-nil}
 use Rattle.audit_model.specs.Bytewise.{onto_first}
 use Rattle.audit_text.specs.Words.{line}
 use Rattle.audit_text_reader.specs.Fits.{Each}
-use Rattle.audit_text_reader.specs.Lines.{pieces, lines, words, is_skipped, kept_line, kept, said_line, said_lines}
+use Rattle.audit_text_reader.specs.Lines.{pieces, lines, line_words, is_skipped, telling_line, kept, said_line, said_lines}
 use Rattle.audit_text_reader.proofs.Cutting.{pieces-here, pieces-other}
 
 -- no byte is b
@@ -49,9 +49,9 @@ pieces-lack b (x ∷ xs) = by_test (x == b) refl (pieces-lack b xs)
     by_test true e all = (tt, all)
     by_test false e all = onto-lacks b x (pieces b xs) (λ same. let f = eq-eqb x b same in cc) all
 
--- ---- words
+-- ---- line_words
 
--- words, parted by one space
+-- line_words, parted by one space
 abbrev pub joined : List (List ℕ) → List ℕ
 joined [] = []
 joined (w ∷ []) = w
@@ -62,7 +62,7 @@ line-joined [] = refl
 line-joined (w ∷ []) = refl
 line-joined (w ∷ v ∷ ws) = ap (λ t. w ++ 32 ∷ t) (line-joined (v ∷ ws)) ∙ sym (append_assoc w (32 ∷ joined (v ∷ ws)) (10 ∷ []))
 
-pub words-joined : (w : List ℕ) (ws : List (List ℕ)) → Each IsWord (w ∷ ws) → words (joined (w ∷ ws)) ≡ w ∷ ws
+pub words-joined : (w : List ℕ) (ws : List (List ℕ)) → Each IsWord (w ∷ ws) → line_words (joined (w ∷ ws)) ≡ w ∷ ws
 words-joined w [] all = pieces-one 32 w (Lacks-word 32 w (omega arith) all.0)
 words-joined w (v ∷ ws) all = pieces-append 32 w (joined (v ∷ ws)) (Lacks-word 32 w (omega arith) all.0) ∙ ap (λ t. w ∷ t) (words-joined v ws all.1)
 
@@ -81,14 +81,14 @@ said_lines-line l rest lacks says =
     ∙ ap (λ t. cond t [] (l ∷ []) ++ said_lines rest) says
 
 -- what is skipped says nothing
-said-kept : (ls : List (List ℕ)) → Each (Lacks 10) ls → said_lines (flat_map kept_line ls) ≡ flat_map said_line ls
+said-kept : (ls : List (List ℕ)) → Each (Lacks 10) ls → said_lines (flat_map telling_line ls) ≡ flat_map said_line ls
 said-kept [] all = refl
 said-kept (l ∷ ls) all = by_test (is_skipped l) refl (said-kept ls all.1)
   where
-    by_test : (t : Bool) → is_skipped l ≡ t → said_lines (flat_map kept_line ls) ≡ flat_map said_line ls
-        → said_lines (cond t [] (l ++ 10 ∷ []) ++ flat_map kept_line ls) ≡ cond t [] (l ∷ []) ++ flat_map said_line ls
+    by_test : (t : Bool) → is_skipped l ≡ t → said_lines (flat_map telling_line ls) ≡ flat_map said_line ls
+        → said_lines (cond t [] (l ++ 10 ∷ []) ++ flat_map telling_line ls) ≡ cond t [] (l ∷ []) ++ flat_map said_line ls
     by_test true e rest = rest
-    by_test false e rest = said_lines-line l (flat_map kept_line ls) all.0 e ∙ ap (λ t. l ∷ t) rest
+    by_test false e rest = said_lines-line l (flat_map telling_line ls) all.0 e ∙ ap (λ t. l ∷ t) rest
 
 pub said_lines-kept : (text : List ℕ) → said_lines (kept text) ≡ said_lines text
 said_lines-kept text = said-kept (lines text) (pieces-lack 10 text)

@@ -7,7 +7,7 @@ use Rattle.audit_model.specs.declared.transcript.Transcript.{Transcript}
 use Rattle.audit_text.specs.Text.{transcript_text}
 use Rattle.audit_text_reader.specs.Fields.{◌>>=◌}
 use Rattle.audit_text_reader.specs.Fits.{FitsConfig, FitsTranscript}
-use Rattle.audit_text_reader.specs.Gathering.{IsGiven, IsReadText, none_gathered, add_lines, finished, reading}
+use Rattle.audit_text_reader.specs.Gathering.{IsGiven, IsReadText, none_gathered, add_lines, finished, transcript_in_words}
 use Rattle.audit_text_reader.specs.Lines.{kept, said_lines}
 use Rattle.audit_text_reader.specs.declared.fields.TextError.{TextError}
 use Rattle.audit_text_reader.specs.declared.fields.TextError.TheVariants as error
@@ -21,8 +21,8 @@ said-text config transcript fits_config fits_transcript =
     ∙ ap (λ o. o >>= finished) (lines-items none_gathered (items config transcript) (fits-items config transcript fits_config fits_transcript))
     ∙ run-items config transcript
 
-pub reading-text : (text : List ℕ) (config : Config) (transcript : Transcript) → FitsConfig config → FitsTranscript transcript → transcript_text config transcript ≡ kept text → reading text ≡ Some (config, transcript)
-unfolding reading
+pub reading-text : (text : List ℕ) (config : Config) (transcript : Transcript) → FitsConfig config → FitsTranscript transcript → transcript_text config transcript ≡ kept text → transcript_in_words text ≡ Some (config, transcript)
+unfolding transcript_in_words
 reading-text text config transcript fits_config fits_transcript e =
     ap (λ ls. add_lines none_gathered ls >>= finished) (sym (said_lines-kept text) ∙ ap said_lines (sym e))
     ∙ said-text config transcript fits_config fits_transcript
@@ -37,7 +37,7 @@ one-text config transcript c t other_config other oc ot e =
     )
 
 -- so that is what was read
-pub given : (text : List ℕ) (config : Config) (transcript : Transcript) (read : Result (Config × Transcript) TextError) → IsReadText (reading text) read → reading text ≡ Some (config, transcript) → IsGiven read config transcript
+pub given : (text : List ℕ) (config : Config) (transcript : Transcript) (read : Result (Config × Transcript) TextError) → IsReadText (transcript_in_words text) read → transcript_in_words text ≡ Some (config, transcript) → IsGiven read config transcript
 given text config transcript (Ok r) said law = let e = sym said ∙ law in cc
 given text config transcript (Err (error.Line number)) said law = let e : None ≡ Some (config, transcript) = sym said ∙ law in cc
 given text config transcript (Err error.OutOfMemory) said law = tt

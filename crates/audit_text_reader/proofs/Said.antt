@@ -20,7 +20,7 @@ use Rattle.audit_model.specs.declared.transcript.RemovalCause.TheVariants as cau
 use Rattle.audit_text.specs.Words.{hex_digit, byte_digits, bytes_word, option_word, flag_word, held_word, policy_word, weight_word, cause_word}
 use Rattle.audit_text.specs.Text.{part_word}
 use Rattle.audit_lines.proofs.Digits.{AreDigits, number_in-fits}
-use Rattle.audit_text_reader.specs.Fields.{◌>>=◌, option_in, part_in, flag_in, held_in, policy_in, weight_in, cause_in, digit_in, byte_in, digits_in, bytes_in}
+use Rattle.audit_text_reader.specs.Fields.{◌>>=◌, option_in, part_in_words, flag_in, held_in, policy_in, weight_in_words, cause_in, digit_in, byte_in, digits_in, bytes_in}
 use Rattle.audit_text_reader.specs.Fits.{Each, IfAny, FitsNumber, FitsBytes, FitsPart}
 use Rattle.audit_text_reader.proofs.Joined.{IsWord}
 use Rattle.audit_text_reader.proofs.Wording.{bytes_eq-differ}
@@ -119,11 +119,11 @@ number_or_none x fits = option_in-word number_in decimal x refl (IfAny-map FitsN
 pub word-number_or_none : (x : Option ℕ) → IfAny FitsNumber x → IsWord (option_word decimal x)
 word-number_or_none x fits = word-option decimal x (IfAny-map FitsNumber _ x word-decimal fits)
 
-pub part_in-word : (accepted : Accepted) → FitsPart accepted → part_in (part_word accepted) ≡ Some accepted
+pub part_in-word : (accepted : Accepted) → FitsPart accepted → part_in_words (part_word accepted) ≡ Some accepted
 part_in-word accepted fits = ap (option_map (λ part. record { part = part })) (number_in-decimal accepted.part fits)
 
-pub part_or_none : (x : Option Accepted) → IfAny FitsPart x → option_in part_in (option_word part_word x) ≡ Some x
-part_or_none x fits = option_in-word part_in part_word x refl (IfAny-map FitsPart _ x part_in-word fits)
+pub part_or_none : (x : Option Accepted) → IfAny FitsPart x → option_in part_in_words (option_word part_word x) ≡ Some x
+part_or_none x fits = option_in-word part_in_words part_word x refl (IfAny-map FitsPart _ x part_in-word fits)
 
 pub word-part_or_none : (x : Option Accepted) → IfAny FitsPart x → IsWord (option_word part_word x)
 word-part_or_none x fits = word-option part_word x (IfAny-map FitsPart _ x (λ a. word-decimal a.part) fits)
@@ -148,7 +148,7 @@ pub policy_in-word : (p : EvictionPolicy) → policy_in (policy_word p) ≡ Some
 policy_in-word policy.Lru = refl
 policy_in-word policy.TinyLfu = refl
 
-pub weight_in-word : (w : Weight) → weight_in (weight_word w) ≡ Some w
+pub weight_in-word : (w : Weight) → weight_in_words (weight_word w) ≡ Some w
 weight_in-word weight.One = refl
 weight_in-word weight.Bytes = refl
 

@@ -14,8 +14,8 @@ use Rattle.audit_text.specs.Text.{config_words, made_words}
 use Rattle.audit_text.specs.Words.{line}
 use Rattle.audit_text_reader.specs.Fields.{◌>>=◌, field, whole}
 use Rattle.audit_text_reader.specs.Inputs.{input_words}
-use Rattle.audit_text_reader.specs.Items.{config_of, event_of}
-use Rattle.audit_text_reader.specs.Lines.{words, said_lines}
+use Rattle.audit_text_reader.specs.Items.{config_in_words, event_of}
+use Rattle.audit_text_reader.specs.Lines.{line_words, said_lines}
 use Rattle.audit_text_reader.specs.declared.fields.TextError.{TextError}
 use Rattle.audit_text_reader.specs.declared.fields.TextError.TheVariants as error
 use Rattle.audit_text_reader.specs.declared.inputs.Begun.{Begun}
@@ -30,17 +30,17 @@ entry_line (entry.Made made) = line (made_words made.nanos)
 entry_line (entry.Input input) = line (input_words input)
 
 -- the event, asked of a namespace
-abbrev pub input_of : ℕ → Event → Input
-input_of namespace (event.Open conn) = input.Open namespace
-input_of namespace (event.Close conn) = input.Close (record { namespace = namespace; number = conn })
-input_of namespace (event.Feed conn piece moment) = input.Feed (record { namespace = namespace; number = conn }) piece moment
-input_of namespace (event.Answer load outcome moment) = input.Answer (record { namespace = namespace; number = load }) outcome moment
-input_of namespace (event.GiveUp load moment) = input.GiveUp (record { namespace = namespace; number = load }) moment
+abbrev pub input_asking : ℕ → Event → Input
+input_asking namespace (event.Open conn) = input.Open namespace
+input_asking namespace (event.Close conn) = input.Close (record { namespace = namespace; number = conn })
+input_asking namespace (event.Feed conn piece moment) = input.Feed (record { namespace = namespace; number = conn }) piece moment
+input_asking namespace (event.Answer load outcome moment) = input.Answer (record { namespace = namespace; number = load }) outcome moment
+input_asking namespace (event.GiveUp load moment) = input.GiveUp (record { namespace = namespace; number = load }) moment
 
 -- what is asked, by its kind
 unfoldable pub asked_of : ℕ → List ℕ → List (List ℕ) → Option (Input × List (List ℕ))
 asked_of namespace kind ws =
-    if bytes_eq kind (codes "open") then Some (input.Open namespace, ws) else option_map (λ event. (input_of namespace event.0, event.1)) (event_of kind ws)
+    if bytes_eq kind (codes "open") then Some (input.Open namespace, ws) else option_map (λ event. (input_asking namespace event.0, event.1)) (event_of kind ws)
 
 -- an input behind its word
 unfoldable pub input_in : List (List ℕ) → Option (Input × List (List ℕ))
@@ -53,11 +53,11 @@ input_in ws = do
 unfoldable pub entry_of : List ℕ → List (List ℕ) → Option (Entry × List (List ℕ))
 entry_of kind ws =
     if bytes_eq kind (codes "input") then option_map (λ input. (entry.Input input.0, input.1)) (input_in ws)
-    else (if bytes_eq kind (codes "config") then option_map (λ config. (entry.Config config.0, config.1)) (config_of ws)
+    else (if bytes_eq kind (codes "config") then option_map (λ config. (entry.Config config.0, config.1)) (config_in_words ws)
     else (if bytes_eq kind (codes "made") then option_map (λ nanos. (entry.Made (record { nanos = nanos.0 }), nanos.1)) (field number_in ws)
     else None))
 
--- what the words of a whole line say, not so strictly
+-- what the line_words of a whole line say, not so strictly
 unfoldable pub entry_words_in : List (List ℕ) → Option Entry
 entry_words_in ws = do
   kind ← field Some ws
@@ -67,7 +67,7 @@ entry_words_in ws = do
 -- what a line says; it is of the form only as it would be written
 unfoldable pub entry_in : List ℕ → Option Entry
 entry_in line = do
-  said ← entry_words_in (words line)
+  said ← entry_words_in (line_words line)
   (if bytes_eq (entry_line said) (line ++ 10 ∷ []) then Some said else None)
 
 -- ---- together

@@ -1,4 +1,4 @@
--- What the words of a line say.
+-- What the line_words of a line say.
 use Rattle.std.specs.Prelude.{◌≡◌, ℕ, ◌+◌, ◌-◌, ◌*◌, Bool, true, false, ◌&&◌, nat_le, ◌==◌, if◌then◌else◌, List, [], ◌∷◌, ◌++◌, codes, Option, Some, None, option_map, option_and_then, Result, Ok, Err, Vec, ◌≢◌}
 use Rattle.std.specs.Borrow.{Bor}
 use Rattle.std.specs.Str.{bytes_eq}
@@ -10,7 +10,7 @@ use Rattle.audit_model.specs.declared.config.Weight.TheVariants as weight
 use Rattle.audit_model.specs.declared.transcript.Accepted.{Accepted}
 use Rattle.audit_model.specs.declared.transcript.RemovalCause.{RemovalCause}
 use Rattle.audit_model.specs.declared.transcript.RemovalCause.TheVariants as cause
-use Rattle.audit_text_reader.specs.Lines.{words}
+use Rattle.audit_text_reader.specs.Lines.{line_words}
 use Rattle.audit_text_reader.specs.declared.fields.LineFault.{LineFault}
 use Rattle.audit_text_reader.specs.declared.fields.LineFault.TheVariants as fault
 use Rattle.audit_text_reader.specs.declared.fields.TextError.{TextError}
@@ -37,27 +37,27 @@ abbrev pub IsRead : {A : Type 0} → Option A → Result A LineFault → Type 0
 IsRead said (Ok a) = said ≡ Some a
 IsRead said (Err f) = IsFault said f
 
--- the same, of a reading that leaves words
+-- the same, of a reading that leaves line_words
 abbrev pub IsReadOff : {A : Type 0} → Option (A × List (List ℕ)) → Result A LineFault → List (List ℕ) → Type 0
 IsReadOff said (Ok a) left = said ≡ Some (a, left)
 IsReadOff said (Err f) left = IsFault said f
 
--- the words of what is left, if anything is
+-- the line_words of what is left, if anything is
 abbrev pub words_of_rest : Option (Bor (List ℕ)) → List (List ℕ)
 words_of_rest None = []
-words_of_rest (Some rest) = words rest.now
+words_of_rest (Some rest) = line_words rest.now
 
--- the words that are still to be read
+-- the line_words that are still to be read
 abbrev pub words_left : Words → List (List ℕ)
 words_left it = words_of_rest it.rest
 
 -- the next word was read, and those behind it are left; there is no next word only where there is none
-abbrev pub IsNext : List (List ℕ) → Result (Bor (List ℕ)) LineFault → List (List ℕ) → Type 0
-IsNext old (Ok word) left = old ≡ word.now ∷ left
-IsNext old (Err fault.Form) left = old ≡ []
-IsNext old (Err fault.OutOfMemory) left = ⊥
+abbrev pub IsNextWord : List (List ℕ) → Result (Bor (List ℕ)) LineFault → List (List ℕ) → Type 0
+IsNextWord old (Ok word) left = old ≡ word.now ∷ left
+IsNextWord old (Err fault.Form) left = old ≡ []
+IsNextWord old (Err fault.OutOfMemory) left = ⊥
 
--- all words were read
+-- all line_words were read
 abbrev pub IsEnd : {A : Type 0} → List (List ℕ) → Result A LineFault → Type 0
 IsEnd left (Ok done) = left ≡ []
 IsEnd left (Err fault.Form) = left ≢ []
@@ -74,7 +74,7 @@ abbrev pub IsReadItems : {S : Type 0} → Option (List ℕ) → Result (Vec ℕ 
 IsReadItems said (Ok bytes) = said ≡ Some bytes.items
 IsReadItems said (Err f) = IsFault said f
 
--- what the next word says, and the words behind it
+-- what the next word says, and the line_words behind it
 abbrev pub field : {A : Type 0} → (List ℕ → Option A) → List (List ℕ) → Option (A × List (List ℕ))
 field says [] = None
 field says (w ∷ ws) = option_map (λ a. (a, ws)) (says w)
@@ -89,8 +89,8 @@ abbrev pub option_in : {A : Type 0} → (List ℕ → Option A) → List ℕ →
 option_in says word = if bytes_eq word (codes "-") then Some None else option_map Some (says word)
 
 -- a part
-abbrev pub part_in : List ℕ → Option Accepted
-part_in word = option_map (λ part. record { part = part }) (number_in word)
+abbrev pub part_in_words : List ℕ → Option Accepted
+part_in_words word = option_map (λ part. record { part = part }) (number_in word)
 
 -- yes or no
 abbrev pub flag_in : List ℕ → Option Bool
@@ -103,8 +103,8 @@ held_in word = if bytes_eq word (codes "held") then Some true else (if bytes_eq 
 abbrev pub policy_in : List ℕ → Option EvictionPolicy
 policy_in word = if bytes_eq word (codes "lru") then Some policy.Lru else (if bytes_eq word (codes "tinylfu") then Some policy.TinyLfu else None)
 
-abbrev pub weight_in : List ℕ → Option Weight
-weight_in word = if bytes_eq word (codes "one") then Some weight.One else (if bytes_eq word (codes "bytes") then Some weight.Bytes else None)
+abbrev pub weight_in_words : List ℕ → Option Weight
+weight_in_words word = if bytes_eq word (codes "one") then Some weight.One else (if bytes_eq word (codes "bytes") then Some weight.Bytes else None)
 
 abbrev pub cause_in : List ℕ → Option RemovalCause
 cause_in word =
@@ -119,7 +119,7 @@ behind [] word = Some word
 behind (n ∷ name) [] = None
 behind (n ∷ name) (b ∷ word) = if b == n then behind name word else None
 
--- what stands behind this name in the next word was given, and the words behind it are left
+-- what stands behind this name in the next word was given, and the line_words behind it are left
 abbrev pub IsSetting : List ℕ → List (List ℕ) → Result (Bor (List ℕ)) LineFault → List (List ℕ) → Type 0
 IsSetting name old (Ok rest) left = field (behind name) old ≡ Some (rest.now, left)
 IsSetting name old (Err f) left = IsFault (field (behind name) old) f

@@ -141,5 +141,5 @@ finished g = do
   Some (config, record { made = made; records = (closed_record closed).records })
 
 -- what a text says
-unfoldable pub reading : List ℕ → Option (Config × Transcript)
-reading text = add_lines none_gathered (said_lines text) >>= finished
+unfoldable pub transcript_in_words : List ℕ → Option (Config × Transcript)
+transcript_in_words text = add_lines none_gathered (said_lines text) >>= finished

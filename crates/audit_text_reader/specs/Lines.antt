@@ -1,4 +1,4 @@
--- The lines of a text that say something, and the words of a line.
+-- The lines of a text that say something, and the line_words of a line.
 use Rattle.std.specs.Prelude.{ℕ, Bool, true, false, cond, ◌==◌, List, [], ◌∷◌, ◌++◌}
 use Rattle.std.specs.List.{flat_map}
 use Rattle.audit_model.specs.Bytewise.{onto_first}
@@ -13,8 +13,8 @@ abbrev pub lines : List ℕ → List (List ℕ)
 lines text = pieces 10 text
 
 -- the pieces between the spaces
-abbrev pub words : List ℕ → List (List ℕ)
-words line = pieces 32 line
+abbrev pub line_words : List ℕ → List (List ℕ)
+line_words line = pieces 32 line
 
 -- an empty line and a comment, which begins with `#`, say nothing
 abbrev pub is_skipped : List ℕ → Bool
@@ -22,12 +22,12 @@ is_skipped [] = true
 is_skipped (b ∷ bs) = b == 35
 
 -- a line that says something, with its line feed
-abbrev pub kept_line : List ℕ → List ℕ
-kept_line l = cond (is_skipped l) [] (l ++ 10 ∷ [])
+abbrev pub telling_line : List ℕ → List ℕ
+telling_line l = cond (is_skipped l) [] (l ++ 10 ∷ [])
 
 -- the lines that say something
 abbrev pub kept : List ℕ → List ℕ
-kept bytes = flat_map kept_line (lines bytes)
+kept bytes = flat_map telling_line (lines bytes)
 
 -- a line, where it says something
 abbrev pub said_line : List ℕ → List (List ℕ)

@@ -1,12 +1,12 @@
 //! The words of a line, read one by one.
 ghost use Rattle.std.specs.Prelude.{◌≡◌, ◌∷◌, [], ◌<◌, IfSome};
 ghost use Rattle.audit_model.specs.Grammar.{number_in};
-ghost use Rattle.audit_text_reader.specs.Fields.{at_line, IsRead, IsReadOff, IsNext, IsEnd, IsBehind, IsSetting, IsReadItems, byte_in, words_of_rest, words_left, field, option_in, part_in, flag_in, held_in, policy_in, weight_in, cause_in, behind, setting_in, digit_in, digits_in, bytes_in};
-ghost use Rattle.audit_text_reader.specs.Lines.{words};
+ghost use Rattle.audit_text_reader.specs.Fields.{at_line, IsRead, IsReadOff, IsNextWord, IsEnd, IsBehind, IsSetting, IsReadItems, byte_in, words_of_rest, words_left, field, option_in, part_in_words, flag_in, held_in, policy_in, weight_in_words, cause_in, behind, setting_in, digit_in, digits_in, bytes_in};
+ghost use Rattle.audit_text_reader.specs.Lines.{line_words};
 ghost use Rattle.audit_text_reader.specs.declared.fields.LineFault.TheVariants as fault;
 
-use audit_model::{Accepted, Bytes, EvictionPolicy, RemovalCause, Seq, Weight};
 use audit_lines::number;
+use audit_model::{Accepted, Bytes, EvictionPolicy, RemovalCause, Seq, Weight};
 use memchr::memchr;
 use std::alloc::{AllocError, AllocFailed, Global};
 
@@ -65,14 +65,14 @@ pub struct Words<'a> {
 impl<'a> Words<'a> {
     /// All words of a line.
     pub fn new(line: &'a [u8]) -> Words<'a>
-        ensures { words_left result ≡ words line.now }
+        ensures { words_left result ≡ line_words line.now }
     {
         Words { rest: Some(line) }
     }
 
     /// The next word.
     pub fn next(&mut self) -> Result<&'a [u8], LineFault>
-        ensures { IsNext (words_left self.old) result (words_left self.new) }
+        ensures { IsNextWord (words_left self.old) result (words_left self.new) }
     {
         let Some(rest) = self.rest else {
             return Err(LineFault::Form);
@@ -111,7 +111,7 @@ impl<'a> Words<'a> {
 
     /// The part that the next word writes.
     pub fn part(&mut self) -> Result<Accepted, LineFault>
-        ensures { IsReadOff (field part_in (words_left self.old)) result (words_left self.new) }
+        ensures { IsReadOff (field part_in_words (words_left self.old)) result (words_left self.new) }
     {
         let part = self.number()?;
         Ok(Accepted { part })
@@ -119,7 +119,7 @@ impl<'a> Words<'a> {
 
     /// The part that the next word writes, or that there is none.
     pub fn part_or_none(&mut self) -> Result<Option<Accepted>, LineFault>
-        ensures { IsReadOff (field (option_in part_in) (words_left self.old)) result (words_left self.new) }
+        ensures { IsReadOff (field (option_in part_in_words) (words_left self.old)) result (words_left self.new) }
     {
         let word = self.next()?;
         read_part_or_none(word)
@@ -195,7 +195,7 @@ impl<'a> Words<'a> {
     /// The weight that the setting of this name has.
     #[tactic(auto, using(crate::proofs::Wording::setting_field))]
     pub fn weight_setting(&mut self, name: &[u8]) -> Result<Weight, LineFault>
-        ensures { IsReadOff (field (setting_in name.now weight_in) (words_left self.old)) result (words_left self.new) }
+        ensures { IsReadOff (field (setting_in name.now weight_in_words) (words_left self.old)) result (words_left self.new) }
     {
         let word = self.setting(name)?;
         read_weight(word)
@@ -213,7 +213,7 @@ impl<'a> Words<'a> {
 
 /// What stands before the first space and behind it, if there is one.
 fn cut(line: &[u8]) -> (&[u8], Option<&[u8]>)
-    ensures { words line.now ≡ result.0.now ∷ words_of_rest result.1 }
+    ensures { line_words line.now ≡ result.0.now ∷ words_of_rest result.1 }
 {
     match memchr(b' ', line) {
         Some(at) => (&line[..at], Some(&line[at + 1..])),
@@ -240,7 +240,7 @@ fn read_number_or_none(word: &[u8]) -> Result<Option<u64>, LineFault>
 
 /// The part that a word writes, or that there is none.
 fn read_part_or_none(word: &[u8]) -> Result<Option<Accepted>, LineFault>
-    ensures { IsRead (option_in part_in word.now) result }
+    ensures { IsRead (option_in part_in_words word.now) result }
 {
     if word == b"-".as_slice() {
         return Ok(None);
@@ -300,7 +300,7 @@ fn read_policy(word: &[u8]) -> Result<EvictionPolicy, LineFault>
 
 /// The weight that a word names.
 fn read_weight(word: &[u8]) -> Result<Weight, LineFault>
-    ensures { IsRead (weight_in word.now) result }
+    ensures { IsRead (weight_in_words word.now) result }
 {
     if word == b"one".as_slice() {
         Ok(Weight::One)

@@ -1,13 +1,13 @@
 //! Inputs for a replay.
 ghost use Rattle.std.specs.Prelude.{◌≡◌, ◌++◌, ◌∷◌, [], IfOk, IsTrue, OnOk, None, Some, bytes_eq, if◌then◌else◌, option_map};
 ghost use Rattle.audit_text.specs.Words.{line};
-ghost use Rattle.audit_text_reader.specs.Entries.{IsReplay, add_entry, asked_of, begin_config, begin_input, begin_lines, begin_made, begun_text, entry_in, entry_line, entry_of, entry_words_in, has_only_configs, input_in, input_of, replay_reading};
+ghost use Rattle.audit_text_reader.specs.Entries.{IsReplay, add_entry, asked_of, begin_config, begin_input, begin_lines, begin_made, begun_text, entry_in, entry_line, entry_of, entry_words_in, has_only_configs, input_in, input_asking, replay_reading};
 ghost use Rattle.audit_model.specs.Grammar.{number_in};
 ghost use Rattle.audit_text_reader.specs.Fields.{IsRead, IsReadOff, field, words_left};
 ghost use Rattle.audit_text_reader.specs.Gathering.{IsMade, IsReadText};
-ghost use Rattle.audit_text_reader.specs.Items.{config_of};
+ghost use Rattle.audit_text_reader.specs.Items.{config_in_words};
 ghost use Rattle.audit_text_reader.specs.Inputs.{FitsReplay, asked_words, input_words, replay_text};
-ghost use Rattle.audit_text_reader.specs.Lines.{kept, kept_line, said_line, words};
+ghost use Rattle.audit_text_reader.specs.Lines.{kept, telling_line, said_line, line_words};
 
 use crate::fields::{LineFault, TextError, Words};
 use crate::item::{is_line, read_config, read_event};
@@ -94,7 +94,7 @@ fn read_entries(alloc: Global, text: &[u8]) -> Result<Replay, TextError>
 
 /// Takes what a line says, if it says something.
 fn take_input_line(alloc: Global, begun: &mut Begun, line: &[u8]) -> Result<(), LineFault>
-    ensures text { OnOk result (begun_text begun.new ≡ begun_text begun.old ++ kept_line line.now) }
+    ensures text { OnOk result (begun_text begun.new ≡ begun_text begun.old ++ telling_line line.now) }
     ensures said { IsMade (begin_lines begun.old (said_line line.now)) result begun.new }
 {
     if is_skipped(line) {
@@ -242,7 +242,7 @@ fn put_asked(text: &mut Vec<u8>, input: &Input) -> Result<(), AllocError>
 /// Reads a line, not so strictly.
 #[tactic(auto, unfolding(crate::specs::Entries::entry_words_in))]
 fn parse_entry(alloc: Global, line: &[u8]) -> Result<Entry, LineFault>
-    ensures { IsRead (entry_words_in (words line.now)) result }
+    ensures { IsRead (entry_words_in (line_words line.now)) result }
 {
     let mut words = Words::new(line);
     let kind = words.next()?;
@@ -253,7 +253,7 @@ fn parse_entry(alloc: Global, line: &[u8]) -> Result<Entry, LineFault>
 /// What is said behind the word that names its kind.
 #[tactic(auto, unfolding(crate::specs::Entries::entry_of))]
 fn parse_entry_kind(alloc: Global, kind: &[u8], words: &mut Words<'_>) -> Result<Entry, LineFault>
-    ensures { IsReadOff (entry_of kind.now (words_left words.old)) result (words_left words.new) }
+    ensures { IsReadOff (entry_of kind.now (words_left line_words.old)) result (words_left line_words.new) }
 {
     if kind == b"input".as_slice() {
         parse_input(alloc, words)
@@ -268,7 +268,7 @@ fn parse_entry_kind(alloc: Global, kind: &[u8], words: &mut Words<'_>) -> Result
 
 /// An input, as an entry.
 fn parse_input(alloc: Global, words: &mut Words<'_>) -> Result<Entry, LineFault>
-    ensures { IsReadOff (option_map (λ input. (Entry.Input input.0, input.1)) (input_in (words_left words.old))) result (words_left words.new) }
+    ensures { IsReadOff (option_map (λ input. (Entry.Input input.0, input.1)) (input_in (words_left line_words.old))) result (words_left line_words.new) }
 {
     let input = read_input(alloc, words)?;
     Ok(Entry::Input(input))
@@ -276,7 +276,7 @@ fn parse_input(alloc: Global, words: &mut Words<'_>) -> Result<Entry, LineFault>
 
 /// The settings of a namespace, as an entry.
 fn parse_config(words: &mut Words<'_>) -> Result<Entry, LineFault>
-    ensures { IsReadOff (option_map (λ config. (Entry.Config config.0, config.1)) (config_of (words_left words.old))) result (words_left words.new) }
+    ensures { IsReadOff (option_map (λ config. (Entry.Config config.0, config.1)) (config_in_words (words_left line_words.old))) result (words_left line_words.new) }
 {
     let config = read_config(words)?;
     Ok(Entry::Config(config))
@@ -284,7 +284,7 @@ fn parse_config(words: &mut Words<'_>) -> Result<Entry, LineFault>
 
 /// The moment of the making, as an entry.
 fn parse_made(words: &mut Words<'_>) -> Result<Entry, LineFault>
-    ensures { IsReadOff (option_map (λ nanos. (Entry.Made (record { nanos = nanos.0 }), nanos.1)) (field number_in (words_left words.old))) result (words_left words.new) }
+    ensures { IsReadOff (option_map (λ nanos. (Entry.Made (record { nanos = nanos.0 }), nanos.1)) (field number_in (words_left line_words.old))) result (words_left line_words.new) }
 {
     let nanos = words.number()?;
     Ok(Entry::Made(Instant { nanos }))
@@ -293,7 +293,7 @@ fn parse_made(words: &mut Words<'_>) -> Result<Entry, LineFault>
 /// An input behind its word: a namespace, and an event; an opening has no number.
 #[tactic(auto, unfolding(crate::specs::Entries::input_in))]
 fn read_input(alloc: Global, words: &mut Words<'_>) -> Result<Input, LineFault>
-    ensures { IsReadOff (input_in (words_left words.old)) result (words_left words.new) }
+    ensures { IsReadOff (input_in (words_left line_words.old)) result (words_left line_words.new) }
 {
     let namespace = words.number()?;
     let kind = words.next()?;
@@ -308,7 +308,7 @@ fn read_asked(
     kind: &[u8],
     words: &mut Words<'_>,
 ) -> Result<Input, LineFault>
-    ensures { IsReadOff (asked_of namespace kind.now (words_left words.old)) result (words_left words.new) }
+    ensures { IsReadOff (asked_of namespace kind.now (words_left line_words.old)) result (words_left line_words.new) }
 {
     if kind == b"open".as_slice() {
         return Ok(Input::Open { namespace });
@@ -319,7 +319,7 @@ fn read_asked(
 
 /// The event, asked of a namespace.
 fn input_of(namespace: u64, event: Event) -> Input
-    ensures { result ≡ input_of namespace event }
+    ensures { result ≡ input_asking namespace event }
 {
     match event {
         Event::Open { conn: _ } => Input::Open { namespace },

@@ -1,13 +1,13 @@
 //! The lines of a text that say something.
 ghost use Rattle.std.specs.Prelude.{◌≡◌, ◌≢◌, ◌<◌, ◌++◌, [], length};
-ghost use Rattle.audit_text_reader.specs.Lines.{is_skipped, kept, kept_line, said_line, said_lines};
+ghost use Rattle.audit_text_reader.specs.Lines.{is_skipped, kept, telling_line, said_line, said_lines};
 
 use memchr::memchr;
 
 /// The first line, without its line feed, and what stands behind it.
 pub fn cut_line(text: &[u8]) -> (&[u8], &[u8])
     requires { text.now ≢ [] }
-    ensures kept { kept text.now ≡ kept_line result.0.now ++ kept result.1.now }
+    ensures kept { kept text.now ≡ telling_line result.0.now ++ kept result.1.now }
     ensures said { said_lines text.now ≡ said_line result.0.now ++ said_lines result.1.now }
     ensures shorter { length result.1.now < length text.now }
 {

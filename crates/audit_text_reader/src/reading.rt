@@ -4,8 +4,8 @@ ghost use Rattle.audit_model.specs.declared.config.Config.{Config};
 ghost use Rattle.audit_model.specs.declared.transcript.Transcript.{Transcript};
 ghost use Rattle.audit_text_reader.specs.Fits.{FitsConfig, FitsTranscript};
 ghost use Rattle.audit_text_reader.specs.Gathered.{gathered_text};
-ghost use Rattle.audit_text_reader.specs.Gathering.{IsMade, IsGiven, IsReadText, add_lines, reading};
-ghost use Rattle.audit_text_reader.specs.Lines.{kept, kept_line, said_line};
+ghost use Rattle.audit_text_reader.specs.Gathering.{IsMade, IsGiven, IsReadText, add_lines, transcript_in_words};
+ghost use Rattle.audit_text_reader.specs.Lines.{kept, telling_line, said_line};
 ghost use Rattle.audit_text.specs.Text.{transcript_text};
 
 use crate::fields::{LineFault, TextError};
@@ -37,7 +37,7 @@ pub fn texts_tell_transcripts_apart()
 #[tactic(auto, using(crate::proofs::Gatherings::add_lines_append), unfolding(crate::specs::Gathering::reading))]
 fn read_lines(alloc: Global, text: &[u8]) -> Result<(Config, Transcript), TextError>
     ensures text { IfOk result (λ r. transcript_text r.0 r.1 ≡ kept text.now) }
-    ensures said { IsReadText (reading text.now) result }
+    ensures said { IsReadText (transcript_in_words text.now) result }
 {
     let mut gathered = nothing(alloc);
     let mut rest = text;
@@ -59,7 +59,7 @@ fn read_lines(alloc: Global, text: &[u8]) -> Result<(Config, Transcript), TextEr
 
 /// Gathers what a line says, if it says something.
 fn take_line(alloc: Global, gathered: &mut Gathered, line: &[u8]) -> Result<(), LineFault>
-    ensures text { OnOk result (gathered_text gathered.new ≡ gathered_text gathered.old ++ kept_line line.now) }
+    ensures text { OnOk result (gathered_text gathered.new ≡ gathered_text gathered.old ++ telling_line line.now) }
     ensures said { IsMade (add_lines gathered.old (said_line line.now)) result gathered.new }
 {
     if is_skipped(line) {

@@ -19,14 +19,14 @@ use Rattle.audit_model.specs.declared.event.Event.TheVariants as event
 use Rattle.audit_model.specs.declared.event.Outcome.{Outcome}
 use Rattle.audit_model.specs.declared.transcript.Record.{Record}
 use Rattle.audit_model.specs.declared.transcript.Step.{Step}
-use Rattle.audit_waiting_laws.specs.Tidy.{IsFit, Tidy, times_loaded, times_waiting, told_by, waits_now}
+use Rattle.audit_waiting_laws.specs.Tidy.{SuitsTask, Tidy, times_loaded, times_waiting, told_of_load, waits_now}
 use Rattle.audit_waiting_laws.proofs.Counts.{fewer-loaded, loaded-out, one_if, settled-out, waiting-others, waiting-out}
 use Rattle.audit_waiting_laws.proofs.Standing.{found-left, found-own, put-tidy, wait_of}
 use Rattle.audit_waiting_laws.proofs.Turns.{found-number, steps}
 
 -- those that the tasks tell of their load
 abbrev pub told_in : List Task → List ℕ
-told_in tasks = flat_map told_by tasks
+told_in tasks = flat_map told_of_load tasks
 
 -- none of the tasks runs a held command
 abbrev pub has_no_held : List Task → Bool
@@ -95,7 +95,7 @@ no-held-left (RunAgain conn) rest e = e
 no-held-left (RunHeld conn) rest e = let no : false ≡ true = e in cc
 no-held-left (RunLines conn) rest e = e
 
-pub fit-due : (s : Situation) (tasks : List Task) (task : Task) (rest : List Task) → due (may_run_in s) tasks ≡ task ∷ rest → has_no_held (task ∷ rest) ≡ true → IsFit task s
+pub fit-due : (s : Situation) (tasks : List Task) (task : Task) (rest : List Task) → due (may_run_in s) tasks ≡ task ∷ rest → has_no_held (task ∷ rest) ≡ true → SuitsTask task s
 fit-due s tasks (Store key outcome) rest e none = tt
 fit-due s tasks (Deliver conn outcome) rest e none = tt
 fit-due s tasks (RunAgain conn) rest e none = tt
@@ -110,7 +110,7 @@ after_one config s now_due step more =
     let placed = placed_step_in config s (first_due now_due) step in
     if is_right config placed then after_steps config (after_step config s placed.task step placed.effect) (left_after now_due) more else None
 
-steps-first : (config : Config) (s t : Situation) (task : Task) (rest : List Task) (step : Step) (more : List Step) → IsFit task s → Tidy (told_in (task ∷ rest)) s
+steps-first : (config : Config) (s t : Situation) (task : Task) (rest : List Task) (step : Step) (more : List Step) → SuitsTask task s → Tidy (told_in (task ∷ rest)) s
     → ((u : Situation) → Tidy (told_in (left_after (task ∷ rest))) u → after_steps config u (left_after (task ∷ rest)) more ≡ Some t → Tidy [] t)
     → after_one config s (task ∷ rest) step more ≡ Some t → Tidy [] t
 steps-first config s t task rest step more fit tidy next e = go (is_right config (placed_step_in config s (Some task) step)) refl e

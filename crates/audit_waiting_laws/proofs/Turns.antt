@@ -18,7 +18,7 @@ use Rattle.audit_model.specs.Stream.{first_line, is_held, is_waiting}
 use Rattle.audit_model.specs.declared.command.Command.TheVariants as says
 use Rattle.audit_model.specs.declared.config.Config.{Config}
 use Rattle.audit_model.specs.declared.transcript.Step.{Step}
-use Rattle.audit_waiting_laws.specs.Tidy.{IsFit, Tidy, times_in, times_loaded, times_waiting, told_by, waits_now}
+use Rattle.audit_waiting_laws.specs.Tidy.{SuitsTask, Tidy, times_in, times_loaded, times_waiting, told_of_load, waits_now}
 use Rattle.audit_waiting_laws.proofs.Counts.{joined-others, joined-own, loaded-joined, loaded-more, none-loaded, one_if}
 use Rattle.audit_waiting_laws.proofs.Standing.{few-waits, put-tidy, wait_of}
 
@@ -173,8 +173,8 @@ more-told d n rest = omega arith
 
 -- ---- a step in its turn
 
-pub steps : (config : Config) (s : Situation) (task : Task) (step : Step) (rest : List ℕ) → IsFit task s → is_right config (placed_step_in config s (Some task) step) ≡ true
-    → Tidy (told_by task ++ rest) s → Tidy rest (after_step config s (Some task) step (placed_step_in config s (Some task) step).effect)
+pub steps : (config : Config) (s : Situation) (task : Task) (step : Step) (rest : List ℕ) → SuitsTask task s → is_right config (placed_step_in config s (Some task) step) ≡ true
+    → Tidy (told_of_load task ++ rest) s → Tidy rest (after_step config s (Some task) step (placed_step_in config s (Some task) step).effect)
 steps config s (Store key outcome) step rest fit right tidy = record { once = tidy.once; keys = tidy.keys }
 steps config s (Deliver m outcome) step rest fit right tidy =
     let parts = and_parts _ _ (and_parts _ _ (and_parts _ _ (and_parts _ _ (and_parts _ _ right).0).0).0).0 in

@@ -37,18 +37,18 @@ pub record Tidy (told : List ℕ) (s : Situation) : Type 0 where
   pub keys : (key : List ℕ) → times_loaded key s.pending ≤ 1
 
 -- the connection that a task tells of its load
-abbrev pub told_by : Task → List ℕ
-told_by (Store key outcome) = []
-told_by (Deliver conn outcome) = conn ∷ []
-told_by (RunAgain conn) = conn ∷ []
-told_by (RunHeld conn) = []
-told_by (RunLines conn) = []
+abbrev pub told_of_load : Task → List ℕ
+told_of_load (Store key outcome) = []
+told_of_load (Deliver conn outcome) = conn ∷ []
+told_of_load (RunAgain conn) = conn ∷ []
+told_of_load (RunHeld conn) = []
+told_of_load (RunLines conn) = []
 
 -- lines are due while one may run, and a held command while one is held
-abbrev pub IsFit : Task → Situation → Type 0
-IsFit (RunHeld conn) s = is_holding_in s conn ≡ true
-IsFit (RunLines conn) s = may_run_in s conn ≡ true
-IsFit task s = Unit {0}
+abbrev pub SuitsTask : Task → Situation → Type 0
+SuitsTask (RunHeld conn) s = is_holding_in s conn ≡ true
+SuitsTask (RunLines conn) s = may_run_in s conn ≡ true
+SuitsTask task s = Unit {0}
 
 -- before the first record nobody waits
 abbrev pub TidyAtFirst : Type 0
@@ -61,8 +61,8 @@ TidySettled = (number moment : ℕ) (s : Situation) → Tidy [] s → Tidy (wait
 -- a step that is right keeps the others tidy
 abbrev pub StepsTidy : Type 0
 StepsTidy =
-    (config : Config) (s : Situation) (task : Task) (step : Step) (rest : List ℕ) → IsFit task s → is_right config (placed_step_in config s (Some task) step) ≡ true
-    → Tidy (told_by task ++ rest) s → Tidy rest (after_step config s (Some task) step (placed_step_in config s (Some task) step).effect)
+    (config : Config) (s : Situation) (task : Task) (step : Step) (rest : List ℕ) → SuitsTask task s → is_right config (placed_step_in config s (Some task) step) ≡ true
+    → Tidy (told_of_load task ++ rest) s → Tidy rest (after_step config s (Some task) step (placed_step_in config s (Some task) step).effect)
 
 -- a record that follows keeps it tidy
 abbrev pub RecordsTidy : Type 0

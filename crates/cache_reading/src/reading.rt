@@ -1,9 +1,9 @@
 //! A recording service, and how far it was read.
 ghost use Rattle.std.specs.Prelude.{◌≡◌, ◌≢◌, ℕ, ◌<◌, ◌≤◌, ◌⊎◌, ◌++◌, [], true, length, drop, vec_len, IsNone, IfOk, IfErr, OnOk, OnErr};
 ghost use Rattle.std.specs.Option.{option_to_list};
-ghost use Rattle.cache_reading.specs.Cursors.{cursor_at};
+ghost use Rattle.cache_reading.specs.Cursors.{reply_cursor};
 ghost use Rattle.cache_reading.specs.Notes.{notes_from, told_at};
-ghost use Rattle.cache_reading.specs.Replies.{records_at, replies_to};
+ghost use Rattle.cache_reading.specs.Replies.{records_at, replies_for};
 ghost use Rattle.audit_model.specs.declared.input.Conn.{Conn};
 ghost use Rattle.cache_namespace.specs.Taken.{known};
 ghost use Rattle.cache_spaces.specs.Journals.{journals_of, service_of};
@@ -30,8 +30,8 @@ pub struct ReadService {
 }
 
 impl ReadService {
-    ghost use Rattle.cache_reading.specs.Notes.{notes_in};
-    ghost use Rattle.cache_reading.specs.Read.{journals_in, recorded_of, told_in, untold_in};
+    ghost use Rattle.cache_reading.specs.Notes.{notes_of_records};
+    ghost use Rattle.cache_reading.specs.Read.{journals_in, recorded_of, notes_taken, untold_in};
 
     /// The service, nothing of which was taken.
     pub fn new(alloc: Global, recorded: RecordedService) -> ReadService
@@ -57,14 +57,14 @@ impl ReadService {
     ///
     /// It is copied. Refused with `NoNamespace`, and with `OutOfMemory` where there is no memory for the copy; then nothing has changed.
     pub fn next_notice(&mut self, namespace: u64) -> Result<Option<Note>, ServiceError>
-        ensures note { IfOk result (λ note. told_in self.new namespace ≡ told_in self.old namespace ++ option_to_list note) }
-        ensures none { IfOk result (λ note. IsNone note → told_in self.old namespace ≡ notes_in (records_at (journals_in self.old) namespace)) }
+        ensures note { IfOk result (λ note. notes_taken self.new namespace ≡ notes_taken self.old namespace ++ option_to_list note) }
+        ensures none { IfOk result (λ note. IsNone note → notes_taken self.old namespace ≡ notes_of_records (records_at (journals_in self.old) namespace)) }
         ensures rest { IfOk result (λ note. untold_in self.old namespace ≡ option_to_list note ++ untold_in self.new namespace) }
         ensures last { IfOk result (λ note. IsNone note → untold_in self.old namespace ≡ []) }
-        ensures all { notes_in (records_at (journals_in self.new) namespace) ≡ told_in self.new namespace ++ untold_in self.new namespace }
-        ensures others { (other : ℕ) → other ≢ namespace → (told_in self.new other ≡ told_in self.old other) × (untold_in self.new other ≡ untold_in self.old other) }
+        ensures all { notes_of_records (records_at (journals_in self.new) namespace) ≡ notes_taken self.new namespace ++ untold_in self.new namespace }
+        ensures others { (other : ℕ) → other ≢ namespace → (notes_taken self.new other ≡ notes_taken self.old other) × (untold_in self.new other ≡ untold_in self.old other) }
         ensures refused { IfErr result (λ e. (e ≡ ServiceError.OutOfMemory) ⊎ ((e ≡ ServiceError.NoNamespace) × (length (spaces_of (service_of (recorded_of self.old))) ≤ namespace))) }
-        ensures kept { OnErr result ((told_in self.new namespace ≡ told_in self.old namespace) × (untold_in self.new namespace ≡ untold_in self.old namespace)) }
+        ensures kept { OnErr result ((notes_taken self.new namespace ≡ notes_taken self.old namespace) × (untold_in self.new namespace ≡ untold_in self.old namespace)) }
         ensures recorded { recorded_of self.new ≡ recorded_of self.old }
     {
         let ReadService {
@@ -93,12 +93,12 @@ pub fn take_replies(
     read: &mut Vec<Vec<u64>>,
     conn: Conn,
 ) -> Result<Vec<u8>, ServiceError>
-    ensures taken { IfOk result (λ text. text.items ≡ replies_to conn.number (drop (cursor_at read.old.items conn.namespace conn.number) (records_at (journals_of recorded.now) conn.namespace))) }
-    ensures all { IfOk result (λ text. cursor_at read.new.items conn.namespace conn.number ≡ length (records_at (journals_of recorded.now) conn.namespace)) }
+    ensures taken { IfOk result (λ text. text.items ≡ replies_for conn.number (drop (reply_cursor read.old.items conn.namespace conn.number) (records_at (journals_of recorded.now) conn.namespace))) }
+    ensures all { IfOk result (λ text. reply_cursor read.new.items conn.namespace conn.number ≡ length (records_at (journals_of recorded.now) conn.namespace)) }
     ensures known { OnOk result (InSpace (spaces_of (service_of recorded.now)) conn.namespace (λ space. (known (connections_of space)).was_opened conn.number ≡ true)) }
-    ensures others { (other : Conn) → other ≢ conn → cursor_at read.new.items other.namespace other.number ≡ cursor_at read.old.items other.namespace other.number }
+    ensures others { (other : Conn) → other ≢ conn → reply_cursor read.new.items other.namespace other.number ≡ reply_cursor read.old.items other.namespace other.number }
     ensures refused { IfErr result (λ e. (e ≡ ServiceError.OutOfMemory) ⊎ RefusesLook (spaces_of (service_of recorded.now)) conn.namespace e (λ space. IsUnknown space conn.number e)) }
-    ensures kept { OnErr result (cursor_at read.new.items conn.namespace conn.number ≡ cursor_at read.old.items conn.namespace conn.number) }
+    ensures kept { OnErr result (reply_cursor read.new.items conn.namespace conn.number ≡ reply_cursor read.old.items conn.namespace conn.number) }
 {
     match recorded.service().closed(conn) {
         Ok(_) => {}

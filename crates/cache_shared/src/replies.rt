@@ -1,11 +1,11 @@
 //! Replies that were taken.
 ghost use Rattle.std.specs.Prelude.{◌≡◌, ◌⊎◌, IfErr, IfOk};
-ghost use Rattle.cache_shared.specs.Looked.{WasSo};
+ghost use Rattle.cache_shared.specs.Looked.{HeldAtSomeMoment};
 ghost use Rattle.cache_shared.specs.Untaken.{WereUntaken};
 ghost use Rattle.cache_spaces.specs.Serves.{IsUnknown};
 ghost use Rattle.cache_spaces.specs.Services.{RefusesLook};
 
-use crate::under::Takings;
+use crate::service_core::Takings;
 use audit_model::{Conn, ServiceError};
 use std::marker::PhantomData;
 
@@ -38,7 +38,7 @@ impl<C: Takings> Replies<C> {
 /// Takes the replies of a connection.
 pub fn take_replies<C: Takings>(core: &mut C, conn: Conn) -> Result<Replies<C>, ServiceError>
     ensures conn { IfOk result (λ replies. replies.conn ≡ conn) }
-    ensures refused { IfErr result (λ e. (e ≡ ServiceError.OutOfMemory) ⊎ WasSo C.service C.events (λ spaces. RefusesLook spaces conn.namespace e (λ space. IsUnknown space conn.number e))) }
+    ensures refused { IfErr result (λ e. (e ≡ ServiceError.OutOfMemory) ⊎ HeldAtSomeMoment C.service C.events (λ spaces. RefusesLook spaces conn.namespace e (λ space. IsUnknown space conn.number e))) }
     ensures events { C.events core.new ≡ C.events core.old }
 {
     core.stands();

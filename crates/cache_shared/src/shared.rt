@@ -3,19 +3,19 @@ ghost use Rattle.std.specs.Prelude.{◌≡◌, ℕ, ◌+◌, ◌≤◌, ◌⊎�
 ghost use Rattle.std.specs.Arc.{arc_value};
 ghost use Rattle.audit_model.specs.Situation.{Situation};
 ghost use Rattle.cache_namespace.specs.Taken.{is_waiting_in};
-ghost use Rattle.cache_shared.specs.Events.{IsLate, Reached, WasRefused, WasUsedUp, is_output_for};
-ghost use Rattle.cache_shared.specs.Looked.{WasNext, WasSo};
+ghost use Rattle.cache_shared.specs.Events.{IsLate, IsReached, WasRefused, WasUsedUp, is_output_for};
+ghost use Rattle.cache_shared.specs.Looked.{WasOldestNote, HeldAtSomeMoment};
 ghost use Rattle.cache_shared.specs.Seats.{AgreeAll, Gains, SameReceipts, receipt_for};
 ghost use Rattle.cache_spaces.specs.Recorded.{namespace_of};
 ghost use Rattle.cache_spaces.specs.Serves.{IsUnknown};
 ghost use Rattle.cache_spaces.specs.Services.{InSpace, RefusesLook, spaces_of};
-ghost use Rattle.cache_spaces.specs.Spaces.{Stands, closing_of};
+ghost use Rattle.cache_spaces.specs.Spaces.{StandsFor, closing_of};
 
 use crate::desk::{Desk, Finished};
-use crate::loads::Loads;
+use crate::loads::TakenLoads;
 use crate::replies::Replies;
 use crate::seat::{Seat, Seating};
-use crate::under::{Core, Takings};
+use crate::service_core::{Core, Takings};
 use audit_model::{Closing, Conn, Input, Note, ServiceError};
 use audit_receipts::Receipt;
 use cache_spaces::{Output, RecordedService, Refusal};
@@ -134,7 +134,7 @@ impl<L: Seating, C: Core> SharedService<L, C> {
         ensures count { IfOk result (λ finished. C.events finished.service ≡ sum_by (λ seat. seat.count) seats.items) }
         ensures receipts { IfOk result (λ finished. finished.receipts.items ≡ map (λ seat. seat.receipts) seats.items) }
         ensures agree { IfOk result (λ finished. AgreeAll (C.journals finished.service) (λ seat. seat.receipts.items) seats.items) }
-        ensures reached { IfOk result (λ finished. ∥ Reached (spaces_of (C.service finished.service)) (C.events finished.service) ∥₁) }
+        ensures reached { IfOk result (λ finished. ∥ IsReached (spaces_of (C.service finished.service)) (C.events finished.service) ∥₁) }
         ensures back { IfErr result (λ both. both.1 ≡ seats) }
     {
         let SharedService { mut inner, alloc } = self;
@@ -157,7 +157,7 @@ impl<L: Seating, C: Takings> SharedService<L, C> {
     /// The reply bytes of a connection since the last taking, moved out, in one hold of the lock. It is no event, and leaves no receipt.
     pub fn take_output(&self, rt: &impl Wait, conn: Conn) -> Result<Replies<C>, ServiceError>
         ensures conn { IfOk result (λ replies. replies.conn ≡ conn) }
-        ensures refused { IfErr result (λ e. (e ≡ ServiceError.OutOfMemory) ⊎ WasSo C.service C.events (λ spaces. RefusesLook spaces conn.namespace e (λ space. IsUnknown space conn.number e))) }
+        ensures refused { IfErr result (λ e. (e ≡ ServiceError.OutOfMemory) ⊎ HeldAtSomeMoment C.service C.events (λ spaces. RefusesLook spaces conn.namespace e (λ space. IsUnknown space conn.number e))) }
     {
         let mut guard = self.inner().desk.lock(rt);
         let desk = &mut *guard;
@@ -166,9 +166,9 @@ impl<L: Seating, C: Takings> SharedService<L, C> {
 
     /// The loads of a namespace that went out and were not taken, moved out, in one hold of the lock. It is no event, and leaves no
     /// receipt.
-    pub fn take_loads(&self, rt: &impl Wait, namespace: u64) -> Result<Loads<C>, ServiceError>
+    pub fn take_loads(&self, rt: &impl Wait, namespace: u64) -> Result<TakenLoads<C>, ServiceError>
         ensures namespace { IfOk result (λ loads. loads.namespace ≡ namespace) }
-        ensures refused { IfErr result (λ e. WasSo C.service C.events (λ spaces. (e ≡ ServiceError.NoNamespace) × (length spaces ≤ namespace))) }
+        ensures refused { IfErr result (λ e. HeldAtSomeMoment C.service C.events (λ spaces. (e ≡ ServiceError.NoNamespace) × (length spaces ≤ namespace))) }
     {
         let mut guard = self.inner().desk.lock(rt);
         let desk = &mut *guard;
@@ -177,8 +177,8 @@ impl<L: Seating, C: Takings> SharedService<L, C> {
 
     /// The oldest note of a namespace that was told and not taken, in one hold of the lock. It is no event, and leaves no receipt.
     pub fn next_notice(&self, rt: &impl Wait, namespace: u64) -> Result<Option<Note>, ServiceError>
-        ensures note { IfOk result (λ note. WasNext C.service C.events C.untold namespace note) }
-        ensures refused { IfErr result (λ e. (e ≡ ServiceError.OutOfMemory) ⊎ WasSo C.service C.events (λ spaces. (e ≡ ServiceError.NoNamespace) × (length spaces ≤ namespace))) }
+        ensures note { IfOk result (λ note. WasOldestNote C.service C.events C.untold namespace note) }
+        ensures refused { IfErr result (λ e. (e ≡ ServiceError.OutOfMemory) ⊎ HeldAtSomeMoment C.service C.events (λ spaces. (e ≡ ServiceError.NoNamespace) × (length spaces ≤ namespace))) }
     {
         let mut guard = self.inner().desk.lock(rt);
         let desk = &mut *guard;
@@ -187,8 +187,8 @@ impl<L: Seating, C: Takings> SharedService<L, C> {
 
     /// Why a connection is closed, if it is, in one hold of the lock.
     pub fn closed(&self, rt: &impl Wait, conn: Conn) -> Result<Option<Closing>, ServiceError>
-        ensures closing { IfOk result (λ closing. WasSo C.service C.events (λ spaces. InSpace spaces conn.namespace (λ space. closing ≡ closing_of space conn.number))) }
-        ensures refused { IfErr result (λ e. WasSo C.service C.events (λ spaces. RefusesLook spaces conn.namespace e (λ space. IsUnknown space conn.number e))) }
+        ensures closing { IfOk result (λ closing. HeldAtSomeMoment C.service C.events (λ spaces. InSpace spaces conn.namespace (λ space. closing ≡ closing_of space conn.number))) }
+        ensures refused { IfErr result (λ e. HeldAtSomeMoment C.service C.events (λ spaces. RefusesLook spaces conn.namespace e (λ space. IsUnknown space conn.number e))) }
     {
         let guard = self.inner().desk.lock(rt);
         guard.closed(conn)
@@ -196,8 +196,8 @@ impl<L: Seating, C: Takings> SharedService<L, C> {
 
     /// Whether a `LOAD` of a connection waits for its load, in one hold of the lock.
     pub fn waiting(&self, rt: &impl Wait, conn: Conn) -> Result<bool, ServiceError>
-        ensures waits { IfOk result (λ waits. WasSo C.service C.events (λ spaces. InSpace spaces conn.namespace (λ space. (s : Situation) → Stands space s → waits ≡ is_waiting_in s conn.number))) }
-        ensures refused { IfErr result (λ e. WasSo C.service C.events (λ spaces. RefusesLook spaces conn.namespace e (λ space. IsUnknown space conn.number e))) }
+        ensures waits { IfOk result (λ waits. HeldAtSomeMoment C.service C.events (λ spaces. InSpace spaces conn.namespace (λ space. (s : Situation) → StandsFor space s → waits ≡ is_waiting_in s conn.number))) }
+        ensures refused { IfErr result (λ e. HeldAtSomeMoment C.service C.events (λ spaces. RefusesLook spaces conn.namespace e (λ space. IsUnknown space conn.number e))) }
     {
         let guard = self.inner().desk.lock(rt);
         guard.waiting(conn)
@@ -232,7 +232,7 @@ fn close_if_all<L: Seating, C: Core>(
     ensures count { IfOk result (λ finished. C.events finished.service ≡ sum_by (λ seat. seat.count) seats.items) }
     ensures receipts { IfOk result (λ finished. finished.receipts.items ≡ map (λ seat. seat.receipts) seats.items) }
     ensures agree { IfOk result (λ finished. AgreeAll (C.journals finished.service) (λ seat. seat.receipts.items) seats.items) }
-    ensures reached { IfOk result (λ finished. ∥ Reached (spaces_of (C.service finished.service)) (C.events finished.service) ∥₁) }
+    ensures reached { IfOk result (λ finished. ∥ IsReached (spaces_of (C.service finished.service)) (C.events finished.service) ∥₁) }
     ensures back { IfErr result (λ back. back ≡ seats) }
     ensures full { OnErr result (IsSome slot.new) }
 {

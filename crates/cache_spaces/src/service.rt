@@ -2,10 +2,10 @@
 ghost use Rattle.std.specs.Prelude.{◌-◌, ◌≡◌, ◌≢◌, ◌≤◌, ◌<◌, ◌^◌, ◌+◌, ◌++◌, ◌∷◌, ◌⊎◌, [], None, Some, ℕ, Bool, true, false, IfOk, IfErr, OnOk, OnErr, IsErr, IsErrOf, IsErrAnd, IfNone, IfSome, IsTrue, MatchOption, length, ◌↔◌};
 ghost use Rattle.audit_model.specs.Belongs.{refusal_of};
 ghost use Rattle.audit_model.specs.declared.event.Event.TheVariants as event;
-ghost use Rattle.cache_namespace.specs.Taken.{RefusedFor, fed, holds_at, known};
+ghost use Rattle.cache_namespace.specs.Taken.{RefusedFor, feed_event, holds_at, known};
 ghost use Rattle.cache_spaces.specs.Moves.{At};
 ghost use Rattle.cache_settling.specs.Answered.{answering, giving_up};
-ghost use Rattle.cache_spaces.specs.Serves.{Takes, Settled, SameSpace, RefusedAnswer, TakesOutput, TakesLoads, TakesNotice, IsUnknown, known_of};
+ghost use Rattle.cache_spaces.specs.Serves.{ServesEvent, Settled, SameSpace, RefusedAnswer, TakesOutput, TakesLoads, TakesNotice, IsUnknown, known_of};
 ghost use Rattle.cache_spaces.specs.Services.{are_taken, AreNew, spaces_of};
 ghost use Rattle.cache_spaces.specs.Spaces.{config_of, connections_of, closing_of};
 
@@ -46,12 +46,12 @@ impl Service {
     ghost use Rattle.audit_model.specs.Belongs.{refusal_of};
     ghost use Rattle.audit_model.specs.declared.event.Event.TheVariants as event;
     ghost use Rattle.audit_model.specs.Situation.{Situation};
-    ghost use Rattle.cache_namespace.specs.Taken.{RefusedFor, fed, holds_at, is_waiting_in, known};
+    ghost use Rattle.cache_namespace.specs.Taken.{RefusedFor, feed_event, holds_at, is_waiting_in, known};
     ghost use Rattle.cache_spaces.specs.Moves.{At};
-    ghost use Rattle.cache_spaces.specs.Serves.{Takes, Settled, SameSpace, RefusedAnswer, TakesOutput, TakesLoads, TakesNotice, IsUnknown, known_of};
+    ghost use Rattle.cache_spaces.specs.Serves.{ServesEvent, Settled, SameSpace, RefusedAnswer, TakesOutput, TakesLoads, TakesNotice, IsUnknown, known_of};
     ghost use Rattle.cache_spaces.specs.declared.space.Space.{Space as Seen};
-    ghost use Rattle.cache_spaces.specs.Services.{AreNew, Refuses, RefusesLook, IsSpace, spaces_of, is_held};
-    ghost use Rattle.cache_spaces.specs.Spaces.{config_of, connections_of, notices_of, output_of, closing_of, Stands};
+    ghost use Rattle.cache_spaces.specs.Services.{AreNew, Refuses, RefusesLook, IsSpace, spaces_of, feed_is_held};
+    ghost use Rattle.cache_spaces.specs.Spaces.{config_of, connections_of, notices_of, untaken_output, closing_of, StandsFor};
 
     /// A service of these configurations, made at that moment. Each namespace has a generator of its own, a fork of the one given.
     ///
@@ -82,7 +82,7 @@ impl Service {
 
     /// Opens a connection in a namespace. Refused with `NoNamespace`, then with `OutOfMemory`.
     pub fn open(&mut self, namespace: u64) -> Result<Conn, ServiceError>
-        ensures taken { IfOk result (λ conn. (conn.namespace ≡ namespace) × At (spaces_of self.old) (spaces_of self.new) namespace (λ was is. Takes was is conn.number (event.Open conn.number) false × (conn.number ≡ length (connections_of was) + 1))) }
+        ensures taken { IfOk result (λ conn. (conn.namespace ≡ namespace) × At (spaces_of self.old) (spaces_of self.new) namespace (λ was is. ServesEvent was is conn.number (event.Open conn.number) false × (conn.number ≡ length (connections_of was) + 1))) }
         ensures refused { IfErr result (λ e. Refuses (spaces_of self.old) (spaces_of self.new) namespace e (λ was. e ≡ ServiceError.OutOfMemory)) }
     {
         let index = match self.index_of(namespace) {
@@ -98,7 +98,7 @@ impl Service {
     /// Closes a connection: its unread bytes and its held command are dropped. Refused with `NoNamespace`, `NoConnection`,
     /// `Closed`.
     pub fn close(&mut self, conn: Conn) -> Result<(), ServiceError>
-        ensures taken { OnOk result (At (spaces_of self.old) (spaces_of self.new) conn.namespace (λ was is. Takes was is conn.number (event.Close conn.number) false × (closing_of is conn.number ≡ Some Closing.Asked))) }
+        ensures taken { OnOk result (At (spaces_of self.old) (spaces_of self.new) conn.namespace (λ was is. ServesEvent was is conn.number (event.Close conn.number) false × (closing_of is conn.number ≡ Some Closing.Asked))) }
         ensures refused { IfErr result (λ e. Refuses (spaces_of self.old) (spaces_of self.new) conn.namespace e (λ was. refusal_of (config_of was) (known (connections_of was)) (event.Close conn.number) ≡ Some e)) }
     {
         let index = match self.index_of(conn.namespace) {
@@ -117,8 +117,8 @@ impl Service {
     /// Refused with `NoNamespace`, `NoConnection`, `Closed`, `Moment` above 2^63 - 1 nanoseconds, `OutOfMemory`, and with
     /// `HeldAgain` where the held command is refused for memory again. Then nothing has changed.
     pub fn feed(&mut self, conn: Conn, piece: &[u8], moment: Instant) -> Result<Fed, ServiceError>
-        ensures taken { IfOk result (λ done. At (spaces_of self.old) (spaces_of self.new) conn.namespace (λ was is. Takes was is conn.number (fed conn.number piece.now moment.nanos) (is_held done))) }
-        ensures refused { IfErr result (λ e. Refuses (spaces_of self.old) (spaces_of self.new) conn.namespace e (λ was. RefusedFor (config_of was) (connections_of was) (fed conn.number piece.now moment.nanos) (holds_at (connections_of was) conn.number) e)) }
+        ensures taken { IfOk result (λ done. At (spaces_of self.old) (spaces_of self.new) conn.namespace (λ was is. ServesEvent was is conn.number (feed_event conn.number piece.now moment.nanos) (feed_is_held done))) }
+        ensures refused { IfErr result (λ e. Refuses (spaces_of self.old) (spaces_of self.new) conn.namespace e (λ was. RefusedFor (config_of was) (connections_of was) (feed_event conn.number piece.now moment.nanos) (holds_at (connections_of was) conn.number) e)) }
     {
         let index = match self.index_of(conn.namespace) {
             Ok(index) => index,
@@ -186,7 +186,7 @@ impl Service {
 
     /// Whether a `LOAD` of a connection waits for its load. Takes no memory. Refused with `NoNamespace`, `NoConnection`.
     pub fn waiting(&self, conn: Conn) -> Result<bool, ServiceError>
-        ensures waits { IfOk result (λ waits. (space : Seen) (s : Situation) → IsSpace (spaces_of self.now) conn.namespace space → Stands space s → waits ≡ is_waiting_in s conn.number) }
+        ensures waits { IfOk result (λ waits. (space : Seen) (s : Situation) → IsSpace (spaces_of self.now) conn.namespace space → StandsFor space s → waits ≡ is_waiting_in s conn.number) }
         ensures known { OnOk result ((space : Seen) → IsSpace (spaces_of self.now) conn.namespace space → (known (connections_of space)).was_opened conn.number ≡ true) }
         ensures found { OnOk result (conn.namespace < length (spaces_of self.now)) }
         ensures refused { IfErr result (λ e. RefusesLook (spaces_of self.now) conn.namespace e (λ space. IsUnknown space conn.number e)) }
@@ -204,7 +204,7 @@ impl Service {
 
     /// How many loads of a namespace are under way. Takes no memory. Refused with `NoNamespace`.
     pub fn loads_open(&self, namespace: u64) -> Result<u64, ServiceError>
-        ensures count { IfOk result (λ count. (space : Seen) (s : Situation) → IsSpace (spaces_of self.now) namespace space → Stands space s → count ≡ length s.pending) }
+        ensures count { IfOk result (λ count. (space : Seen) (s : Situation) → IsSpace (spaces_of self.now) namespace space → StandsFor space s → count ≡ length s.pending) }
         ensures known { OnOk result (namespace < length (spaces_of self.now)) }
         ensures refused { IfErr result (λ e. (e ≡ ServiceError.NoNamespace) × (length (spaces_of self.now) ≤ namespace)) }
     {
@@ -300,7 +300,7 @@ impl Service {
 /// Opens a connection of the namespace at a place.
 fn open_in(spaces: &mut Vec<Space>, alloc: Global, index: usize) -> Result<u64, AllocError>
     requires { index < length spaces.old.items }
-    ensures ok { IfOk result (λ number. At spaces.old.items spaces.new.items index (λ was is. Takes was is number (event.Open number) false × (number ≡ length (connections_of was) + 1))) }
+    ensures ok { IfOk result (λ number. At spaces.old.items spaces.new.items index (λ was is. ServesEvent was is number (event.Open number) false × (number ≡ length (connections_of was) + 1))) }
     ensures err { OnErr result (At spaces.old.items spaces.new.items index SameSpace) }
 {
     let space = &mut spaces[index];
@@ -313,7 +313,7 @@ fn open_in(spaces: &mut Vec<Space>, alloc: Global, index: usize) -> Result<u64, 
 /// Closes a connection of the namespace at a place.
 fn close_in(spaces: &mut Vec<Space>, index: usize, number: u64) -> Result<(), ServiceError>
     requires { index < length spaces.old.items }
-    ensures ok { OnOk result (At spaces.old.items spaces.new.items index (λ was is. Takes was is number (event.Close number) false × (closing_of is number ≡ Some Closing.Asked))) }
+    ensures ok { OnOk result (At spaces.old.items spaces.new.items index (λ was is. ServesEvent was is number (event.Close number) false × (closing_of is number ≡ Some Closing.Asked))) }
     ensures err { IfErr result (λ e. At spaces.old.items spaces.new.items index (λ was is. SameSpace was is × (refusal_of (config_of was) (known (connections_of was)) (event.Close number) ≡ Some e))) }
 {
     let space = &mut spaces[index];
@@ -372,8 +372,8 @@ fn feed_in(
     moment: u64,
 ) -> Result<bool, ServiceError>
     requires { index < length spaces.old.items }
-    ensures ok { IfOk result (λ is_held. At spaces.old.items spaces.new.items index (λ was is. Takes was is number (fed number piece.now moment) is_held)) }
-    ensures err { IfErr result (λ e. At spaces.old.items spaces.new.items index (λ was is. SameSpace was is × RefusedFor (config_of was) (connections_of was) (fed number piece.now moment) (holds_at (connections_of was) number) e)) }
+    ensures ok { IfOk result (λ feed_is_held. At spaces.old.items spaces.new.items index (λ was is. ServesEvent was is number (feed_event number piece.now moment) feed_is_held)) }
+    ensures err { IfErr result (λ e. At spaces.old.items spaces.new.items index (λ was is. SameSpace was is × RefusedFor (config_of was) (connections_of was) (feed_event number piece.now moment) (holds_at (connections_of was) number) e)) }
 {
     let space = &mut spaces[index];
     match space.serve(alloc, number, piece, moment) {

@@ -1,13 +1,13 @@
 //! What is read from a configuration.
+use crate::{ConfigError, HostedNamespace, Listed, read_config};
 use audit_model::{Config, EvictionPolicy, Weight};
-use crate::{ConfigError, Hosted, Listed, read_config};
 use std::alloc::{AllocError, Global};
 
 const SAMPLE: &str =
     "[[namespace]]\nname = \"main\"\nport = 7411\ncapacity = 1000\n[namespace.loads]\nk = \"v\"\n";
 
 /// Whether these are the name, the port and the configuration of a namespace.
-fn is_space(space: &Hosted, name: &[u8], port: u16, config: &Config) -> bool {
+fn is_space(space: &HostedNamespace, name: &[u8], port: u16, config: &Config) -> bool {
     space.name.as_slice() == name && space.port == port && space.config == *config
 }
 

@@ -8,5 +8,5 @@ mod good;
 mod listed;
 mod reading;
 
-pub use listed::{ConfigError, Hosted, Listed};
+pub use listed::{ConfigError, HostedNamespace, Listed};
 pub use reading::read_config;

@@ -11,9 +11,9 @@ use Rattle.audit_model.specs.Follows.{after_records}
 use Rattle.audit_model.specs.Situation.{Situation, empty_situation}
 use Rattle.audit_model.specs.declared.command.Closing.{Closing}
 use Rattle.cache_run.specs.Carried.{Askings, Carried, Readings, nothing_left, records_of}
-use Rattle.cache_run.specs.Happened.{Turn, moment_in, notes_in, piece_in, replies_in}
+use Rattle.cache_run.specs.Happened.{Turn, moment_in, turn_notes, piece_in, replies_in}
 use Rattle.audit_model.specs.declared.event.Outcome.{Outcome}
-use Rattle.cache_run.specs.Runs.{Ends, ServesWhole}
+use Rattle.cache_run.specs.Runs.{EndsRun, ServesWhole}
 use Rattle.cache_run.specs.Worlds.{outside, world}
 use Rattle.cache_run.proofs.Placing.{at-is}
 use Rattle.cache_spaces.specs.Moves.{At}
@@ -37,7 +37,7 @@ pub where-ok : {T E P : Type 0} (r : Result T E) → IsOk r → OnOk r P → P
 where-ok (Ok u) ok p = p
 where-ok (Err e) ok p = cc
 
-ends-so : (closes : Bool) (closing : Option Closing) (remaining : Option (List ℕ)) → Ends closes closing remaining → closes ≡ true → IsAtEnd remaining
+ends-so : (closes : Bool) (closing : Option Closing) (remaining : Option (List ℕ)) → EndsRun closes closing remaining → closes ≡ true → IsAtEnd remaining
 ends-so true closing remaining ends e = ends.1
 ends-so false closing remaining ends e = cc
 
@@ -60,7 +60,7 @@ module _ {C L : Type 0} (loads : L → List ℕ → Option Outcome → L → Typ
         read = subst (Consumes input rest) (append-nil (flat_map piece_in c.turns)) c.read;
         ends = ends;
         wrote = subst (Appends output written) (sym (append-nil c.sent) ∙ c.replies ∙ ap (λ n. flat_map (replies_in n) c.turns) first) c.wrote;
-        notes = subst (λ l. Appends errors told (notes_text l)) (c.notices ∙ append-nil (notices_of was ++ flat_map (notes_in number) c.turns) ∙ ap (λ l. l ++ flat_map (notes_in number) c.turns) none ∙ ap (λ n. flat_map (notes_in n) c.turns) first) notes;
+        notes = subst (λ l. Appends errors told (notes_text l)) (c.notices ∙ append-nil (notices_of was ++ flat_map (turn_notes number) c.turns) ∙ ap (λ l. l ++ flat_map (turn_notes number) c.turns) none ∙ ap (λ n. flat_map (turn_notes n) c.turns) first) notes;
       }
 
   pub script-served : (old new : List Space) (generator : List ℕ) → AreNew old (script_config ∷ []) generator 0

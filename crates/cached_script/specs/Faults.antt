@@ -6,13 +6,13 @@ use Rattle.cached_script.specs.declared.faults.Fault.{Fault}
 use Rattle.cached_script.specs.declared.faults.Fault.TheVariants as fault
 
 -- the text of a fault, with its line end
-abbrev pub fault_text : Fault → List ℕ
-fault_text fault.Read = codes "cached: read failed\n"
-fault_text fault.Write = codes "cached: write failed\n"
-fault_text fault.OutOfMemory = codes "cached: out of memory\n"
-fault_text fault.UsedUp = codes "cached: used up\n"
-fault_text fault.BadConfiguration = codes "cached: bad configuration\n"
-fault_text fault.CannotListen = codes "cached: cannot listen\n"
+abbrev pub fault_message : Fault → List ℕ
+fault_message fault.Read = codes "cached: read failed\n"
+fault_message fault.Write = codes "cached: write failed\n"
+fault_message fault.OutOfMemory = codes "cached: out of memory\n"
+fault_message fault.UsedUp = codes "cached: used up\n"
+fault_message fault.BadConfiguration = codes "cached: bad configuration\n"
+fault_message fault.CannotListen = codes "cached: cannot listen\n"
 
 -- how the program is called
 abbrev pub usage_text : List ℕ

@@ -9,7 +9,7 @@ use Rattle.audit_model.specs.declared.config.EvictionPolicy.TheVariants.{Lru}
 use Rattle.audit_model.specs.declared.config.Weight.TheVariants.{One}
 use Rattle.audit_model.specs.declared.transcript.Transcript.{Transcript}
 use Rattle.cache_run.specs.Carried.{records_of}
-use Rattle.cache_run.specs.Happened.{Turn, moment_in, notes_in, piece_in, replies_in}
+use Rattle.cache_run.specs.Happened.{Turn, moment_in, turn_notes, piece_in, replies_in}
 use Rattle.cached_script.specs.Notes.{notes_text}
 
 -- the namespace of a script: without limits
@@ -31,4 +31,4 @@ pub record ServesScript (input rest output written errors told : Option (List �
   pub read : Consumes input rest (flat_map piece_in turns)
   pub ends : closes ≡ true → IsAtEnd rest
   pub wrote : Appends output written (flat_map (replies_in 1) turns)
-  pub notes : Appends errors told (notes_text (flat_map (notes_in 1) turns))
+  pub notes : Appends errors told (notes_text (flat_map (turn_notes 1) turns))

@@ -1,7 +1,7 @@
 //! Why the program ends before its time, and what it then writes.
 ghost use Rattle.std.specs.Prelude.{◌≡◌, ◌≢◌, codes};
 ghost use Rattle.cache_devices.specs.Watched.{device, failures};
-ghost use Rattle.cached_script.specs.Faults.{Tells, fault_text, usage_text};
+ghost use Rattle.cached_script.specs.Faults.{Tells, fault_message, usage_text};
 
 use crate::words::WordsError;
 use cache_devices::{Watched, send};
@@ -29,7 +29,7 @@ const USAGE: &[u8] = b"usage: cached --script | --config FILE\n";
 
 /// The text of a fault, with its line end.
 fn text_of(fault: Fault) -> &'static [u8]
-    ensures { result.now ≡ fault_text fault }
+    ensures { result.now ≡ fault_message fault }
 {
     match fault {
         Fault::Read => b"cached: read failed\n",
@@ -44,7 +44,7 @@ fn text_of(fault: Fault) -> &'static [u8]
 /// Writes the text of a fault, and answers the status after it. What cannot be written is lost.
 pub fn fail<E: Write>(errors: &mut Watched<E>, fault: Fault) -> u8
     ensures status { result ≡ 1 }
-    ensures told { Tells (fault_text fault) (E.contents (device errors.old)) (E.contents (device errors.new)) (failures errors.old) (failures errors.new) }
+    ensures told { Tells (fault_message fault) (E.contents (device errors.old)) (E.contents (device errors.new)) (failures errors.old) (failures errors.new) }
 {
     let _ = send(text_of(fault), errors);
     1
@@ -61,7 +61,7 @@ fn show_usage<E: Write>(errors: &mut Watched<E>) -> u8
 
 /// The program where its words are not served: the text, and the status after it. Without memory that is 1.
 pub fn fail_words<E: Write>(error: WordsError, errors: &mut Watched<E>) -> u8
-    ensures memory { error ≡ WordsError.OutOfMemory → (result ≡ 1) × Tells (fault_text Fault.OutOfMemory) (E.contents (device errors.old)) (E.contents (device errors.new)) (failures errors.old) (failures errors.new) }
+    ensures memory { error ≡ WordsError.OutOfMemory → (result ≡ 1) × Tells (fault_message Fault.OutOfMemory) (E.contents (device errors.old)) (E.contents (device errors.new)) (failures errors.old) (failures errors.new) }
     ensures usage { error ≡ WordsError.Usage → (result ≡ 2) × Tells usage_text (E.contents (device errors.old)) (E.contents (device errors.new)) (failures errors.old) (failures errors.new) }
 {
     match error {
@@ -72,7 +72,7 @@ pub fn fail_words<E: Write>(error: WordsError, errors: &mut Watched<E>) -> u8
 
 /// The program where its words cannot be had. Without memory its status is 1; words that are no text are not served.
 pub fn without_words<E: Write>(cause: ErrorKind, errors: &mut Watched<E>) -> u8
-    ensures memory { cause ≡ ErrorKind.OutOfMemory → (result ≡ 1) × Tells (fault_text Fault.OutOfMemory) (E.contents (device errors.old)) (E.contents (device errors.new)) (failures errors.old) (failures errors.new) }
+    ensures memory { cause ≡ ErrorKind.OutOfMemory → (result ≡ 1) × Tells (fault_message Fault.OutOfMemory) (E.contents (device errors.old)) (E.contents (device errors.new)) (failures errors.old) (failures errors.new) }
     ensures other { cause ≢ ErrorKind.OutOfMemory → (result ≡ 2) × Tells usage_text (E.contents (device errors.old)) (E.contents (device errors.new)) (failures errors.old) (failures errors.new) }
 {
     if cause == ErrorKind::OutOfMemory {

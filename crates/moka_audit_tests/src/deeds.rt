@@ -1,7 +1,7 @@
 //! What a step does to the values held, as tables of rows.
 use audit_held::{Held, Holding};
-use audit_notes::{Covering, Deed, do_deed, live};
 use audit_model::{Bytes, Config, EvictionPolicy, Note, RemovalCause, Seq, Weight};
+use audit_notes::{Covering, Deed, do_deed, live};
 use std::alloc::{AllocError, Global};
 use std::test::Fail;
 

@@ -1,8 +1,8 @@
 //! Texts that are read and written.
 use audit_text::write_transcript;
+use audit_text_reader::{TextError, read_inputs, read_transcript};
 use std::alloc::Global;
 use std::test::Fail;
-use audit_text_reader::{TextError, read_inputs, read_transcript};
 
 const EXAMPLE: &[u8] =
     b"config capacity=- policy=lru parts=1 weight=one live_ms=- idle_ms=- deadlines=0

@@ -2,10 +2,10 @@
 ghost use Rattle.std.specs.Prelude.{◌<◌};
 
 use audit_model::{Config, Transcript};
+use audit_text_reader::read_transcript;
 use moka_audit::{Verdict, audit};
 use std::alloc::{AllocError, Global};
 use std::test::Fail;
-use audit_text_reader::read_transcript;
 
 /// Lines of a transcript behind its head, in which `'` begins bytes whose `_` is a space, whose `~` is a line feed and whose `^` is a
 /// carriage return; and the record at which it breaks a rule, or 0.

@@ -4,10 +4,10 @@ use Rattle.audit_model.specs.BelongsIn.{BelongsIn}
 use Rattle.audit_model.specs.Situation.{empty_situation}
 use Rattle.audit_model.specs.declared.input.Input.TheVariants as input
 use Rattle.audit_model_tests.specs.Belonging.{inputs_of_both, first_records, first_last, NeverBelong}
-use Rattle.audit_model_tests.specs.Making.{opened, closed, plain}
+use Rattle.audit_model_tests.specs.Making.{opened, closed, plain_config}
 use Rattle.audit_model_tests.proofs.rows_of_belonging.Goals as goal
 
-first_belongs : BelongsIn plain 1 (empty_situation 0) inputs_of_both first_records first_last
+first_belongs : BelongsIn plain_config 1 (empty_situation 0) inputs_of_both first_records first_last
 first_belongs = inl (record { event = refl; next = _; follows = refl; rest = inl (record { event = refl; next = _; follows = refl; rest = (refl, refl) }) })
 
 record_of_nothing : NeverBelong 1 [] (opened 1 ∷ [])

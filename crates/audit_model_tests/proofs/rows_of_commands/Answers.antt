@@ -1,7 +1,7 @@
 -- Each row by computation.
 use Rattle.std.proofs.Common.{refl}
 use Rattle.std.specs.Fmt.{digits}
-use Rattle.audit_model_tests.specs.Making.{plain, of_capacity, of_idle_ms, with_deadlines, IsGood, BreaksAfter}
+use Rattle.audit_model_tests.specs.Making.{plain_config, of_capacity, of_idle_ms, with_deadlines, IsGood, BreaksAfter}
 use Rattle.audit_model_tests.specs.Commands.{has_is_no_use, sums, sum_with_deadline, failed_sum_uses, numbers, no_room_for_sums, add_tells_size, cleared, cleared_and_held, prefix_dropped, second_id, keys_in_order, quit, bare_words, has_tells, has_uses, silent_add, sum_without_held, sum_not_stored, cleared_shown, clear_tells, dropped_shown, other_prefix_dropped, first_id, refused_drop_covers, key_left_out, keys_out_of_order, quit_goes_on, fed_after_quit}
 use Rattle.audit_model_tests.proofs.rows_of_commands.Goals as goal
 
@@ -9,11 +9,11 @@ has_is_no_use_good : IsGood (of_idle_ms 7) has_is_no_use
 unfolding digits
 has_is_no_use_good = refl
 
-sums_good : IsGood plain sums
+sums_good : IsGood plain_config sums
 unfolding digits
 sums_good = refl
 
-sum_with_deadline_good : IsGood (with_deadlines plain) sum_with_deadline
+sum_with_deadline_good : IsGood (with_deadlines plain_config) sum_with_deadline
 unfolding digits
 sum_with_deadline_good = refl
 
@@ -21,7 +21,7 @@ failed_sum_uses_good : IsGood (of_idle_ms 7) failed_sum_uses
 unfolding digits
 failed_sum_uses_good = refl
 
-numbers_good : IsGood plain numbers
+numbers_good : IsGood plain_config numbers
 unfolding digits
 numbers_good = refl
 
@@ -33,31 +33,31 @@ add_tells_size_good : IsGood (of_capacity 2) add_tells_size
 unfolding digits
 add_tells_size_good = refl
 
-cleared_good : IsGood plain cleared
+cleared_good : IsGood plain_config cleared
 unfolding digits
 cleared_good = refl
 
-cleared_and_held_good : IsGood plain cleared_and_held
+cleared_and_held_good : IsGood plain_config cleared_and_held
 unfolding digits
 cleared_and_held_good = refl
 
-prefix_dropped_good : IsGood plain prefix_dropped
+prefix_dropped_good : IsGood plain_config prefix_dropped
 unfolding digits
 prefix_dropped_good = refl
 
-second_id_good : IsGood plain second_id
+second_id_good : IsGood plain_config second_id
 unfolding digits
 second_id_good = refl
 
-keys_in_order_good : IsGood plain keys_in_order
+keys_in_order_good : IsGood plain_config keys_in_order
 unfolding digits
 keys_in_order_good = refl
 
-quit_good : IsGood plain quit
+quit_good : IsGood plain_config quit
 unfolding digits
 quit_good = refl
 
-bare_words_good : IsGood plain bare_words
+bare_words_good : IsGood plain_config bare_words
 unfolding digits
 bare_words_good = refl
 
@@ -69,55 +69,55 @@ has_uses_breaks : BreaksAfter 3 (of_idle_ms 7) has_uses
 unfolding digits
 has_uses_breaks = refl
 
-silent_add_breaks : BreaksAfter 2 plain silent_add
+silent_add_breaks : BreaksAfter 2 plain_config silent_add
 unfolding digits
 silent_add_breaks = refl
 
-sum_without_held_breaks : BreaksAfter 2 plain sum_without_held
+sum_without_held_breaks : BreaksAfter 2 plain_config sum_without_held
 unfolding digits
 sum_without_held_breaks = refl
 
-sum_not_stored_breaks : BreaksAfter 1 plain sum_not_stored
+sum_not_stored_breaks : BreaksAfter 1 plain_config sum_not_stored
 unfolding digits
 sum_not_stored_breaks = refl
 
-cleared_shown_breaks : BreaksAfter 3 plain cleared_shown
+cleared_shown_breaks : BreaksAfter 3 plain_config cleared_shown
 unfolding digits
 cleared_shown_breaks = refl
 
-clear_tells_breaks : BreaksAfter 2 plain clear_tells
+clear_tells_breaks : BreaksAfter 2 plain_config clear_tells
 unfolding digits
 clear_tells_breaks = refl
 
-dropped_shown_breaks : BreaksAfter 3 plain dropped_shown
+dropped_shown_breaks : BreaksAfter 3 plain_config dropped_shown
 unfolding digits
 dropped_shown_breaks = refl
 
-other_prefix_dropped_breaks : BreaksAfter 3 plain other_prefix_dropped
+other_prefix_dropped_breaks : BreaksAfter 3 plain_config other_prefix_dropped
 unfolding digits
 other_prefix_dropped_breaks = refl
 
-first_id_breaks : BreaksAfter 1 plain first_id
+first_id_breaks : BreaksAfter 1 plain_config first_id
 unfolding digits
 first_id_breaks = refl
 
-refused_drop_covers_breaks : BreaksAfter 4 plain refused_drop_covers
+refused_drop_covers_breaks : BreaksAfter 4 plain_config refused_drop_covers
 unfolding digits
 refused_drop_covers_breaks = refl
 
-key_left_out_breaks : BreaksAfter 3 plain key_left_out
+key_left_out_breaks : BreaksAfter 3 plain_config key_left_out
 unfolding digits
 key_left_out_breaks = refl
 
-keys_out_of_order_breaks : BreaksAfter 3 plain keys_out_of_order
+keys_out_of_order_breaks : BreaksAfter 3 plain_config keys_out_of_order
 unfolding digits
 keys_out_of_order_breaks = refl
 
-quit_goes_on_breaks : BreaksAfter 1 plain quit_goes_on
+quit_goes_on_breaks : BreaksAfter 1 plain_config quit_goes_on
 unfolding digits
 quit_goes_on_breaks = refl
 
-fed_after_quit_breaks : BreaksAfter 2 plain fed_after_quit
+fed_after_quit_breaks : BreaksAfter 2 plain_config fed_after_quit
 unfolding digits
 fed_after_quit_breaks = refl
 

@@ -1,11 +1,11 @@
 -- Each row by computation.
 use Rattle.std.proofs.Common.{refl}
 use Rattle.std.specs.Fmt.{digits}
-use Rattle.audit_model_tests.specs.Making.{plain, of_idle_ms, of_live_ms, with_deadlines, IsGood, BreaksAfter}
+use Rattle.audit_model_tests.specs.Making.{plain_config, of_idle_ms, of_live_ms, with_deadlines, IsGood, BreaksAfter}
 use Rattle.audit_model_tests.specs.Deadlines.{own_deadline, idle_time, live_time, fallen_moment, own_end_first, idle_without_own, idle_end_first, shown_until_timer, own_end_missed, dead_told_replaced}
 use Rattle.audit_model_tests.proofs.rows_of_deadlines.Goals as goal
 
-own_deadline_good : IsGood (with_deadlines plain) own_deadline
+own_deadline_good : IsGood (with_deadlines plain_config) own_deadline
 unfolding digits
 own_deadline_good = refl
 
@@ -17,7 +17,7 @@ live_time_good : IsGood (of_live_ms 7) live_time
 unfolding digits
 live_time_good = refl
 
-fallen_moment_good : IsGood (with_deadlines plain) fallen_moment
+fallen_moment_good : IsGood (with_deadlines plain_config) fallen_moment
 unfolding digits
 fallen_moment_good = refl
 
@@ -33,7 +33,7 @@ idle_end_first_good : IsGood (with_deadlines (of_idle_ms 5)) idle_end_first
 unfolding digits
 idle_end_first_good = refl
 
-shown_until_timer_breaks : BreaksAfter 2 (with_deadlines plain) shown_until_timer
+shown_until_timer_breaks : BreaksAfter 2 (with_deadlines plain_config) shown_until_timer
 unfolding digits
 shown_until_timer_breaks = refl
 

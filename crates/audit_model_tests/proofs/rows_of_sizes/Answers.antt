@@ -1,7 +1,7 @@
 -- Each row by computation.
 use Rattle.std.proofs.Common.{refl}
 use Rattle.std.specs.Fmt.{digits}
-use Rattle.audit_model_tests.specs.Making.{plain, of_capacity, of_bytes, IsGood, BreaksAfter}
+use Rattle.audit_model_tests.specs.Making.{plain_config, of_capacity, of_bytes, IsGood, BreaksAfter}
 use Rattle.audit_model_tests.specs.Sizes.{oldest_leaves, used_stays, too_heavy, no_room, judged_before_it_shrinks, size_after_delete, size_in_its_step, size_twice, keeps_nothing, too_much_after_sync, set_tells_size, size_after_sync, size_after_delete_and_sync, size_of_later, size_twice_apart}
 use Rattle.audit_model_tests.proofs.rows_of_sizes.Goals as goal
 
@@ -37,7 +37,7 @@ size_twice_good : IsGood (of_capacity 2) size_twice
 unfolding digits
 size_twice_good = refl
 
-keeps_nothing_breaks : BreaksAfter 1 plain keeps_nothing
+keeps_nothing_breaks : BreaksAfter 1 plain_config keeps_nothing
 unfolding digits
 keeps_nothing_breaks = refl
 

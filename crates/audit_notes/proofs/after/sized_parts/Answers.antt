@@ -8,7 +8,7 @@ use Rattle.audit_model.specs.History.{Value}
 use Rattle.audit_model.specs.Notes.{tells_size, same_cause}
 use Rattle.audit_model.specs.declared.transcript.Note.{Note}
 use Rattle.audit_model.specs.declared.transcript.RemovalCause.TheVariants.{Size}
-use Rattle.audit_notes.specs.After.{is_among, held_values, sized_part}
+use Rattle.audit_notes.specs.After.{is_among, values_to_tell, sized_part}
 use Rattle.audit_notes.proofs.after.sized_parts.Goals as goal
 use Rattle.audit_notes.proofs.after.sized_parts.Goals.{in-Some+in_ok-push, in_default}
 
@@ -36,7 +36,7 @@ or_none (p ∷ ps) = ap (λ qs. p ∷ qs) (or_none ps)
 
 pub loop-note-preserved : goal.loop-note-preserved
 loop-note-preserved c part =
-    let values = held_values c.args.held.now (option_map (λ h. h.now) c.args.newcomer) in
+    let values = values_to_tell c.args.held.now (option_map (λ h. h.now) c.args.newcomer) in
     let more = λ (o : Option ℕ). sized-more values c.args.notes.now c.loop-note.note-index c.note-item.result c.loop-note.parts.items o part c.loop-note-test.true c.note-item.is in
     elim c.match-sized_part.branch [
       | in-Some+in_ok-push w ↦

@@ -3,7 +3,7 @@ use Rattle.std.specs.declared.vec.Vec.{Vec}
 use Rattle.std.specs.declared.alloc.Global.{Global}
 use Rattle.lru.specs.LruCache.{LruCache, lru_cache}
 use Rattle.audit_held.specs.Slots.{slots_of, slot_of, slot_at}
-use Rattle.audit_held.specs.declared.kept.Kept.{Kept}
+use Rattle.audit_held.specs.declared.kept.StoredValue.{StoredValue}
 use Rattle.audit_held.proofs.Listing.{put_is, apart-after}
 use Rattle.audit_held.proofs.table.Table.add.Goals as goal
 
@@ -18,5 +18,5 @@ pub returns-clause-added : goal.returns-clause-added
 returns-clause-added c =
     let inside = c.self.inside in
     let few = c.len.ensures in
-    ap (λ (k : LruCache (Vec ℕ Global) Kept). slots_of k.entries) (c.in_ok-put.ensures.entries ∙ ap (λ xs. lru_cache xs inside.cache.cap) (put_is inside.cache.entries inside.cache.cap c.args.key c.args.kept inside.unbounded (omega arith) (ap (slot_at c.args.key.items) c.self.view_is ∙ c.requires)))
+    ap (λ (k : LruCache (Vec ℕ Global) StoredValue). slots_of k.entries) (c.in_ok-put.ensures.entries ∙ ap (λ xs. lru_cache xs inside.cache.cap) (put_is inside.cache.entries inside.cache.cap c.args.key c.args.kept inside.unbounded (omega arith) (ap (slot_at c.args.key.items) c.self.view_is ∙ c.requires)))
     ∙ ap (λ xs. xs ++ slot_of c.args.key.items c.args.kept ∷ []) c.self.view_is

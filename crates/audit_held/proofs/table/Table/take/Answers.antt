@@ -1,5 +1,5 @@
 use Rattle.std.proofs.Common.{ap, ◌∙◌, option_map}
-use Rattle.audit_held.specs.Slots.{slot_at, without}
+use Rattle.audit_held.specs.Slots.{slot_at, slots_without}
 use Rattle.audit_held.proofs.Listing.{item_of, entry_is, removed_is, apart-removed}
 use Rattle.audit_held.proofs.table.Table.take.Goals as goal
 
@@ -11,4 +11,4 @@ returns-clause-found c =
     ap (option_map item_of) c.pop_entry.ensures.value ∙ entry_is c.args.key.now c.self.inside.cache.entries c.self.inside.apart ∙ ap (slot_at c.args.key.now) c.self.view_is
 
 pub returns-clause-rest : goal.returns-clause-rest
-returns-clause-rest c = rw c.pop_entry.ensures.entries (removed_is c.args.key.now c.self.inside.cache.entries c.self.inside.apart ∙ ap (without c.args.key.now) c.self.view_is)
+returns-clause-rest c = rw c.pop_entry.ensures.entries (removed_is c.args.key.now c.self.inside.cache.entries c.self.inside.apart ∙ ap (slots_without c.args.key.now) c.self.view_is)

@@ -1,5 +1,5 @@
 use Rattle.std.proofs.Common.{sym, ap, ◌∙◌, map}
-use Rattle.audit_held.specs.Slots.{used_at}
+use Rattle.audit_held.specs.Slots.{slot_used_at}
 use Rattle.audit_held.proofs.Listing.{used_is, unused_is, apart-set}
 use Rattle.audit_held.proofs.table.Table.use_at.Goals as goal
 use Rattle.audit_held.proofs.table.Table.use_at.Goals.{in-Some, in_default}
@@ -16,9 +16,9 @@ returns c =
           let es = c.self.inside.cache.entries in
           rw w.self-inside-is
           (used_is c.args.key.now c.args.now es w.in-Some.kept.now c.self.inside.apart (sym w.in-Some.ensures.value)
-          ∙ ap (map (used_at c.args.key.now c.args.now)) c.self.view_is)
+          ∙ ap (map (slot_used_at c.args.key.now c.args.now)) c.self.view_is)
       | in_default w ↦
           let es = c.self.inside.cache.entries in
           rw w.self-inside-is
-          (unused_is c.args.key.now c.args.now es (sym w.in_default.ensures.value) ∙ ap (map (used_at c.args.key.now c.args.now)) c.self.view_is)
+          (unused_is c.args.key.now c.args.now es (sym w.in_default.ensures.value) ∙ ap (map (slot_used_at c.args.key.now c.args.now)) c.self.view_is)
     ]

@@ -8,12 +8,12 @@ ghost use Rattle.audit_model.specs.declared.input.Input.{Input};
 ghost use Rattle.audit_model.specs.declared.transcript.Note.{Note as Told};
 ghost use Rattle.audit_model.specs.declared.transcript.Transcript.{Transcript};
 ghost use Rattle.audit_receipts.specs.declared.output.Output.{Output};
-ghost use Rattle.cache_shared.specs.Events.{Performs, Reached, RefusesEvent};
+ghost use Rattle.cache_shared.specs.Events.{Performs, IsReached, RefusesEvent};
 ghost use Rattle.cache_spaces.specs.Moves.{At};
 ghost use Rattle.cache_namespace.specs.Taken.{is_waiting_in, known};
 ghost use Rattle.cache_spaces.specs.Serves.{IsUnknown, TakesLoads};
 ghost use Rattle.cache_spaces.specs.Services.{InSpace, Refuses, RefusesLook, spaces_of};
-ghost use Rattle.cache_spaces.specs.Spaces.{Stands, closing_of, connections_of};
+ghost use Rattle.cache_spaces.specs.Spaces.{StandsFor, closing_of, connections_of};
 ghost use Rattle.cache_spaces.specs.declared.service.Service.{Service};
 
 use audit_model::{Bytes, Closing, Conn, Input, LoadId, Note, ServiceError, Transcript};
@@ -52,7 +52,7 @@ pub trait Core: Drop {
 
     /// There are journals of as many records as inputs were taken, which obey and lead to where the service stands.
     fn stands(&self)
-        ensures { ∥ Reached (spaces_of (service self.now)) (events self.now) ∥₁ };
+        ensures { ∥ IsReached (spaces_of (service self.now)) (events self.now) ∥₁ };
 
     /// The journal of a namespace. Refused with `NoNamespace` where it has none.
     fn journal(&self, namespace: u64) -> Result<&Transcript, ServiceError>
@@ -105,6 +105,6 @@ pub trait Takings: Core {
 
     /// Whether a `LOAD` of a connection waits for its load. Refused with `NoNamespace`, `NoConnection`.
     fn waiting(&self, conn: Conn) -> Result<bool, ServiceError>
-        ensures waits { IfOk result (λ waits. InSpace (spaces_of (Self.service self.now)) conn.namespace (λ space. (s : Situation) → Stands space s → waits ≡ is_waiting_in s conn.number)) }
+        ensures waits { IfOk result (λ waits. InSpace (spaces_of (Self.service self.now)) conn.namespace (λ space. (s : Situation) → StandsFor space s → waits ≡ is_waiting_in s conn.number)) }
         ensures refused { IfErr result (λ e. RefusesLook (spaces_of (Self.service self.now)) conn.namespace e (λ space. IsUnknown space conn.number e)) };
 }
