@@ -12,12 +12,23 @@ use audit_model::{Bytes, Config, Input, Instant, LoadId, ServiceError, Transcrip
 use audit_receipts::Output;
 use rand_xoshiro::Xoshiro256PlusPlus;
 use std::alloc::Global;
+use thiserror::Error;
 
 /// An input that was refused, handed back.
-#[derive(Drop)]
+#[derive(Debug, Drop, Error)]
+#[error("{error}")]
 pub struct Refusal {
     pub error: ServiceError,
     pub input: Input,
+}
+
+impl From<Refusal> for ServiceError {
+    ghost from_gives = { λ refused error. error ≡ refused.error };
+
+    /// Why it was refused; what was handed back is dropped.
+    fn from(refused: Refusal) -> ServiceError {
+        refused.error
+    }
 }
 
 /// A service that keeps the transcript of each namespace, its journal. Replies and notes stand in the journals.

@@ -14,6 +14,7 @@ use crate::space::Space;
 use audit_model::{Bytes, Closing, Config, Conn, Instant, LoadId, Note, Outcome, ServiceError};
 use rand_xoshiro::Xoshiro256PlusPlus;
 use std::alloc::{AllocError, Global};
+use thiserror::Error;
 
 /// Namespaces, each with its connections and values.
 ///
@@ -35,10 +36,20 @@ pub enum Fed {
 }
 
 /// An outcome that was not taken, handed back.
-#[derive(Drop)]
+#[derive(Debug, Drop, Error)]
+#[error("{error}")]
 pub struct AnswerError {
     pub error: ServiceError,
     pub outcome: Outcome,
+}
+
+impl From<AnswerError> for ServiceError {
+    ghost from_gives = { λ refused error. error ≡ refused.error };
+
+    /// Why it was refused; what was handed back is dropped.
+    fn from(refused: AnswerError) -> ServiceError {
+        refused.error
+    }
 }
 
 impl Service {
