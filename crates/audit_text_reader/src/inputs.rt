@@ -253,7 +253,7 @@ fn parse_entry(alloc: Global, line: &[u8]) -> Result<Entry, LineFault>
 /// What is said behind the word that names its kind.
 #[tactic(auto, unfolding(crate::specs::Entries::entry_of))]
 fn parse_entry_kind(alloc: Global, kind: &[u8], words: &mut Words<'_>) -> Result<Entry, LineFault>
-    ensures { IsReadOff (entry_of kind.now (words_left line_words.old)) result (words_left line_words.new) }
+    ensures { IsReadOff (entry_of kind.now (words_left words.old)) result (words_left words.new) }
 {
     if kind == b"input".as_slice() {
         parse_input(alloc, words)
@@ -268,7 +268,7 @@ fn parse_entry_kind(alloc: Global, kind: &[u8], words: &mut Words<'_>) -> Result
 
 /// An input, as an entry.
 fn parse_input(alloc: Global, words: &mut Words<'_>) -> Result<Entry, LineFault>
-    ensures { IsReadOff (option_map (λ input. (Entry.Input input.0, input.1)) (input_in (words_left line_words.old))) result (words_left line_words.new) }
+    ensures { IsReadOff (option_map (λ input. (Entry.Input input.0, input.1)) (input_in (words_left words.old))) result (words_left words.new) }
 {
     let input = read_input(alloc, words)?;
     Ok(Entry::Input(input))
@@ -276,7 +276,7 @@ fn parse_input(alloc: Global, words: &mut Words<'_>) -> Result<Entry, LineFault>
 
 /// The settings of a namespace, as an entry.
 fn parse_config(words: &mut Words<'_>) -> Result<Entry, LineFault>
-    ensures { IsReadOff (option_map (λ config. (Entry.Config config.0, config.1)) (config_in_words (words_left line_words.old))) result (words_left line_words.new) }
+    ensures { IsReadOff (option_map (λ config. (Entry.Config config.0, config.1)) (config_in_words (words_left words.old))) result (words_left words.new) }
 {
     let config = read_config(words)?;
     Ok(Entry::Config(config))
@@ -284,7 +284,7 @@ fn parse_config(words: &mut Words<'_>) -> Result<Entry, LineFault>
 
 /// The moment of the making, as an entry.
 fn parse_made(words: &mut Words<'_>) -> Result<Entry, LineFault>
-    ensures { IsReadOff (option_map (λ nanos. (Entry.Made (record { nanos = nanos.0 }), nanos.1)) (field number_in (words_left line_words.old))) result (words_left line_words.new) }
+    ensures { IsReadOff (option_map (λ nanos. (Entry.Made (record { nanos = nanos.0 }), nanos.1)) (field number_in (words_left words.old))) result (words_left words.new) }
 {
     let nanos = words.number()?;
     Ok(Entry::Made(Instant { nanos }))
@@ -293,7 +293,7 @@ fn parse_made(words: &mut Words<'_>) -> Result<Entry, LineFault>
 /// An input behind its word: a namespace, and an event; an opening has no number.
 #[tactic(auto, unfolding(crate::specs::Entries::input_in))]
 fn read_input(alloc: Global, words: &mut Words<'_>) -> Result<Input, LineFault>
-    ensures { IsReadOff (input_in (words_left line_words.old)) result (words_left line_words.new) }
+    ensures { IsReadOff (input_in (words_left words.old)) result (words_left words.new) }
 {
     let namespace = words.number()?;
     let kind = words.next()?;
@@ -308,7 +308,7 @@ fn read_asked(
     kind: &[u8],
     words: &mut Words<'_>,
 ) -> Result<Input, LineFault>
-    ensures { IsReadOff (asked_of namespace kind.now (words_left line_words.old)) result (words_left line_words.new) }
+    ensures { IsReadOff (asked_of namespace kind.now (words_left words.old)) result (words_left words.new) }
 {
     if kind == b"open".as_slice() {
         return Ok(Input::Open { namespace });

@@ -94,7 +94,7 @@ fn parse_item(alloc: Global, line: &[u8]) -> Result<Item, LineFault>
 /// What is said behind the word that names its kind.
 #[tactic(auto, unfolding(crate::specs::Items::item_of))]
 fn parse_kind(alloc: Global, kind: &[u8], words: &mut Words<'_>) -> Result<Item, LineFault>
-    ensures { IsReadOff (item_of kind.now (words_left line_words.old)) result (words_left line_words.new) }
+    ensures { IsReadOff (item_of kind.now (words_left words.old)) result (words_left words.new) }
 {
     if kind == b"step".as_slice() {
         parse_step(alloc, words)
@@ -111,7 +111,7 @@ fn parse_kind(alloc: Global, kind: &[u8], words: &mut Words<'_>) -> Result<Item,
 
 /// A line of a transcript's head, or an event, as an item.
 fn parse_head(alloc: Global, kind: &[u8], words: &mut Words<'_>) -> Result<Item, LineFault>
-    ensures { IsReadOff (head_of kind.now (words_left line_words.old)) result (words_left line_words.new) }
+    ensures { IsReadOff (head_of kind.now (words_left words.old)) result (words_left words.new) }
 {
     if kind == b"config".as_slice() {
         parse_config(words)
@@ -124,7 +124,7 @@ fn parse_head(alloc: Global, kind: &[u8], words: &mut Words<'_>) -> Result<Item,
 
 /// A step, as an item.
 fn parse_step(alloc: Global, words: &mut Words<'_>) -> Result<Item, LineFault>
-    ensures { IsReadOff (option_map (λ step. (Item.Step step.0, step.1)) (step_in_words (words_left line_words.old))) result (words_left line_words.new) }
+    ensures { IsReadOff (option_map (λ step. (Item.Step step.0, step.1)) (step_in_words (words_left words.old))) result (words_left words.new) }
 {
     let step = read_step(alloc, words)?;
     Ok(Item::Step(step))
@@ -132,7 +132,7 @@ fn parse_step(alloc: Global, words: &mut Words<'_>) -> Result<Item, LineFault>
 
 /// A note of a step, as an item.
 fn parse_note(alloc: Global, words: &mut Words<'_>) -> Result<Item, LineFault>
-    ensures { IsReadOff (option_map (λ note. (Item.Note note.0, note.1)) (note_in_words (words_left line_words.old))) result (words_left line_words.new) }
+    ensures { IsReadOff (option_map (λ note. (Item.Note note.0, note.1)) (note_in_words (words_left words.old))) result (words_left words.new) }
 {
     let note = read_note(alloc, words)?;
     Ok(Item::Note(note))
@@ -140,7 +140,7 @@ fn parse_note(alloc: Global, words: &mut Words<'_>) -> Result<Item, LineFault>
 
 /// The part that took an answer's value, as an item.
 fn parse_own(words: &mut Words<'_>) -> Result<Item, LineFault>
-    ensures { IsReadOff (option_map (λ part. (Item.Own part.0, part.1)) (field part_in_words (words_left line_words.old))) result (words_left line_words.new) }
+    ensures { IsReadOff (option_map (λ part. (Item.Own part.0, part.1)) (field part_in_words (words_left words.old))) result (words_left words.new) }
 {
     let own = words.part()?;
     Ok(Item::Own(own))
@@ -148,7 +148,7 @@ fn parse_own(words: &mut Words<'_>) -> Result<Item, LineFault>
 
 /// A note of an answer's own step, as an item.
 fn parse_own_note(alloc: Global, words: &mut Words<'_>) -> Result<Item, LineFault>
-    ensures { IsReadOff (option_map (λ note. (Item.OwnNote note.0, note.1)) (note_in_words (words_left line_words.old))) result (words_left line_words.new) }
+    ensures { IsReadOff (option_map (λ note. (Item.OwnNote note.0, note.1)) (note_in_words (words_left words.old))) result (words_left words.new) }
 {
     let note = read_note(alloc, words)?;
     Ok(Item::OwnNote(note))
@@ -156,7 +156,7 @@ fn parse_own_note(alloc: Global, words: &mut Words<'_>) -> Result<Item, LineFaul
 
 /// The settings, as an item.
 fn parse_config(words: &mut Words<'_>) -> Result<Item, LineFault>
-    ensures { IsReadOff (option_map (λ config. (Item.Config config.0, config.1)) (config_in_words (words_left line_words.old))) result (words_left line_words.new) }
+    ensures { IsReadOff (option_map (λ config. (Item.Config config.0, config.1)) (config_in_words (words_left words.old))) result (words_left words.new) }
 {
     let config = read_config(words)?;
     Ok(Item::Config(config))
@@ -164,7 +164,7 @@ fn parse_config(words: &mut Words<'_>) -> Result<Item, LineFault>
 
 /// The moment of the making, as an item.
 fn parse_made(words: &mut Words<'_>) -> Result<Item, LineFault>
-    ensures { IsReadOff (option_map (λ nanos. (Item.Made (record { nanos = nanos.0 }), nanos.1)) (field number_in (words_left line_words.old))) result (words_left line_words.new) }
+    ensures { IsReadOff (option_map (λ nanos. (Item.Made (record { nanos = nanos.0 }), nanos.1)) (field number_in (words_left words.old))) result (words_left words.new) }
 {
     let nanos = words.number()?;
     Ok(Item::Made(Instant { nanos }))
@@ -172,16 +172,16 @@ fn parse_made(words: &mut Words<'_>) -> Result<Item, LineFault>
 
 /// The event that a word begins, as an item.
 fn parse_event(alloc: Global, kind: &[u8], words: &mut Words<'_>) -> Result<Item, LineFault>
-    ensures { IsReadOff (option_map (λ event. (Item.Event event.0, event.1)) (event_of kind.now (words_left line_words.old))) result (words_left line_words.new) }
+    ensures { IsReadOff (option_map (λ event. (Item.Event event.0, event.1)) (event_of kind.now (words_left words.old))) result (words_left words.new) }
 {
     let event = read_event(alloc, kind, words)?;
     Ok(Item::Event(event))
 }
 
 /// The settings behind the word `config`.
-#[tactic(auto, unfolding(crate::specs::Items::config_of))]
+#[tactic(auto, unfolding(crate::specs::Items::config_in_words))]
 pub fn read_config(words: &mut Words<'_>) -> Result<Config, LineFault>
-    ensures { IsReadOff (config_in_words (words_left line_words.old)) result (words_left line_words.new) }
+    ensures { IsReadOff (config_in_words (words_left words.old)) result (words_left words.new) }
 {
     let capacity = words.number_or_none_setting(b"capacity=")?;
     let policy = words.policy_setting(b"policy=")?;
@@ -207,7 +207,7 @@ pub fn read_config(words: &mut Words<'_>) -> Result<Config, LineFault>
 /// The event that a word begins.
 #[tactic(auto, unfolding(crate::specs::Items::event_of))]
 pub fn read_event(alloc: Global, kind: &[u8], words: &mut Words<'_>) -> Result<Event, LineFault>
-    ensures { IsReadOff (event_of kind.now (words_left line_words.old)) result (words_left line_words.new) }
+    ensures { IsReadOff (event_of kind.now (words_left words.old)) result (words_left words.new) }
 {
     if kind == b"feed".as_slice() {
         read_feed(alloc, words)
@@ -226,7 +226,7 @@ pub fn read_event(alloc: Global, kind: &[u8], words: &mut Words<'_>) -> Result<E
 
 /// That a connection opens, behind its word.
 fn read_open(words: &mut Words<'_>) -> Result<Event, LineFault>
-    ensures { IsReadOff (option_map (λ conn. (Event.Open conn.0, conn.1)) (field number_in (words_left line_words.old))) result (words_left line_words.new) }
+    ensures { IsReadOff (option_map (λ conn. (Event.Open conn.0, conn.1)) (field number_in (words_left words.old))) result (words_left words.new) }
 {
     let conn = words.number()?;
     Ok(Event::Open { conn })
@@ -234,16 +234,16 @@ fn read_open(words: &mut Words<'_>) -> Result<Event, LineFault>
 
 /// That a connection closes, behind its word.
 fn read_close(words: &mut Words<'_>) -> Result<Event, LineFault>
-    ensures { IsReadOff (option_map (λ conn. (Event.Close conn.0, conn.1)) (field number_in (words_left line_words.old))) result (words_left line_words.new) }
+    ensures { IsReadOff (option_map (λ conn. (Event.Close conn.0, conn.1)) (field number_in (words_left words.old))) result (words_left words.new) }
 {
     let conn = words.number()?;
     Ok(Event::Close { conn })
 }
 
 /// A piece of a connection's bytes, behind its word.
-#[tactic(auto, unfolding(crate::specs::Items::feed_of))]
+#[tactic(auto, unfolding(crate::specs::Items::feed_in_words))]
 fn read_feed(alloc: Global, words: &mut Words<'_>) -> Result<Event, LineFault>
-    ensures { IsReadOff (feed_in_words (words_left line_words.old)) result (words_left line_words.new) }
+    ensures { IsReadOff (feed_in_words (words_left words.old)) result (words_left words.new) }
 {
     let conn = words.number()?;
     let nanos = words.number()?;
@@ -256,9 +256,9 @@ fn read_feed(alloc: Global, words: &mut Words<'_>) -> Result<Event, LineFault>
 }
 
 /// An answer, behind its word.
-#[tactic(auto, unfolding(crate::specs::Items::answer_of))]
+#[tactic(auto, unfolding(crate::specs::Items::answer_in_words))]
 fn read_answer(alloc: Global, words: &mut Words<'_>) -> Result<Event, LineFault>
-    ensures { IsReadOff (answer_in_words (words_left line_words.old)) result (words_left line_words.new) }
+    ensures { IsReadOff (answer_in_words (words_left words.old)) result (words_left words.new) }
 {
     let load = words.number()?;
     let nanos = words.number()?;
@@ -272,9 +272,9 @@ fn read_answer(alloc: Global, words: &mut Words<'_>) -> Result<Event, LineFault>
 }
 
 /// That a load was given up, behind its word.
-#[tactic(auto, unfolding(crate::specs::Items::give_up_of))]
+#[tactic(auto, unfolding(crate::specs::Items::give_up_in_words))]
 fn read_give_up(words: &mut Words<'_>) -> Result<Event, LineFault>
-    ensures { IsReadOff (give_up_in_words (words_left line_words.old)) result (words_left line_words.new) }
+    ensures { IsReadOff (give_up_in_words (words_left words.old)) result (words_left words.new) }
 {
     let load = words.number()?;
     let nanos = words.number()?;
@@ -287,7 +287,7 @@ fn read_give_up(words: &mut Words<'_>) -> Result<Event, LineFault>
 /// What a loader answered, behind the word that names its kind.
 #[tactic(auto, unfolding(crate::specs::Items::outcome_of))]
 fn read_outcome(alloc: Global, kind: &[u8], words: &mut Words<'_>) -> Result<Outcome, LineFault>
-    ensures { IsReadOff (outcome_of kind.now (words_left line_words.old)) result (words_left line_words.new) }
+    ensures { IsReadOff (outcome_of kind.now (words_left words.old)) result (words_left words.new) }
 {
     if kind == b"value".as_slice() {
         read_value(alloc, words)
@@ -302,9 +302,9 @@ fn read_outcome(alloc: Global, kind: &[u8], words: &mut Words<'_>) -> Result<Out
 }
 
 /// A loader's value, behind its word.
-#[tactic(auto, unfolding(crate::specs::Items::value_of))]
+#[tactic(auto, unfolding(crate::specs::Items::value_in_words))]
 fn read_value(alloc: Global, words: &mut Words<'_>) -> Result<Outcome, LineFault>
-    ensures { IsReadOff (value_in_words (words_left line_words.old)) result (words_left line_words.new) }
+    ensures { IsReadOff (value_in_words (words_left words.old)) result (words_left words.new) }
 {
     let bytes = words.bytes(alloc)?;
     let ms = words.number_or_none()?;
@@ -312,9 +312,9 @@ fn read_value(alloc: Global, words: &mut Words<'_>) -> Result<Outcome, LineFault
 }
 
 /// A note behind its word.
-#[tactic(auto, unfolding(crate::specs::Items::note_of))]
+#[tactic(auto, unfolding(crate::specs::Items::note_in_words))]
 fn read_note(alloc: Global, words: &mut Words<'_>) -> Result<Note, LineFault>
-    ensures { IsReadOff (note_in_words (words_left line_words.old)) result (words_left line_words.new) }
+    ensures { IsReadOff (note_in_words (words_left words.old)) result (words_left words.new) }
 {
     let cause = words.cause()?;
     let key = words.bytes(alloc)?;
@@ -323,9 +323,9 @@ fn read_note(alloc: Global, words: &mut Words<'_>) -> Result<Note, LineFault>
 }
 
 /// A step behind its word, without notes.
-#[tactic(auto, unfolding(crate::specs::Items::step_of))]
+#[tactic(auto, unfolding(crate::specs::Items::step_in_words))]
 fn read_step(alloc: Global, words: &mut Words<'_>) -> Result<Step, LineFault>
-    ensures { IsReadOff (step_in_words (words_left line_words.old)) result (words_left line_words.new) }
+    ensures { IsReadOff (step_in_words (words_left words.old)) result (words_left words.new) }
 {
     let conn = words.number()?;
     let held = words.held()?;

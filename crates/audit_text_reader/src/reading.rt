@@ -34,7 +34,7 @@ pub fn texts_tell_transcripts_apart()
 {}
 
 /// The transcript that the lines of a text write, with its configuration.
-#[tactic(auto, using(crate::proofs::Gatherings::add_lines_append), unfolding(crate::specs::Gathering::reading))]
+#[tactic(auto, using(crate::proofs::Gatherings::add_lines_append), unfolding(crate::specs::Gathering::transcript_in_words))]
 fn read_lines(alloc: Global, text: &[u8]) -> Result<(Config, Transcript), TextError>
     ensures text { IfOk result (λ r. transcript_text r.0 r.1 ≡ kept text.now) }
     ensures said { IsReadText (transcript_in_words text.now) result }

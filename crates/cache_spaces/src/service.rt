@@ -383,7 +383,7 @@ fn feed_in(
     moment: u64,
 ) -> Result<bool, ServiceError>
     requires { index < length spaces.old.items }
-    ensures ok { IfOk result (λ feed_is_held. At spaces.old.items spaces.new.items index (λ was is. ServesEvent was is number (feed_event number piece.now moment) feed_is_held)) }
+    ensures ok { IfOk result (λ is_held. At spaces.old.items spaces.new.items index (λ was is. ServesEvent was is number (feed_event number piece.now moment) is_held)) }
     ensures err { IfErr result (λ e. At spaces.old.items spaces.new.items index (λ was is. SameSpace was is × RefusedFor (config_of was) (connections_of was) (feed_event number piece.now moment) (holds_at (connections_of was) number) e)) }
 {
     let space = &mut spaces[index];
