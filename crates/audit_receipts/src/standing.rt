@@ -8,7 +8,7 @@ use crate::receipt::Receipt;
 use audit_model::Transcript;
 
 /// Whether these receipts of one namespace stand in its journal, in its order: their numbers rise strictly, and each is of the record
-/// of its number. Takes no memory.
+/// of its number. Such receipts are a part of the journal (`receipts_in_order`). Takes no memory.
 pub fn receipts_stand(journal: &Transcript, receipts: &[Receipt]) -> bool
     ensures yes { result ≡ true → StandFrom 0 journal.now.records receipts.now }
     ensures no { result ≡ false → StandFrom 0 journal.now.records receipts.now → ⊥ }

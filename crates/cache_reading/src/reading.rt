@@ -18,7 +18,8 @@ use audit_model::{Conn, Note, Record, ServiceError};
 use cache_spaces::RecordedService;
 use std::alloc::{AllocError, Global};
 
-/// A service that keeps journals, whose replies and notes are taken from them. A taking is no event, and leaves the journals as they are.
+/// A service that keeps journals, and hands out the replies and notes that they hold, as the core of a `SharedService`. A taking is no
+/// event, leaves the journals as they are, and takes memory for a copy.
 #[derive(Drop)]
 pub struct ReadService {
     pub(crate) alloc: Global,
@@ -33,7 +34,7 @@ impl ReadService {
     ghost use Rattle.cache_reading.specs.Notes.{notes_of_records};
     ghost use Rattle.cache_reading.specs.Read.{journals_in, recorded_of, notes_taken, untold_in};
 
-    /// The service, nothing of which was taken.
+    /// The recording service, none of whose replies and notes was taken. Takes no memory.
     pub fn new(alloc: Global, recorded: RecordedService) -> ReadService
         ensures { recorded_of result ≡ recorded }
     {
@@ -45,15 +46,15 @@ impl ReadService {
         }
     }
 
-    /// The recording service.
+    /// The recording service, to be looked at: its journals.
     pub fn recorded(&self) -> &RecordedService
         ensures { result.now ≡ recorded_of self.now }
     {
         &self.recorded
     }
 
-    /// The oldest note of a namespace that was told and not taken. It is no event. The notes that were taken so far are a front of those
-    /// that the namespace's journal holds, in its order, and this is the one behind them.
+    /// The oldest note of a namespace that was told and not taken; none where there is none. It is no event. The notes that were taken so
+    /// far are a front of those that the namespace's journal holds, in its order, and this is the one behind them.
     ///
     /// It is copied. Refused with `NoNamespace`, and with `OutOfMemory` where there is no memory for the copy; then nothing has changed.
     pub fn next_notice(&mut self, namespace: u64) -> Result<Option<Note>, ServiceError>
@@ -76,7 +77,7 @@ impl ReadService {
         take_note(*alloc, recorded, told, namespace)
     }
 
-    /// The recording service, moved out.
+    /// The recording service, moved out; what was not taken stands in its journals.
     pub fn into_recorded(self) -> RecordedService
         ensures { result ≡ recorded_of self }
     {
@@ -85,8 +86,8 @@ impl ReadService {
     }
 }
 
-/// The replies of a connection since the last taking. Others' stay. Refused with `NoNamespace`, `NoConnection`, and with `OutOfMemory` where
-/// there is no memory for the copy or for how far it was read; then they come with the next taking.
+/// The replies of a connection since the last taking. Others' stay. Refused with `NoNamespace`, `NoConnection`, and with `OutOfMemory`
+/// where there is no memory for the copy or for how far it was read; then they come with the next taking.
 pub fn take_replies(
     alloc: Global,
     recorded: &RecordedService,

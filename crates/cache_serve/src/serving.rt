@@ -135,6 +135,9 @@ fn converse<L: Seating, C: Takings, I: Read, O: Write, K: Clock, D: Loader, T: T
 /// Where the service keeps journals, so that the seat has a receipt of each event, these are an opening, the pieces read with the clock's
 /// readings, between them answers and give-ups of loads with the clock's readings, a closing, and after an error further answers and
 /// give-ups, in this order. A last piece that was refused has none, and neither has a closing that was. The notes stay to be taken.
+///
+/// Fails with `Read` or `Write` where that device failed, with `Moment` where the clock told more than 2^63 - 1 nanoseconds, with `UsedUp`
+/// where the writer failed or a count of inputs is at 2^64 - 1, and else with `OutOfMemory`, also where there is no such namespace.
 pub fn serve<L: Seating, C: Takings, I: Read, O: Write, K: Clock, D: Loader, R: Wait>(
     rt: &R,
     alloc: Global,
@@ -172,7 +175,8 @@ pub fn serve<L: Seating, C: Takings, I: Read, O: Write, K: Clock, D: Loader, R: 
     }
 }
 
-/// As `serve`; the notes of the namespace are told as soon as they can be taken.
+/// As `serve`; besides, after each piece that it hands in and each load that it settles, and before the replies of that are written, it
+/// takes the notes of the namespace, also those that other connections' events told, and tells them to the teller.
 pub fn serve_and_tell<
     L: Seating,
     C: Takings,

@@ -38,11 +38,12 @@ pub struct Desk<L: Seating, C: Core> {
     ghost fewer: { left ≤ parts },
 }
 
-/// What a shared service leaves.
+/// What `SharedService::finish` gives: the service, and what its seats can show by its journals.
 #[derive(Drop)]
 pub struct Finished<C: Core> {
+    /// The service, which took as many inputs as the seats count together.
     pub service: C,
-    /// For each seat, in the order in which they were handed in, a list of receipts for each namespace that it used and those before it.
+    /// For each seat, in the order in which they were handed in, a list of receipts for each namespace up to the last one that it used.
     pub receipts: Vec<Vec<Vec<Receipt>>>,
 }
 

@@ -19,14 +19,14 @@ pub struct Replies<C: Takings> {
 }
 
 impl<C: Takings> Replies<C> {
-    /// Their bytes.
+    /// The reply bytes, with their line ends.
     pub fn as_slice(&self) -> &[u8]
         ensures { result.now ≡ self.now.text.items }
     {
         &self.text
     }
 
-    /// The bytes, moved out.
+    /// The reply bytes, with their line ends, moved out.
     pub fn into_text(self) -> Vec<u8>
         ensures { result ≡ self.text }
     {

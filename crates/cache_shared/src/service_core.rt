@@ -19,7 +19,7 @@ ghost use Rattle.cache_spaces.specs.declared.service.Service.{Service};
 use audit_model::{Bytes, Closing, Conn, Input, LoadId, Note, ServiceError, Transcript};
 use cache_spaces::{Output, Refusal};
 
-/// A service that takes inputs one by one.
+/// What stands under the lock of a `SharedService`: a service that takes inputs one by one.
 pub trait Core: Drop {
     /// The service.
     ghost service: { Self → Service };
@@ -40,8 +40,8 @@ pub trait Core: Drop {
 
     /// Takes an input: its event happens, and the output is what the event came to.
     ///
-    /// An input that is refused is handed back; then nothing has changed. Besides the service's refusals, `UsedUp` where the count of
-    /// inputs is used up.
+    /// An input that is refused is handed back; then nothing has changed. Besides the service's refusals, `UsedUp` where 2^64 - 1 inputs
+    /// were taken.
     fn step(&mut self, input: Input) -> Result<Output, Refusal>
         ensures taken { IfOk result (λ output. Performs input output (spaces_of (service self.old)) (spaces_of (service self.new))) }
         ensures recorded { IfOk result (λ output. Recorded input output self.old self.new) }
@@ -54,7 +54,7 @@ pub trait Core: Drop {
     fn stands(&self)
         ensures { ∥ IsReached (spaces_of (service self.now)) (events self.now) ∥₁ };
 
-    /// The journal of a namespace. Refused with `NoNamespace` where it has none.
+    /// The journal of a namespace: a record for each input that it took. Refused with `NoNamespace` where it has none.
     fn journal(&self, namespace: u64) -> Result<&Transcript, ServiceError>
         ensures journal { IfOk result (λ journal. slice_get (journals self.now) namespace ≡ Some journal.now) }
         ensures error { IfErr result (λ e. e ≡ ServiceError.NoNamespace) }
@@ -81,8 +81,8 @@ pub trait Takings: Core {
         ensures kept { OnErr result (untaken self.new conn ≡ untaken self.old conn) }
         ensures events { Self.events self.new ≡ Self.events self.old };
 
-    /// The oldest note of a namespace that was told and not taken. Other namespaces' stay. Refused with `NoNamespace`, and with
-    /// `OutOfMemory` where a taking needs memory; then it comes with the next taking.
+    /// The oldest note of a namespace that was told and not taken; none where there is none. Other namespaces' stay. Refused with
+    /// `NoNamespace`, and with `OutOfMemory` where a taking needs memory; then it comes with the next taking.
     fn next_notice(&mut self, namespace: u64) -> Result<Option<Note>, ServiceError>
         ensures note { IfOk result (λ note. untold self.old namespace ≡ option_to_list note ++ untold self.new namespace) }
         ensures none { IfOk result (λ note. IsNone note → untold self.old namespace ≡ []) }
@@ -98,12 +98,13 @@ pub trait Takings: Core {
         ensures refused { IfErr result (λ e. Refuses (spaces_of (Self.service self.old)) (spaces_of (Self.service self.new)) namespace e (λ was. ⊥)) }
         ensures events { Self.events self.new ≡ Self.events self.old };
 
-    /// Why a connection is closed, if it is. Refused with `NoNamespace`, `NoConnection`.
+    /// Why a connection is closed; none while it is open. Refused with `NoNamespace`, then with `NoConnection`.
     fn closed(&self, conn: Conn) -> Result<Option<Closing>, ServiceError>
         ensures closing { IfOk result (λ closing. InSpace (spaces_of (Self.service self.now)) conn.namespace (λ space. closing ≡ closing_of space conn.number)) }
         ensures refused { IfErr result (λ e. RefusesLook (spaces_of (Self.service self.now)) conn.namespace e (λ space. IsUnknown space conn.number e)) };
 
-    /// Whether a `LOAD` of a connection waits for its load. Refused with `NoNamespace`, `NoConnection`.
+    /// Whether a `LOAD` of a connection waits for its load, so that no line behind it runs. Refused with `NoNamespace`, then with
+    /// `NoConnection`.
     fn waiting(&self, conn: Conn) -> Result<bool, ServiceError>
         ensures waits { IfOk result (λ waits. InSpace (spaces_of (Self.service self.now)) conn.namespace (λ space. (s : Situation) → StandsFor space s → waits ≡ is_waiting_in s conn.number)) }
         ensures refused { IfErr result (λ e. RefusesLook (spaces_of (Self.service self.now)) conn.namespace e (λ space. IsUnknown space conn.number e)) };

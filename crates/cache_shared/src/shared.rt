@@ -30,7 +30,7 @@ struct Inner<L: Seating, C: Core> {
     changed: Condvar,
 }
 
-/// A service that threads share. Each input is taken in one hold of its one lock.
+/// A service that threads share; a clone is another handle of the same one. Each input is taken in one hold of its one lock.
 ///
 /// Whenever the lock is taken, there are journals that obey and lead to where the service stands, of as many records as inputs were
 /// taken. `L` is the ledger of its seats.
@@ -51,8 +51,8 @@ impl<L: Seating, C: Core> Clone for SharedService<L, C> {
 }
 
 impl<L: Seating, C: Core> SharedService<L, C> {
-    /// A shared form of a service of no events, over a new ledger of so many parts, one for each seat. Without memory both are handed
-    /// back.
+    /// A shared form of a service that took no input, over a new ledger of so many parts, one for each seat that there may be. Without
+    /// memory service and ledger are handed back.
     pub fn new(
         alloc: Global,
         core: C,
@@ -95,10 +95,12 @@ impl<L: Seating, C: Core> SharedService<L, C> {
         desk.seat(self.alloc)
     }
 
-    /// Takes one input for a seat, in one hold of the lock. Where it is taken, the seat counts one more, and has one receipt more, of
-    /// this input and its output, if the service keeps journals.
+    /// Takes one input for a seat, in one hold of the lock. Where it is taken, the seat counts one more, and has one receipt more, of this
+    /// input and its output, if the service keeps journals.
     ///
-    /// An input that is refused is handed back, and leaves no receipt and no count; then nothing has changed.
+    /// An input that is refused is handed back, and leaves no receipt and no count; then nothing has changed. Refused as the service under
+    /// the lock refuses it, with `OutOfMemory` also where there is none for the receipt, and with `UsedUp` where the seat's count or that
+    /// of all inputs is at 2^64 - 1.
     pub fn step(&self, rt: &impl Wait, seat: &mut Seat<L>, input: Input) -> Result<Output, Refusal>
         ensures count { OnOk result (seat.new.count ≡ seat.old.count + 1) }
         ensures receipt { C.KEEPS ≡ true → IfOk result (λ output. (number : ℕ) × Gains seat.old.receipts.items seat.new.receipts.items (namespace_of input) (receipt_for input output number)) }
@@ -121,8 +123,8 @@ impl<L: Seating, C: Core> SharedService<L, C> {
         taken
     }
 
-    /// The service with each seat's receipts, where this is the last clone, all seats are there, and there is memory. Else both are handed
-    /// back.
+    /// The service with each seat's receipts, where this is the last clone, all seats that were made are there, and there is memory: one
+    /// byte for each record of a namespace. Else this clone and the seats are handed back.
     ///
     /// Then the service has taken as many inputs as these seats count together, each seat's receipts of a namespace are in their order a
     /// part of its journal, and over all seats each record has one receipt.
@@ -155,6 +157,8 @@ impl<L: Seating, C: Core> SharedService<L, C> {
 
 impl<L: Seating, C: Takings> SharedService<L, C> {
     /// The reply bytes of a connection since the last taking, moved out, in one hold of the lock. It is no event, and leaves no receipt.
+    /// Refused with `NoNamespace`, then with `NoConnection`, and with `OutOfMemory` where the core copies replies; then they come with the
+    /// next taking.
     pub fn take_output(&self, rt: &impl Wait, conn: Conn) -> Result<Replies<C>, ServiceError>
         ensures conn { IfOk result (λ replies. replies.conn ≡ conn) }
         ensures refused { IfErr result (λ e. (e ≡ ServiceError.OutOfMemory) ⊎ HeldAtSomeMoment C.service C.events (λ spaces. RefusesLook spaces conn.namespace e (λ space. IsUnknown space conn.number e))) }
@@ -164,8 +168,8 @@ impl<L: Seating, C: Takings> SharedService<L, C> {
         desk.take_output(conn)
     }
 
-    /// The loads of a namespace that went out and were not taken, moved out, in one hold of the lock. It is no event, and leaves no
-    /// receipt.
+    /// The loads of a namespace that went out and were not taken, with their keys, in the order in which they were sent; moved out, in one
+    /// hold of the lock. It is no event, and leaves no receipt. Refused with `NoNamespace`.
     pub fn take_loads(&self, rt: &impl Wait, namespace: u64) -> Result<TakenLoads<C>, ServiceError>
         ensures namespace { IfOk result (λ loads. loads.namespace ≡ namespace) }
         ensures refused { IfErr result (λ e. HeldAtSomeMoment C.service C.events (λ spaces. (e ≡ ServiceError.NoNamespace) × (length spaces ≤ namespace))) }
@@ -175,7 +179,8 @@ impl<L: Seating, C: Takings> SharedService<L, C> {
         desk.take_loads(namespace)
     }
 
-    /// The oldest note of a namespace that was told and not taken, in one hold of the lock. It is no event, and leaves no receipt.
+    /// The oldest note of a namespace that was told and not taken, or none, in one hold of the lock. It is no event, and leaves no receipt.
+    /// Refused with `NoNamespace`, and with `OutOfMemory` where the core copies notes; then it comes with the next taking.
     pub fn next_notice(&self, rt: &impl Wait, namespace: u64) -> Result<Option<Note>, ServiceError>
         ensures note { IfOk result (λ note. WasOldestNote C.service C.events C.untold namespace note) }
         ensures refused { IfErr result (λ e. (e ≡ ServiceError.OutOfMemory) ⊎ HeldAtSomeMoment C.service C.events (λ spaces. (e ≡ ServiceError.NoNamespace) × (length spaces ≤ namespace))) }
@@ -185,7 +190,7 @@ impl<L: Seating, C: Takings> SharedService<L, C> {
         desk.next_notice(namespace)
     }
 
-    /// Why a connection is closed, if it is, in one hold of the lock.
+    /// Why a connection is closed, or none while it is open, in one hold of the lock. Refused with `NoNamespace`, then with `NoConnection`.
     pub fn closed(&self, rt: &impl Wait, conn: Conn) -> Result<Option<Closing>, ServiceError>
         ensures closing { IfOk result (λ closing. HeldAtSomeMoment C.service C.events (λ spaces. InSpace spaces conn.namespace (λ space. closing ≡ closing_of space conn.number))) }
         ensures refused { IfErr result (λ e. HeldAtSomeMoment C.service C.events (λ spaces. RefusesLook spaces conn.namespace e (λ space. IsUnknown space conn.number e))) }
@@ -194,7 +199,7 @@ impl<L: Seating, C: Takings> SharedService<L, C> {
         guard.closed(conn)
     }
 
-    /// Whether a `LOAD` of a connection waits for its load, in one hold of the lock.
+    /// Whether a `LOAD` of a connection waits for its load, in one hold of the lock. Refused with `NoNamespace`, then with `NoConnection`.
     pub fn waiting(&self, rt: &impl Wait, conn: Conn) -> Result<bool, ServiceError>
         ensures waits { IfOk result (λ waits. HeldAtSomeMoment C.service C.events (λ spaces. InSpace spaces conn.namespace (λ space. (s : Situation) → StandsFor space s → waits ≡ is_waiting_in s conn.number))) }
         ensures refused { IfErr result (λ e. HeldAtSomeMoment C.service C.events (λ spaces. RefusesLook spaces conn.namespace e (λ space. IsUnknown space conn.number e))) }
