@@ -21,7 +21,7 @@ abbrev pub script_transcript : List Turn → Bool → Transcript
 script_transcript turns closes = record { made = record { nanos = 0 }; records = records_of 1 true turns closes [] }
 
 -- The bytes read are the pieces of a transcript that obeys, all at moment 0; its replies were written, and then its notes told. It closes at
--- the end of the input, unless too long a line has closed it.
+-- the end of the input, unless a `QUIT` or too long a line has closed it.
 pub record ServesScript (input rest output written errors told : Option (List ℕ)) : Type 0 where
   pub turns : List Turn
   pub closes : Bool
