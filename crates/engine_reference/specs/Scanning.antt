@@ -22,6 +22,12 @@ module _ {K V P S R : Type 0} (answers : Answers K V P R) where
     pub asked : (r : Record K V) → visible_record answers eq s now key ≡ Some r → Ignores r.entry.value ignored
     pub answer : found ≡ option_map (λ r. (r.number, r.entry.value)) (past ignored (visible_record answers eq s now key))
 
+  -- the second half of a look-up, which is not refused: maintenance comes where it is due, and then the read of what was visible, where it was not passed over
+  pub record NotesLookUp (eq : K → K → Bool) (key : K) (hash now : ℕ) (ignored : Bool) (old new : State K V P S R) : Type 0 where
+    pub mid : State K V P S R
+    pub maintains : MaintainsIfDue answers now old mid
+    pub reads : new ≡ with_read answers (past ignored (visible_record answers eq old now key)) hash now mid
+
   -- such a look-up with its read: what is passed over counts as not found, and is not used
   pub record LooksUpPast (eq : K → K → Bool) (key : K) (hash now : ℕ) (Ignores : V → Bool → Type 0) (old new : State K V P S R) (found : Option V) : Type 0 where
     pub ignored : Bool

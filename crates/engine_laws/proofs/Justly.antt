@@ -1,6 +1,6 @@
--- A removal for weight has a point.
+-- What a run takes away it takes for a just cause.
 use Rattle.std.proofs.Common.{◌≡◌, refl, ap, sym, ◌∙◌, subst, ℕ, ◌+◌, ◌<◌, ◌≤◌, ◌||◌, arith, Bool, true, false, true≢false, not, cond, List, [], ◌∷◌, ◌++◌, Option, Some, None, map, is_some, append_assoc, append-nil, inl, inr, ◌⊎◌}
-use Rattle.std.specs.Prelude.{nat_lt}
+use Rattle.std.specs.Prelude.{nat_lt, slice_get}
 use Rattle.std.proofs.lemmas.Bool.{eqb-true, ltb-true, ltb-false, lt-ltb}
 use Rattle.policy_sketch.specs.Counts.{incremented, frequency_of}
 use Rattle.engine_rules.specs.declared.causes.RemovalCause.{RemovalCause}
@@ -19,39 +19,41 @@ use Rattle.engine_reference.specs.Records.{record_at, held_entries, admitted_wei
 use Rattle.engine_reference.specs.Runs.{is_due_for, Step, reads, writes, grows, leaves, evicts, ends, Steps, with_left, left, all_left, after_read, after_hit, after_write, after_put, after_removal, counting, put_off, judged, is_overtaken}
 use Rattle.engine_reference.specs.Soundness.{IsIn, Each, AreNumbered, Fits, IsAccounted, IsSound}
 use Rattle.engine_reference.specs.State.{State, Answers}
-use Rattle.engine_reference.specs.Telling.{Removal, Tells}
-use Rattle.engine_reference.specs.Visible.{told}
+use Rattle.engine_reference.specs.Telling.{Removal, Tells, removed_entries}
+use Rattle.engine_reference.specs.Visible.{told, is_covered}
+use Rattle.engine_reference.specs.Times.{has_come}
 use Rattle.engine_reference.proofs.Accounts.{each-map, each-both, each-changed, each-without, none_there, numbered-without}
 use Rattle.engine_reference.proofs.HeldRecords.{record_at-number, held-changed, held-without, held-without_other}
 use Rattle.engine_reference.proofs.SoundSteps.{left-each, step-sound, left-frame, after_write-frame}
-use Rattle.engine_reference.proofs.TellingSteps.{told_once, Tells-nothing, Tells-trans, Tells-after, Tells-popped}
+use Rattle.engine_reference.proofs.TellingSteps.{step_tells, TakesAway-from, told_once, Tells-nothing, Tells-trans, Tells-after, Tells-popped}
 use Rattle.engine_reference.proofs.Unapplied.{AllSettled, settled_in-settled, front-settled, first-settled}
 use Rattle.engine_laws.specs.Points.{AreRising, NoneOf, with_write, IsKeptBy, AreKept, pending_of, HasPoint, EachForSize, IsPointed, SizeHasPoint}
+use Rattle.engine_laws.specs.Just.{ComesFrom, EachRemoval, IsJust, RunTellsJustly}
 use Rattle.engine_laws.proofs.Fewer.{Fewer, fewer-refl, fewer-weight, fewer-without, fewer-put, fewer-refused, fewer-put_off, changed-none, without-none_of, kept-fewer, numbered-write, weight-put}
 use Rattle.engine_laws.proofs.Fronting.{each-at}
-use Rattle.engine_laws.proofs.Rising.{rising-own, rising-other, none_later, each-own, ComesFrom}
+use Rattle.engine_laws.proofs.Rising.{rising-own, rising-other, none_later, each-own}
 
 -- ---- what is told, with a property of what is removed for weight
 
 module _ {K V : Type 0} where
-  each-append : (Q : Entry K V → Type 0) (xs ys : List (Removal K V)) → EachForSize Q xs → EachForSize Q ys → EachForSize Q (xs ++ ys)
+  each-append : (Q : RemovalCause → Entry K V → Type 0) (xs ys : List (Removal K V)) → EachRemoval Q xs → EachRemoval Q ys → EachRemoval Q (xs ++ ys)
   each-append Q [] ys h k = k
   each-append Q (x ∷ xs) ys h k = (h.0, each-append Q xs ys h.1 k)
 
 module _ {K V P S R : Type 0} where
-  pub record Takes (Q : Entry K V → Type 0) (old new : State K V P S R) : Type 0 where
+  pub record Takes (Q : RemovalCause → Entry K V → Type 0) (old new : State K V P S R) : Type 0 where
     pub removals : List (Removal K V)
     pub tells : Tells old removals new
-    pub each : EachForSize Q removals
+    pub each : EachRemoval Q removals
     pub settings : new.settings ≡ old.settings
 
-  takes-nothing : (Q : Entry K V → Type 0) (old new : State K V P S R) → new.settings ≡ old.settings → new.notices ≡ old.notices → held_entries new.records ≡ held_entries old.records → Takes Q old new
+  takes-nothing : (Q : RemovalCause → Entry K V → Type 0) (old new : State K V P S R) → new.settings ≡ old.settings → new.notices ≡ old.notices → held_entries new.records ≡ held_entries old.records → Takes Q old new
   takes-nothing Q old new settings notices held = record { removals = []; tells = Tells-nothing old new notices held; each = tt; settings = settings }
 
-  takes-after : (Q : Entry K V → Type 0) (a b c : State K V P S R) → Takes Q a b → c.settings ≡ b.settings → c.notices ≡ b.notices → held_entries c.records ≡ held_entries b.records → Takes Q a c
+  takes-after : (Q : RemovalCause → Entry K V → Type 0) (a b c : State K V P S R) → Takes Q a b → c.settings ≡ b.settings → c.notices ≡ b.notices → held_entries c.records ≡ held_entries b.records → Takes Q a c
   takes-after Q a b c h settings notices held = record { removals = h.removals; tells = Tells-after a b c h.removals h.tells notices held; each = h.each; settings = settings ∙ h.settings }
 
-  takes-trans : (Q : Entry K V → Type 0) (a b c : State K V P S R) → Takes Q a b → Takes Q b c → Takes Q a c
+  takes-trans : (Q : RemovalCause → Entry K V → Type 0) (a b c : State K V P S R) → Takes Q a b → Takes Q b c → Takes Q a c
   takes-trans Q a b c h k = record {
     removals = h.removals ++ k.removals;
     tells = Tells-trans a b c h.removals k.removals h.settings h.tells k.tells;
@@ -59,8 +61,8 @@ module _ {K V P S R : Type 0} where
     settings = k.settings ∙ h.settings;
   }
 
-  takes-left : (Q : Entry K V → Type 0) (why : RemovalCause) (s : State K V P S R) (n : ℕ) (o : Option (Record K V)) → record_at s.records n ≡ o
-      → ((r : Record K V) → o ≡ Some r → r.is_held ≡ true → why ≡ cause.Size → Q r.entry) → Takes Q s (with_left why s o)
+  takes-left : (Q : RemovalCause → Entry K V → Type 0) (why : RemovalCause) (s : State K V P S R) (n : ℕ) (o : Option (Record K V)) → record_at s.records n ≡ o
+      → ((r : Record K V) → o ≡ Some r → r.is_held ≡ true → Q why r.entry) → Takes Q s (with_left why s o)
   takes-left Q why s n None there just = takes-nothing Q s s refl refl refl
   takes-left Q why s n (Some r) there just = go r.is_held refl
     where
@@ -74,24 +76,24 @@ module _ {K V P S R : Type 0} where
           notices = ap (λ h. cond h (told s.settings.tells why r.entry s.notices) s.notices) held ∙ told_once s.settings.tells why r.entry s.notices;
           entries = let h = held-without s.records r.number r here held in (h.place, h.there, h.after);
         };
-        each = ((λ size. just r refl held size), tt);
+        each = (just r refl held, tt);
         settings = refl;
       }
       go false out = takes-nothing Q s (with_left why s (Some r)) refl
           (ap (λ h. cond h (told s.settings.tells why r.entry s.notices) s.notices) out) (held-without_other s.records r.number r here out)
 
   -- records that stand in the list `base` under their numbers, and are settled
-  all_left-takes : (Q : Entry K V → Type 0) (base vs : List (Record K V)) → ((y : Record K V) → is_settled y ≡ true → record_at base y.number ≡ Some y → y.is_held ≡ true → Q y.entry)
+  all_left-takes : (Q : RemovalCause → Entry K V → Type 0) (base vs : List (Record K V)) → ((y : Record K V) → is_settled y ≡ true → record_at base y.number ≡ Some y → y.is_held ≡ true → Q cause.Size y.entry)
       → (s : State K V P S R) → AreNumbered s.records → Each (λ x. record_at base x.number ≡ Some x) s.records → AllSettled base vs → Takes Q s (all_left cause.Size vs s)
   all_left-takes Q base [] just s numbered own settled = takes-nothing Q s s refl refl refl
   all_left-takes Q base (v ∷ vs) just s numbered own settled =
       let next = left cause.Size v.number s in
       let first = takes-left Q cause.Size s v.number (record_at s.records v.number) refl
-      (λ r there held size.
+      (λ r there held.
       let is_r : record_at base v.number ≡ Some r = ap (λ n. record_at base n) (sym (record_at-number s.records v.number r there)) ∙ each-at (λ x. record_at base x.number ≡ Some x) s.records v.number r own there in
       let both : Some v ≡ Some r = sym settled.1 ∙ is_r in
       let same : v ≡ r = cc in
-      subst (λ y. y.is_held ≡ true → Q y.entry) same (just v settled.0 settled.1) held) in
+      subst (λ y. y.is_held ≡ true → Q cause.Size y.entry) same (just v settled.0 settled.1) held) in
       takes-trans Q s next (all_left cause.Size (v ∷ vs) s) first
       (all_left-takes Q base vs just next (numbered-left (record_at s.records v.number)) (left-each (λ x. record_at base x.number ≡ Some x) cause.Size v.number s numbered own) settled.2)
     where
@@ -170,12 +172,12 @@ module _ {K V : Type 0} (base : List (Record K V)) (rest us : List Write) where
 
 module _ {K V P S R : Type 0} (base : List (Record K V)) (rest us : List Write) where
   -- what a write does to a state
-  pub record WriteGoes (Q : Entry K V → Type 0) (w : Write) (old new : State K V P S R) : Type 0 where
+  pub record WriteGoes (Q : RemovalCause → Entry K V → Type 0) (w : Write) (old new : State K V P S R) : Type 0 where
     pub takes : Takes Q old new
     pub fewer : Fewer new.records (with_write w old.records)
     pub each : Each (Next base rest us) new.records
 
-  module _ (Q : Entry K V → Type 0) (u : Upsert) (s : State K V P S R) (numbered : AreNumbered s.records) (each : Each (Now base rest us (Put u)) s.records) where
+  module _ (Q : RemovalCause → Entry K V → Type 0) (u : Upsert) (s : State K V P S R) (numbered : AreNumbered s.records) (each : Each (Now base rest us (Put u)) s.records) where
     counting-held : (t : State K V P S R) → held_entries (counting u t).records ≡ held_entries t.records
     counting-held t = held-changed u.number (λ r. record r { applied = u.write; counts = Some u.weight }) (λ r. refl) (λ r. refl) t.records
 
@@ -193,7 +195,7 @@ module _ {K V P S R : Type 0} (base : List (Record K V)) (rest us : List Write) 
       each = next-counting base rest us u s.records numbered each;
     }
 
-    put-displace : (vs : List (Record K V)) → AllSettled s.records vs → ((y : Record K V) → is_settled y ≡ true → record_at s.records y.number ≡ Some y → y.is_held ≡ true → Q y.entry)
+    put-displace : (vs : List (Record K V)) → AllSettled s.records vs → ((y : Record K V) → is_settled y ≡ true → record_at s.records y.number ≡ Some y → y.is_held ≡ true → Q cause.Size y.entry)
         → WriteGoes Q (Put u) s (counting u (all_left cause.Size vs s))
     put-displace vs settled just =
         let t = all_left cause.Size vs s in
@@ -214,7 +216,7 @@ module _ {K V P S R : Type 0} (base : List (Record K V)) (rest us : List Write) 
             one None = (n, f)
             one (Some r) = (numbered-without r.number t.records n, fewer-without r.number t.records s.records f)
 
-    put-refuse : (x : Record K V) → record_at s.records u.number ≡ Some x → x.counts ≡ None → (x.is_held ≡ true → is_overtaken u x ≡ false → Q x.entry) → WriteGoes Q (Put u) s (judged u x s refuse)
+    put-refuse : (x : Record K V) → record_at s.records u.number ≡ Some x → x.counts ≡ None → (x.is_held ≡ true → is_overtaken u x ≡ false → Q cause.Size x.entry) → WriteGoes Q (Put u) s (judged u x s refuse)
     put-refuse x here uncounted just = go (is_overtaken u x) refl
       where
         leaving : is_overtaken u x ≡ false → (o : Option (Record K V)) → record_at s.records u.number ≡ o → WriteGoes Q (Put u) s (with_left cause.Size s o)
@@ -224,7 +226,7 @@ module _ {K V P S R : Type 0} (base : List (Record K V)) (rest us : List Write) 
             let same : x ≡ r = cc in
             let number = record_at-number s.records u.number r there in
             record {
-              takes = takes-left Q cause.Size s u.number (Some r) there (λ y is_y held size. (let one : r ≡ y = cc in subst (λ z. z.is_held ≡ true → Q z.entry) (same ∙ one) (λ h. just h e) held));
+              takes = takes-left Q cause.Size s u.number (Some r) there (λ y is_y held. (let one : r ≡ y = cc in subst (λ z. z.is_held ≡ true → Q cause.Size z.entry) (same ∙ one) (λ h. just h e) held));
               fewer = subst (λ n. Fewer (without_record n s.records) (with_write (Put u) s.records)) (sym number) (fewer-refused u s.records);
               each = subst (λ n. Each (Next base rest us) (without_record n s.records)) (sym number) (next-gone base rest us u s.records numbered each);
             }
@@ -238,8 +240,8 @@ module _ {K V P S R : Type 0} (base : List (Record K V)) (rest us : List Write) 
         go false e = leaving e (record_at s.records u.number) refl
 
     put-judged : (x : Record K V) → record_at s.records u.number ≡ Some x → x.counts ≡ None
-        → ((y : Record K V) → is_settled y ≡ true → record_at s.records y.number ≡ Some y → y.is_held ≡ true → Q y.entry)
-        → (x.is_held ≡ true → is_overtaken u x ≡ false → Q x.entry) → (v : Verdict K V) → Justified s v → WriteGoes Q (Put u) s (judged u x s v)
+        → ((y : Record K V) → is_settled y ≡ true → record_at s.records y.number ≡ Some y → y.is_held ≡ true → Q cause.Size y.entry)
+        → (x.is_held ≡ true → is_overtaken u x ≡ false → Q cause.Size x.entry) → (v : Verdict K V) → Justified s v → WriteGoes Q (Put u) s (judged u x s v)
     put-judged x here uncounted victims own admit h = put-counting
     put-judged x here uncounted victims own (displace vs) h = put-displace vs h victims
     put-judged x here uncounted victims own refuse h = put-refuse x here uncounted own
@@ -247,7 +249,7 @@ module _ {K V P S R : Type 0} (base : List (Record K V)) (rest us : List Write) 
     -- the justifications are asked for only where the weight with it is above the capacity
     put-goes : (o : Option (Record K V)) → record_at s.records u.number ≡ o
         → ((x : Record K V) → record_at s.records u.number ≡ Some x → x.counts ≡ None → is_above s.settings.capacity (admitted_weight s.records + u.weight) ≡ true
-        → ((y : Record K V) → is_settled y ≡ true → record_at s.records y.number ≡ Some y → y.is_held ≡ true → Q y.entry) × (x.is_held ≡ true → is_overtaken u x ≡ false → Q x.entry))
+        → ((y : Record K V) → is_settled y ≡ true → record_at s.records y.number ≡ Some y → y.is_held ≡ true → Q cause.Size y.entry) × (x.is_held ≡ true → is_overtaken u x ≡ false → Q cause.Size x.entry))
         → WriteGoes Q (Put u) s (after_put u o s)
     put-goes None here just = put-none here
     put-goes (Some x) here just = by_generation (nat_lt x.applied u.write) refl
@@ -271,7 +273,7 @@ module _ {K V P S R : Type 0} (base : List (Record K V)) (rest us : List Write) 
         by_generation true t = by_counts x.counts refl
         by_generation false t = absurd (let late = ltb-false x.applied u.write t in omega (arith, newer))
 
-  module _ (Q : Entry K V → Type 0) (n : ℕ) (s : State K V P S R) (numbered : AreNumbered s.records) (each : Each (Now base rest us (Removed n)) s.records) where
+  module _ (Q : RemovalCause → Entry K V → Type 0) (n : ℕ) (s : State K V P S R) (numbered : AreNumbered s.records) (each : Each (Now base rest us (Removed n)) s.records) where
     removal-goes : ((r : Record K V) → record_at s.records n ≡ Some r → r.is_held ≡ false) → (o : Option (Record K V)) → record_at s.records n ≡ o → WriteGoes Q (Removed n) s (after_removal o s)
     removal-goes out None there = record {
       takes = takes-nothing Q s s refl refl refl;
@@ -281,7 +283,7 @@ module _ {K V P S R : Type 0} (base : List (Record K V)) (rest us : List Write) 
     removal-goes out (Some r) there = go r.is_held (out r there)
       where
         gone : State K V P S R
-        gone = record s { records = without_record r.number s.records; access = without r.number s.access }
+        gone = record s { records = without_record r.number s.records; access = without r.number s.access; order = without r.number s.order }
 
         here : record_at s.records r.number ≡ Some r
         here = ap (λ n. record_at s.records n) (record_at-number s.records n r there) ∙ there
@@ -458,7 +460,7 @@ module _ {K V P S R : Type 0} (old : State K V P S R) (us : List Write) (us_are 
     pub record StepGoes (s t : State K V P S R) : Type 0 where
       pub done : List Write
       pub goes : Going done t
-      pub takes : Takes (IsPointed old) s t
+      pub takes : Takes (IsJust answers now old) s t
 
     read-kept : (r : Read) (s : State K V P S R) → ((after_read r s).records ≡ s.records) × ((after_read r s).writes ≡ s.writes) × ((after_read r s).settings ≡ s.settings) × ((after_read r s).notices ≡ s.notices) × ((after_read r s).unsent ≡ s.unsent)
     read-kept (Miss hash) s = (refl, refl, refl, refl, refl)
@@ -480,15 +482,15 @@ module _ {K V P S R : Type 0} (old : State K V P S R) (us : List Write) (us_are 
     same-goes done s t g sound records queued settings notices unsent = record {
       done = done;
       goes = going-same done s t g sound queued settings unsent records;
-      takes = takes-nothing (IsPointed old) s t settings notices (ap (λ rs. held_entries rs) records);
+      takes = takes-nothing (IsJust answers now old) s t settings notices (ap (λ rs. held_entries rs) records);
     }
 
     left-goes : (done : List Write) (s : State K V P S R) (why : RemovalCause) (n : ℕ) → Going done s → IsSound (left why n s)
-        → ((r : Record K V) → record_at s.records n ≡ Some r → r.is_held ≡ true → why ≡ cause.Size → IsPointed old r.entry) → StepGoes s (left why n s)
+        → ((r : Record K V) → record_at s.records n ≡ Some r → r.is_held ≡ true → IsJust answers now old why r.entry) → StepGoes s (left why n s)
     left-goes done s why n g sound just =
         let f = left-frame why n s in
         let each = left-each (Next old.records s.writes us) why n s g.sound.records.numbered g.each in
-        let t = takes-left (IsPointed old) why s n (record_at s.records n) refl just in
+        let t = takes-left (IsJust answers now old) why s n (record_at s.records n) refl just in
         record {
           done = done;
           goes = going-fewer done s (left why n s) g sound f.writes t.settings f.unsent (fewer (record_at s.records n)) each;
@@ -500,7 +502,7 @@ module _ {K V P S R : Type 0} (old : State K V P S R) (us : List Write) (us_are 
         fewer (Some r) = fewer-without r.number s.records s.records (fewer-refl s.records)
 
     popped-goes : (done : List Write) (s t : State K V P S R) (w : Write) (rest : List Write) → Going done s → IsSound t → s.writes ≡ w ∷ rest → t ≡ after_write w (record s { writes = rest })
-        → WriteGoes old.records rest us (IsPointed old) w (record s { writes = rest }) (after_write w (record s { writes = rest })) → StepGoes s t
+        → WriteGoes old.records rest us (IsJust answers now old) w (record s { writes = rest }) (after_write w (record s { writes = rest })) → StepGoes s t
     popped-goes done s t w rest g sound some after k =
         let p = record s { writes = rest } in
         let f = after_write-frame w p in
@@ -508,7 +510,7 @@ module _ {K V P S R : Type 0} (old : State K V P S R) (us : List Write) (us_are 
           done = done ++ w ∷ [];
           goes = going-write done w rest s t g some sound (ap (λ x. x.writes) after ∙ f.writes) (ap (λ x. x.settings) after ∙ k.takes.settings) (ap (λ x. x.unsent) after ∙ f.unsent)
               (subst (λ x. Fewer x.records (with_write w s.records)) (sym after) k.fewer) (subst (λ x. Each (Next old.records rest us) x.records) (sym after) k.each);
-          takes = subst (λ x. Takes (IsPointed old) s x) (sym after) (record {
+          takes = subst (λ x. Takes (IsJust answers now old) s x) (sym after) (record {
             removals = k.takes.removals;
             tells = Tells-popped s (after_write w p) s.reads rest k.takes.removals k.takes.tells;
             each = k.takes.each;
@@ -524,7 +526,7 @@ module _ {K V P S R : Type 0} (old : State K V P S R) (us : List Write) (us_are 
         let fits : ((x : Record K V) (n : ℕ) → record_at s.records n ≡ Some x → (w : Write) → IsIn w (Put u ∷ (rest ++ us)) → Fits w x) =
         λ x n there w i. fits-pending done s x n g there w (subst (λ ws. IsIn w (ws ++ us)) (sym some) i) in
         popped-goes done s t (Put u) rest g sound some after
-        (put-goes old.records rest us (IsPointed old) u p g.sound.records.numbered each (record_at s.records u.number) refl
+        (put-goes old.records rest us (IsJust answers now old) u p g.sound.records.numbered each (record_at s.records u.number) refl
         (λ x here uncounted above.
         let weight = kept.0 in
         let over : is_above s.settings.capacity u.kept ≡ true = above-more s.settings.capacity (admitted_weight s.records + u.weight) u.kept (omega (arith, weight, weight-put u s.records x here uncounted)) above in (
@@ -548,12 +550,22 @@ module _ {K V P S R : Type 0} (old : State K V P S R) (us : List Write) (us_are 
         let p = record s { writes = rest } in
         let each : Each (Now old.records rest us (Removed n)) s.records = subst (λ ws. Each (Next old.records ws us) s.records) some g.each in
         popped-goes done s t (Removed n) rest g sound some after
-        (removal-goes old.records rest us (IsPointed old) n p g.sound.records.numbered each
+        (removal-goes old.records rest us (IsJust answers now old) n p g.sound.records.numbered each
         (λ r there. (each-at (IsAccounted s.unsent s.writes) s.records n r g.sound.records.accounted there).fits (Removed n) (inr (subst (λ ws. IsIn (Removed n) ws) (sym some) (inl refl))) (sym (record_at-number s.records n r there)))
         (record_at s.records n) refl)
 
-    step-goes : (done : List Write) (s t : State K V P S R) → Going done s → Step answers now s t → StepGoes s t
-    step-goes done s t g step = go step (step-sound answers now s t g.sound step)
+    -- what is held is covered as it was
+    abbrev Cov : State K V P S R → Type 0
+    Cov s = (place : ℕ) (e : Entry K V) → slice_get (held_entries s.records) place ≡ Some e → is_covered answers s e ≡ is_covered answers old e
+
+    just-due : (done : List Write) (s : State K V P S R) (r : Record K V) (why : RemovalCause) → Going done s → Cov s → record_at s.records r.number ≡ Some r → r.is_held ≡ true → is_due_for answers s now r why ≡ true → IsJust answers now old why r.entry
+    just-due done s r cause.Expired g cov there held due = sym (ap (λ c. has_come c now r.entry) g.settings) ∙ due
+    just-due done s r cause.Explicit g cov there held due = let h = held-without s.records r.number r there held in sym (cov h.place r.entry h.there) ∙ due
+    just-due done s r cause.Replaced g cov there held due = absurd (true≢false (sym due))
+    just-due done s r cause.Size g cov there held due = absurd (true≢false (sym due))
+
+    step-goes : (done : List Write) (s t : State K V P S R) → Going done s → Cov s → Step answers now s t → StepGoes s t
+    step-goes done s t g cov step = go step (step-sound answers now s t g.sound step)
       where
         go : Step answers now s t → IsSound t → StepGoes s t
         go (reads r rest e after) sound =
@@ -563,25 +575,38 @@ module _ {K V P S R : Type 0} (old : State K V P S R) (us : List Write) (us_are 
         go (grows words applied wants capacity is_set size after) sound = same-goes done s t g sound (ap (λ x. x.records) after) (ap (λ x. x.writes) after) (ap (λ x. x.settings) after) (ap (λ x. x.notices) after) (ap (λ x. x.unsent) after)
         go (leaves r why applied there held due after) sound =
             subst (λ x. StepGoes s x) (sym after) (left-goes done s why r.number g (subst (λ x. IsSound x) after sound)
-            (λ x here held size. absurd (true≢false (sym due ∙ ap (λ c. is_due_for answers s now r c) size))))
+            (λ x here held_x.
+            let both : Some r ≡ Some x = sym there ∙ here in
+            let same : r ≡ x = cc in
+            subst (λ z. IsJust answers now old why z.entry) same (just-due done s r why g cov there held due)))
         go (evicts r applied above next after) sound =
             subst (λ x. StepGoes s x) (sym after) (left-goes done s cause.Size r.number g (subst (λ x. IsSound x) after sound)
-            (λ x here held size.
+            (λ x here held.
             let k = first-settled s.records (settled_in s.records s.access) r (settled_in-settled s.records s.access) next in
             let both : Some r ≡ Some x = sym k.1 ∙ here in
             let same : r ≡ x = cc in
             point-excess old_sound done s x r.number g applied.writes above here held (subst (λ z. is_settled z ≡ true) same k.0)))
         go (ends place p applied there none after) sound = same-goes done s t g sound (ap (λ x. x.records) after) (ap (λ x. x.writes) after) (ap (λ x. x.settings) after) (ap (λ x. x.notices) after) (ap (λ x. x.unsent) after)
 
-    steps-take : (stages : List (State K V P S R)) (done : List Write) (s t : State K V P S R) → Going done s → Steps answers now s stages t → Takes (IsPointed old) s t
-    steps-take [] done s t g e = subst (λ x. Takes (IsPointed old) s x) (sym e) (takes-nothing (IsPointed old) s s refl refl refl)
-    steps-take (mid ∷ stages) done s t g e =
-        let k = step-goes done s mid g e.0 in
-        takes-trans (IsPointed old) s mid t k.takes (steps-take stages k.done mid t k.goes e.1)
+    cov-step : (s t : State K V P S R) → Cov s → Step answers now s t → Cov t
+    cov-step s t cov step place e there =
+        let h = step_tells answers now s t step in
+        let from = TakesAway-from (removed_entries h.removals) (held_entries s.records) (held_entries t.records) place e h.tells.entries there in
+        h.keeps.covered place e there ∙ cov from.0 e from.1
+
+    steps-take : (stages : List (State K V P S R)) (done : List Write) (s t : State K V P S R) → Going done s → Cov s → Steps answers now s stages t → Takes (IsJust answers now old) s t × Each (ComesFrom old.records) t.records
+    steps-take [] done s t g cov e = (
+      subst (λ x. Takes (IsJust answers now old) s x) (sym e) (takes-nothing (IsJust answers now old) s s refl refl refl),
+      subst (λ x. Each (ComesFrom old.records) x.records) (sym e) (each-map (Next old.records s.writes us) (ComesFrom old.records) (λ r h. h.1) s.records g.each),
+    )
+    steps-take (mid ∷ stages) done s t g cov e =
+        let k = step-goes done s mid g cov e.0 in
+        let later = steps-take stages k.done mid t k.goes (cov-step s mid cov e.0) e.1 in
+        (takes-trans (IsJust answers now old) s mid t k.takes later.0, later.1)
 
 module _ (K V P S R : Type 0) where
-  pub size_has_point : SizeHasPoint K V P S R
-  size_has_point answers now old new order run =
+  pub run_tells_justly : RunTellsJustly K V P S R
+  run_tells_justly answers now old new order run =
       let us = map (λ u. u.write) old.unsent in
       let start : Going old us refl [] old = record {
         sound = order.sound;
@@ -594,6 +619,16 @@ module _ (K V P S R : Type 0) where
         unsent = refl;
         peak = λ above. absurd (true≢false (sym above ∙ order.within));
       } in
-      let h = steps-take old us refl answers now order.sound run.stages [] old run.last start run.steps in
-      let k = takes-after (IsPointed old) old run.last new h (ap (λ t. t.settings) run.after) (ap (λ t. t.notices) run.after) (ap (λ t. held_entries t.records) run.after) in
-      record { removals = k.removals; tells = k.tells; points = k.each }
+      let h = steps-take old us refl answers now order.sound run.stages [] old run.last start (λ place e there. refl) run.steps in
+      let k = takes-after (IsJust answers now old) old run.last new h.0 (ap (λ t. t.settings) run.after) (ap (λ t. t.notices) run.after) (ap (λ t. held_entries t.records) run.after) in
+      record { removals = k.removals; tells = k.tells; just = k.each; comes = subst (λ t. Each (ComesFrom old.records) t.records) (sym run.after) h.1 }
+
+  -- of these the removals for weight
+  for_size : (answers : Answers K V P R) (now : ℕ) (old : State K V P S R) (removals : List (Removal K V)) → EachRemoval (IsJust answers now old) removals → EachForSize (IsPointed old) removals
+  for_size answers now old [] h = tt
+  for_size answers now old (gone ∷ removals) h = ((λ size. subst (λ why. IsJust answers now old why gone.entry) size h.0), for_size answers now old removals h.1)
+
+  pub size_has_point : SizeHasPoint K V P S R
+  size_has_point answers now old new order run =
+      let k = run_tells_justly answers now old new order run in
+      record { removals = k.removals; tells = k.tells; points = for_size answers now old k.removals k.just }
