@@ -8,7 +8,6 @@ Each process of the prover is looked at every two seconds; what it used after th
 import collections
 import glob
 import os
-import re
 import resource
 import subprocess
 import sys
@@ -25,8 +24,9 @@ def stolen():
         return int(file.readline().split()[8]) / TICKS
 
 
-def seen():
-    """The prover's processes: for each its crate, and the processor seconds that it has used."""
+def processes():
+    """All processes: of each number the words, the parent, when it started, and the processor seconds that it has used."""
+    found = {}
     for path in glob.glob("/proc/[0-9]*"):
         try:
             with open(path + "/cmdline", "rb") as file:
@@ -35,10 +35,27 @@ def seen():
                 fields = file.read().rsplit(")", 1)[1].split()
         except OSError:
             continue
-        if "--crate-name" in words and "rattle" in words[0]:
-            kind = "tests" if any(re.fullmatch("--test|test", word) for word in words) else words[1]
-            crate = words[words.index("--crate-name") + 1]
-            yield (path, fields[19]), (crate, kind), (int(fields[11]) + int(fields[12])) / TICKS
+        seconds = (int(fields[11]) + int(fields[12])) / TICKS
+        found[int(path.rsplit("/", 1)[1])] = (words, int(fields[1]), fields[19], seconds)
+    return found
+
+
+def is_below(found, number, above):
+    """Whether a process was started by another, or by one that was."""
+    while number in found:
+        if number == above:
+            return True
+        number = found[number][1]
+    return False
+
+
+def seen(gate):
+    """The prover's processes of the gate: for each its crate, and the processor seconds that it has used."""
+    found = processes()
+    for number, (words, _, began, seconds) in found.items():
+        if "--crate-name" in words and "rattle" in words[0] and is_below(found, number, gate):
+            kind = "tests" if "--test" in words else words[1]
+            yield (number, began), (words[words.index("--crate-name") + 1], kind), seconds
 
 
 def main():
@@ -49,7 +66,7 @@ def main():
     with open(log, "w") as output:
         gate = subprocess.Popen(command, cwd=ROOT, stdout=output, stderr=subprocess.STDOUT)
         while gate.poll() is None:
-            for process, crate, seconds in seen():
+            for process, crate, seconds in seen(gate.pid):
                 used[process] = (crate, seconds)
             time.sleep(2)
     children = resource.getrusage(resource.RUSAGE_CHILDREN)
