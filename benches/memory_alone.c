@@ -1,5 +1,5 @@
 /* What the memory alone costs of a move of a drawn node: a slot that leads to a place, both read and written, nothing else.
-   gcc -O2 benches/memory_alone.c -o /tmp/memory_alone && /tmp/memory_alone */
+   mkdir -p out && gcc -O2 benches/memory_alone.c -o out/memory_alone && out/memory_alone */
 #include <stdint.h>
 #include <stdio.h>
 #include <stdlib.h>

@@ -12,10 +12,10 @@ use Rattle.audit_model.specs.Bytewise.{same}
 use Rattle.audit_model.specs.History.{Value}
 use Rattle.audit_model.specs.Situation.{HeldValue}
 use Rattle.audit_model.specs.Values.{without_key}
-use Rattle.audit_table.specs.Slots.{Slot, slot_at, without}
-use Rattle.audit_table.specs.Slots.{used_at as used_slot}
+use Rattle.audit_held.specs.Slots.{Slot, slot_at, slots_without}
+use Rattle.audit_held.specs.Slots.{slot_used_at as used_slot}
 use Rattle.audit_held.specs.Weights.{weight_of_part, values_of}
-use Rattle.audit_held.specs.Holds.{Open, is_open, held_by, are_sound, are_past_marks, values_in, used_at, covered_by, marked_in, Keeps}
+use Rattle.audit_held.specs.Holds.{Open, is_open_key, held_by, are_sound, are_past_marks, values_in, value_used_at, value_covered_by, marked_in, RepresentsHeld}
 use Rattle.audit_held.proofs.Weighing.{weight-push, weight-without, sum-without}
 
 -- ---- lists
@@ -94,7 +94,7 @@ le-suc n a h = grind (arith, nat_tests)
 pub values-by : (opens : Open) (marks : List ℕ) (slots : List Slot) → values_of (map (held_by opens marks) slots) ≡ values_in slots
 values-by opens marks slots = map-through (held_by opens marks) (λ h. h.value) slots
 
-value-without : (key : List ℕ) (slots : List Slot) → values_in (without key slots) ≡ without_key (λ v. v.key) key (values_in slots)
+value-without : (key : List ℕ) (slots : List Slot) → values_in (slots_without key slots) ≡ without_key (λ v. v.key) key (values_in slots)
 value-without key slots = sym (without-map (λ s. s.value) (λ (v : Value). v.key) key slots)
 
 value-found : (key : List ℕ) (slots : List Slot) (s : Slot) → slot_at key slots ≡ Some s → find (λ (v : Value). same key v.key) (values_in slots) ≡ Some s.value
@@ -110,7 +110,7 @@ small-view next opens marks (s ∷ slots) h =
 
 -- ---- none at first
 
-pub keeps-none : (marks weights : List ℕ) → marks ≡ replicate 256 zero → weights ≡ replicate 256 zero → Keeps 0 marks weights 0 []
+pub keeps-none : (marks weights : List ℕ) → marks ≡ replicate 256 zero → weights ≡ replicate 256 zero → RepresentsHeld 0 marks weights 0 []
 keeps-none marks weights m w = record {
   sound = refl;
   marked = ap (are_past_marks 0) m ∙ zeros 256;
@@ -152,16 +152,16 @@ used-values key now (s ∷ slots) = ap (λ v. v ∷ values_in (map (used_slot ke
     go false = refl
 
 pub view-used : (opens : Open) (marks : List ℕ) (key : List ℕ) (now : ℕ) (slots : List Slot)
-    → map (held_by opens marks) (map (used_slot key now) slots) ≡ map (used_at key now) (map (held_by opens marks) slots)
+    → map (held_by opens marks) (map (used_slot key now) slots) ≡ map (value_used_at key now) (map (held_by opens marks) slots)
 view-used opens marks key now [] = refl
-view-used opens marks key now (s ∷ slots) = ap (λ h. h ∷ map (held_by opens marks) (map (used_slot key now) slots)) (go (same key s.value.key)) ∙ ap (λ hs. used_at key now (held_by opens marks s) ∷ hs) (view-used opens marks key now slots)
+view-used opens marks key now (s ∷ slots) = ap (λ h. h ∷ map (held_by opens marks) (map (used_slot key now) slots)) (go (same key s.value.key)) ∙ ap (λ hs. value_used_at key now (held_by opens marks s) ∷ hs) (view-used opens marks key now slots)
   where
     go : (b : Bool) → held_by opens marks (if b then record s { last_use = now } else s) ≡ (if b then record (held_by opens marks s) { last_use = now } else held_by opens marks s)
     go true = refl
     go false = refl
 
-module _ (next : ℕ) (opens : Open) (marks weights : List ℕ) (total : ℕ) (slots : List Slot) (k : Keeps next marks weights total slots) where
-  pub keeps-used : (key : List ℕ) (now : ℕ) → Keeps next marks weights total (map (used_slot key now) slots)
+module _ (next : ℕ) (opens : Open) (marks weights : List ℕ) (total : ℕ) (slots : List Slot) (k : RepresentsHeld next marks weights total slots) where
+  pub keeps-used : (key : List ℕ) (now : ℕ) → RepresentsHeld next marks weights total (map (used_slot key now) slots)
   keeps-used key now = record {
     sound = used-sound next key now slots ∙ k.sound;
     marked = k.marked;
@@ -178,15 +178,15 @@ module _ (next : ℕ) (opens : Open) (marks weights : List ℕ) (total : ℕ) (s
       let sound = found-all (λ (s : Slot). nat_lt s.stamp next && nat_lt s.value.part 256) (λ s. same key s.value.key) slots s k.sound e in
       lt-lt _ _ (and_parts (nat_lt s.stamp next) (nat_lt s.value.part 256) sound).1
 
-  weights-split : (key : List ℕ) (s : Slot) (part : ℕ) → slot_at key slots ≡ Some s → cond (s.value.part == part) s.value.weight 0 + weight_of_part part (values_in (without key slots)) ≡ get_or weights part 0
+  weights-split : (key : List ℕ) (s : Slot) (part : ℕ) → slot_at key slots ≡ Some s → cond (s.value.part == part) s.value.weight 0 + weight_of_part part (values_in (slots_without key slots)) ≡ get_or weights part 0
   weights-split key s part e =
       ap (λ vs. cond (s.value.part == part) s.value.weight 0 + weight_of_part part vs) (value-without key slots)
       ∙ weight-without key part (values_in slots) s.value (value-found key slots s e) ∙ sym (k.weighed part)
 
-  own-weight : (key : List ℕ) (s : Slot) → slot_at key slots ≡ Some s → s.value.weight + weight_of_part s.value.part (values_in (without key slots)) ≡ get_or weights s.value.part 0
-  own-weight key s e = ap (λ b. cond b s.value.weight 0 + weight_of_part s.value.part (values_in (without key slots))) (sym (eq-eqb s.value.part s.value.part refl)) ∙ weights-split key s s.value.part e
+  own-weight : (key : List ℕ) (s : Slot) → slot_at key slots ≡ Some s → s.value.weight + weight_of_part s.value.part (values_in (slots_without key slots)) ≡ get_or weights s.value.part 0
+  own-weight key s e = ap (λ b. cond b s.value.weight 0 + weight_of_part s.value.part (values_in (slots_without key slots))) (sym (eq-eqb s.value.part s.value.part refl)) ∙ weights-split key s s.value.part e
 
-  all-weight : (key : List ℕ) (s : Slot) → slot_at key slots ≡ Some s → s.value.weight + sum_by (λ v. v.weight) (values_in (without key slots)) ≡ total
+  all-weight : (key : List ℕ) (s : Slot) → slot_at key slots ≡ Some s → s.value.weight + sum_by (λ v. v.weight) (values_in (slots_without key slots)) ≡ total
   all-weight key s e =
       ap (λ vs. s.value.weight + sum_by (λ v. v.weight) vs) (value-without key slots) ∙ sum-without key (values_in slots) s.value (value-found key slots s e) ∙ sym k.sum
 
@@ -197,7 +197,7 @@ module _ (next : ℕ) (opens : Open) (marks weights : List ℕ) (total : ℕ) (s
   enough-total key s e = let o = all-weight key s e in omega arith
 
   pub keeps-taken : (key : List ℕ) (s : Slot) → slot_at key slots ≡ Some s
-      → Keeps next marks (set weights s.value.part (get_or weights s.value.part 0 - s.value.weight)) (total - s.value.weight) (without key slots)
+      → RepresentsHeld next marks (set weights s.value.part (get_or weights s.value.part 0 - s.value.weight)) (total - s.value.weight) (slots_without key slots)
   keeps-taken key s e = record {
     sound = all-without (λ (s : Slot). nat_lt s.stamp next && nat_lt s.value.part 256) (λ s. s.value.key) key slots k.sound;
     marked = k.marked;
@@ -207,27 +207,27 @@ module _ (next : ℕ) (opens : Open) (marks weights : List ℕ) (total : ℕ) (s
     sum = let a = all-weight key s e in omega arith;
   }
     where
-      go : (part : ℕ) (b : Bool) → (s.value.part == part) ≡ b → get_or (set weights s.value.part (get_or weights s.value.part 0 - s.value.weight)) part 0 ≡ weight_of_part part (values_in (without key slots))
+      go : (part : ℕ) (b : Bool) → (s.value.part == part) ≡ b → get_or (set weights s.value.part (get_or weights s.value.part 0 - s.value.weight)) part 0 ≡ weight_of_part part (values_in (slots_without key slots))
       go part true h =
           let is = eqb-true s.value.part part h in
           let own = own-weight key s e in
-          subst (λ n. get_or (set weights s.value.part (get_or weights s.value.part 0 - s.value.weight)) n 0 ≡ weight_of_part n (values_in (without key slots))) is
+          subst (λ n. get_or (set weights s.value.part (get_or weights s.value.part 0 - s.value.weight)) n 0 ≡ weight_of_part n (values_in (slots_without key slots))) is
           (get_or-set_same weights s.value.part _ 0 (let l = k.weights_of_all in let p = part-small key s e in omega arith) ∙ omega arith)
       go part false h =
           get_or-set_other weights s.value.part part _ 0 (λ same_part. differ (sym h ∙ eq-eqb s.value.part part (sym same_part)))
-          ∙ sym (weights-split key s part e) ∙ ap (λ b. cond b s.value.weight 0 + weight_of_part part (values_in (without key slots))) h ∙ omega arith
+          ∙ sym (weights-split key s part e) ∙ ap (λ b. cond b s.value.weight 0 + weight_of_part part (values_in (slots_without key slots))) h ∙ omega arith
         where
           differ : false ≡ true → ⊥
           differ x = let y : false ≡ true = x in cc
 
-  pub keeps-missed : (key : List ℕ) → slot_at key slots ≡ None → without key slots ≡ slots
+  pub keeps-missed : (key : List ℕ) → slot_at key slots ≡ None → slots_without key slots ≡ slots
   keeps-missed key e = go slots e
     where
-      go : (xs : List Slot) → slot_at key xs ≡ None → without key xs ≡ xs
+      go : (xs : List Slot) → slot_at key xs ≡ None → slots_without key xs ≡ xs
       go [] e = refl
       go (x ∷ xs) e = step (same key x.value.key) e (λ f. go xs f)
         where
-          step : (b : Bool) → cond b (Some x) (slot_at key xs) ≡ None → (slot_at key xs ≡ None → without key xs ≡ xs) → cond b xs (x ∷ without key xs) ≡ x ∷ xs
+          step : (b : Bool) → cond b (Some x) (slot_at key xs) ≡ None → (slot_at key xs ≡ None → slots_without key xs ≡ xs) → cond b xs (x ∷ slots_without key xs) ≡ x ∷ xs
           step true e ih = absurd (none-some x (sym e))
           step false e ih = ap (λ ys. x ∷ ys) (ih e)
 
@@ -238,7 +238,7 @@ module _ (next : ℕ) (opens : Open) (marks weights : List ℕ) (total : ℕ) (s
   get-past (x ∷ xs) zero h = le-le x next (and_parts (nat_le x next) (are_past_marks next xs) h).0
   get-past (x ∷ xs) (suc i) h = get-past xs i (and_parts (nat_le x next) (are_past_marks next xs) h).1
 
-  pub new-view : (s : Slot) (held : HeldValue) → s.stamp ≡ next → s.value ≡ held.value → s.last_use ≡ held.last_use → is_open s.value.key opens ≡ true → held.covered ≡ false → held.evictable ≡ false
+  pub new-view : (s : Slot) (held : HeldValue) → s.stamp ≡ next → s.value ≡ held.value → s.last_use ≡ held.last_use → is_open_key s.value.key opens ≡ true → held.covered ≡ false → held.evictable ≡ false
       → held_by opens marks s ≡ held
   new-view s held e v u o c m =
       let mark = get-past marks s.value.part k.marked in
@@ -249,7 +249,7 @@ module _ (next : ℕ) (opens : Open) (marks weights : List ℕ) (total : ℕ) (s
       ∙ ap (λ x. record { value = held.value; last_use = x; covered = held.covered; evictable = held.evictable }) u
 
   pub keeps-added : (s : Slot) → s.stamp ≡ next → s.value.part < 256
-      → Keeps (next + 1) marks (set weights s.value.part (get_or weights s.value.part 0 + s.value.weight)) (total + s.value.weight) (slots ++ s ∷ [])
+      → RepresentsHeld (next + 1) marks (set weights s.value.part (get_or weights s.value.part 0 + s.value.weight)) (total + s.value.weight) (slots ++ s ∷ [])
   keeps-added s e small = record {
     sound =
         list_all-append (λ (s : Slot). nat_lt s.stamp (next + 1) && nat_lt s.value.part 256) slots (s ∷ [])
@@ -306,7 +306,7 @@ module _ (next : ℕ) (opens : Open) (marks weights : List ℕ) (total : ℕ) (s
         go false true = omega arith
         go false false = get-past marks part k.marked
 
-    pub keeps-marked : Keeps next (set marks part mark_then) weights total slots
+    pub keeps-marked : RepresentsHeld next (set marks part mark_then) weights total slots
     keeps-marked = record {
       sound = k.sound;
       marked = set-past marks part mark_then k.marked mark-past;
@@ -348,7 +348,7 @@ module _ (next : ℕ) (opens : Open) (marks weights : List ℕ) (total : ℕ) (s
 pub find-held : (opens : Open) (marks : List ℕ) (key : List ℕ) (slots : List Slot) → find (λ h. same key h.value.key) (map (held_by opens marks) slots) ≡ option_map (held_by opens marks) (slot_at key slots)
 find-held opens marks key slots = find-map (held_by opens marks) (λ (h : HeldValue). same key h.value.key) slots
 
-pub without-held : (opens : Open) (marks : List ℕ) (key : List ℕ) (slots : List Slot) → without_key (λ h. h.value.key) key (map (held_by opens marks) slots) ≡ map (held_by opens marks) (without key slots)
+pub without-held : (opens : Open) (marks : List ℕ) (key : List ℕ) (slots : List Slot) → without_key (λ h. h.value.key) key (map (held_by opens marks) slots) ≡ map (held_by opens marks) (slots_without key slots)
 without-held opens marks key slots = without-map (held_by opens marks) (λ (h : HeldValue). h.value.key) key slots
 
 none-of : {X Y : Type 0} (f : X → Y) (o : Option X) → option_map f o ≡ None → o ≡ None
@@ -368,20 +368,20 @@ either (Ok x) f g a b = f a
 either (Err e) f g a b = g b
 
 -- one value more, as it is kept
-pub keeps-more : (next : ℕ) (opens : Open) (marks weights : List ℕ) (total : ℕ) (slots : List Slot) → Keeps next marks weights total slots
+pub keeps-more : (next : ℕ) (opens : Open) (marks weights : List ℕ) (total : ℕ) (slots : List Slot) → RepresentsHeld next marks weights total slots
     → (s : Slot) (held : HeldValue) (after more : ℕ) (sums : List ℕ) (sum : ℕ) → s ≡ record { value = held.value; last_use = held.last_use; stamp = next } → held.value.part < 256
     → after ≡ next + 1 → sum ≡ get_or weights held.value.part 0 + held.value.weight → sums ≡ set weights held.value.part sum → more ≡ total + held.value.weight
-    → Keeps after marks sums more (slots ++ s ∷ [])
+    → RepresentsHeld after marks sums more (slots ++ s ∷ [])
 keeps-more next opens marks weights total slots k s held after more sums sum is small a b w m =
     let t : Slot = record { value = held.value; last_use = held.last_use; stamp = next } in
-    subst (λ x. Keeps after marks sums more (slots ++ x ∷ [])) (sym is)
-    (subst (λ n. Keeps n marks sums more (slots ++ t ∷ [])) (sym a)
-    (subst (λ ws. Keeps (next + 1) marks ws more (slots ++ t ∷ [])) (sym (w ∙ ap (set weights held.value.part) b))
-    (subst (λ n. Keeps (next + 1) marks (set weights held.value.part (get_or weights held.value.part 0 + held.value.weight)) n (slots ++ t ∷ [])) (sym m)
+    subst (λ x. RepresentsHeld after marks sums more (slots ++ x ∷ [])) (sym is)
+    (subst (λ n. RepresentsHeld n marks sums more (slots ++ t ∷ [])) (sym a)
+    (subst (λ ws. RepresentsHeld (next + 1) marks ws more (slots ++ t ∷ [])) (sym (w ∙ ap (set weights held.value.part) b))
+    (subst (λ n. RepresentsHeld (next + 1) marks (set weights held.value.part (get_or weights held.value.part 0 + held.value.weight)) n (slots ++ t ∷ [])) (sym m)
     (keeps-added next opens marks weights total slots k t refl small))))
 
 -- what stands beside a key is seen as before where no other key was opened or closed
-pub view-beside : (after before : Open) (marks : List ℕ) (key : List ℕ) (slots : List Slot) → ((q : List ℕ) → same key q ≡ false → is_open q after ≡ is_open q before) → slot_at key slots ≡ None
+pub view-beside : (after before : Open) (marks : List ℕ) (key : List ℕ) (slots : List Slot) → ((q : List ℕ) → same key q ≡ false → is_open_key q after ≡ is_open_key q before) → slot_at key slots ≡ None
     → map (held_by after marks) slots ≡ map (held_by before marks) slots
 view-beside after before marks key [] others e = refl
 view-beside after before marks key (s ∷ slots) others e = go (same key s.value.key) refl e (view-beside after before marks key slots others)
@@ -392,12 +392,12 @@ view-beside after before marks key (s ∷ slots) others e = go (same key s.value
     go false is e ih = ap (λ b. record (held_by before marks s) { covered = not b } ∷ map (held_by after marks) slots) (others s.value.key is) ∙ ap (λ hs. held_by before marks s ∷ hs) (ih e)
 
 -- where the keys that begin so were closed, their values are covered
-pub view-covered : (after before : Open) (marks : List ℕ) (prefix : List ℕ) (slots : List Slot) → ((q : List ℕ) → is_open q after ≡ (not (starts_with nat_eq q prefix) && is_open q before))
-    → map (held_by after marks) slots ≡ map (covered_by prefix) (map (held_by before marks) slots)
+pub view-covered : (after before : Open) (marks : List ℕ) (prefix : List ℕ) (slots : List Slot) → ((q : List ℕ) → is_open_key q after ≡ (not (starts_with nat_eq q prefix) && is_open_key q before))
+    → map (held_by after marks) slots ≡ map (value_covered_by prefix) (map (held_by before marks) slots)
 view-covered after before marks prefix [] closed = refl
 view-covered after before marks prefix (s ∷ slots) closed =
-    ap (λ b. record (held_by before marks s) { covered = b } ∷ map (held_by after marks) slots) (ap not (closed s.value.key) ∙ go (starts_with nat_eq s.value.key prefix) (is_open s.value.key before))
-    ∙ ap (λ hs. covered_by prefix (held_by before marks s) ∷ hs) (view-covered after before marks prefix slots closed)
+    ap (λ b. record (held_by before marks s) { covered = b } ∷ map (held_by after marks) slots) (ap not (closed s.value.key) ∙ go (starts_with nat_eq s.value.key prefix) (is_open_key s.value.key before))
+    ∙ ap (λ hs. value_covered_by prefix (held_by before marks s) ∷ hs) (view-covered after before marks prefix slots closed)
   where
     go : (b o : Bool) → not (not b && o) ≡ (not o || b)
     go true true = refl
@@ -405,16 +405,16 @@ view-covered after before marks prefix (s ∷ slots) closed =
     go false true = refl
     go false false = refl
 
-pub view-more : (next : ℕ) (after before : Open) (marks weights : List ℕ) (total : ℕ) (slots : List Slot) → Keeps next marks weights total slots
+pub view-more : (next : ℕ) (after before : Open) (marks weights : List ℕ) (total : ℕ) (slots : List Slot) → RepresentsHeld next marks weights total slots
     → (s : Slot) (held : HeldValue) → s ≡ record { value = held.value; last_use = held.last_use; stamp = next } → slot_at held.value.key slots ≡ None
-    → ((q : List ℕ) → is_open q after ≡ cond (same held.value.key q) true (is_open q before)) → held.covered ≡ false → held.evictable ≡ false
+    → ((q : List ℕ) → is_open_key q after ≡ cond (same held.value.key q) true (is_open_key q before)) → held.covered ≡ false → held.evictable ≡ false
     → map (held_by after marks) (slots ++ s ∷ []) ≡ map (held_by before marks) slots ++ held ∷ []
 view-more next after before marks weights total slots k s held is absent opened c m =
     map-append (held_by after marks) slots (s ∷ [])
-    ∙ ap (λ hs. hs ++ held_by after marks s ∷ []) (view-beside after before marks held.value.key slots (λ q e. opened q ∙ ap (λ b. cond b true (is_open q before)) e) absent)
+    ∙ ap (λ hs. hs ++ held_by after marks s ∷ []) (view-beside after before marks held.value.key slots (λ q e. opened q ∙ ap (λ b. cond b true (is_open_key q before)) e) absent)
     ∙ ap (λ h. map (held_by before marks) slots ++ h ∷ [])
     (new-view next after marks weights total slots k s held (ap (λ (x : Slot). x.stamp) is) (ap (λ (x : Slot). x.value) is) (ap (λ (x : Slot). x.last_use) is)
-    (ap (λ (x : Slot). is_open x.value.key after) is ∙ opened held.value.key ∙ ap (λ b. cond b true (is_open held.value.key before)) ((bytes_eq-Decides held.value.key held.value.key).1 refl)) c m)
+    (ap (λ (x : Slot). is_open_key x.value.key after) is ∙ opened held.value.key ∙ ap (λ b. cond b true (is_open_key held.value.key before)) ((bytes_eq-Decides held.value.key held.value.key).1 refl)) c m)
 
 -- the slot that is found is the key's own
 pub found-key : (key : List ℕ) (slots : List Slot) (s : Slot) → slot_at key slots ≡ Some s → key ≡ s.value.key

@@ -16,7 +16,7 @@ use Rattle.std.proofs.lemmas.Bool.Decides.{nat_tests}
 use Rattle.std.proofs.lemmas.Map.Text.{is_eq-slice_cmp}
 use Rattle.std.proofs.lemmas.Slice.Eq.{bytes_eq-Decides}
 use Rattle.audit_model.specs.Bytewise.{same}
-use Rattle.audit_held.specs.Holds.{Open, is_open}
+use Rattle.audit_held.specs.Holds.{Open, is_open_key}
 
 -- ---- bytes in order
 
@@ -99,11 +99,11 @@ closed-other key q (k ∷ ks) h = go (at key k) refl (closed-other key q ks h)
     go true e ih = sym (ap (λ b. b || list_any (at q) ks) (at-other q k (ap (λ t. same t q) (sym (at-same key k e)) ∙ h)))
     go false e ih = ap (λ b. at q k || b) ih
 
-pub closed : (key q : List ℕ) (before after : Open) → after.keys ≡ remove_key (at key) before.keys → is_open key after ≡ false → is_open q after ≡ cond (same key q) false (is_open q before)
+pub closed : (key q : List ℕ) (before after : Open) → after.keys ≡ remove_key (at key) before.keys → is_open_key key after ≡ false → is_open_key q after ≡ cond (same key q) false (is_open_key q before)
 closed key q before after e none = go (same key q) refl
   where
-    go : (b : Bool) → same key q ≡ b → is_open q after ≡ cond b false (is_open q before)
-    go true h = ap (λ t. is_open t after) (sym ((bytes_eq-Decides key q).0 h)) ∙ none
+    go : (b : Bool) → same key q ≡ b → is_open_key q after ≡ cond b false (is_open_key q before)
+    go true h = ap (λ t. is_open_key t after) (sym ((bytes_eq-Decides key q).0 h)) ∙ none
     go false h = ap (list_any (at q)) e ∙ closed-other key q before.keys h
 
 pub one-fewer : (less more : ℕ) (was had : Bool) → was ≡ had → had ≡ true → less + (if was then 1 else 0) ≡ more → less < more
@@ -122,12 +122,12 @@ opened-other key q (k ∷ ks) h = go (slice_cmp nat_cmp key.items k.items) (open
     go Equal ih = refl
     go Greater ih = ap (λ b. at q k || b) ih
 
-pub opened : (key : Word) (q : List ℕ) (before after : Open) → after.keys ≡ insert_key (λ x y. slice_cmp nat_cmp x.items y.items) before.keys key → is_open key.items after ≡ true
-    → is_open q after ≡ cond (same key.items q) true (is_open q before)
+pub opened : (key : Word) (q : List ℕ) (before after : Open) → after.keys ≡ insert_key (λ x y. slice_cmp nat_cmp x.items y.items) before.keys key → is_open_key key.items after ≡ true
+    → is_open_key q after ≡ cond (same key.items q) true (is_open_key q before)
 opened key q before after e has = go (same key.items q) refl
   where
-    go : (b : Bool) → same key.items q ≡ b → is_open q after ≡ cond b true (is_open q before)
-    go true h = ap (λ t. is_open t after) (sym ((bytes_eq-Decides key.items q).0 h)) ∙ has
+    go : (b : Bool) → same key.items q ≡ b → is_open_key q after ≡ cond b true (is_open_key q before)
+    go true h = ap (λ t. is_open_key t after) (sym ((bytes_eq-Decides key.items q).0 h)) ∙ has
     go false h = ap (list_any (at q)) e ∙ opened-other key q before.keys h
 
 -- ---- the keys that begin so
@@ -141,22 +141,22 @@ witness {X} p (x ∷ xs) h = go (p x) refl h (λ m. witness p xs m)
     go false e m later = later m
 
 -- where no key that is open begins so, none that begins so is open
-none-open : (prefix : List ℕ) (before : Open) → ((k : Word) → is_open k.items before ≡ true → starts_with nat_eq k.items prefix ≡ true → ⊥) → (q : List ℕ) → starts_with nat_eq q prefix ≡ true
-    → is_open q before ≡ false
-none-open prefix before never q s = go (is_open q before) refl
+none-open : (prefix : List ℕ) (before : Open) → ((k : Word) → is_open_key k.items before ≡ true → starts_with nat_eq k.items prefix ≡ true → ⊥) → (q : List ℕ) → starts_with nat_eq q prefix ≡ true
+    → is_open_key q before ≡ false
+none-open prefix before never q s = go (is_open_key q before) refl
   where
-    go : (b : Bool) → is_open q before ≡ b → b ≡ false
+    go : (b : Bool) → is_open_key q before ≡ b → b ≡ false
     go false e = refl
     go true e =
         let found = witness (at q) before.keys e in
         let is = at-same q found.0 found.1 in
-        absurd (never found.0 (ap (λ t. is_open t before) (sym is) ∙ e) (ap (λ t. starts_with nat_eq t prefix) (sym is) ∙ s))
+        absurd (never found.0 (ap (λ t. is_open_key t before) (sym is) ∙ e) (ap (λ t. starts_with nat_eq t prefix) (sym is) ∙ s))
 
 module _ (prefix : Word) (before : Open) (r : List Word) (range : IsKeyRangeOf (λ (x y : Word). slice_cmp nat_cmp x.items y.items) (Included prefix) Unbounded before r) where
-  pub none-there : r ≡ [] → (q : List ℕ) → starts_with nat_eq q prefix.items ≡ true → is_open q before ≡ false
+  pub none-there : r ≡ [] → (q : List ℕ) → starts_with nat_eq q prefix.items ≡ true → is_open_key q before ≡ false
   none-there e = none-open prefix.items before (λ k o s. let no : true ≡ false = sym o ∙ range.5 e k (prefix-le prefix.items k.items s, tt) in cc)
 
-  pub none-first : (first : Word) (rest : List Word) → r ≡ first ∷ rest → starts_with nat_eq first.items prefix.items ≡ false → (q : List ℕ) → starts_with nat_eq q prefix.items ≡ true → is_open q before ≡ false
+  pub none-first : (first : Word) (rest : List Word) → r ≡ first ∷ rest → starts_with nat_eq first.items prefix.items ≡ false → (q : List ℕ) → starts_with nat_eq q prefix.items ≡ true → is_open_key q before ≡ false
   none-first first rest e differs =
       none-open prefix.items before
       (λ k o s.

@@ -1,3 +1,5 @@
+pub mod Known
+pub mod Slots
 pub mod Seeing
 pub mod Holds
 pub mod Weights

@@ -13,5 +13,5 @@ abbrev pub weight_of_part : ℕ → List Value → ℕ
 weight_of_part part values = sum_by (λ v. v.weight) (filter (λ v. v.part == part) values)
 
 -- what a held value weighs in that part
-abbrev pub weight_in : ℕ → HeldValue → ℕ
-weight_in part h = if h.value.part == part then h.value.weight else 0
+abbrev pub weight_if_in : ℕ → HeldValue → ℕ
+weight_if_in part h = if h.value.part == part then h.value.weight else 0

@@ -1,11 +1,11 @@
 //! A value that is held.
 ghost use Rattle.std.specs.Prelude.{◌≡◌, true};
 ghost use Rattle.audit_model.specs.Changes.{newly_held};
-ghost use Rattle.audit_table.specs.Slots.{slot_of};
+ghost use Rattle.audit_held.specs.Slots.{slot_of};
 ghost use Rattle.audit_held.specs.Seeing.{held_of};
 
+use crate::kept::StoredValue;
 use audit_model::{Bytes, Seq};
-use audit_table::Kept;
 use std::marker::Model;
 
 /// A value that is held.
@@ -82,7 +82,7 @@ impl Held {
     }
 
     /// A value that a table kept.
-    pub fn from_kept(key: Vec<u8>, kept: Kept, covered: bool, evictable: bool) -> Held
+    pub fn from_kept(key: Vec<u8>, kept: StoredValue, covered: bool, evictable: bool) -> Held
         ensures { result ≡ record { value = (slot_of key.items kept).value; last_use = kept.last_use; covered = covered; evictable = evictable } }
     {
         Held {
@@ -99,7 +99,7 @@ impl Held {
     }
 
     /// Its key, and what a table keeps of it under that number.
-    pub fn into_kept(self, stamp: u64) -> (Vec<u8>, Kept)
+    pub fn into_kept(self, stamp: u64) -> (Vec<u8>, StoredValue)
         ensures { slot_of result.0.items result.1 ≡ record { value = self.value; last_use = self.last_use; stamp = stamp } }
     {
         let Held {
@@ -115,7 +115,7 @@ impl Held {
         } = self;
         (
             key.into_vec(),
-            Kept {
+            StoredValue {
                 bytes,
                 part,
                 weight,

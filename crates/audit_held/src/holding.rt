@@ -3,16 +3,17 @@ ghost use Rattle.std.specs.Prelude.{◌≡◌, ℕ, List, ◌<◌, ◌++◌, ◌
 ghost use Rattle.std.specs.List.{find, list_all, sum_by};
 ghost use Rattle.audit_model.specs.Bytewise.{same};
 ghost use Rattle.audit_model.specs.Values.{without_key};
-ghost use Rattle.audit_table.specs.Slots.{slot_of};
+ghost use Rattle.audit_held.specs.Slots.{slot_of};
 ghost use Rattle.audit_held.specs.Seeing.{held_of};
 ghost use Rattle.audit_held.specs.Weights.{weight_of_part, values_of};
-ghost use Rattle.audit_held.specs.Holds.{held_by, is_open, used_at, covered_by, marked_in, Keeps};
+ghost use Rattle.audit_held.specs.Holds.{held_by, is_open_key, value_used_at, value_covered_by, marked_in, RepresentsHeld};
 
 use crate::held::{Held, Seen};
+use crate::kept::StoredValue;
 use crate::open::{close_all, close_key, is_open, open_key};
 use crate::sums::{mark_after, mark_at, next_number, put_mark, put_weight, sum_with, weight_at};
+use crate::table::Table;
 use audit_model::Seq;
-use audit_table::{Kept, Table};
 use std::alloc::{AllocError, Global};
 use std::collections::BTreeSet;
 use std::marker::Model;
@@ -27,7 +28,7 @@ pub struct Holding {
     weights: Vec<u128>,
     total: u128,
     next: u64,
-    ghost keeps: { Keeps next marks.items weights.items total table },
+    ghost keeps: { RepresentsHeld next marks.items weights.items total table },
 }
 
 impl Model for Holding {
@@ -41,7 +42,12 @@ impl Model for Holding {
 }
 
 /// A value as it is lent.
-fn lend<'a>(keys: &BTreeSet<Vec<u8>>, marks: &[u64], key: &'a [u8], kept: &'a Kept) -> Seen<'a>
+fn lend<'a>(
+    keys: &BTreeSet<Vec<u8>>,
+    marks: &[u64],
+    key: &'a [u8],
+    kept: &'a StoredValue,
+) -> Seen<'a>
     ensures { held_of result ≡ held_by keys.now marks.now (slot_of key.now kept.now) }
 {
     Seen {
@@ -74,9 +80,9 @@ fn lend_all<'a>(
 }
 
 /// A value as it is handed out; its key is closed.
-fn hand_out(keys: &mut BTreeSet<Vec<u8>>, marks: &[u64], key: Vec<u8>, kept: Kept) -> Held
+fn hand_out(keys: &mut BTreeSet<Vec<u8>>, marks: &[u64], key: Vec<u8>, kept: StoredValue) -> Held
     ensures value { result ≡ held_by keys.old marks.now (slot_of key.items kept) }
-    ensures closed { (q : List ℕ) → is_open q keys.new ≡ cond (same key.items q) false (is_open q keys.old) }
+    ensures closed { (q : List ℕ) → is_open_key q keys.new ≡ cond (same key.items q) false (is_open_key q keys.old) }
 {
     let covered = !is_open(keys, key.as_slice());
     let evictable = kept.stamp < mark_at(marks, kept.part as usize);
@@ -175,14 +181,14 @@ impl Holding {
 
     /// Uses the value of a key, if there is one.
     pub fn use_at(&mut self, key: &[u8], now: u64)
-        ensures { self.new ≡ map (used_at key.now now) self.old }
+        ensures { self.new ≡ map (value_used_at key.now now) self.old }
     {
         self.table.use_at(key, now);
     }
 
     /// Covers each value whose key begins so.
     pub fn cover(&mut self, prefix: &[u8]) -> Result<(), AllocError>
-        ensures { OnOk result (self.new ≡ map (covered_by prefix.now) self.old) }
+        ensures { OnOk result (self.new ≡ map (value_covered_by prefix.now) self.old) }
     {
         close_all(self.alloc, &mut self.open_keys, prefix)
     }

@@ -19,7 +19,7 @@ use Rattle.audit_model.specs.declared.event.Event.TheVariants as event
 use Rattle.audit_model.specs.declared.event.Instant.{Instant}
 use Rattle.audit_model.specs.declared.transcript.Record.{Record}
 use Rattle.audit_model.specs.declared.transcript.Step.{Step}
-use Rattle.audit_laws.specs.Cutting.{fed, none_held, ClosesItsConnection, ObeyingParts}
+use Rattle.audit_laws.specs.Cutting.{feed_record, none_held, ClosesItsConnection, ObeyingParts}
 use Rattle.audit_laws.specs.Laws.{ObeyingMayBeCut}
 use Rattle.audit_laws.proofs.Connections.{last_is, bytes_left, open_in}
 use Rattle.audit_laws.proofs.CutTraces.{more, Good, InTwo, Cut, Unheld, fed-whole, fed-more, good-fed, cut-steps, join-steps, none_due, own-with}
@@ -131,13 +131,13 @@ module _ (config : Config) where
 
   module _ (conn : ℕ) (moment : Instant) (front rest : List ℕ) where
     abbrev one : List Step → Record
-    one steps = fed conn moment (front ++ rest) steps
+    one steps = feed_record conn moment (front ++ rest) steps
 
     abbrev fore : List Step → Record
-    fore steps = fed conn moment front steps
+    fore steps = feed_record conn moment front steps
 
     abbrev aft : List Step → Record
-    aft steps = fed conn moment rest steps
+    aft steps = feed_record conn moment rest steps
 
     -- from where the feed's records come on
     module _ (t : Traces) where
@@ -367,13 +367,13 @@ obeying_may_be_cut =
     record {
       cut =
           λ config made before after conn moment front rest steps none o.
-          cut config conn moment front rest made before after steps none (amid-obeys config conn moment front rest made before after (fed conn moment (front ++ rest) steps ∷ after) o);
+          cut config conn moment front rest made before after steps none (amid-obeys config conn moment front rest made before after (feed_record conn moment (front ++ rest) steps ∷ after) o);
       joined =
           λ config made before after conn moment front rest first second none o.
-          obeys-amid config conn moment front rest made before after (fed conn moment (front ++ rest) (first ++ second) ∷ after)
-          (join config conn moment front rest made before after first second none (amid-obeys config conn moment front rest made before after (fed conn moment front first ∷ fed conn moment rest second ∷ after) o));
+          obeys-amid config conn moment front rest made before after (feed_record conn moment (front ++ rest) (first ++ second) ∷ after)
+          (join config conn moment front rest made before after first second none (amid-obeys config conn moment front rest made before after (feed_record conn moment front first ∷ feed_record conn moment rest second ∷ after) o));
       joined_alone =
           λ config made before after conn moment front rest first none c o.
-          obeys-amid config conn moment front rest made before after (fed conn moment (front ++ rest) first ∷ after)
-          (join-alone config conn moment front rest made before after first none c (amid-obeys config conn moment front rest made before after (fed conn moment front first ∷ after) o));
+          obeys-amid config conn moment front rest made before after (feed_record conn moment (front ++ rest) first ∷ after)
+          (join-alone config conn moment front rest made before after first none c (amid-obeys config conn moment front rest made before after (feed_record conn moment front first ∷ after) o));
     }

@@ -17,7 +17,7 @@ use Rattle.audit_model.specs.declared.transcript.Record.{Record}
 use Rattle.audit_model.specs.declared.transcript.Step.{Step}
 use Rattle.audit_model.specs.declared.transcript.Transcript.{Transcript}
 use Rattle.audit_laws.specs.Breaking.{IsFaultless}
-use Rattle.audit_laws.specs.Cutting.{fed, none_held, LeadsInTwo, FollowsInTwo, FaultlessInTwo, FaultlessParts}
+use Rattle.audit_laws.specs.Cutting.{feed_record, none_held, LeadsInTwo, FollowsInTwo, FaultlessInTwo, FaultlessParts}
 use Rattle.audit_laws.specs.Laws.{TranscriptsMayBeCut}
 use Rattle.audit_laws.specs.Placing.{placed_in, all_placed_in}
 use Rattle.audit_laws.proofs.Connections.{connection-of, open-same}
@@ -130,13 +130,13 @@ none-front xs ys e = (and_parts (none_held xs) (none_held ys) (sym (list_all-app
 
 module _ (config : Config) (made : Instant) (before after : List Record) (conn : ℕ) (moment : Instant) (front rest : List ℕ) where
   abbrev one : List Step → Record
-  one steps = fed conn moment (front ++ rest) steps
+  one steps = feed_record conn moment (front ++ rest) steps
 
   abbrev fore : List Step → Record
-  fore steps = fed conn moment front steps
+  fore steps = feed_record conn moment front steps
 
   abbrev aft : List Step → Record
-  aft steps = fed conn moment rest steps
+  aft steps = feed_record conn moment rest steps
 
   follows-of : (xs : List Record) → IsFaultless config (whole config made before after xs) → Amid config made before after xs
   follows-of xs faultless = amid config made before after xs ((agrees config (whole config made before after xs)).0 faultless).1

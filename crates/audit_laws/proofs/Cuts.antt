@@ -15,7 +15,7 @@ use Rattle.audit_model.specs.declared.input.ServiceError.{ServiceError}
 use Rattle.audit_model.specs.declared.input.ServiceError.TheVariants as error
 use Rattle.audit_model.specs.declared.transcript.Record.{Record}
 use Rattle.audit_model.specs.declared.transcript.Step.{Step}
-use Rattle.audit_laws.specs.Cutting.{fed, none_held, LeadsInTwo, FollowsInTwo}
+use Rattle.audit_laws.specs.Cutting.{feed_record, none_held, LeadsInTwo, FollowsInTwo}
 use Rattle.audit_laws.specs.Laws.{FeedsMayBeCut}
 use Rattle.audit_laws.specs.Placing.{placed_steps_in, placed_in}
 use Rattle.audit_laws.proofs.Following.{Passed, passed}
@@ -55,14 +55,14 @@ module _ (config : Config) (conn : ℕ) (moment : Instant) where
     timely : is_none (refusal_of_moment moment) ≡ true
     leads : steps_in s piece steps ≡ Some t
 
-  fed-of : (s : Situation) (piece : List ℕ) (steps : List Step) (t : Situation) → Follows config s (fed conn moment piece steps) t → Fed s piece steps t
+  fed-of : (s : Situation) (piece : List ℕ) (steps : List Step) (t : Situation) → Follows config s (feed_record conn moment piece steps) t → Fed s piece steps t
   fed-of s piece steps t e =
       let unrefused = is_none (refusal_of config (known_in s) (event.Feed conn piece moment)) in
       let on : Passed (unrefused && true && true) (steps_in s piece steps) t = passed (unrefused && true && true) (steps_in s piece steps) t e in
       let admitted = refused_by (nat_lt 0 conn && nat_le conn s.opened) (is_some (connection_in conn s)) (refusal_of_moment moment) (and_parts unrefused true (and_parts (unrefused && true) true on.test).0).0 in
       record { counted = admitted.0; stands_open = admitted.1; timely = admitted.2; leads = on.rest }
 
-  fed-from : (s : Situation) (piece : List ℕ) (steps : List Step) (t : Situation) → Fed s piece steps t → Follows config s (fed conn moment piece steps) t
+  fed-from : (s : Situation) (piece : List ℕ) (steps : List Step) (t : Situation) → Fed s piece steps t → Follows config s (feed_record conn moment piece steps) t
   fed-from s piece steps t f =
       ap (λ b. cond (b && true && true) (steps_in s piece steps) None) (taken_by (nat_lt 0 conn && nat_le conn s.opened) (is_some (connection_in conn s)) (refusal_of_moment moment) f.counted f.stands_open f.timely)
       ∙ f.leads
@@ -88,7 +88,7 @@ module _ (config : Config) (conn : ℕ) (moment : Instant) where
     steps-begin piece steps = ap (λ x. after_steps config x (tasks_in s (event.Feed conn piece moment)) steps) (begins piece) ∙ ap (λ ts. after_steps config (sit conn false (body piece) later) ts steps) (tasks-begin piece)
 
     places-begin : (piece : List ℕ) (steps : List Step)
-        → placed_in config s (fed conn moment piece steps) ≡ placed_steps_in config (sit conn false (body piece) later) (tasks_to_feed conn (is_holding c.standing)) steps
+        → placed_in config s (feed_record conn moment piece steps) ≡ placed_steps_in config (sit conn false (body piece) later) (tasks_to_feed conn (is_holding c.standing)) steps
     places-begin piece steps =
         ap (λ x. placed_steps_in config x (tasks_in s (event.Feed conn piece moment)) steps) (begins piece)
         ∙ ap (λ ts. placed_steps_in config (sit conn false (body piece) later) ts steps) (tasks-begin piece)
@@ -133,7 +133,7 @@ module _ (config : Config) (conn : ℕ) (moment : Instant) where
       -- the whole feed, from the two
       pub record Whole (first second : List Step) (middle t : Situation) : Type 0 where
         pub leads : steps_in s (front ++ rest) (first ++ second) ≡ Some t
-        pub places : placed_in config s (fed conn moment (front ++ rest) (first ++ second)) ≡ placed_in config s (fed conn moment front first) ++ placed_in config middle (fed conn moment rest second)
+        pub places : placed_in config s (feed_record conn moment (front ++ rest) (first ++ second)) ≡ placed_in config s (feed_record conn moment front first) ++ placed_in config middle (feed_record conn moment rest second)
 
       whole : (first second : List Step) (middle t : Situation) → none_held first ≡ true → steps_in s front first ≡ Some middle → Ending middle second t → Whole first second middle t
       whole first second middle t none e ends =
@@ -146,7 +146,7 @@ module _ (config : Config) (conn : ℕ) (moment : Instant) where
                 places-begin (front ++ rest) (first ++ second)
                 ∙ ap (λ x. placed_steps_in config x (tasks_to_feed conn (is_holding c.standing)) (first ++ second)) (sym longer)
                 ∙ one.places
-                ∙ ap (λ ps. ps ++ placed_in config middle (fed conn moment rest second)) (sym (places-begin front first));
+                ∙ ap (λ ps. ps ++ placed_in config middle (feed_record conn moment rest second)) (sym (places-begin front first));
           }
 
 -- ---- one feed and two
@@ -179,31 +179,31 @@ follow-both config s middle t x y f g =
     ap (option_and_then (λ u. after_records config u (y ∷ []))) f ∙ ap (option_and_then (λ u. Some u)) g
 
 module _ (config : Config) (s t : Situation) (conn : ℕ) (moment : Instant) (front rest : List ℕ) where
-  feed-cut : (steps : List Step) → none_held steps ≡ true → Follows config s (fed conn moment (front ++ rest) steps) t → FollowsInTwo config s conn moment front rest steps t
+  feed-cut : (steps : List Step) → none_held steps ≡ true → Follows config s (feed_record conn moment (front ++ rest) steps) t → FollowsInTwo config s conn moment front rest steps t
   feed-cut steps none e =
       let f : Fed config conn moment s (front ++ rest) steps t = fed-of config conn moment s (front ++ rest) steps t e in
       with_some (connection_in conn s) f.stands_open
       (λ c is.
       let two : InTwo config conn moment rest (is_holding c.standing) false (body config conn moment s c is front) (later config conn moment s c is) steps t =
       in_two config conn moment s c is front rest steps t none f.leads in
-      let leads-first : Follows config s (fed conn moment front two.first) two.middle =
+      let leads-first : Follows config s (feed_record conn moment front two.first) two.middle =
       fed-from config conn moment s front two.first two.middle
       (record { counted = f.counted; stands_open = f.stands_open; timely = f.timely; leads = steps-begin config conn moment s c is front two.first ∙ two.leads }) in
       record { first = two.first; second = two.second; in_parts = two.in_parts; leads = ended f two.first two.second two.middle leads-first two.count two.ends })
     where
-      ended : Fed config conn moment s (front ++ rest) steps t → (first second : List Step) (middle : Situation) → Follows config s (fed conn moment front first) middle → middle.opened ≡ s.opened
+      ended : Fed config conn moment s (front ++ rest) steps t → (first second : List Step) (middle : Situation) → Follows config s (feed_record conn moment front first) middle → middle.opened ≡ s.opened
           → ((connection_in conn middle ≡ None) × (second ≡ []) × (middle ≡ t)) ⊎ ((is_some (connection_in conn middle) ≡ true) × (steps_in config conn moment middle rest second ≡ Some t))
           → LeadsInTwo config s conn moment front rest first second t
       ended f first second middle leads-first count (inl h) =
           inr (leads-first ∙ ap Some h.2, ap (connection_in conn) (sym h.2) ∙ h.0, h.1)
       ended f first second middle leads-first count (inr h) =
-          inl (follow-both config s middle t (fed conn moment front first) (fed conn moment rest second) leads-first
+          inl (follow-both config s middle t (feed_record conn moment front first) (feed_record conn moment rest second) leads-first
           (fed-from config conn moment middle rest second t (record { counted = ap (λ n. nat_lt 0 conn && nat_le conn n) count ∙ f.counted; stands_open = h.0; timely = f.timely; leads = h.1 })))
 
   -- the two feeds in one, with its places
   pub record Joined (first second : List Step) (middle : Situation) : Type 0 where
-    pub follows : Follows config s (fed conn moment (front ++ rest) (first ++ second)) t
-    pub places : placed_in config s (fed conn moment (front ++ rest) (first ++ second)) ≡ placed_in config s (fed conn moment front first) ++ placed_in config middle (fed conn moment rest second)
+    pub follows : Follows config s (feed_record conn moment (front ++ rest) (first ++ second)) t
+    pub places : placed_in config s (feed_record conn moment (front ++ rest) (first ++ second)) ≡ placed_in config s (feed_record conn moment front first) ++ placed_in config middle (feed_record conn moment rest second)
 
   joined-by : (first second : List Step) (middle : Situation) → none_held first ≡ true → Fed config conn moment s front first middle
       → ((connection_in conn middle ≡ None) × (second ≡ []) × (middle ≡ t)) ⊎ ((is_some (connection_in conn middle) ≡ true) × (steps_in config conn moment middle rest second ≡ Some t))
@@ -218,22 +218,22 @@ module _ (config : Config) (s t : Situation) (conn : ℕ) (moment : Instant) (fr
       })
 
   -- two feeds that follow one another, in one
-  pub joined-two : (first second : List Step) (middle : Situation) → none_held first ≡ true → Follows config s (fed conn moment front first) middle → Follows config middle (fed conn moment rest second) t
+  pub joined-two : (first second : List Step) (middle : Situation) → none_held first ≡ true → Follows config s (feed_record conn moment front first) middle → Follows config middle (feed_record conn moment rest second) t
       → Joined first second middle
   joined-two first second middle none e k =
       let back : Fed config conn moment middle rest second t = fed-of config conn moment middle rest second t k in
       joined-by first second middle none (fed-of config conn moment s front first middle e) (inr (back.stands_open, back.leads))
 
   -- a feed that closes the connection, with more bytes behind
-  pub joined-one : (first : List Step) → none_held first ≡ true → Follows config s (fed conn moment front first) t → connection_in conn t ≡ None → Joined first [] t
+  pub joined-one : (first : List Step) → none_held first ≡ true → Follows config s (feed_record conn moment front first) t → connection_in conn t ≡ None → Joined first [] t
   joined-one first none e k = joined-by first [] t none (fed-of config conn moment s front first t e) (inl (k, refl, refl))
 
-  feeds-joined : (first second : List Step) → none_held first ≡ true → LeadsInTwo config s conn moment front rest first second t → Follows config s (fed conn moment (front ++ rest) (first ++ second)) t
+  feeds-joined : (first second : List Step) → none_held first ≡ true → LeadsInTwo config s conn moment front rest first second t → Follows config s (feed_record conn moment (front ++ rest) (first ++ second)) t
   feeds-joined first second none (inl e) =
-      let two : Both config s (fed conn moment front first) (fed conn moment rest second) t = both-follow config s (fed conn moment front first) (fed conn moment rest second) t e in
+      let two : Both config s (feed_record conn moment front first) (feed_record conn moment rest second) t = both-follow config s (feed_record conn moment front first) (feed_record conn moment rest second) t e in
       (joined-two first second two.middle none two.front two.back).follows
   feeds-joined first second none (inr h) =
-      subst (λ xs. Follows config s (fed conn moment (front ++ rest) (first ++ xs)) t) (sym h.2) (joined-one first none h.0 h.1).follows
+      subst (λ xs. Follows config s (feed_record conn moment (front ++ rest) (first ++ xs)) t) (sym h.2) (joined-one first none h.0 h.1).follows
 
 pub feeds_may_be_cut : FeedsMayBeCut
 feeds_may_be_cut =

@@ -15,8 +15,8 @@ use Rattle.audit_model.specs.declared.transcript.Transcript.{Transcript}
 use Rattle.audit_laws.specs.Breaking.{IsFaultless}
 
 -- the record of a feed
-abbrev pub fed : ℕ → Instant → List ℕ → List Step → Record
-fed conn moment piece steps = record { event = event.Feed conn piece moment; own = None; notices = []; steps = steps }
+abbrev pub feed_record : ℕ → Instant → List ℕ → List Step → Record
+feed_record conn moment piece steps = record { event = event.Feed conn piece moment; own = None; notices = []; steps = steps }
 
 abbrev pub none_held : List Step → Bool
 none_held steps = list_all (λ step. not step.held) steps
@@ -24,8 +24,8 @@ none_held steps = list_all (λ step. not step.held) steps
 -- the two feeds, one after the other, lead there; or the first alone does, and closes the connection
 abbrev pub LeadsInTwo : Config → Situation → ℕ → Instant → List ℕ → List ℕ → List Step → List Step → Situation → Type 0
 LeadsInTwo config s conn moment front rest first second t =
-    (after_records config s (fed conn moment front first ∷ fed conn moment rest second ∷ []) ≡ Some t)
-    ⊎ (Follows config s (fed conn moment front first) t × (connection_in conn t ≡ None) × (second ≡ []))
+    (after_records config s (feed_record conn moment front first ∷ feed_record conn moment rest second ∷ []) ≡ Some t)
+    ⊎ (Follows config s (feed_record conn moment front first) t × (connection_in conn t ≡ None) × (second ≡ []))
 
 -- the steps of a feed in two parts, with which the two feeds lead there
 pub record FollowsInTwo (config : Config) (s : Situation) (conn : ℕ) (moment : Instant) (front rest : List ℕ) (steps : List Step) (t : Situation) : Type 0 where
@@ -37,9 +37,9 @@ pub record FollowsInTwo (config : Config) (s : Situation) (conn : ℕ) (moment :
 -- the transcript with the two feeds in the middle is faultless; or the one with the first alone is, which closes the connection
 abbrev pub FaultlessInTwo : Config → Instant → List Record → List Record → ℕ → Instant → List ℕ → List ℕ → List Step → List Step → Type 0
 FaultlessInTwo config made before after conn moment front rest first second =
-    IsFaultless config (record { made = made; records = before ++ fed conn moment front first ∷ fed conn moment rest second ∷ after })
-    ⊎ (IsFaultless config (record { made = made; records = before ++ fed conn moment front first ∷ after })
-    × (is_open conn (history_after config made.nanos [] (before ++ fed conn moment front first ∷ [])) ≡ false)
+    IsFaultless config (record { made = made; records = before ++ feed_record conn moment front first ∷ feed_record conn moment rest second ∷ after })
+    ⊎ (IsFaultless config (record { made = made; records = before ++ feed_record conn moment front first ∷ after })
+    × (is_open conn (history_after config made.nanos [] (before ++ feed_record conn moment front first ∷ [])) ≡ false)
     × (second ≡ []))
 
 -- the steps of a feed in two parts, with which the transcript stays faultless
@@ -52,16 +52,16 @@ pub record FaultlessParts (config : Config) (made : Instant) (before after : Lis
 -- the feed after those records closes its connection
 pub record ClosesItsConnection (config : Config) (made : Instant) (before : List Record) (conn : ℕ) (moment : Instant) (front : List ℕ) (first : List Step) : Type 0 where
   pub open_before : is_open conn (history_after config made.nanos [] before) ≡ true
-  pub shut_after : is_open conn (history_after config made.nanos [] (before ++ fed conn moment front first ∷ [])) ≡ false
+  pub shut_after : is_open conn (history_after config made.nanos [] (before ++ feed_record conn moment front first ∷ [])) ≡ false
 
 -- the transcript with the two feeds in the middle
 abbrev pub in_two : Instant → List Record → List Record → ℕ → Instant → List ℕ → List ℕ → List Step → List Step → Transcript
 in_two made before after conn moment front rest first second =
-    record { made = made; records = before ++ fed conn moment front first ∷ fed conn moment rest second ∷ after }
+    record { made = made; records = before ++ feed_record conn moment front first ∷ feed_record conn moment rest second ∷ after }
 
 -- the transcript with one feed in the middle
 abbrev pub in_one : Instant → List Record → List Record → ℕ → Instant → List ℕ → List Step → Transcript
-in_one made before after conn moment piece steps = record { made = made; records = before ++ fed conn moment piece steps ∷ after }
+in_one made before after conn moment piece steps = record { made = made; records = before ++ feed_record conn moment piece steps ∷ after }
 
 -- the steps of a feed in two parts, with which the transcript still obeys; and where the first feed closes the connection, it obeys without the
 -- second, which has no step

@@ -32,7 +32,7 @@ use Rattle.audit_model.specs.declared.transcript.Transcript.{Transcript}
 use Rattle.audit_laws.specs.Placing.{placed_steps_in, accepted_in, all_placed_in, Stage, stage_after}
 use Rattle.audit_laws.specs.Leading.{LeadsTo, LeadsBy, is_parted}
 use Rattle.audit_laws.specs.Comparing.{otherwise, HappenAlike, ReplyAlike}
-use Rattle.audit_laws.specs.Cutting.{fed, none_held, LeadsInTwo, FollowsInTwo, FaultlessInTwo, FaultlessParts, in_one, in_two, ClosesItsConnection, ObeyingParts}
+use Rattle.audit_laws.specs.Cutting.{feed_record, none_held, LeadsInTwo, FollowsInTwo, FaultlessInTwo, FaultlessParts, in_one, in_two, ClosesItsConnection, ObeyingParts}
 use Rattle.audit_laws.specs.Breaking.{first_break_from, IsFaultless, BreaksFirstAt}
 use Rattle.audit_laws.specs.Orderly.{IsOrderly, idle_deed, is_asking}
 use Rattle.audit_laws.specs.Telling.{notes_of, none_with_size}
@@ -191,18 +191,18 @@ pub record BelongsOn : Type 0 where
 -- that lets it run came; the second is left out where the first closes the connection
 pub record FeedsMayBeCut : Type 0 where
   pub cut : (config : Config) (s t : Situation) (conn : ℕ) (moment : Instant) (front rest : List ℕ) (steps : List Step)
-      → IsTrue (none_held steps) → Follows config s (fed conn moment (front ++ rest) steps) t → FollowsInTwo config s conn moment front rest steps t
+      → IsTrue (none_held steps) → Follows config s (feed_record conn moment (front ++ rest) steps) t → FollowsInTwo config s conn moment front rest steps t
   pub joined : (config : Config) (s t : Situation) (conn : ℕ) (moment : Instant) (front rest : List ℕ) (first second : List Step)
-      → IsTrue (none_held first) → LeadsInTwo config s conn moment front rest first second t → Follows config s (fed conn moment (front ++ rest) (first ++ second)) t
+      → IsTrue (none_held first) → LeadsInTwo config s conn moment front rest first second t → Follows config s (feed_record conn moment (front ++ rest) (first ++ second)) t
 
 -- so a transcript that obeys, and has no refused event, stays so where a feed of it is cut in two, and where two neighbouring feeds are joined
 pub record TranscriptsMayBeCut : Type 0 where
   pub cut : (config : Config) (made : Instant) (before after : List Record) (conn : ℕ) (moment : Instant) (front rest : List ℕ) (steps : List Step)
-      → IsTrue (none_held steps) → IsFaultless config (record { made = made; records = before ++ fed conn moment (front ++ rest) steps ∷ after })
+      → IsTrue (none_held steps) → IsFaultless config (record { made = made; records = before ++ feed_record conn moment (front ++ rest) steps ∷ after })
       → FaultlessParts config made before after conn moment front rest steps
   pub joined : (config : Config) (made : Instant) (before after : List Record) (conn : ℕ) (moment : Instant) (front rest : List ℕ) (first second : List Step)
       → IsTrue (none_held first) → FaultlessInTwo config made before after conn moment front rest first second
-      → IsFaultless config (record { made = made; records = before ++ fed conn moment (front ++ rest) (first ++ second) ∷ after })
+      → IsFaultless config (record { made = made; records = before ++ feed_record conn moment (front ++ rest) (first ++ second) ∷ after })
 
 -- the same of transcripts that obey, whether or not some of their events are refused ones: where no command is held, a feed may be cut in two, and
 -- two neighbouring feeds of one connection at one moment joined, with each step put where the byte that lets it run came; where the first closes

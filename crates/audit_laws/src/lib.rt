@@ -4,133 +4,151 @@
 ghost use Rattle.audit_laws.specs.Laws.{FrontsObey, RecordsLead, StepsAgree, PlacesAgree, StepsInParts, LeadsOn, LeadsOnBy, LedObeys, BreaksAgree, BreaksWhereUnfollowed, GoodIsFaultless, FirstBreakIsFirst, NothingToldSize, LiveByAcceptance, OrderlyStays, IdleKeeps, AskingChangesNothing, KeysAnswer, BelongsStepByStep, BelongsOn, OnePartObeys, FeedsMayBeCut, TranscriptsMayBeCut, ObeyingMayBeCut, RepliesByCommands};
 ghost use Rattle.audit_model.specs.Configs.{DeadlinesAgree};
 
-/// A front of an obeying transcript obeys.
+/// A front of an obeying transcript obeys: its first records, however many.
 pub fn fronts_obey()
     ensures { FrontsObey }
 {}
 
-/// A deadline is as it was before idle times could stand beside own deadlines.
+/// Where no idle time stands beside own deadlines, a value's deadline is its own one, or else the earlier of live and idle time.
 pub fn deadlines_agree()
     ensures { DeadlinesAgree }
 {}
 
-/// A transcript obeys, and has no refused event, exactly where each key has one part and its records follow one another.
+/// A transcript obeys, and none of its events is refused, exactly where each key has one part and its records follow one another from the
+/// empty situation. Both directions, no premise.
 pub fn steps_agree()
     ensures { StepsAgree }
 {}
 
-/// Records that follow one another lead to the situation that their history leaves.
+/// Records that follow one another from the empty situation lead to the situation that their whole history leaves.
 pub fn records_lead()
     ensures { RecordsLead }
 {}
 
-/// Where records follow one another, each step has the same place in the whole history and in the situations.
+/// Where records follow one another, each step has the same place (task, line, what it sees, what it does, what is held after it) in the
+/// whole history and in the situations.
 pub fn places_agree()
     ensures { PlacesAgree }
 {}
 
-/// Steps may be taken one after the other.
+/// A record's steps may be taken one after the other: what follows the first ones is what follows from the situation, and the tasks that
+/// are left, to which they lead.
 pub fn steps_in_parts()
     ensures { StepsInParts }
 {}
 
-/// A transcript that leads to a situation leads on with a record that follows.
+/// A transcript that leads to a situation leads, with one more record that follows from there, to where that record leads.
 pub fn leads_on()
     ensures { LeadsOn }
 {}
 
-/// A transcript that leads to a situation by a function of parts leads on with a record whose values have their key's part.
+/// The same where each value's part is a function of its key: the record's values have their key's part too.
 pub fn leads_on_by()
     ensures { LeadsOnBy }
 {}
 
-/// A transcript that leads to a situation by a function of parts obeys, and none of its events is refused.
+/// A transcript that leads to a situation, and in which each value's part is a function of its key, obeys, and none of its events is
+/// refused.
 pub fn led_obeys()
     ensures { LedObeys }
 {}
 
-/// The first record of which the front is not good is the first that does not follow, or with which a key has two parts.
+/// `first_break`, the first record of which the front is not good, is the first that does not follow from the situation before it, or with
+/// which a key gets a second part.
 pub fn breaks_agree()
     ensures { BreaksAgree }
 {}
 
-/// Where each key has one part, that is the first record that does not follow.
+/// Where each key has one part over the whole transcript, `first_break` is the first record that does not follow.
 pub fn breaks_where_unfollowed()
     ensures { BreaksWhereUnfollowed }
 {}
 
-/// The test of a good transcript says that it obeys and that none of its events is refused.
+/// The test `is_good` says of a transcript just that it obeys and that none of its events is refused.
 pub fn good_is_faultless()
     ensures { GoodIsFaultless }
 {}
 
-/// The first break ends the shortest front that has a fault, and there is none where the transcript has none.
+/// `first_break` is none exactly where a transcript obeys and none of its events is refused, and else ends the shortest front of which that
+/// is not so.
 pub fn first_break_is_first()
     ensures { FirstBreakIsFirst }
 {}
 
-/// With no capacity an obeying transcript tells nothing `Size`.
+/// With no capacity an obeying transcript tells no value with the cause `Size`.
 pub fn nothing_told_size()
     ensures { NothingToldSize }
 {}
 
-/// What is not live becomes live only by a newly accepted value.
+/// Where records lead from one situation to another, a key that had no live value has one only where those records accepted it.
 pub fn live_by_acceptance()
     ensures { LiveByAcceptance }
 {}
 
-/// The values held stay orderly: a part's excess is marked at its values, and no two values have one key.
+/// The values held stay orderly by each deed with true notes, and so in each situation that records lead to and in between: a part's excess
+/// is marked at its values, and no two values have one key.
 pub fn orderly_stays()
     ensures { OrderlyStays }
 {}
 
-/// What does nothing to values leaves orderly ones as they are.
+/// A deed that does nothing to values leaves orderly ones as they are.
 pub fn idle_keeps()
     ensures { IdleKeeps }
 {}
 
-/// A step of `HAS` or `KEYS` changes nothing of the situation but its own connection.
+/// A step of `HAS` or `KEYS`, where the values held are orderly, changes nothing of the situation but its own connection.
 pub fn asking_changes_nothing()
     ensures { AskingChangesNothing }
 {}
 
-/// `KEYS` lists the live keys, each once, in byte order.
+/// The reply to a `KEYS` lists the keys that have a live value, each once, in byte order.
 pub fn keys_answer()
     ensures { KeysAnswer }
 {}
 
-/// Records that belong to inputs from situation to situation lead to the last one, and their transcript belongs to the inputs.
+/// Records that belong to a list of inputs from situation to situation (in order, each the input's event and following; none for an input
+/// of another namespace or a refused one, and perhaps none for want of memory) lead to the last situation; from the empty one their
+/// transcript belongs to the inputs.
 pub fn belongs_step_by_step()
     ensures { BelongsStepByStep }
 {}
 
-/// Records that belong to inputs belong to one more, which is left out or has a record that follows.
+/// Records that belong to inputs from situation to situation belong to one input more, with no record of it, or with one that is the
+/// input's event and follows; and two lists of inputs may be put together.
 pub fn belongs_on()
     ensures { BelongsOn }
 {}
 
-/// Where no command is held, a feed may be cut in two, and two feeds of a connection at one moment joined.
+/// From situation to situation: a record of a feed with no held step may be cut into the records of two feeds, each step put where the byte
+/// that lets it run came (the second is left out where the first closes the connection), and two such records of one connection at one
+/// moment may be joined.
 pub fn feeds_may_be_cut()
     ensures { FeedsMayBeCut }
 {}
 
-/// So a transcript that obeys, and has no refused event, stays so where a feed is cut in two or two are joined.
+/// A transcript that obeys, and has no refused event, stays so where a feed of it that holds nothing back is cut in two, and where two
+/// neighbouring feeds of one connection at one moment are joined.
 pub fn transcripts_may_be_cut()
     ensures { TranscriptsMayBeCut }
 {}
 
-/// A transcript that obeys still does, whether or not some of its events are refused ones, where a feed is cut in two or two are joined.
+/// A transcript that obeys still does, whether or not some of its events are refused ones, where a feed of it that holds nothing back is
+/// cut in two, and where two neighbouring feeds of one connection at one moment are joined; where the first closes the connection, also
+/// without the second.
 pub fn obeying_may_be_cut()
     ensures { ObeyingMayBeCut }
 {}
 
-/// Where nothing is told `Size` and the same commands are taken, replies but `SYNC`'s do not depend on parts, policy, hasher or batches.
-/// Nor do they on the capacity, as long as both accept values or neither does, which with one capacity says nothing.
+/// Two transcripts of the same events, each faultless for its own configuration, have the same steps with the same replies but for
+/// `SYNC`'s, where nothing is told `Size` and the same steps are held back and the same `DROPIF`s refused. Their configurations may differ
+/// in policy, number of parts and capacity, as long as both accept values or neither does; the part of each value and where values are told
+/// may differ freely.
 pub fn replies_by_commands()
     ensures { RepliesByCommands }
 {}
 
-/// Where there is one part, a transcript whose records follow one another obeys, and none of its events is refused.
+/// Where the configuration has one part, a transcript whose records follow one another from the empty situation obeys, and none of its
+/// events is refused.
 pub fn one_part_obeys()
     ensures { OnePartObeys }
 {}

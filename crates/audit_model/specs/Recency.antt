@@ -6,14 +6,14 @@ use Rattle.audit_model.specs.declared.command.Command.{Command}
 use Rattle.audit_model.specs.declared.command.Command.TheVariants as says
 
 -- the keys but for this one
-abbrev pub without : List ℕ → List (List ℕ) → List (List ℕ)
-without key keys = filter (λ k. not (same k key)) keys
+abbrev pub keys_without : List ℕ → List (List ℕ) → List (List ℕ)
+keys_without key keys = filter (λ k. not (same k key)) keys
 
 -- a `SET`, and a `GET` of a key on the list, put the key first; `DEL` takes it out; the list is cut at n
 abbrev pub recency_after : ℕ → List (List ℕ) → Command → List (List ℕ)
-recency_after n keys (says.Set key ms value) = take n (key ∷ without key keys)
-recency_after n keys (says.Get key) = if list_any (λ k. same k key) keys then key ∷ without key keys else keys
-recency_after n keys (says.Del key) = without key keys
+recency_after n keys (says.Set key ms value) = take n (key ∷ keys_without key keys)
+recency_after n keys (says.Get key) = if list_any (λ k. same k key) keys then key ∷ keys_without key keys else keys
+recency_after n keys (says.Del key) = keys_without key keys
 recency_after n keys command = keys
 
 -- the keys on the list after these commands, the one used last first

@@ -50,8 +50,8 @@ abbrev pub keys_listed : List (List ℕ) → List ℕ
 keys_listed keys = text_line (codes "KEYS " ++ decimal (length keys)) ++ concat (map text_line keys)
 
 -- how many values there are, and what they weigh together
-abbrev pub counts_of : List Value → List ℕ
-counts_of values = text_line (codes "SYNC " ++ decimal (length values) ++ codes " " ++ decimal (sum_by (λ v. v.weight) values))
+abbrev pub count_and_weight : List Value → List ℕ
+count_and_weight values = text_line (codes "SYNC " ++ decimal (length values) ++ codes " " ++ decimal (sum_by (λ v. v.weight) values))
 
 -- the reply to a line that cannot be read
 abbrev pub fault_text : LineError → List ℕ
@@ -78,7 +78,7 @@ reply_to config seen held (says.Add key ms number) =
 reply_to config seen held says.Clear = Some (text_line (codes "OK"))
 reply_to config seen held (says.DropIf prefix) = Some (text_line (codes "OK"))
 reply_to config seen held says.Keys = Some (keys_listed seen.live_keys)
-reply_to config seen held says.Sync = Some (counts_of held)
+reply_to config seen held says.Sync = Some (count_and_weight held)
 reply_to config seen held says.Quit = Some (text_line (codes "OK"))
 
 -- the reply that a step owes; a line held back and an answer's own step have none

@@ -10,13 +10,13 @@ abbrev pub IsOfRecord : Receipt → Record → Type 0
 IsOfRecord receipt entry = (receipt.input ≡ input_of receipt.namespace entry.event) × (receipt.output ≡ output_of receipt.namespace entry)
 
 -- the receipt is of the record of its number, which counts from 1
-abbrev pub Stands : List Record → Receipt → Type 0
-Stands records receipt = (0 < receipt.number) × MatchOption (slice_get records (receipt.number - 1)) ⊥ (IsOfRecord receipt)
+abbrev pub StandsInJournal : List Record → Receipt → Type 0
+StandsInJournal records receipt = (0 < receipt.number) × MatchOption (slice_get records (receipt.number - 1)) ⊥ (IsOfRecord receipt)
 
 -- the receipts stand, and their numbers rise strictly from above that one
 abbrev pub StandFrom : ℕ → List Record → List Receipt → Type 0
 StandFrom last records [] = Unit {0}
-StandFrom last records (receipt ∷ receipts) = (last < receipt.number) × Stands records receipt × StandFrom receipt.number records receipts
+StandFrom last records (receipt ∷ receipts) = (last < receipt.number) × StandsInJournal records receipt × StandFrom receipt.number records receipts
 
 -- the receipts are of that namespace
 abbrev pub AreOf : ℕ → List Receipt → Type 0

@@ -2,11 +2,13 @@
 #![tactic(auto)]
 
 mod asking;
+mod laws;
 mod output;
 mod receipt;
 mod standing;
 
 pub use asking::{copy_input, copy_outcome};
+pub use laws::receipts_in_order;
 pub use output::{Output, output_of};
 pub use receipt::Receipt;
 pub use standing::{are_of, receipts_stand, stands};

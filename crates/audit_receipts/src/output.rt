@@ -4,20 +4,20 @@ ghost use Rattle.audit_receipts.specs.Answers.{last_is_held, output_of};
 
 use audit_model::{Conn, Event, Record, Step};
 
-/// What an input came to.
+/// What an input that was taken came to.
 #[derive(Clone, Copy, Debug, PartialEq, Eq, Drop)]
 pub enum Output {
-    /// The connection was opened.
+    /// An opening: the connection that was opened.
     Opened { conn: Conn },
-    /// The lines of a piece that could run have run.
+    /// A piece: its lines that could run have run, and none is held back.
     All,
-    /// A command was refused for memory, and stays first.
+    /// A piece: a command was refused for memory, and stays its connection's first; the next piece runs it again.
     Held,
-    /// A connection was closed, or a load answered or given up.
+    /// All else: a connection was closed, or a load answered or given up.
     Done,
 }
 
-/// What a record of a namespace came to.
+/// What the event of a record came to, as a service says it: an opening to its connection in that namespace. Takes no memory.
 pub fn output_of(namespace: u64, entry: &Record) -> Output
     ensures { result ≡ output_of namespace entry.now }
 {

@@ -1,6 +1,6 @@
 //! Whether receipts stand in a journal.
 ghost use Rattle.std.specs.Prelude.{◌≡◌, true, false};
-ghost use Rattle.audit_receipts.specs.Receipts.{AreOf, Stands, StandFrom};
+ghost use Rattle.audit_receipts.specs.Receipts.{AreOf, StandsInJournal, StandFrom};
 
 use crate::asking::asks;
 use crate::output::output_of;
@@ -8,7 +8,7 @@ use crate::receipt::Receipt;
 use audit_model::Transcript;
 
 /// Whether these receipts of one namespace stand in its journal, in its order: their numbers rise strictly, and each is of the record
-/// of its number. Takes no memory.
+/// of its number. Such receipts are a part of the journal (`receipts_in_order`). Takes no memory.
 pub fn receipts_stand(journal: &Transcript, receipts: &[Receipt]) -> bool
     ensures yes { result ≡ true → StandFrom 0 journal.now.records receipts.now }
     ensures no { result ≡ false → StandFrom 0 journal.now.records receipts.now → ⊥ }
@@ -26,8 +26,8 @@ pub fn receipts_stand(journal: &Transcript, receipts: &[Receipt]) -> bool
 /// Whether the receipt is of the record of its number: its input is that record's event, asked of its namespace, and its output is what
 /// the record came to. Takes no memory.
 pub fn stands(journal: &Transcript, receipt: &Receipt) -> bool
-    ensures yes { result ≡ true → Stands journal.now.records receipt.now }
-    ensures no { result ≡ false → Stands journal.now.records receipt.now → ⊥ }
+    ensures yes { result ≡ true → StandsInJournal journal.now.records receipt.now }
+    ensures no { result ≡ false → StandsInJournal journal.now.records receipt.now → ⊥ }
 {
     if receipt.number == 0 {
         return false;

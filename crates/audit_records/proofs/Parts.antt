@@ -22,7 +22,7 @@ use Rattle.std.specs.Option.{option_map}
 use Rattle.std.specs.Prelude.{is_some}
 use Rattle.std.proofs.lemmas.Bool.{eqb-true, eq-eqb, false_from_ne_true, both_ways}
 use Rattle.std.proofs.lemmas.Slice.Eq.{bytes_eq-Decides}
-use Rattle.audit_parts.specs.Known.{KeyPart, part_in, agrees, agrees_with, with_part, with_value}
+use Rattle.audit_held.specs.Known.{KeyPart, part_of_key, agrees, agrees_with, with_part, with_value}
 use Rattle.audit_records.specs.Auditing.{Reached, audited_steps, audited_record, audited_from, is_taken, reached_by, with_values}
 
 abbrev goes : Value → Value → Bool
@@ -80,11 +80,11 @@ module _ (parts : List KeyPart) (w : Value) (key : List ℕ) (part : ℕ) where
   here-other : same key w.key ≡ false → here ≡ true
   here-other e = ap (λ b. not b || (w.part == part)) (same-flip w.key key ∙ e)
 
-  known-same : same key w.key ≡ true → part_in parts key ≡ part_in parts w.key
-  known-same e = ap (part_in parts) ((bytes_eq-Decides key w.key).0 e)
+  known-same : same key w.key ≡ true → part_of_key parts key ≡ part_of_key parts w.key
+  known-same e = ap (part_of_key parts) ((bytes_eq-Decides key w.key).0 e)
 
   -- the key had no part
-  first-known : part_in parts w.key ≡ None → agrees (record { key = w.key; part = w.part } ∷ parts) key part ≡ (agrees parts key part && (here && true))
+  first-known : part_of_key parts w.key ≡ None → agrees (record { key = w.key; part = w.part } ∷ parts) key part ≡ (agrees parts key part && (here && true))
   first-known none = go (same key w.key) refl
     where
       go : (b : Bool) → same key w.key ≡ b
@@ -94,7 +94,7 @@ module _ (parts : List KeyPart) (w : Value) (key : List ℕ) (part : ℕ) where
       go false e = and-true (agrees parts key part) ∙ sym (ap (λ b. agrees parts key part && (b && true)) (here-other e))
 
   -- it had this one
-  known-before : (q : ℕ) → part_in parts w.key ≡ Some q → (q == w.part) ≡ true → agrees parts key part ≡ (agrees parts key part && (here && true))
+  known-before : (q : ℕ) → part_of_key parts w.key ≡ Some q → (q == w.part) ≡ true → agrees parts key part ≡ (agrees parts key part && (here && true))
   known-before q some eq = go (same key w.key) refl
     where
       go : (b : Bool) → same key w.key ≡ b → agrees parts key part ≡ (agrees parts key part && (here && true))
@@ -104,9 +104,9 @@ module _ (parts : List KeyPart) (w : Value) (key : List ℕ) (part : ℕ) where
       go false e = and-true (agrees parts key part) ∙ sym (ap (λ b. agrees parts key part && (b && true)) (here-other e))
 
   one-more : agrees parts w.key w.part ≡ true → agrees (with_part parts w.key w.part) key part ≡ (agrees parts key part && (here && true))
-  one-more ok = go (part_in parts w.key) refl ok
+  one-more ok = go (part_of_key parts w.key) refl ok
     where
-      go : (o : Option ℕ) → part_in parts w.key ≡ o → option_map_or (λ p. p == w.part) o true ≡ true
+      go : (o : Option ℕ) → part_of_key parts w.key ≡ o → option_map_or (λ p. p == w.part) o true ≡ true
           → agrees (if is_some o then parts else record { key = w.key; part = w.part } ∷ parts) key part ≡ (agrees parts key part && (here && true))
       go None e ok = first-known e
       go (Some q) e ok = known-before q e ok

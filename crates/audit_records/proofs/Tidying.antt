@@ -18,11 +18,11 @@ use Rattle.audit_model.specs.declared.config.Config.{Config}
 use Rattle.audit_model.specs.declared.event.Event.{Event}
 use Rattle.audit_model.specs.declared.event.Event.TheVariants as event
 use Rattle.audit_model.specs.declared.transcript.Step.{Step}
-use Rattle.audit_situation.specs.States.{are_apart}
+use Rattle.audit_situation.specs.States.{have_numbers_apart}
 use Rattle.audit_records.specs.Tidy.{is_tidy}
 
 abbrev tidy : ℕ → List Connection → Bool
-tidy opened cs = are_apart cs && list_all (λ c. nat_le c.number opened) cs
+tidy opened cs = have_numbers_apart cs && list_all (λ c. nat_le c.number opened) cs
 
 two-parts : (a b : Bool) → (a && b) ≡ true → (a ≡ true) × (b ≡ true)
 two-parts true b e = (refl, e)
@@ -54,19 +54,19 @@ all-filter p q (c ∷ cs) e = let parts = two-parts (p c) (list_all p cs) e in g
     go true f ih = and-two _ _ f ih
     go false f ih = ih
 
-apart-filter : (q : Connection → Bool) (cs : List Connection) → are_apart cs ≡ true → are_apart (filter q cs) ≡ true
+apart-filter : (q : Connection → Bool) (cs : List Connection) → have_numbers_apart cs ≡ true → have_numbers_apart (filter q cs) ≡ true
 apart-filter q [] e = refl
 apart-filter q (c ∷ cs) e =
-    let parts = two-parts (not (list_any (λ d. d.number == c.number) cs)) (are_apart cs) e in
+    let parts = two-parts (not (list_any (λ d. d.number == c.number) cs)) (have_numbers_apart cs) e in
     go (q c) (ap not (any-filter (λ d. d.number == c.number) q cs (not-false _ parts.0))) (apart-filter q cs parts.1)
   where
-    go : (b : Bool) → not (list_any (λ d. d.number == c.number) (filter q cs)) ≡ true → are_apart (filter q cs) ≡ true → are_apart (cond b (c ∷ filter q cs) (filter q cs)) ≡ true
+    go : (b : Bool) → not (list_any (λ d. d.number == c.number) (filter q cs)) ≡ true → have_numbers_apart (filter q cs) ≡ true → have_numbers_apart (cond b (c ∷ filter q cs) (filter q cs)) ≡ true
     go true f ih = and-two _ _ f ih
     go false f ih = ih
 
 tidy-filter : (opened : ℕ) (q : Connection → Bool) (cs : List Connection) → tidy opened cs ≡ true → tidy opened (filter q cs) ≡ true
 tidy-filter opened q cs e =
-    let parts = two-parts (are_apart cs) (list_all (λ c. nat_le c.number opened) cs) e in
+    let parts = two-parts (have_numbers_apart cs) (list_all (λ c. nat_le c.number opened) cs) e in
     and-two _ _ (apart-filter q cs parts.0) (all-filter (λ c. nat_le c.number opened) q cs parts.1)
 
 -- ---- some connections change
@@ -76,18 +76,18 @@ module _ (f : Connection → Connection) (keeps : (c : Connection) → (f c).num
   any-map n [] = refl
   any-map n (c ∷ cs) = ap (λ m. (m == n) || list_any (λ d. d.number == n) (map f cs)) (keeps c) ∙ ap (λ b. (c.number == n) || b) (any-map n cs)
 
-  apart-map : (cs : List Connection) → are_apart (map f cs) ≡ are_apart cs
+  apart-map : (cs : List Connection) → have_numbers_apart (map f cs) ≡ have_numbers_apart cs
   apart-map [] = refl
   apart-map (c ∷ cs) =
-      ap (λ m. not (list_any (λ d. d.number == m) (map f cs)) && are_apart (map f cs)) (keeps c)
-      ∙ ap (λ b. not b && are_apart (map f cs)) (any-map c.number cs) ∙ ap (λ b. not (list_any (λ d. d.number == c.number) cs) && b) (apart-map cs)
+      ap (λ m. not (list_any (λ d. d.number == m) (map f cs)) && have_numbers_apart (map f cs)) (keeps c)
+      ∙ ap (λ b. not b && have_numbers_apart (map f cs)) (any-map c.number cs) ∙ ap (λ b. not (list_any (λ d. d.number == c.number) cs) && b) (apart-map cs)
 
   all-map : (n : ℕ) (cs : List Connection) → list_all (λ c. nat_le c.number n) (map f cs) ≡ list_all (λ c. nat_le c.number n) cs
   all-map n [] = refl
   all-map n (c ∷ cs) = ap (λ m. nat_le m n && list_all (λ c. nat_le c.number n) (map f cs)) (keeps c) ∙ ap (λ b. nat_le c.number n && b) (all-map n cs)
 
   tidy-map : (n : ℕ) (cs : List Connection) → tidy n (map f cs) ≡ tidy n cs
-  tidy-map n cs = ap (λ b. b && list_all (λ c. nat_le c.number n) (map f cs)) (apart-map cs) ∙ ap (λ b. are_apart cs && b) (all-map n cs)
+  tidy-map n cs = ap (λ b. b && list_all (λ c. nat_le c.number n) (map f cs)) (apart-map cs) ∙ ap (λ b. have_numbers_apart cs && b) (all-map n cs)
 
 swap-keeps : (c d : Connection) → (if d.number == c.number then c else d).number ≡ d.number
 swap-keeps c d = go (d.number == c.number) refl
@@ -131,13 +131,13 @@ any-push p (d ∷ ds) c e f = go (p d) refl e (λ k. any-push p ds c k f)
 
 tidy-push : (opened : ℕ) (cs : List Connection) (c : Connection) → tidy opened cs ≡ true → c.number ≡ suc opened → tidy (suc opened) (cs ++ c ∷ []) ≡ true
 tidy-push opened cs c e n =
-    let parts = two-parts (are_apart cs) (list_all (λ d. nat_le d.number opened) cs) e in
+    let parts = two-parts (have_numbers_apart cs) (list_all (λ d. nat_le d.number opened) cs) e in
     and-two _ _ (apart cs parts.0 parts.1) (all cs parts.1)
   where
-    apart : (ds : List Connection) → are_apart ds ≡ true → list_all (λ d. nat_le d.number opened) ds ≡ true → are_apart (ds ++ c ∷ []) ≡ true
+    apart : (ds : List Connection) → have_numbers_apart ds ≡ true → list_all (λ d. nat_le d.number opened) ds ≡ true → have_numbers_apart (ds ++ c ∷ []) ≡ true
     apart [] a b = refl
     apart (d ∷ ds) a b =
-        let pa = two-parts (not (list_any (λ k. k.number == d.number) ds)) (are_apart ds) a in
+        let pa = two-parts (not (list_any (λ k. k.number == d.number) ds)) (have_numbers_apart ds) a in
         let pb = two-parts (nat_le d.number opened) (list_all (λ k. nat_le k.number opened) ds) b in
         and-two _ _ (ap not (any-push (λ k. k.number == d.number) ds c (not-false _ pa.0) (differ d.number c.number opened pb.0 n))) (apart ds pa.1 pb.1)
 
@@ -188,5 +188,5 @@ passed-tidy (Some (RunLines conn)) step effect s t = moved-tidy (Some (RunLines 
 pub step-tidy : (config : Config) (s : Situation) (task : Option Task) (step : Step) (effect : Effect) → is_tidy s ≡ true → is_tidy (after_step config s task step effect) ≡ true
 step-tidy config s task step effect t = passed-tidy task step effect _ t
 
-pub tidy-apart : (s : Situation) → is_tidy s ≡ true → are_apart s.connections ≡ true
-tidy-apart s t = (two-parts (are_apart s.connections) (list_all (λ c. nat_le c.number s.opened) s.connections) t).0
+pub tidy-apart : (s : Situation) → is_tidy s ≡ true → have_numbers_apart s.connections ≡ true
+tidy-apart s t = (two-parts (have_numbers_apart s.connections) (list_all (λ c. nat_le c.number s.opened) s.connections) t).0

@@ -13,7 +13,7 @@ use Rattle.audit_model.specs.Steps.{Task, is_right}
 use Rattle.audit_model.specs.declared.config.Config.{Config}
 use Rattle.audit_model.specs.declared.transcript.Record.{Record}
 use Rattle.audit_model.specs.declared.transcript.Step.{Step}
-use Rattle.audit_parts.specs.Known.{KeyPart, agrees_with, with_value}
+use Rattle.audit_held.specs.Known.{KeyPart, agrees_with, with_value}
 
 -- a situation, and the part of each key of which a value was accepted
 pub record Reached : Type 0 where
@@ -63,5 +63,5 @@ reached_by parts values more None = None
 reached_by parts values more (Some t) = if agree_on_parts (values ++ more) then Some (record { situation = t; parts = with_values parts more }) else None
 
 -- an answer's own step
-abbrev pub own_step : Record → Step
-own_step entry = record { conn = 0; line = []; held = false; reply = None; load = None; accepted = entry.own; notices = entry.notices }
+abbrev pub step_of_answer : Record → Step
+step_of_answer entry = record { conn = 0; line = []; held = false; reply = None; load = None; accepted = entry.own; notices = entry.notices }

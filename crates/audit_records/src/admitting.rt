@@ -5,7 +5,7 @@ ghost use Rattle.audit_model.specs.Belongs.{refusal_of, refusal_of_conn, refusal
 ghost use Rattle.audit_model.specs.Follows.{known_in};
 ghost use Rattle.audit_model.specs.Grammar.{is_value};
 ghost use Rattle.audit_model.specs.Obeys.{is_numbered, has_right_own_value};
-ghost use Rattle.audit_situation.specs.States.{situation_of};
+ghost use Rattle.audit_situation.specs.States.{shown_situation};
 ghost use Rattle.audit_records.specs.Auditing.{is_taken};
 
 use audit_model::{Config, Event, Instant, Outcome, Record};
@@ -22,21 +22,21 @@ const MAX_MS: u64 = 999_999_999_999;
 
 /// Whether a connection was opened and is open.
 fn admits_conn(s: &State, conn: u64) -> bool
-    ensures { result ≡ is_none (refusal_of_conn (known_in (situation_of s.now)) conn) }
+    ensures { result ≡ is_none (refusal_of_conn (known_in (shown_situation s.now)) conn) }
 {
     was_opened(s, conn) && find_link(&s.connections, conn).is_some()
 }
 
 /// Whether a connection was opened.
 fn was_opened(s: &State, conn: u64) -> bool
-    ensures { result ≡ (known_in (situation_of s.now)).was_opened conn }
+    ensures { result ≡ (known_in (shown_situation s.now)).was_opened conn }
 {
     0 < conn && conn <= s.opened
 }
 
 /// Whether a load is under way.
 fn admits_load(s: &State, load: u64) -> bool
-    ensures { result ≡ is_none (refusal_of_load (known_in (situation_of s.now)) load) }
+    ensures { result ≡ is_none (refusal_of_load (known_in (shown_situation s.now)) load) }
 {
     find_pending(&s.pending, load).is_some()
 }
@@ -85,7 +85,7 @@ fn admits_outcome(config: &Config, outcome: &Outcome) -> bool
 
 /// Whether an event is none that is refused.
 fn admits(config: &Config, s: &State, event: &Event) -> bool
-    ensures { result ≡ is_none (refusal_of config.now (known_in (situation_of s.now)) event.now) }
+    ensures { result ≡ is_none (refusal_of config.now (known_in (shown_situation s.now)) event.now) }
 {
     match event {
         Event::Open { .. } => true,
@@ -149,7 +149,7 @@ fn owns_rightly(entry: &Record) -> bool
 
 /// Whether a record's event is taken: it is not refused, has the next number, and only an answer has a value of its own.
 pub fn is_taken(config: &Config, s: &State, entry: &Record) -> bool
-    ensures taken { result ≡ is_taken config.now (situation_of s.now) entry.now }
+    ensures taken { result ≡ is_taken config.now (shown_situation s.now) entry.now }
     ensures numbered { result ≡ true → is_numbered s.now.opened entry.now.event ≡ true }
 {
     let admitted = admits(config, s, &entry.event);

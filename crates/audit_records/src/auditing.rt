@@ -7,6 +7,6 @@ pub enum Verdict {
     Yes,
     /// The first record, counted from 1, at which the shortest front ends that does not obey or has a refused event.
     Breaks(u64),
-    /// There is no memory.
+    /// There was no memory to judge it, and nothing is said of it; so also where a number in it does not fit in 64 bits.
     OutOfMemory,
 }

@@ -4,7 +4,7 @@ ghost use Rattle.std.specs.List.{flat_map};
 ghost use Rattle.audit_model.specs.Places.{due, first_due, left_after, tasks_to_feed, tasks_to_give_up};
 ghost use Rattle.audit_model.specs.Situation.{may_run_in};
 ghost use Rattle.audit_model.specs.Steps.{Deliver, RunAgain, RunLines};
-ghost use Rattle.audit_situation.specs.States.{situation_of};
+ghost use Rattle.audit_situation.specs.States.{shown_situation};
 ghost use Rattle.audit_steps.specs.Showing.{task_of, runs_lines};
 ghost use Rattle.audit_records.specs.Due.{is_due_by};
 
@@ -82,7 +82,7 @@ fn push_again<'a>(duties: &mut Vec<Duty<'a>>, conn: u64) -> Result<(), AllocErro
 
 /// Whether it is due now.
 fn is_due(s: &State, duty: Duty<'_>) -> bool
-    ensures { result ≡ is_due_by (may_run_in (situation_of s.now)) (task_of duty.entry) }
+    ensures { result ≡ is_due_by (may_run_in (shown_situation s.now)) (task_of duty.entry) }
 {
     match duty {
         Duty::RunLines(conn) => may_run(s, conn),
@@ -96,7 +96,7 @@ fn is_due(s: &State, duty: Duty<'_>) -> bool
 /// Where the first of these stands that is due now, from a place on.
 pub fn due_from(s: &State, duties: &[Duty<'_>], from: usize) -> usize
     requires { from ≤ length duties.now }
-    ensures due { map task_of (drop result duties.entry.now) ≡ due (may_run_in (situation_of s.now)) (map task_of (drop from duties.entry.now)) }
+    ensures due { map task_of (drop result duties.entry.now) ≡ due (may_run_in (shown_situation s.now)) (map task_of (drop from duties.entry.now)) }
     ensures within { result ≤ length duties.entry.now }
 {
     for at in from..duties.len() {

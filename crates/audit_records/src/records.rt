@@ -7,18 +7,18 @@ ghost use Rattle.audit_model.specs.Obeys.{is_numbered};
 ghost use Rattle.audit_model.specs.Situation.{key_in, waiting_in, empty_situation};
 ghost use Rattle.audit_model.specs.declared.event.Event.TheVariants as event;
 ghost use Rattle.audit_model.specs.Belongs.{first_break};
-ghost use Rattle.audit_situation.specs.States.{situation_of};
-ghost use Rattle.audit_steps.specs.Showing.{task_of, step_of};
-ghost use Rattle.audit_records.specs.Auditing.{Reaches, audited_steps, audited_event, audited_record, audited_from, own_step};
+ghost use Rattle.audit_situation.specs.States.{shown_situation};
+ghost use Rattle.audit_steps.specs.Showing.{task_of, shown_step};
+ghost use Rattle.audit_records.specs.Auditing.{Reaches, audited_steps, audited_event, audited_record, audited_from, step_of_answer};
 ghost use Rattle.audit_records.specs.Tidy.{is_tidy};
 
 use crate::admitting::is_taken;
 use crate::duties::{
     due_from, duties_to_deliver, duties_to_feed, duties_to_give_up, duty_at, left_from,
 };
+use audit_held::Parts;
 use audit_laws::breaks_agree;
 use audit_model::{Bytes, Config, Event, Instant, Outcome, Record, Step, Transcript};
-use audit_parts::Parts;
 use audit_situation::{State, begin, close, feed, find_pending, is_holding, open, settle};
 use audit_steps::{Duty, Shown, judge, show};
 use std::alloc::{AllocError, Global};
@@ -33,9 +33,9 @@ fn judge_steps(
     duties: &[Duty<'_>],
     steps: &[Step],
 ) -> Result<bool, AllocError>
-    requires { IsTrue (is_tidy (situation_of s.old)) }
-    ensures reaches { IfOk result (λ b. Reaches b (situation_of s.new) parts.new (audited_steps config.now parts.old (situation_of s.old) (map task_of duties.entry.now) steps.now)) }
-    ensures tidy { IfOk result (λ b. b ≡ true → is_tidy (situation_of s.new) ≡ true) }
+    requires { IsTrue (is_tidy (shown_situation s.old)) }
+    ensures reaches { IfOk result (λ b. Reaches b (shown_situation s.new) parts.new (audited_steps config.now parts.old (shown_situation s.old) (map task_of duties.entry.now) steps.now)) }
+    ensures tidy { IfOk result (λ b. b ≡ true → is_tidy (shown_situation s.new) ≡ true) }
 {
     let mut at = 0;
     for step in steps {
@@ -58,10 +58,10 @@ fn judge_open(
     conn: u64,
     steps: &[Step],
 ) -> Result<bool, AllocError>
-    requires tidy { IsTrue (is_tidy (situation_of s.old)) }
+    requires tidy { IsTrue (is_tidy (shown_situation s.old)) }
     requires numbered { is_numbered s.old.opened (event.Open conn) ≡ true }
-    ensures reaches { IfOk result (λ b. Reaches b (situation_of s.new) parts.new (audited_steps config.now parts.old (after_event (event.Open conn) (situation_of s.old)) [] steps.now)) }
-    ensures tidy { IfOk result (λ b. b ≡ true → is_tidy (situation_of s.new) ≡ true) }
+    ensures reaches { IfOk result (λ b. Reaches b (shown_situation s.new) parts.new (audited_steps config.now parts.old (after_event (event.Open conn) (shown_situation s.old)) [] steps.now)) }
+    ensures tidy { IfOk result (λ b. b ≡ true → is_tidy (shown_situation s.new) ≡ true) }
 {
     open(alloc, s, conn)?;
     judge_steps(alloc, config, s, parts, &[], steps)
@@ -76,9 +76,9 @@ fn judge_close(
     conn: u64,
     steps: &[Step],
 ) -> Result<bool, AllocError>
-    requires tidy { IsTrue (is_tidy (situation_of s.old)) }
-    ensures reaches { IfOk result (λ b. Reaches b (situation_of s.new) parts.new (audited_steps config.now parts.old (after_event (event.Close conn) (situation_of s.old)) [] steps.now)) }
-    ensures tidy { IfOk result (λ b. b ≡ true → is_tidy (situation_of s.new) ≡ true) }
+    requires tidy { IsTrue (is_tidy (shown_situation s.old)) }
+    ensures reaches { IfOk result (λ b. Reaches b (shown_situation s.new) parts.new (audited_steps config.now parts.old (after_event (event.Close conn) (shown_situation s.old)) [] steps.now)) }
+    ensures tidy { IfOk result (λ b. b ≡ true → is_tidy (shown_situation s.new) ≡ true) }
 {
     close(s, conn);
     judge_steps(alloc, config, s, parts, &[], steps)
@@ -95,9 +95,9 @@ fn judge_feed(
     moment: Instant,
     steps: &[Step],
 ) -> Result<bool, AllocError>
-    requires tidy { IsTrue (is_tidy (situation_of s.old)) }
-    ensures reaches { IfOk result (λ b. Reaches b (situation_of s.new) parts.new (audited_steps config.now parts.old (after_event (event.Feed conn piece.now moment) (situation_of s.old)) (tasks_in (situation_of s.old) (event.Feed conn piece.now moment)) steps.now)) }
-    ensures tidy { IfOk result (λ b. b ≡ true → is_tidy (situation_of s.new) ≡ true) }
+    requires tidy { IsTrue (is_tidy (shown_situation s.old)) }
+    ensures reaches { IfOk result (λ b. Reaches b (shown_situation s.new) parts.new (audited_steps config.now parts.old (after_event (event.Feed conn piece.now moment) (shown_situation s.old)) (tasks_in (shown_situation s.old) (event.Feed conn piece.now moment)) steps.now)) }
+    ensures tidy { IfOk result (λ b. b ≡ true → is_tidy (shown_situation s.new) ≡ true) }
 {
     let duties = duties_to_feed(alloc, conn, is_holding(s, conn))?;
     s.latest = moment.nanos.max(s.latest);
@@ -107,7 +107,7 @@ fn judge_feed(
 
 /// The connections that wait for a load.
 fn waiting_of(alloc: Global, s: &State, load: u64) -> Result<Vec<u64>, AllocError>
-    ensures { IfOk result (λ conns. conns.items ≡ waiting_in load (situation_of s.now)) }
+    ensures { IfOk result (λ conns. conns.items ≡ waiting_in load (shown_situation s.now)) }
 {
     match find_pending(&s.pending, load) {
         Some(pending) => pending.waiting(alloc),
@@ -117,7 +117,7 @@ fn waiting_of(alloc: Global, s: &State, load: u64) -> Result<Vec<u64>, AllocErro
 
 /// The key of a load.
 fn key_of(alloc: Global, s: &State, load: u64) -> Result<Option<Vec<u8>>, AllocError>
-    ensures { IfOk result (λ key. option_map (λ k. k.items) key ≡ key_in load (situation_of s.now)) }
+    ensures { IfOk result (λ key. option_map (λ k. k.items) key ≡ key_in load (shown_situation s.now)) }
 {
     match find_pending(&s.pending, load) {
         Some(pending) => Ok(Some(Vec::from_slice(alloc, pending.key())?)),
@@ -135,9 +135,9 @@ fn judge_give_up(
     moment: Instant,
     steps: &[Step],
 ) -> Result<bool, AllocError>
-    requires tidy { IsTrue (is_tidy (situation_of s.old)) }
-    ensures reaches { IfOk result (λ b. Reaches b (situation_of s.new) parts.new (audited_steps config.now parts.old (after_event (event.GiveUp load moment) (situation_of s.old)) (tasks_in (situation_of s.old) (event.GiveUp load moment)) steps.now)) }
-    ensures tidy { IfOk result (λ b. b ≡ true → is_tidy (situation_of s.new) ≡ true) }
+    requires tidy { IsTrue (is_tidy (shown_situation s.old)) }
+    ensures reaches { IfOk result (λ b. Reaches b (shown_situation s.new) parts.new (audited_steps config.now parts.old (after_event (event.GiveUp load moment) (shown_situation s.old)) (tasks_in (shown_situation s.old) (event.GiveUp load moment)) steps.now)) }
+    ensures tidy { IfOk result (λ b. b ≡ true → is_tidy (shown_situation s.new) ≡ true) }
 {
     let conns = waiting_of(alloc, s, load)?;
     let duties = duties_to_give_up(alloc, conns.as_slice())?;
@@ -147,7 +147,7 @@ fn judge_give_up(
 
 /// What a record shows of an answer's own step.
 fn show_own(entry: &Record) -> Shown<'_>
-    ensures { step_of result ≡ own_step entry.now }
+    ensures { shown_step result ≡ step_of_answer entry.now }
 {
     Shown {
         conn: 0,
@@ -171,9 +171,9 @@ fn judge_answer(
     moment: Instant,
     entry: &Record,
 ) -> Result<bool, AllocError>
-    requires tidy { IsTrue (is_tidy (situation_of s.old)) }
-    ensures reaches { IfOk result (λ b. Reaches b (situation_of s.new) parts.new (audited_steps config.now parts.old (after_event (event.Answer load outcome.now moment) (situation_of s.old)) (tasks_in (situation_of s.old) (event.Answer load outcome.now moment)) (own_step entry.now ∷ entry.now.steps))) }
-    ensures tidy { IfOk result (λ b. b ≡ true → is_tidy (situation_of s.new) ≡ true) }
+    requires tidy { IsTrue (is_tidy (shown_situation s.old)) }
+    ensures reaches { IfOk result (λ b. Reaches b (shown_situation s.new) parts.new (audited_steps config.now parts.old (after_event (event.Answer load outcome.now moment) (shown_situation s.old)) (tasks_in (shown_situation s.old) (event.Answer load outcome.now moment)) (step_of_answer entry.now ∷ entry.now.steps))) }
+    ensures tidy { IfOk result (λ b. b ≡ true → is_tidy (shown_situation s.new) ≡ true) }
 {
     let conns = waiting_of(alloc, s, load)?;
     let key = key_of(alloc, s, load)?;
@@ -202,9 +202,9 @@ fn judge_stored(
     duties: &[Duty<'_>],
     entry: &Record,
 ) -> Result<bool, AllocError>
-    requires tidy { IsTrue (is_tidy (situation_of s.old)) }
-    ensures reaches { IfOk result (λ b. Reaches b (situation_of s.new) parts.new (audited_steps config.now parts.old (situation_of s.old) (Store (option_map (λ k. k.now.items) key.entry) outcome.now ∷ map task_of duties.entry.now) (own_step entry.now ∷ entry.now.steps))) }
-    ensures tidy { IfOk result (λ b. b ≡ true → is_tidy (situation_of s.new) ≡ true) }
+    requires tidy { IsTrue (is_tidy (shown_situation s.old)) }
+    ensures reaches { IfOk result (λ b. Reaches b (shown_situation s.new) parts.new (audited_steps config.now parts.old (shown_situation s.old) (Store (option_map (λ k. k.now.items) key.entry) outcome.now ∷ map task_of duties.entry.now) (step_of_answer entry.now ∷ entry.now.steps))) }
+    ensures tidy { IfOk result (λ b. b ≡ true → is_tidy (shown_situation s.new) ≡ true) }
 {
     if !store(alloc, config, s, parts, key, outcome, entry)? {
         return Ok(false);
@@ -222,9 +222,9 @@ fn store(
     outcome: &Outcome,
     entry: &Record,
 ) -> Result<bool, AllocError>
-    requires { IsTrue (is_tidy (situation_of s.old)) }
-    ensures judged { IfOk result (λ b. let task = Some (Store (option_map (λ k. k.now.items) key.entry) outcome.now) in IsJudged config.now (situation_of s.old) parts.old task (own_step entry.now) (placed_step_in config.now (situation_of s.old) task (own_step entry.now)) b (situation_of s.new) parts.new) }
-    ensures tidy { IfOk result (λ b. b ≡ true → is_tidy (situation_of s.new) ≡ true) }
+    requires { IsTrue (is_tidy (shown_situation s.old)) }
+    ensures judged { IfOk result (λ b. let task = Some (Store (option_map (λ k. k.now.items) key.entry) outcome.now) in IsJudged config.now (shown_situation s.old) parts.old task (step_of_answer entry.now) (placed_step_in config.now (shown_situation s.old) task (step_of_answer entry.now)) b (shown_situation s.new) parts.new) }
+    ensures tidy { IfOk result (λ b. b ≡ true → is_tidy (shown_situation s.new) ≡ true) }
 {
     let shown = show_own(entry);
     match key {
@@ -251,10 +251,10 @@ fn judge_event(
     parts: &mut Parts,
     entry: &Record,
 ) -> Result<bool, AllocError>
-    requires tidy { IsTrue (is_tidy (situation_of s.old)) }
+    requires tidy { IsTrue (is_tidy (shown_situation s.old)) }
     requires numbered { is_numbered s.old.opened entry.now.event ≡ true }
-    ensures reaches { IfOk result (λ b. Reaches b (situation_of s.new) parts.new (audited_event config.now parts.old (situation_of s.old) entry.now)) }
-    ensures tidy { IfOk result (λ b. b ≡ true → is_tidy (situation_of s.new) ≡ true) }
+    ensures reaches { IfOk result (λ b. Reaches b (shown_situation s.new) parts.new (audited_event config.now parts.old (shown_situation s.old) entry.now)) }
+    ensures tidy { IfOk result (λ b. b ≡ true → is_tidy (shown_situation s.new) ≡ true) }
 {
     let steps = entry.steps.as_slice();
     match &entry.event {
@@ -284,9 +284,9 @@ fn judge_record(
     parts: &mut Parts,
     entry: &Record,
 ) -> Result<bool, AllocError>
-    requires { IsTrue (is_tidy (situation_of s.old)) }
-    ensures reaches { IfOk result (λ b. Reaches b (situation_of s.new) parts.new (audited_record config.now parts.old (situation_of s.old) entry.now)) }
-    ensures tidy { IfOk result (λ b. b ≡ true → is_tidy (situation_of s.new) ≡ true) }
+    requires { IsTrue (is_tidy (shown_situation s.old)) }
+    ensures reaches { IfOk result (λ b. Reaches b (shown_situation s.new) parts.new (audited_record config.now parts.old (shown_situation s.old) entry.now)) }
+    ensures tidy { IfOk result (λ b. b ≡ true → is_tidy (shown_situation s.new) ≡ true) }
 {
     if !is_taken(config, s, entry) {
         return Ok(false);
@@ -314,8 +314,8 @@ fn audited_from(
     s: &mut State,
     records: &[Record],
 ) -> Result<Option<u64>, AllocError>
-    requires { IsTrue (is_tidy (situation_of s.old)) }
-    ensures { IfOk result (λ n. n ≡ audited_from config.now [] (situation_of s.old) 0 records.now) }
+    requires { IsTrue (is_tidy (shown_situation s.old)) }
+    ensures { IfOk result (λ n. n ≡ audited_from config.now [] (shown_situation s.old) 0 records.now) }
 {
     let mut parts = Parts::new(alloc)?;
     audited_on(alloc, config, s, &mut parts, records)
@@ -329,8 +329,8 @@ fn audited_on(
     parts: &mut Parts,
     records: &[Record],
 ) -> Result<Option<u64>, AllocError>
-    requires { IsTrue (is_tidy (situation_of s.old)) }
-    ensures { IfOk result (λ n. n ≡ audited_from config.now parts.old (situation_of s.old) 0 records.now) }
+    requires { IsTrue (is_tidy (shown_situation s.old)) }
+    ensures { IfOk result (λ n. n ≡ audited_from config.now parts.old (shown_situation s.old) 0 records.now) }
 {
     for (i, entry) in records.iter().enumerate() {
         if !judge_record(alloc, config, s, parts, entry)? {

@@ -7,7 +7,7 @@ use Rattle.std.specs.Option.{option_map_or, option_copied}
 use Rattle.std.proofs.lemmas.Option.{none-some}
 use Rattle.std.proofs.lemmas.Bool.{not-true, and_parts, and_from, eq-eqb, eqb-true}
 use Rattle.lru.specs.LruCache.{LruCache, lru_cache, put_entries, demoted}
-use Rattle.audit_situation.specs.Listings.{is_new, is_listing, changed_at}
+use Rattle.audit_situation.specs.Listings.{is_new_number, is_listing, changed_at}
 
 flip : (m n : ℕ) → (m == n) ≡ (n == m)
 flip m n = go (m == n) (n == m) refl refl
@@ -38,11 +38,11 @@ is_none None e = refl
 is_none (Some x) e = absurd (true≢false e)
 
 module _ {X : Type 0} where
-  none-new : (n : ℕ) (es : List (ℕ × X)) → lookup (nat_eq n) es ≡ None → is_new n es ≡ true
+  none-new : (n : ℕ) (es : List (ℕ × X)) → lookup (nat_eq n) es ≡ None → is_new_number n es ≡ true
   none-new n [] e = refl
   none-new n (x ∷ es) e = go (nat_eq n x.0) refl e (none-new n es)
     where
-      go : (b : Bool) → nat_eq n x.0 ≡ b → cond b (Some x.1) (lookup (nat_eq n) es) ≡ None → (lookup (nat_eq n) es ≡ None → is_new n es ≡ true) → (not (x.0 == n) && is_new n es) ≡ true
+      go : (b : Bool) → nat_eq n x.0 ≡ b → cond b (Some x.1) (lookup (nat_eq n) es) ≡ None → (lookup (nat_eq n) es ≡ None → is_new_number n es ≡ true) → (not (x.0 == n) && is_new_number n es) ≡ true
       go true h e ih = absurd (none-some x.1 (sym e))
       go false h e ih = and_from _ _ (ap not (flip x.0 n ∙ h)) (ih e)
 
@@ -54,28 +54,28 @@ module _ {X : Type 0} where
       go true e ih = absurd (none-some x.1 (sym e))
       go false e ih = ih e
 
-  same-new : (n : ℕ) (e : ℕ × X) (es : List (ℕ × X)) → nat_eq n e.0 ≡ true → is_new e.0 es ≡ true → is_new n es ≡ true
-  same-new n e es h k = subst (λ m. is_new m es ≡ true) (sym (eqb-true n e.0 h)) k
+  same-new : (n : ℕ) (e : ℕ × X) (es : List (ℕ × X)) → nat_eq n e.0 ≡ true → is_new_number e.0 es ≡ true → is_new_number n es ≡ true
+  same-new n e es h k = subst (λ m. is_new_number m es ≡ true) (sym (eqb-true n e.0 h)) k
 
-  new-removed : (m n : ℕ) (es : List (ℕ × X)) → is_new m es ≡ true → is_new m (remove_entry (nat_eq n) es) ≡ true
+  new-removed : (m n : ℕ) (es : List (ℕ × X)) → is_new_number m es ≡ true → is_new_number m (remove_entry (nat_eq n) es) ≡ true
   new-removed m n [] k = refl
-  new-removed m n (e ∷ es) k = let p = and_parts (not (e.0 == m)) (is_new m es) k in go (nat_eq n e.0) p.0 p.1 (new-removed m n es p.1)
+  new-removed m n (e ∷ es) k = let p = and_parts (not (e.0 == m)) (is_new_number m es) k in go (nat_eq n e.0) p.0 p.1 (new-removed m n es p.1)
     where
-      go : (b : Bool) → not (e.0 == m) ≡ true → is_new m es ≡ true → is_new m (remove_entry (nat_eq n) es) ≡ true → is_new m (cond b es (e ∷ remove_entry (nat_eq n) es)) ≡ true
+      go : (b : Bool) → not (e.0 == m) ≡ true → is_new_number m es ≡ true → is_new_number m (remove_entry (nat_eq n) es) ≡ true → is_new_number m (cond b es (e ∷ remove_entry (nat_eq n) es)) ≡ true
       go true f r ih = r
       go false f r ih = and_from _ _ f ih
 
-  new-set : (m n : ℕ) (es : List (ℕ × X)) (w : X) → is_new m (set_value (nat_eq n) es w) ≡ is_new m es
+  new-set : (m n : ℕ) (es : List (ℕ × X)) (w : X) → is_new_number m (set_value (nat_eq n) es w) ≡ is_new_number m es
   new-set m n [] w = refl
   new-set m n (e ∷ es) w = go (nat_eq n e.0) (new-set m n es w)
     where
-      go : (b : Bool) → is_new m (set_value (nat_eq n) es w) ≡ is_new m es → is_new m (cond b ((e.0, w) ∷ es) (e ∷ set_value (nat_eq n) es w)) ≡ (not (e.0 == m) && is_new m es)
+      go : (b : Bool) → is_new_number m (set_value (nat_eq n) es w) ≡ is_new_number m es → is_new_number m (cond b ((e.0, w) ∷ es) (e ∷ set_value (nat_eq n) es w)) ≡ (not (e.0 == m) && is_new_number m es)
       go true ih = refl
       go false ih = ap (λ b. not (e.0 == m) && b) ih
 
-  new-last : (m n : ℕ) (x : X) (es : List (ℕ × X)) → is_new m es ≡ true → (n == m) ≡ false → is_new m (es ++ (n, x) ∷ []) ≡ true
+  new-last : (m n : ℕ) (x : X) (es : List (ℕ × X)) → is_new_number m es ≡ true → (n == m) ≡ false → is_new_number m (es ++ (n, x) ∷ []) ≡ true
   new-last m n x [] k f = ap (λ b. not b && true) f
-  new-last m n x (e ∷ es) k f = let p = and_parts (not (e.0 == m)) (is_new m es) k in and_from _ _ p.0 (new-last m n x es p.1 f)
+  new-last m n x (e ∷ es) k f = let p = and_parts (not (e.0 == m)) (is_new_number m es) k in and_from _ _ p.0 (new-last m n x es p.1 f)
 
   take-all : (n : ℕ) (es : List (ℕ × X)) → length es ≤ n → take n es ≡ es
   take-all zero [] h = refl
@@ -101,17 +101,17 @@ module _ {X : Type 0} where
 module _ {X : Type 0} (number : X → ℕ) where
   record Parts (e : ℕ × X) (es : List (ℕ × X)) : Type 0 where
     own : (e.0 == number e.1) ≡ true
-    new : is_new e.0 es ≡ true
+    new : is_new_number e.0 es ≡ true
     rest : is_listing number es ≡ true
 
   parts_of : (e : ℕ × X) (es : List (ℕ × X)) → is_listing number (e ∷ es) ≡ true → Parts e es
   parts_of e es l =
-      let p = and_parts ((e.0 == number e.1) && is_new e.0 es) (is_listing number es) l in
-      let q = and_parts (e.0 == number e.1) (is_new e.0 es) p.0 in
+      let p = and_parts ((e.0 == number e.1) && is_new_number e.0 es) (is_listing number es) l in
+      let q = and_parts (e.0 == number e.1) (is_new_number e.0 es) p.0 in
       record { own = q.0; new = q.1; rest = p.1 }
 
-  whole : (e : ℕ × X) (es : List (ℕ × X)) → (e.0 == number e.1) ≡ true → is_new e.0 es ≡ true → is_listing number es ≡ true → is_listing number (e ∷ es) ≡ true
-  whole e es a b c = and_from ((e.0 == number e.1) && is_new e.0 es) _ (and_from (e.0 == number e.1) _ a b) c
+  whole : (e : ℕ × X) (es : List (ℕ × X)) → (e.0 == number e.1) ≡ true → is_new_number e.0 es ≡ true → is_listing number es ≡ true → is_listing number (e ∷ es) ≡ true
+  whole e es a b c = and_from ((e.0 == number e.1) && is_new_number e.0 es) _ (and_from (e.0 == number e.1) _ a b) c
 
   head-is : (n : ℕ) (e : ℕ × X) → (e.0 == number e.1) ≡ true → (number e.1 == n) ≡ nat_eq n e.0
   head-is n e h = flip (number e.1) n ∙ ap (λ m. n == m) (sym (eqb-true e.0 (number e.1) h))
@@ -128,11 +128,11 @@ module _ {X : Type 0} (number : X → ℕ) where
 
   -- ---- an entry left out
 
-  kept : (n : ℕ) (es : List (ℕ × X)) → is_listing number es ≡ true → is_new n es ≡ true → filter (λ x. not (number x == n)) (values_of es) ≡ values_of es
+  kept : (n : ℕ) (es : List (ℕ × X)) → is_listing number es ≡ true → is_new_number n es ≡ true → filter (λ x. not (number x == n)) (values_of es) ≡ values_of es
   kept n [] l k = refl
   kept n (e ∷ es) l k =
       let p = parts_of e es l in
-      let q = and_parts (not (e.0 == n)) (is_new n es) k in
+      let q = and_parts (not (e.0 == n)) (is_new_number n es) k in
       ap (λ b. cond (not b) (e.1 ∷ filter (λ x. not (number x == n)) (values_of es)) (filter (λ x. not (number x == n)) (values_of es))) (head-other n e p.own q.0)
       ∙ ap (λ ys. e.1 ∷ ys) (kept n es p.rest q.1)
 
@@ -159,11 +159,11 @@ module _ {X : Type 0} (number : X → ℕ) where
   -- ---- an entry changed
 
   module _ (n : ℕ) (f : X → X) where
-    same_at : (es : List (ℕ × X)) → is_listing number es ≡ true → is_new n es ≡ true → values_of es ≡ map (changed_at number n f) (values_of es)
+    same_at : (es : List (ℕ × X)) → is_listing number es ≡ true → is_new_number n es ≡ true → values_of es ≡ map (changed_at number n f) (values_of es)
     same_at [] l k = refl
     same_at (e ∷ es) l k =
         let p = parts_of e es l in
-        let q = and_parts (not (e.0 == n)) (is_new n es) k in
+        let q = and_parts (not (e.0 == n)) (is_new_number n es) k in
         ap (λ ys. e.1 ∷ ys) (same_at es p.rest q.1)
         ∙ sym (ap (λ b. (if b then f e.1 else e.1) ∷ map (changed_at number n f) (values_of es)) (head-other n e p.own q.0))
 

@@ -8,7 +8,7 @@ use Rattle.std.proofs.lemmas.Bool.{eqb-true, and_parts, not-true}
 use Rattle.audit_model.specs.Changes.{join_by}
 use Rattle.audit_model.specs.Situation.{Situation, Connection, connection_in, without_number, without_connection, with_connection, is_overlong, without_waiting}
 use Rattle.audit_situation.specs.Listings.{changed_at}
-use Rattle.audit_situation.specs.States.{are_apart}
+use Rattle.audit_situation.specs.States.{have_numbers_apart}
 
 -- what a step does to loads changes no connection
 pub join-keeps : (conn : ℕ) (waits : Bool) (key : Option (List ℕ)) (load : Option ℕ) (s : Situation) → (join_by conn waits key load s).connections ≡ s.connections
@@ -74,7 +74,7 @@ module _ (conn : ℕ) where
             ap (λ b. cond (not b) (d ∷ without_number conn (map (changed_at of_number conn F) ds)) (without_number conn (map (changed_at of_number conn F) ds))) h ∙ ap (λ ys. d ∷ ys) ih
 
   -- where no two have one number, it is one that changes
-  swapped : (F : Connection → Connection) (cs : List Connection) (c : Connection) → are_apart cs ≡ true → find hits cs ≡ Some c → map (changed_at of_number conn F) cs ≡ map (changed_at of_number conn (λ _. F c)) cs
+  swapped : (F : Connection → Connection) (cs : List Connection) (c : Connection) → have_numbers_apart cs ≡ true → find hits cs ≡ Some c → map (changed_at of_number conn F) cs ≡ map (changed_at of_number conn (λ _. F c)) cs
   swapped F [] c a e = refl
   swapped F (d ∷ ds) c a e = let p = and_parts _ _ a in go (hits d) refl p.0 e (swapped F ds c p.1)
     where
@@ -113,7 +113,7 @@ module _ (conn : ℕ) where
             }) b)
 
     -- it stays, or there is none
-    pub kept_is : are_apart s.connections ≡ true → closing (connection_in conn s) ≡ false → changed ≡ wanted (connection_in conn s)
+    pub kept_is : have_numbers_apart s.connections ≡ true → closing (connection_in conn s) ≡ false → changed ≡ wanted (connection_in conn s)
     kept_is apart closes = go (connection_in conn s) refl closes
       where
         go : (o : Option Connection) → connection_in conn s ≡ o → closing o ≡ false → changed ≡ wanted o

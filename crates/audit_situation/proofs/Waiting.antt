@@ -19,7 +19,7 @@ use Rattle.std.proofs.lemmas.Slice.Eq.{bytes_eq-Decides}
 use Rattle.audit_model.specs.Bytewise.{same}
 use Rattle.audit_model.specs.Situation.{PendingLoad, with_waiting, without_waiting}
 use Rattle.audit_situation.specs.Listings.{changed_at}
-use Rattle.audit_situation.specs.Underway.{Keys, Joined, number_at, load_of, is_numbered, IsKeyed, IsAwaited, Keeps}
+use Rattle.audit_situation.specs.Underway.{Keys, Joined, number_at, load_of, has_number, IsKeyed, IsAwaited, KeepsNumbers}
 
 -- ---- lists
 
@@ -84,14 +84,14 @@ module _ {X : Type 0} where
   from-rec P (x ∷ xs) a zero d h = a.0
   from-rec P (x ∷ xs) a (suc i) d h = from-rec P xs a.1 i d (omega arith)
 
-keyed-of : {last : ℕ} {keys : Keys} {joined : Joined} {loads : List PendingLoad} → Keeps last keys joined loads → AllByRecursion (IsKeyed keys) loads
+keyed-of : {last : ℕ} {keys : Keys} {joined : Joined} {loads : List PendingLoad} → KeepsNumbers last keys joined loads → AllByRecursion (IsKeyed keys) loads
 keyed-of {last} {keys} {joined} {loads} k = to-rec (IsKeyed keys) loads k.keyed
 
-awaited-of : {last : ℕ} {keys : Keys} {joined : Joined} {loads : List PendingLoad} → Keeps last keys joined loads → AllByRecursion (IsAwaited joined) loads
+awaited-of : {last : ℕ} {keys : Keys} {joined : Joined} {loads : List PendingLoad} → KeepsNumbers last keys joined loads → AllByRecursion (IsAwaited joined) loads
 awaited-of {last} {keys} {joined} {loads} k = to-rec (IsAwaited joined) loads k.awaited
 
 keep : (last : ℕ) (keys : Keys) (joined : Joined) (loads : List PendingLoad) → ((key : List ℕ) (n : ℕ) → number_at key keys ≡ Some n → n ≤ last) → AllByRecursion (IsKeyed keys) loads → AllByRecursion (IsAwaited joined) loads
-    → Keeps last keys joined loads
+    → KeepsNumbers last keys joined loads
 keep last keys joined loads past keyed awaited = record { past = past; keyed = from-rec (IsKeyed keys) loads keyed; awaited = from-rec (IsAwaited joined) loads awaited }
 
 -- ---- numbers in a list
@@ -207,19 +207,19 @@ either-way P (Err e) x y new ok err px py = subst P (sym err) py
 
 -- ---- where nothing changes but what stands beside
 
-pub nothing-kept : (last : ℕ) (keys : Keys) (joined : Joined) → keys.entries ≡ [] → Keeps last keys joined []
+pub nothing-kept : (last : ℕ) (keys : Keys) (joined : Joined) → keys.entries ≡ [] → KeepsNumbers last keys joined []
 nothing-kept last keys joined e = keep last keys joined [] (λ key n h. absurd (none-some n (sym (ap (lookup (at key)) e) ∙ h))) tt tt
 
 -- connections that waited still wait for the same
-pub more-joined : (last : ℕ) (keys : Keys) (joined after : Joined) (loads : List PendingLoad) → ((q : ℕ) → is_some (load_of q joined) ≡ true → load_of q after ≡ load_of q joined) → Keeps last keys joined loads → Keeps last keys after loads
+pub more-joined : (last : ℕ) (keys : Keys) (joined after : Joined) (loads : List PendingLoad) → ((q : ℕ) → is_some (load_of q joined) ≡ true → load_of q after ≡ load_of q joined) → KeepsNumbers last keys joined loads → KeepsNumbers last keys after loads
 more-joined last keys joined after loads stays k =
     keep last keys after loads k.past (keyed-of k) (all-to (IsAwaited joined) (IsAwaited after) (λ p a conn w. stays conn (ap is_some (a conn w)) ∙ a conn w) loads (awaited-of k))
 
 -- the keys' numbers are the same
-pub same-keys : (last : ℕ) (keys after : Keys) (joined : Joined) (loads : List PendingLoad) → ((q : List ℕ) → number_at q after ≡ number_at q keys) → Keeps last keys joined loads → Keeps last after joined loads
+pub same-keys : (last : ℕ) (keys after : Keys) (joined : Joined) (loads : List PendingLoad) → ((q : List ℕ) → number_at q after ≡ number_at q keys) → KeepsNumbers last keys joined loads → KeepsNumbers last after joined loads
 same-keys last keys after joined loads is k =
     keep last after joined loads (λ key n h. k.past key n (sym (is key) ∙ h))
-    (all-to (IsKeyed keys) (IsKeyed after) (λ p f key. f key ∙ ap (λ o. is_numbered o p) (sym (is key))) loads (keyed-of k)) (awaited-of k)
+    (all-to (IsKeyed keys) (IsKeyed after) (λ p f key. f key ∙ ap (λ o. has_number o p) (sym (is key))) loads (keyed-of k)) (awaited-of k)
 
 -- a connection that waited for nothing waits
 pub joins : (conn number : ℕ) (joined after : Joined) → is_some (load_of conn joined) ≡ false → ((q : ℕ) → load_of q after ≡ cond (conn == q) (Some number) (load_of q joined))
@@ -241,7 +241,7 @@ module _ (last : ℕ) (keys : Keys) where
   below : ((key : List ℕ) (n : ℕ) → number_at key keys ≡ Some n → n ≤ last) → (p : PendingLoad) → IsKeyed keys p → p.number ≤ last
   below past p k = go (number_at p.key keys) refl (sym (k p.key) ∙ same-self p.key)
     where
-      go : (o : Option ℕ) → number_at p.key keys ≡ o → is_numbered o p ≡ true → p.number ≤ last
+      go : (o : Option ℕ) → number_at p.key keys ≡ o → has_number o p ≡ true → p.number ≤ last
       go None e h = absurd (true≢false (sym h))
       go (Some n) e h = let is = eqb-true p.number n h in let le = past p.key n e in omega (arith, is, le)
 
@@ -257,12 +257,12 @@ module _ (last : ℕ) (keys : Keys) where
     keyed-after : (p : PendingLoad) → IsKeyed keys p → IsKeyed after p
     keyed-after p k q = go (same key q) refl
       where
-        go : (b : Bool) → same key q ≡ b → same p.key q ≡ is_numbered (number_at q after) p
+        go : (b : Bool) → same key q ≡ b → same p.key q ≡ has_number (number_at q after) p
         go true e =
             let le = below past p k in
-            k q ∙ ap (λ o. is_numbered o p) (ap (λ t. number_at t keys) (sym (equal key q e)) ∙ is-none (number_at key keys) free)
-            ∙ sym (ap (λ o. is_numbered o p) (puts q ∙ ap (λ b. cond b (Some number) (number_at q keys)) e) ∙ ne_eqb p.number number (λ is. omega (arith, is, le)))
-        go false e = k q ∙ sym (ap (λ o. is_numbered o p) (puts q ∙ ap (λ b. cond b (Some number) (number_at q keys)) e))
+            k q ∙ ap (λ o. has_number o p) (ap (λ t. number_at t keys) (sym (equal key q e)) ∙ is-none (number_at key keys) free)
+            ∙ sym (ap (λ o. has_number o p) (puts q ∙ ap (λ b. cond b (Some number) (number_at q keys)) e) ∙ ne_eqb p.number number (λ is. omega (arith, is, le)))
+        go false e = k q ∙ sym (ap (λ o. has_number o p) (puts q ∙ ap (λ b. cond b (Some number) (number_at q keys)) e))
 
     keyed-new : (waiting : List ℕ) → IsKeyed after (record { number = number; key = key; waiting = waiting })
     keyed-new waiting q = go (same key q) refl
@@ -270,20 +270,20 @@ module _ (last : ℕ) (keys : Keys) where
         load : PendingLoad
         load = record { number = number; key = key; waiting = waiting }
 
-        other : (o : Option ℕ) → number_at q keys ≡ o → is_numbered o load ≡ false
+        other : (o : Option ℕ) → number_at q keys ≡ o → has_number o load ≡ false
         other None h = refl
         other (Some n) h = let le = past q n h in ne_eqb number n (λ is. omega (arith, is, le))
 
-        go : (b : Bool) → same key q ≡ b → b ≡ is_numbered (number_at q after) load
-        go true e = sym (ap (λ o. is_numbered o load) (puts q ∙ ap (λ b. cond b (Some number) (number_at q keys)) e) ∙ eq-eqb number number refl)
-        go false e = sym (ap (λ o. is_numbered o load) (puts q ∙ ap (λ b. cond b (Some number) (number_at q keys)) e) ∙ other (number_at q keys) refl)
+        go : (b : Bool) → same key q ≡ b → b ≡ has_number (number_at q after) load
+        go true e = sym (ap (λ o. has_number o load) (puts q ∙ ap (λ b. cond b (Some number) (number_at q keys)) e) ∙ eq-eqb number number refl)
+        go false e = sym (ap (λ o. has_number o load) (puts q ∙ ap (λ b. cond b (Some number) (number_at q keys)) e) ∙ other (number_at q keys) refl)
 
     -- the keys know it before it is there
-    pub known : (joined : Joined) (loads : List PendingLoad) → Keeps last keys joined loads → Keeps number after joined loads
+    pub known : (joined : Joined) (loads : List PendingLoad) → KeepsNumbers last keys joined loads → KeepsNumbers number after joined loads
     known joined loads k = keep number after joined loads past-after (all-to (IsKeyed keys) (IsKeyed after) keyed-after loads (keyed-of k)) (awaited-of k)
 
-    pub sent : (conn : ℕ) (joined : Joined) (loads : List PendingLoad) → load_of conn joined ≡ Some number → Keeps last keys joined loads
-        → Keeps number after joined (record { number = number; key = key; waiting = conn ∷ [] } ∷ loads)
+    pub sent : (conn : ℕ) (joined : Joined) (loads : List PendingLoad) → load_of conn joined ≡ Some number → KeepsNumbers last keys joined loads
+        → KeepsNumbers number after joined (record { number = number; key = key; waiting = conn ∷ [] } ∷ loads)
     sent conn joined loads waits k =
         keep number after joined (record { number = number; key = key; waiting = conn ∷ [] } ∷ loads) past-after (keyed-new (conn ∷ []), all-to (IsKeyed keys) (IsKeyed after) keyed-after loads (keyed-of k)) (first, awaited-of k)
       where
@@ -298,11 +298,11 @@ module _ (last : ℕ) (keys : Keys) where
 
 pub of-number : (keys : Keys) (key : List ℕ) (n : ℕ) (loads : List PendingLoad) → All (IsKeyed keys) loads → number_at key keys ≡ Some n → find (λ p. p.number == n) loads ≡ find (λ p. same p.key key) loads
 of-number keys key n loads k e =
-    find-same (λ p. p.number == n) (λ p. same p.key key) loads (all-to (IsKeyed keys) (λ p. (p.number == n) ≡ same p.key key) (λ p f. sym (f key ∙ ap (λ o. is_numbered o p) e)) loads (to-rec (IsKeyed keys) loads k))
+    find-same (λ p. p.number == n) (λ p. same p.key key) loads (all-to (IsKeyed keys) (λ p. (p.number == n) ≡ same p.key key) (λ p f. sym (f key ∙ ap (λ o. has_number o p) e)) loads (to-rec (IsKeyed keys) loads k))
 
 pub of-none : (keys : Keys) (key : List ℕ) (loads : List PendingLoad) → All (IsKeyed keys) loads → number_at key keys ≡ None → None ≡ find (λ p. same p.key key) loads
 of-none keys key loads k e =
-    sym (find-same (λ p. same p.key key) (λ p. false) loads (all-to (IsKeyed keys) (λ p. same p.key key ≡ false) (λ p f. f key ∙ ap (λ o. is_numbered o p) e) loads (to-rec (IsKeyed keys) loads k)) ∙ find-none loads)
+    sym (find-same (λ p. same p.key key) (λ p. false) loads (all-to (IsKeyed keys) (λ p. same p.key key ≡ false) (λ p f. f key ∙ ap (λ o. has_number o p) e) loads (to-rec (IsKeyed keys) loads k)) ∙ find-none loads)
 
 -- ---- a load joined
 
@@ -313,11 +313,11 @@ pub joined_is : (keys : Keys) (key : List ℕ) (n conn : ℕ) (loads : List Pend
     → map (changed_at (λ p. p.number) n (with_one conn)) loads ≡ map (with_waiting conn key) loads
 joined_is keys key n conn loads k e =
     map-same (changed_at (λ p. p.number) n (with_one conn)) (with_waiting conn key) loads
-    (all-to (IsKeyed keys) (λ p. changed_at (λ p. p.number) n (with_one conn) p ≡ with_waiting conn key p) (λ p f. ap (λ b. if b then with_one conn p else p) (sym (f key ∙ ap (λ o. is_numbered o p) e))) loads (to-rec (IsKeyed keys) loads k))
+    (all-to (IsKeyed keys) (λ p. changed_at (λ p. p.number) n (with_one conn) p ≡ with_waiting conn key p) (λ p f. ap (λ b. if b then with_one conn p else p) (sym (f key ∙ ap (λ o. has_number o p) e))) loads (to-rec (IsKeyed keys) loads k))
 
 pub unjoined_is : (keys : Keys) (key : List ℕ) (conn : ℕ) (loads : List PendingLoad) → All (IsKeyed keys) loads → number_at key keys ≡ None → loads ≡ map (with_waiting conn key) loads
 unjoined_is keys key conn loads k e =
-    map-id (with_waiting conn key) loads (all-to (IsKeyed keys) (λ p. p ≡ with_waiting conn key p) (λ p f. sym (ap (λ b. if b then with_one conn p else p) (f key ∙ ap (λ o. is_numbered o p) e))) loads (to-rec (IsKeyed keys) loads k))
+    map-id (with_waiting conn key) loads (all-to (IsKeyed keys) (λ p. p ≡ with_waiting conn key p) (λ p f. sym (ap (λ b. if b then with_one conn p else p) (f key ∙ ap (λ o. has_number o p) e))) loads (to-rec (IsKeyed keys) loads k))
 
 -- a load changed in what waits for it stands at the same key
 same-place : (keys : Keys) (n : ℕ) (f : PendingLoad → PendingLoad) → ((p : PendingLoad) → IsKeyed keys p → IsKeyed keys (f p)) → (p : PendingLoad) → IsKeyed keys p → IsKeyed keys (changed_at (λ p. p.number) n f p)
@@ -328,7 +328,7 @@ same-place keys n f to p k = go (p.number == n)
     go false = k
 
 pub joined-keeps : (last n conn : ℕ) (keys : Keys) (joined after : Joined) (loads : List PendingLoad) → is_some (load_of conn joined) ≡ false → ((q : ℕ) → load_of q after ≡ cond (conn == q) (Some n) (load_of q joined))
-    → Keeps last keys joined loads → Keeps last keys after (map (changed_at (λ p. p.number) n (with_one conn)) loads)
+    → KeepsNumbers last keys joined loads → KeepsNumbers last keys after (map (changed_at (λ p. p.number) n (with_one conn)) loads)
 joined-keeps last n conn keys joined after loads free puts k =
     keep last keys after (map (changed_at (λ p. p.number) n (with_one conn)) loads) k.past
     (all-map (IsKeyed keys) (IsKeyed keys) (changed_at (λ p. p.number) n (with_one conn)) (same-place keys n (with_one conn) (λ p f. f)) loads (keyed-of k))
@@ -377,7 +377,7 @@ unleft_is conn joined loads a e =
     (all-to (IsAwaited joined) (λ p. p ≡ without_waiting conn p) (λ p f. stays-out conn p (false_from_ne_true _ (λ w. none-some p.number (sym e ∙ f conn w)))) loads (to-rec (IsAwaited joined) loads a))
 
 pub left-keeps : (last conn : ℕ) (keys : Keys) (joined after : Joined) (loads : List PendingLoad) → ((q : ℕ) → load_of q after ≡ cond (conn == q) None (load_of q joined))
-    → Keeps last keys joined loads → Keeps last keys after (map (without_waiting conn) loads)
+    → KeepsNumbers last keys joined loads → KeepsNumbers last keys after (map (without_waiting conn) loads)
 left-keeps last conn keys joined after loads rest k =
     keep last keys after (map (without_waiting conn) loads) k.past (all-map (IsKeyed keys) (IsKeyed keys) (without_waiting conn) (λ p f. f) loads (keyed-of k))
     (all-map (IsAwaited joined) (IsAwaited after) (without_waiting conn) one loads (awaited-of k))
@@ -387,29 +387,29 @@ left-keeps last conn keys joined after loads rest k =
 
 -- ---- a load left out
 
-pub none-removed : (last number : ℕ) (keys : Keys) (joined : Joined) (loads : List PendingLoad) → Keeps last keys joined loads → Keeps last keys joined (filter (λ p. not (p.number == number)) loads)
+pub none-removed : (last number : ℕ) (keys : Keys) (joined : Joined) (loads : List PendingLoad) → KeepsNumbers last keys joined loads → KeepsNumbers last keys joined (filter (λ p. not (p.number == number)) loads)
 none-removed last number keys joined loads k =
     keep last keys joined (filter (λ p. not (p.number == number)) loads) k.past (all-filter (IsKeyed keys) (IsKeyed keys) (λ p. not (p.number == number)) (λ p e f. f) loads (keyed-of k))
     (all-filter (IsAwaited joined) (IsAwaited joined) (λ p. not (p.number == number)) (λ p e f. f) loads (awaited-of k))
 
 module _ (last number : ℕ) (keys keys_after : Keys) (joined joined_after : Joined) (loads : List PendingLoad) (load : PendingLoad) (found : find (λ p. p.number == number) loads ≡ Some load)
     (less : (q : List ℕ) → number_at q keys_after ≡ cond (same load.key q) None (number_at q keys))
-    (fewer : (q : ℕ) → load_of q joined_after ≡ cond (list_any (λ n. n == q) load.waiting) None (load_of q joined)) (k : Keeps last keys joined loads) where
+    (fewer : (q : ℕ) → load_of q joined_after ≡ cond (list_any (λ n. n == q) load.waiting) None (load_of q joined)) (k : KeepsNumbers last keys joined loads) where
   own : load.number ≡ number
   own = eqb-true load.number number (find-true (λ p. p.number == number) loads load found)
 
   key-left : (p : PendingLoad) → not (p.number == number) ≡ true → IsKeyed keys p → IsKeyed keys_after p
   key-left p e f q = go (same load.key q) refl
     where
-      not-it : (o : Option ℕ) → is_numbered o load ≡ true → is_numbered o p ≡ false
+      not-it : (o : Option ℕ) → has_number o load ≡ true → has_number o p ≡ false
       not-it None h = refl
       not-it (Some n) h = ap (λ m. p.number == m) (sym (eqb-true load.number n h) ∙ own) ∙ not-true _ e
 
-      go : (b : Bool) → same load.key q ≡ b → same p.key q ≡ is_numbered (number_at q keys_after) p
+      go : (b : Bool) → same load.key q ≡ b → same p.key q ≡ has_number (number_at q keys_after) p
       go true h =
           f q ∙ not-it (number_at q keys) (sym (all-find (IsKeyed keys) (λ p. p.number == number) loads load (keyed-of k) found q) ∙ h)
-          ∙ sym (ap (λ o. is_numbered o p) (less q ∙ ap (λ b. cond b None (number_at q keys)) h))
-      go false h = f q ∙ sym (ap (λ o. is_numbered o p) (less q ∙ ap (λ b. cond b None (number_at q keys)) h))
+          ∙ sym (ap (λ o. has_number o p) (less q ∙ ap (λ b. cond b None (number_at q keys)) h))
+      go false h = f q ∙ sym (ap (λ o. has_number o p) (less q ∙ ap (λ b. cond b None (number_at q keys)) h))
 
   past-left : (q : List ℕ) (n : ℕ) → number_at q keys_after ≡ Some n → n ≤ last
   past-left q n h = go (same load.key q) (sym (less q) ∙ h)
@@ -428,7 +428,7 @@ module _ (last number : ℕ) (keys keys_after : Keys) (joined joined_after : Joi
           absurd (true≢false (sym (eq-eqb p.number number (number_is ∙ own)) ∙ not-true _ e))
       go false h = fewer conn ∙ ap (λ b. cond b None (load_of conn joined)) h ∙ a conn w
 
-  pub removed-keeps : Keeps last keys_after joined_after (filter (λ p. not (p.number == number)) loads)
+  pub removed-keeps : KeepsNumbers last keys_after joined_after (filter (λ p. not (p.number == number)) loads)
   removed-keeps =
       keep last keys_after joined_after (filter (λ p. not (p.number == number)) loads) past-left
       (all-filter (IsKeyed keys) (IsKeyed keys_after) (λ p. not (p.number == number)) key-left loads (keyed-of k))

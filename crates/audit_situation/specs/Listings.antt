@@ -3,13 +3,13 @@ use Rattle.std.specs.Prelude.{ℕ, Bool, true, not, ◌&&◌, ◌==◌, List, []
 use Rattle.std.specs.List.{list_all}
 
 -- none of the entries has that number
-abbrev pub is_new : {X : Type 0} → ℕ → List (ℕ × X) → Bool
-is_new n es = list_all (λ e. not (e.0 == n)) es
+abbrev pub is_new_number : {X : Type 0} → ℕ → List (ℕ × X) → Bool
+is_new_number n es = list_all (λ e. not (e.0 == n)) es
 
 -- each stands at its own number, and no number comes twice
 abbrev pub is_listing : {X : Type 0} → (X → ℕ) → List (ℕ × X) → Bool
 is_listing number [] = true
-is_listing number (e ∷ es) = (e.0 == number e.1) && is_new e.0 es && is_listing number es
+is_listing number (e ∷ es) = (e.0 == number e.1) && is_new_number e.0 es && is_listing number es
 
 -- changes what is of that number
 abbrev pub changed_at : {X : Type 0} → (X → ℕ) → ℕ → (X → X) → X → X

@@ -2,14 +2,14 @@
 use Rattle.std.specs.Prelude.{ℕ, ◌+◌, ◌++◌, Bool, not, ◌&&◌, List, Option, Some, None, if◌then◌else◌}
 use Rattle.audit_model.specs.Situation.{Standing, Ready, Held, Waiting, Connection}
 use Rattle.audit_model.specs.Stream.{behind_lines}
-use Rattle.audit_situation.specs.declared.link.Standing.{Standing as Stands}
-use Rattle.audit_situation.specs.declared.link.Standing.TheVariants as stands
+use Rattle.audit_situation.specs.declared.link.LinkStanding.{LinkStanding as Stands}
+use Rattle.audit_situation.specs.declared.link.LinkStanding.TheVariants as stands
 
 -- the same as the definitions have it
-abbrev pub standing_of : Stands → Standing
-standing_of stands.Ready = Ready
-standing_of (stands.Held line) = Held line
-standing_of (stands.Waiting line) = Waiting line
+abbrev pub shown_standing : Stands → Standing
+shown_standing stands.Ready = Ready
+shown_standing (stands.Held line) = Held line
+shown_standing (stands.Waiting line) = Waiting line
 
 -- how a step leaves its connection: its line is held back, or else it has its reply, or else it waits
 abbrev pub left_standing : Bool → Bool → List ℕ → Standing

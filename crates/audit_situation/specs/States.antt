@@ -8,14 +8,14 @@ use Rattle.audit_situation.specs.Standings.{moved_on}
 use Rattle.audit_situation.specs.declared.state.State.{State}
 
 -- as the definitions have it
-abbrev pub situation_of : State → Situation
-situation_of s =
+abbrev pub shown_situation : State → Situation
+shown_situation s =
     record { latest = s.latest; opened = s.opened; sent = s.sent; connections = s.connections; pending = s.pending; held = s.held; dropped = s.dropped }
 
 -- no two have one number
-abbrev pub are_apart : List Connection → Bool
-are_apart [] = true
-are_apart (c ∷ cs) = not (list_any (λ d. d.number == c.number) cs) && are_apart cs
+abbrev pub have_numbers_apart : List Connection → Bool
+have_numbers_apart [] = true
+have_numbers_apart (c ∷ cs) = not (list_any (λ d. d.number == c.number) cs) && have_numbers_apart cs
 
 -- the situation when a piece came for a connection
 abbrev pub fed_to : ℕ → List ℕ → Situation → Situation

@@ -27,19 +27,19 @@ abbrev pub load_of : ℕ → Joined → Option ℕ
 load_of conn joined = get_by (nat_cmp conn) joined
 
 -- the load has that number
-abbrev pub is_numbered : Option ℕ → PendingLoad → Bool
-is_numbered number load = option_map_or (λ n. load.number == n) number false
+abbrev pub has_number : Option ℕ → PendingLoad → Bool
+has_number number load = option_map_or (λ n. load.number == n) number false
 
 -- the load's number stands at its key, and at no other
 abbrev pub IsKeyed : Keys → PendingLoad → Type 0
-IsKeyed keys load = (key : List ℕ) → same load.key key ≡ is_numbered (number_at key keys) load
+IsKeyed keys load = (key : List ℕ) → same load.key key ≡ has_number (number_at key keys) load
 
 -- the load's number stands at each connection that waits for it
 abbrev pub IsAwaited : Joined → PendingLoad → Type 0
 IsAwaited joined load = (conn : ℕ) → list_any (λ n. n == conn) load.waiting ≡ true → load_of conn joined ≡ Some load.number
 
 -- the numbers stand where they are to, and none is above the last
-pub record Keeps (last : ℕ) (keys : Keys) (joined : Joined) (loads : List PendingLoad) : Type 0 where
+pub record KeepsNumbers (last : ℕ) (keys : Keys) (joined : Joined) (loads : List PendingLoad) : Type 0 where
   pub past : (key : List ℕ) (n : ℕ) → number_at key keys ≡ Some n → n ≤ last
   pub keyed : All (IsKeyed keys) loads
   pub awaited : All (IsAwaited joined) loads

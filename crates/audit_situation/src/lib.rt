@@ -11,9 +11,9 @@ mod pending;
 mod state;
 mod waiters;
 
-pub use link::{Link, Moving, Standing, first_line};
+pub use link::{Link, LinkStanding, Moving, first_line};
 pub use links::Links;
-pub use loads::Loads;
+pub use loads::LoadTable;
 pub use pending::Pending;
 pub use state::{
     Moved, State, begin, close, feed, find_link, find_load, find_pending, is_holding, may_run,

@@ -3,10 +3,10 @@ ghost use Rattle.std.specs.Prelude.{◌≡◌, ◌<◌, ◌+◌, [], ◌++◌, �
 ghost use Rattle.audit_model.specs.Bytewise.{cut_at};
 ghost use Rattle.audit_model.specs.Stream.{first_line, behind_lines, without_return};
 ghost use Rattle.audit_model.specs.Situation.{Ready, is_ready, is_holding, is_waiting_now, is_overlong};
-ghost use Rattle.audit_situation.specs.Standings.{kept_line, standing_of, left_standing, waits_after, moved_on, fed_with};
+ghost use Rattle.audit_situation.specs.Standings.{kept_line, shown_standing, left_standing, waits_after, moved_on, fed_with};
 
+use audit_lines::Buffer;
 use audit_model::{Bytes, Seq};
-use cache_lines::Buffer;
 use memchr::memchr;
 use std::alloc::{AllocError, Global};
 use std::marker::Model;
@@ -16,7 +16,7 @@ const MAX: usize = 8192;
 
 /// Whether a connection runs lines, holds one back, or waits with a `LOAD`.
 #[derive(Drop)]
-pub enum Standing {
+pub enum LinkStanding {
     Ready,
     Held(Bytes),
     Waiting(Bytes),
@@ -27,17 +27,17 @@ pub enum Standing {
 pub struct Link {
     number: u64,
     unread: Buffer,
-    standing: Standing,
+    standing: LinkStanding,
     waited: u64,
 }
 
 impl Model for Link {
     ghost use Rattle.audit_model.specs.Situation.{Connection};
-    ghost use Rattle.audit_situation.specs.Standings.{standing_of};
+    ghost use Rattle.audit_situation.specs.Standings.{shown_standing};
 
     ghost Value = { Connection };
 
-    ghost view = { λ l. record { number = l.number; unread = l.unread.bytes; standing = standing_of l.standing; waited = l.waited } };
+    ghost view = { λ l. record { number = l.number; unread = l.unread.bytes; standing = shown_standing l.standing; waited = l.waited } };
 }
 
 impl Link {
@@ -48,7 +48,7 @@ impl Link {
         Link {
             number,
             unread: Buffer::new(alloc),
-            standing: Standing::Ready,
+            standing: LinkStanding::Ready,
             waited: 0,
         }
     }
@@ -72,9 +72,9 @@ impl Link {
         ensures { result ≡ is_ready self.now.standing }
     {
         match &self.standing {
-            Standing::Ready => true,
-            Standing::Held(_) => false,
-            Standing::Waiting(_) => false,
+            LinkStanding::Ready => true,
+            LinkStanding::Held(_) => false,
+            LinkStanding::Waiting(_) => false,
         }
     }
 
@@ -83,9 +83,9 @@ impl Link {
         ensures { result ≡ is_holding self.now.standing }
     {
         match &self.standing {
-            Standing::Ready => false,
-            Standing::Held(_) => true,
-            Standing::Waiting(_) => false,
+            LinkStanding::Ready => false,
+            LinkStanding::Held(_) => true,
+            LinkStanding::Waiting(_) => false,
         }
     }
 
@@ -94,9 +94,9 @@ impl Link {
         ensures { result ≡ is_waiting_now self.now.standing }
     {
         match &self.standing {
-            Standing::Ready => false,
-            Standing::Held(_) => false,
-            Standing::Waiting(_) => true,
+            LinkStanding::Ready => false,
+            LinkStanding::Held(_) => false,
+            LinkStanding::Waiting(_) => true,
         }
     }
 
@@ -105,9 +105,9 @@ impl Link {
         ensures { option_map (λ l. l.now) result ≡ kept_line self.now.standing }
     {
         match &self.standing {
-            Standing::Ready => None,
-            Standing::Held(line) => Some(line.as_slice()),
-            Standing::Waiting(line) => Some(line.as_slice()),
+            LinkStanding::Ready => None,
+            LinkStanding::Held(line) => Some(line.as_slice()),
+            LinkStanding::Waiting(line) => Some(line.as_slice()),
         }
     }
 
@@ -139,8 +139,8 @@ impl Link {
     }
 
     /// Leaves it as a step of its own does.
-    pub fn settle(&mut self, standing: Standing, waited: u64)
-        ensures { self.new ≡ record self.old { standing = standing_of standing; waited = waited } }
+    pub fn settle(&mut self, standing: LinkStanding, waited: u64)
+        ensures { self.new ≡ record self.old { standing = shown_standing standing; waited = waited } }
     {
         self.standing = standing;
         self.waited = waited;
@@ -211,17 +211,17 @@ pub struct Moving<'a> {
 }
 
 /// How a step leaves its connection.
-fn standing_after(alloc: Global, moving: Moving<'_>) -> Result<Standing, AllocError>
-    ensures { IfOk result (λ standing. standing_of standing ≡ left_standing moving.entry.holds moving.entry.replies moving.entry.line.now) }
+fn standing_after(alloc: Global, moving: Moving<'_>) -> Result<LinkStanding, AllocError>
+    ensures { IfOk result (λ standing. shown_standing standing ≡ left_standing moving.entry.holds moving.entry.replies moving.entry.line.now) }
 {
     if !moving.holds && moving.replies {
-        return Ok(Standing::Ready);
+        return Ok(LinkStanding::Ready);
     }
     let line = Seq::from_vec(Vec::from_slice(alloc, moving.line)?);
     if moving.holds {
-        Ok(Standing::Held(line))
+        Ok(LinkStanding::Held(line))
     } else {
-        Ok(Standing::Waiting(line))
+        Ok(LinkStanding::Waiting(line))
     }
 }
 

@@ -3,7 +3,7 @@ ghost use Rattle.std.specs.Prelude.{◌≡◌, ◌++◌, ◌∷◌, [], map, not
 ghost use Rattle.std.specs.List.{find, filter};
 ghost use Rattle.audit_model.specs.Bytewise.{same};
 ghost use Rattle.audit_model.specs.Situation.{with_waiting, without_waiting};
-ghost use Rattle.audit_situation.specs.Underway.{Keeps};
+ghost use Rattle.audit_situation.specs.Underway.{KeepsNumbers};
 
 use crate::joined::{load_of, put_waiting, remove_all, take_waiting};
 use crate::keys::{number_at, put_key, remove_key};
@@ -17,16 +17,16 @@ use std::marker::Model;
 
 /// Loads by number and by key, seen as the list of them, the newest first.
 #[derive(Drop)]
-pub struct Loads {
+pub struct LoadTable {
     alloc: Global,
     table: Numbered,
     keys: BTreeMap<Vec<u8>, u64>,
     joined: BTreeMap<u64, u64>,
     last: u64,
-    ghost keeps: { Keeps last keys joined table },
+    ghost keeps: { KeepsNumbers last keys joined table },
 }
 
-impl Model for Loads {
+impl Model for LoadTable {
     ghost use Rattle.std.specs.Prelude.{List};
     ghost use Rattle.audit_model.specs.Situation.{PendingLoad};
 
@@ -45,12 +45,12 @@ fn new_load(alloc: Global, number: u64, key: &[u8], conn: u64) -> Result<Pending
     Ok(Pending::new(number, key, waiting))
 }
 
-impl Loads {
+impl LoadTable {
     /// No loads.
-    pub fn new(alloc: Global) -> Result<Loads, AllocError>
+    pub fn new(alloc: Global) -> Result<LoadTable, AllocError>
         ensures { IfOk result (λ l. l ≡ []) }
     {
-        Ok(Loads {
+        Ok(LoadTable {
             alloc,
             table: Numbered::new(alloc)?,
             keys: BTreeMap::new(alloc),

@@ -6,12 +6,12 @@ ghost use Rattle.audit_model.specs.Bytewise.{same};
 ghost use Rattle.audit_model.specs.Changes.{join_by};
 ghost use Rattle.audit_model.specs.Follows.{without_load};
 ghost use Rattle.audit_model.specs.Situation.{Ready, empty_situation, connection_in, may_run_in, is_holding_in, without_waiting, without_connection, with_connection, with_waiting, load_in, pending_in};
-ghost use Rattle.audit_situation.specs.States.{situation_of, are_apart, fed_to, moved_in};
+ghost use Rattle.audit_situation.specs.States.{shown_situation, have_numbers_apart, fed_to, moved_in};
 ghost use Rattle.audit_situation.specs.Standings.{moved_on};
 
 use crate::link::{Link, Moving, first_line};
 use crate::links::Links;
-use crate::loads::Loads;
+use crate::loads::LoadTable;
 use crate::pending::Pending;
 use audit_held::Holding;
 use std::alloc::{AllocError, Global};
@@ -24,21 +24,21 @@ pub struct State {
     pub opened: u64,
     pub sent: u64,
     pub connections: Links,
-    pub pending: Loads,
+    pub pending: LoadTable,
     pub held: Holding,
     pub dropped: bool,
 }
 
 /// The situation of a namespace that was made at that moment, in nanoseconds.
 pub fn begin(alloc: Global, made: u64) -> Result<State, AllocError>
-    ensures { IfOk result (λ s. situation_of s ≡ empty_situation made) }
+    ensures { IfOk result (λ s. shown_situation s ≡ empty_situation made) }
 {
     Ok(State {
         latest: made,
         opened: 0,
         sent: 0,
         connections: Links::new(alloc)?,
-        pending: Loads::new(alloc)?,
+        pending: LoadTable::new(alloc)?,
         held: Holding::new(alloc)?,
         dropped: false,
     })
@@ -53,7 +53,7 @@ pub fn find_link(links: &Links, conn: u64) -> Option<&Link>
 
 /// Whether a connection's next line may run.
 pub fn may_run(s: &State, conn: u64) -> bool
-    ensures { result ≡ may_run_in (situation_of s.now) conn }
+    ensures { result ≡ may_run_in (shown_situation s.now) conn }
 {
     match find_link(&s.connections, conn) {
         Some(link) => link.is_ready() && first_line(link.unread()).is_some(),
@@ -63,7 +63,7 @@ pub fn may_run(s: &State, conn: u64) -> bool
 
 /// Whether a connection holds a line back.
 pub fn is_holding(s: &State, conn: u64) -> bool
-    ensures { result ≡ is_holding_in (situation_of s.now) conn }
+    ensures { result ≡ is_holding_in (shown_situation s.now) conn }
 {
     match find_link(&s.connections, conn) {
         Some(link) => link.is_holding(),
@@ -73,7 +73,7 @@ pub fn is_holding(s: &State, conn: u64) -> bool
 
 /// How often a connection's `LOAD` that has no reply yet began to wait.
 pub fn waited(s: &State, conn: u64) -> u64
-    ensures { result ≡ option_map_or (λ c. c.waited) (connection_in conn (situation_of s.now)) 0 }
+    ensures { result ≡ option_map_or (λ c. c.waited) (connection_in conn (shown_situation s.now)) 0 }
 {
     match find_link(&s.connections, conn) {
         Some(link) => link.waited(),
@@ -82,14 +82,14 @@ pub fn waited(s: &State, conn: u64) -> u64
 }
 
 /// The load under way of a key.
-pub fn find_load<'a>(pending: &'a Loads, key: &[u8]) -> Option<&'a Pending>
+pub fn find_load<'a>(pending: &'a LoadTable, key: &[u8]) -> Option<&'a Pending>
     ensures { option_map (λ p. p.now) result ≡ find (λ p. same p.key key.now) pending.now }
 {
     pending.of_key(key)
 }
 
 /// The load under way of that number.
-pub fn find_pending(pending: &Loads, number: u64) -> Option<&Pending>
+pub fn find_pending(pending: &LoadTable, number: u64) -> Option<&Pending>
     ensures { option_map (λ p. p.now) result ≡ find (λ p. p.number == number) pending.now }
 {
     pending.get(number)
@@ -97,7 +97,7 @@ pub fn find_pending(pending: &Loads, number: u64) -> Option<&Pending>
 
 /// Opens a connection, with the next number.
 pub fn open(alloc: Global, s: &mut State, conn: u64) -> Result<(), AllocError>
-    ensures { OnOk result (situation_of s.new ≡ record (situation_of s.old) { opened = conn; connections = s.old.connections ++ record { number = conn; unread = []; standing = Ready; waited = 0 } ∷ [] }) }
+    ensures { OnOk result (shown_situation s.new ≡ record (shown_situation s.old) { opened = conn; connections = s.old.connections ++ record { number = conn; unread = []; standing = Ready; waited = 0 } ∷ [] }) }
 {
     s.connections.add(Link::new(alloc, conn))?;
     s.opened = conn;
@@ -106,7 +106,7 @@ pub fn open(alloc: Global, s: &mut State, conn: u64) -> Result<(), AllocError>
 
 /// Closes a connection; its load stays under way.
 pub fn close(s: &mut State, conn: u64)
-    ensures { situation_of s.new ≡ without_connection conn (situation_of s.old) }
+    ensures { shown_situation s.new ≡ without_connection conn (shown_situation s.old) }
 {
     s.connections.remove(conn);
     s.pending.leave(conn);
@@ -114,8 +114,8 @@ pub fn close(s: &mut State, conn: u64)
 
 /// Takes a piece for a connection.
 pub fn feed(s: &mut State, conn: u64, piece: &[u8]) -> Result<(), AllocError>
-    requires { IsTrue (are_apart s.old.connections) }
-    ensures { OnOk result (situation_of s.new ≡ fed_to conn piece.now (situation_of s.old)) }
+    requires { IsTrue (have_numbers_apart s.old.connections) }
+    ensures { OnOk result (shown_situation s.new ≡ fed_to conn piece.now (shown_situation s.old)) }
 {
     let closes = s.connections.feed(conn, piece)?;
     if closes {
@@ -126,7 +126,7 @@ pub fn feed(s: &mut State, conn: u64, piece: &[u8]) -> Result<(), AllocError>
 
 /// Sends a load of a key, for which a connection waits.
 fn send(s: &mut State, conn: u64, key: &[u8], number: u64) -> Result<(), AllocError>
-    ensures { OnOk result (situation_of s.new ≡ record (situation_of s.old) { sent = suc s.old.sent; pending = record { number = number; key = key.now; waiting = conn ∷ [] } ∷ s.old.pending }) }
+    ensures { OnOk result (shown_situation s.new ≡ record (shown_situation s.old) { sent = suc s.old.sent; pending = record { number = number; key = key.now; waiting = conn ∷ [] } ∷ s.old.pending }) }
 {
     let Some(sent) = s.sent.checked_add(1) else {
         return Err(AllocError);
@@ -144,7 +144,7 @@ pub fn join(
     key: Option<&[u8]>,
     load: Option<u64>,
 ) -> Result<(), AllocError>
-    ensures { OnOk result (situation_of s.new ≡ join_by conn waits (option_map (λ k. k.now) key.entry) load (situation_of s.old)) }
+    ensures { OnOk result (shown_situation s.new ≡ join_by conn waits (option_map (λ k. k.now) key.entry) load (shown_situation s.old)) }
 {
     match key {
         None => Ok(()),
@@ -178,8 +178,8 @@ fn waits(moving: Moving<'_>) -> bool
 
 /// Does to the connection of a step, and to the loads, what the step does.
 pub fn pass(alloc: Global, s: &mut State, moved: Moved<'_>) -> Result<(), AllocError>
-    requires { IsTrue (are_apart s.old.connections) }
-    ensures { OnOk result (situation_of s.new ≡ moved_in moved.entry.conn moved.entry.moving.reads moved.entry.moving.holds moved.entry.moving.replies moved.entry.moving.line.now moved.entry.quits (option_map (λ k. k.now) moved.entry.key) moved.entry.load (situation_of s.old)) }
+    requires { IsTrue (have_numbers_apart s.old.connections) }
+    ensures { OnOk result (shown_situation s.new ≡ moved_in moved.entry.conn moved.entry.moving.reads moved.entry.moving.holds moved.entry.moving.replies moved.entry.moving.line.now moved.entry.quits (option_map (λ k. k.now) moved.entry.key) moved.entry.load (shown_situation s.old)) }
 {
     if find_link(&s.connections, moved.conn).is_some() {
         let waits = waits(moved.moving);
@@ -197,8 +197,8 @@ fn move_in(
     moving: Moving<'_>,
     quits: bool,
 ) -> Result<(), AllocError>
-    requires { IsTrue (are_apart s.old.connections) }
-    ensures { OnOk result (situation_of s.new ≡ option_map_or (λ c. with_connection quits (moved_on moving.entry.reads moving.entry.holds moving.entry.replies moving.entry.line.now c) (situation_of s.old)) (connection_in conn (situation_of s.old)) (situation_of s.old)) }
+    requires { IsTrue (have_numbers_apart s.old.connections) }
+    ensures { OnOk result (shown_situation s.new ≡ option_map_or (λ c. with_connection quits (moved_on moving.entry.reads moving.entry.holds moving.entry.replies moving.entry.line.now c) (shown_situation s.old)) (connection_in conn (shown_situation s.old)) (shown_situation s.old)) }
 {
     let closes = s.connections.move_on(alloc, conn, moving, quits)?;
     if closes {
@@ -209,7 +209,7 @@ fn move_in(
 
 /// A load is settled at a moment.
 pub fn settle(s: &mut State, number: u64, moment: u64)
-    ensures { situation_of s.new ≡ without_load number moment (situation_of s.old) }
+    ensures { shown_situation s.new ≡ without_load number moment (shown_situation s.old) }
 {
     s.latest = moment.max(s.latest);
     s.pending.remove(number);

@@ -13,9 +13,9 @@ use Rattle.audit_model.specs.Steps.{Task, PlacedStep, effect_in, is_right, is_in
 use Rattle.audit_model.specs.View.{View}
 use Rattle.audit_model.specs.declared.config.Config.{Config}
 use Rattle.audit_model.specs.declared.transcript.Step.{Step}
-use Rattle.audit_judge.specs.After.{IsNew}
+use Rattle.audit_notes.specs.After.{IsJustAccepted}
 use Rattle.audit_steps.specs.declared.accepting.Proposal.{Proposal}
-use Rattle.audit_parts.specs.Known.{KeyPart, agrees_with, with_value}
+use Rattle.audit_held.specs.Known.{KeyPart, agrees_with, with_value}
 
 -- the step in its place, doing that and accepting that value
 abbrev pub placed_with : Config → Situation → Option Task → Action → Step → Option Value → PlacedStep
@@ -53,14 +53,14 @@ abbrev pub offer_from : Proposal → Offer
 offer_from o = record { key = o.key; bytes = o.bytes; ms = o.ms }
 
 -- what is accepted of an offer, where the step shows that part: none of these where it accepts wrongly
-abbrev pub Takes : Config → ℕ → Option ℕ → Option Offer → Option (Option HeldValue) → Type 0
-Takes config now part offer None = takes_rightly config part (is_some offer) ≡ false
-Takes config now part offer (Some newcomer) =
-    (takes_rightly config part (is_some offer) ≡ true) × (option_map (λ h. h.value) newcomer ≡ value_from config now offer part) × IfSome newcomer (IsNew now)
+abbrev pub AcceptsOffer : Config → ℕ → Option ℕ → Option Offer → Option (Option HeldValue) → Type 0
+AcceptsOffer config now part offer None = takes_rightly config part (is_some offer) ≡ false
+AcceptsOffer config now part offer (Some newcomer) =
+    (takes_rightly config part (is_some offer) ≡ true) × (option_map (λ h. h.value) newcomer ≡ value_from config now offer part) × IfSome newcomer (IsJustAccepted now)
 
 -- the same of a step that does that
 abbrev pub Accepts : Config → Situation → Action → Option ℕ → Option (Option HeldValue) → Type 0
-Accepts config s action part newcomer = Takes config s.latest part (offer_of config (view_in config s) action) newcomer
+Accepts config s action part newcomer = AcceptsOffer config s.latest part (offer_of config (view_in config s) action) newcomer
 
 -- the step is right and its value has its key's part exactly where the answer is true; and then this situation and these parts are left
 pub record IsJudged (config : Config) (s : Situation) (parts : List KeyPart) (task : Option Task) (step : Step) (placed : PlacedStep) (b : Bool) (t : Situation) (more : List KeyPart) : Type 0 where

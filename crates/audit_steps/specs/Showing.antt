@@ -8,8 +8,8 @@ use Rattle.audit_steps.specs.declared.shown.Duty.{Duty}
 use Rattle.audit_steps.specs.declared.shown.Duty.TheVariants as duty
 
 -- the step
-abbrev pub step_of : Shown → Step
-step_of shown =
+abbrev pub shown_step : Shown → Step
+shown_step shown =
     record { conn = shown.conn; line = shown.line.now; held = shown.held; reply = option_map (λ r. r.now) shown.reply; load = shown.load; accepted = shown.accepted; notices = shown.notices.now }
 
 -- the task

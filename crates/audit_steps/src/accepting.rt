@@ -6,19 +6,18 @@ ghost use Rattle.audit_model.specs.Replies.{offered, offer_of, value_with};
 ghost use Rattle.audit_model.specs.Situation.{view_in};
 ghost use Rattle.audit_model.specs.Values.{own_deadline_from, after_ms};
 ghost use Rattle.audit_model.specs.declared.command.Command.TheVariants as says;
-ghost use Rattle.audit_judge.specs.After.{IsNew};
-ghost use Rattle.audit_situation.specs.States.{situation_of};
+ghost use Rattle.audit_notes.specs.After.{IsJustAccepted};
+ghost use Rattle.audit_situation.specs.States.{shown_situation};
 ghost use Rattle.audit_model.specs.declared.config.Config.{Config};
-ghost use Rattle.audit_owing.specs.Doings.{action_of};
-ghost use Rattle.audit_parts.specs.Known.{agrees, agrees_with, with_part, with_value};
-ghost use Rattle.audit_steps.specs.Judging.{offer_from, Takes, Accepts};
+ghost use Rattle.audit_actions.specs.Doings.{action_of};
+ghost use Rattle.audit_held.specs.Known.{agrees, agrees_with, with_part, with_value};
+ghost use Rattle.audit_steps.specs.Judging.{offer_from, AcceptsOffer, Accepts};
 
 use crate::replies::{accepts, digits_of, sum_with};
-use audit_held::Held;
-use audit_judge::part_count;
+use audit_actions::{Doing, found};
+use audit_held::{Held, Parts};
 use audit_model::{Accepted, Bytes, Config, Outcome, Seq, Weight};
-use audit_owing::{Doing, found};
-use audit_parts::Parts;
+use audit_notes::part_count;
 use audit_situation::State;
 use std::alloc::{AllocError, Global};
 
@@ -37,7 +36,7 @@ fn offered(
     s: &State,
     doing: Doing<'_>,
 ) -> Result<Option<Proposal>, AllocError>
-    ensures { IfOk result (λ o. option_map offer_from o ≡ offered (view_in config.now (situation_of s.now)) (action_of doing.entry)) }
+    ensures { IfOk result (λ o. option_map offer_from o ≡ offered (view_in config.now (shown_situation s.now)) (action_of doing.entry)) }
 {
     match doing {
         Doing::Set { key, ms, value } => offer_some(alloc, key, value, ms),
@@ -85,7 +84,7 @@ fn offered_sum(
     ms: Option<u64>,
     number: u64,
 ) -> Result<Option<Proposal>, AllocError>
-    ensures { IfOk result (λ o. option_map offer_from o ≡ offered (view_in config.now (situation_of s.now)) (Running (says.Add key.now ms number))) }
+    ensures { IfOk result (λ o. option_map offer_from o ≡ offered (view_in config.now (shown_situation s.now)) (Running (says.Add key.now ms number))) }
 {
     match sum_with(found(config, s, key), number) {
         Some(sum) => {
@@ -103,7 +102,7 @@ fn offer_of(
     s: &State,
     doing: Doing<'_>,
 ) -> Result<Option<Proposal>, AllocError>
-    ensures { IfOk result (λ o. option_map offer_from o ≡ offer_of config.now (view_in config.now (situation_of s.now)) (action_of doing.entry)) }
+    ensures { IfOk result (λ o. option_map offer_from o ≡ offer_of config.now (view_in config.now (shown_situation s.now)) (action_of doing.entry)) }
 {
     if accepts(config) {
         offered(alloc, config, s, doing)
@@ -160,7 +159,7 @@ pub fn accept(
     doing: Doing<'_>,
     accepted: Option<Accepted>,
 ) -> Result<Option<Option<Held>>, AllocError>
-    ensures accepts { IfOk result (Accepts config.now (situation_of s.now) (action_of doing.entry) (option_map (λ a. a.part) accepted)) }
+    ensures accepts { IfOk result (Accepts config.now (shown_situation s.now) (action_of doing.entry) (option_map (λ a. a.part) accepted)) }
     ensures small { IfOk result (λ taken. IfSome taken (λ newcomer. IfSome newcomer (λ h. h.value.part < 256))) }
 {
     let offer = offer_of(alloc, config, s, doing)?;
@@ -172,7 +171,7 @@ pub fn accept(
 
 /// What a step accepts that shows no part.
 fn none_for(offer: Option<Proposal>) -> Option<Option<Held>>
-    ensures takes { (config : Config) (now : ℕ) → Takes config now None (option_map offer_from offer) result }
+    ensures takes { (config : Config) (now : ℕ) → AcceptsOffer config now None (option_map offer_from offer) result }
     ensures none { IfSome result (λ newcomer. newcomer ≡ None) }
 {
     match offer {
@@ -188,7 +187,7 @@ fn take(
     part: u64,
     offer: Option<Proposal>,
 ) -> Result<Option<Option<Held>>, AllocError>
-    ensures takes { IfOk result (Takes config.now now (Some part) (option_map offer_from offer)) }
+    ensures takes { IfOk result (AcceptsOffer config.now now (Some part) (option_map offer_from offer)) }
     ensures small { IfOk result (λ taken. IfSome taken (λ newcomer. IfSome newcomer (λ h. h.value.part < 256))) }
 {
     match offer {

@@ -10,14 +10,14 @@ ghost use Rattle.audit_model.specs.Loads.{key_loaded};
 ghost use Rattle.audit_model.specs.Notes.{is_silent};
 ghost use Rattle.audit_model.specs.Steps.{action_by, may_hold, RunAgain, RunLines};
 ghost use Rattle.audit_model.specs.Stream.{is_held};
-ghost use Rattle.audit_judge.specs.Deeds.{covering_of, deed_with};
-ghost use Rattle.audit_owing.specs.Doings.{action_of};
+ghost use Rattle.audit_notes.specs.Deeds.{covering_by, deed_with};
+ghost use Rattle.audit_actions.specs.Doings.{action_of};
 ghost use Rattle.audit_steps.specs.Doings.{acting};
 
-use audit_judge::{Covering, Deed};
+use audit_actions::Doing;
+use audit_lines::{Request, read_line};
 use audit_model::Config;
-use audit_owing::Doing;
-use cache_lines::{Request, read_line};
+use audit_notes::{Covering, Deed};
 
 /// What a line does.
 pub fn do_line<'a>(config: &Config, line: &'a [u8]) -> Doing<'a>
@@ -108,7 +108,7 @@ fn is_ok(reply: Option<&[u8]>) -> bool
 
 /// Which keys a step with that reply covers.
 fn covering<'a>(doing: Doing<'a>, reply: Option<&[u8]>) -> Covering<'a>
-    ensures { (load : Option ℕ) → covering_of result ≡ covers_by (acting (action_of doing.entry) (option_map (λ r. r.now) reply.entry) load) }
+    ensures { (load : Option ℕ) → covering_by result ≡ covers_by (acting (action_of doing.entry) (option_map (λ r. r.now) reply.entry) load) }
 {
     match doing {
         Doing::Clear => Covering::Everything,
@@ -124,7 +124,7 @@ fn covering<'a>(doing: Doing<'a>, reply: Option<&[u8]>) -> Covering<'a>
 
 /// What a `DROPIF` covers, that was accepted or not.
 fn covering_prefix<'a>(prefix: &'a [u8], accepted: bool) -> Covering<'a>
-    ensures { covering_of result ≡ (if accepted then Prefixed prefix.now else Nothing) }
+    ensures { covering_by result ≡ (if accepted then Prefixed prefix.now else Nothing) }
 {
     if accepted {
         Covering::Prefixed(prefix)

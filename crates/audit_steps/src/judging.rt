@@ -9,25 +9,24 @@ ghost use Rattle.audit_model.specs.Notes.{is_silent, is_within};
 ghost use Rattle.audit_model.specs.Situation.{connection_in, view_in};
 ghost use Rattle.audit_model.specs.Steps.{Task, RunHeld, has_right_notes};
 ghost use Rattle.audit_model.specs.View.{View};
-ghost use Rattle.audit_judge.specs.After.{IsNew};
+ghost use Rattle.audit_notes.specs.After.{IsJustAccepted};
 ghost use Rattle.audit_held.specs.Weights.{values_of};
-ghost use Rattle.audit_parts.specs.Known.{agrees_with, with_value};
-ghost use Rattle.audit_situation.specs.States.{situation_of, are_apart};
-ghost use Rattle.audit_owing.specs.Doings.{action_of};
+ghost use Rattle.audit_held.specs.Known.{agrees_with, with_value};
+ghost use Rattle.audit_situation.specs.States.{shown_situation, have_numbers_apart};
+ghost use Rattle.audit_actions.specs.Doings.{action_of};
 ghost use Rattle.audit_steps.specs.Doings.{acting};
 ghost use Rattle.audit_steps.specs.Judging.{placed_by, placed_with, is_fit, is_synced, reply_fits, IsJudged};
-ghost use Rattle.audit_steps.specs.Showing.{step_of, task_of};
+ghost use Rattle.audit_steps.specs.Showing.{shown_step, task_of};
 
 use crate::accepting::{accept, admit};
 use crate::doing::{deed_of, is_drop, is_hold, is_silent, is_sync, key_loaded, quits};
 use crate::owing::replies_rightly;
 use crate::replies::{counts_of, is_said};
 use crate::shown::{Duty, Shown, do_due, is_duty_of, is_held_rightly, is_run_lines, is_store};
-use audit_held::{Held, Holding};
-use audit_judge::{PARTS, do_deed, is_over, limit_of};
+use audit_actions::{Doing, loads_rightly};
+use audit_held::{Held, Holding, Parts};
 use audit_model::{Config, Note};
-use audit_owing::{Doing, loads_rightly};
-use audit_parts::Parts;
+use audit_notes::{PARTS, do_deed, is_over, limit_of};
 use audit_situation::{Link, Moved, Moving, State, find_link, first_line, pass, waited};
 use std::alloc::{AllocError, Global};
 
@@ -44,7 +43,7 @@ fn due_line(link: &Link) -> Option<&[u8]>
 
 /// Whether a line is the one that is due of a connection.
 fn is_due_of(s: &State, conn: u64, line: &[u8]) -> bool
-    ensures { result ≡ option_eq same (line_in (Some (RunHeld 0)) (connection_in conn (situation_of s.now))) (Some line.now) }
+    ensures { result ≡ option_eq same (line_in (Some (RunHeld 0)) (connection_in conn (shown_situation s.now))) (Some line.now) }
 {
     match find_link(&s.connections, conn) {
         Some(link) => is_said(due_line(link), Some(line)),
@@ -54,7 +53,7 @@ fn is_due_of(s: &State, conn: u64, line: &[u8]) -> bool
 
 /// Whether a step has the line that is due.
 fn has_right_line(s: &State, duty: Option<Duty<'_>>, conn: u64, line: &[u8]) -> bool
-    ensures { result ≡ option_eq same (line_in (option_map task_of duty.entry) (connection_in conn (situation_of s.now))) (Some line.now) }
+    ensures { result ≡ option_eq same (line_in (option_map task_of duty.entry) (connection_in conn (shown_situation s.now))) (Some line.now) }
 {
     match duty {
         Some(Duty::Store(_, _)) => line == b"".as_slice(),
@@ -82,7 +81,7 @@ fn is_fit(
     shown: Shown<'_>,
     doing: Doing<'_>,
 ) -> Result<bool, AllocError>
-    ensures { IfOk result (λ b. b ≡ is_fit config.now (placed_by config.now (situation_of s.now) (option_map task_of duty.entry) (action_of doing.entry) (step_of shown.entry))) }
+    ensures { IfOk result (λ b. b ≡ is_fit config.now (placed_by config.now (shown_situation s.now) (option_map task_of duty.entry) (action_of doing.entry) (shown_step shown.entry))) }
 {
     let turn = is_duty_of(shown.conn, duty);
     let held = is_held_rightly(duty, shown.held, doing);
@@ -146,10 +145,10 @@ fn do_values(
     doing: Doing<'_>,
     newcomer: Option<Held>,
 ) -> Result<bool, AllocError>
-    requires new { IfSome newcomer (IsNew s.old.latest) }
+    requires new { IfSome newcomer (IsJustAccepted s.old.latest) }
     requires small { IfSome newcomer (λ h. h.value.part < 256) }
-    ensures right { IfOk result (λ b. (task : Option Task) → let placed = placed_with config.now (situation_of s.old) task (action_of doing.entry) (step_of shown.entry) (option_map (λ h. h.value) newcomer) in b ≡ (has_right_notes config.now placed && is_synced config.now placed)) }
-    ensures left { IfOk result (λ b. b ≡ true → let effect = (placed_with config.now (situation_of s.old) None (action_of doing.entry) (step_of shown.entry) (option_map (λ h. h.value) newcomer)).effect in situation_of s.new ≡ record (situation_of s.old) { held = all_held_after config.now s.old.latest s.old.held (deed_of effect) effect.notes; dropped = s.old.dropped || drops effect }) }
+    ensures right { IfOk result (λ b. (task : Option Task) → let placed = placed_with config.now (shown_situation s.old) task (action_of doing.entry) (shown_step shown.entry) (option_map (λ h. h.value) newcomer) in b ≡ (has_right_notes config.now placed && is_synced config.now placed)) }
+    ensures left { IfOk result (λ b. b ≡ true → let effect = (placed_with config.now (shown_situation s.old) None (action_of doing.entry) (shown_step shown.entry) (option_map (λ h. h.value) newcomer)).effect in shown_situation s.new ≡ record (shown_situation s.old) { held = all_held_after config.now s.old.latest s.old.held (deed_of effect) effect.notes; dropped = s.old.dropped || drops effect }) }
 {
     let deed = deed_of(doing, shown.reply);
     if !do_deed(
@@ -179,8 +178,8 @@ fn pass_step(
     shown: Shown<'_>,
     doing: Doing<'_>,
 ) -> Result<(), AllocError>
-    requires { IsTrue (are_apart s.old.connections) }
-    ensures { OnOk result (situation_of s.new ≡ with_connection_after (option_map task_of duty.entry) (step_of shown.entry) (acting (action_of doing.entry) (option_map (λ r. r.now) shown.entry.reply) shown.entry.load) (situation_of s.old)) }
+    requires { IsTrue (have_numbers_apart s.old.connections) }
+    ensures { OnOk result (shown_situation s.new ≡ with_connection_after (option_map task_of duty.entry) (shown_step shown.entry) (acting (action_of doing.entry) (option_map (λ r. r.now) shown.entry.reply) shown.entry.load) (shown_situation s.old)) }
 {
     if is_store(duty) {
         return Ok(());
@@ -211,11 +210,11 @@ fn finish(
     doing: Doing<'_>,
     newcomer: Option<Held>,
 ) -> Result<bool, AllocError>
-    requires apart { IsTrue (are_apart s.old.connections) }
-    requires new { IfSome newcomer (IsNew s.old.latest) }
+    requires apart { IsTrue (have_numbers_apart s.old.connections) }
+    requires new { IfSome newcomer (IsJustAccepted s.old.latest) }
     requires small { IfSome newcomer (λ h. h.value.part < 256) }
-    ensures right { IfOk result (λ b. let placed = placed_with config.now (situation_of s.old) (option_map task_of duty.entry) (action_of doing.entry) (step_of shown.entry) (option_map (λ h. h.value) newcomer) in b ≡ (has_right_notes config.now placed && is_synced config.now placed)) }
-    ensures left { IfOk result (λ b. b ≡ true → situation_of s.new ≡ after_step config.now (situation_of s.old) (option_map task_of duty.entry) (step_of shown.entry) (placed_with config.now (situation_of s.old) (option_map task_of duty.entry) (action_of doing.entry) (step_of shown.entry) (option_map (λ h. h.value) newcomer)).effect) }
+    ensures right { IfOk result (λ b. let placed = placed_with config.now (shown_situation s.old) (option_map task_of duty.entry) (action_of doing.entry) (shown_step shown.entry) (option_map (λ h. h.value) newcomer) in b ≡ (has_right_notes config.now placed && is_synced config.now placed)) }
+    ensures left { IfOk result (λ b. b ≡ true → shown_situation s.new ≡ after_step config.now (shown_situation s.old) (option_map task_of duty.entry) (shown_step shown.entry) (placed_with config.now (shown_situation s.old) (option_map task_of duty.entry) (action_of doing.entry) (shown_step shown.entry) (option_map (λ h. h.value) newcomer)).effect) }
 {
     if !do_values(alloc, config, s, shown, doing, newcomer)? {
         return Ok(false);
@@ -235,11 +234,11 @@ fn judge_accepted(
     doing: Doing<'_>,
     newcomer: Option<Held>,
 ) -> Result<bool, AllocError>
-    requires apart { IsTrue (are_apart s.old.connections) }
-    requires new { IfSome newcomer (IsNew s.old.latest) }
+    requires apart { IsTrue (have_numbers_apart s.old.connections) }
+    requires new { IfSome newcomer (IsJustAccepted s.old.latest) }
     requires small { IfSome newcomer (λ h. h.value.part < 256) }
-    ensures right { IfOk result (λ b. let placed = placed_with config.now (situation_of s.old) (option_map task_of duty.entry) (action_of doing.entry) (step_of shown.entry) (option_map (λ h. h.value) newcomer) in b ≡ (agrees_with parts.old (option_map (λ h. h.value) newcomer) && (has_right_notes config.now placed && is_synced config.now placed))) }
-    ensures left { IfOk result (λ b. b ≡ true → situation_of s.new ≡ after_step config.now (situation_of s.old) (option_map task_of duty.entry) (step_of shown.entry) (placed_with config.now (situation_of s.old) (option_map task_of duty.entry) (action_of doing.entry) (step_of shown.entry) (option_map (λ h. h.value) newcomer)).effect) }
+    ensures right { IfOk result (λ b. let placed = placed_with config.now (shown_situation s.old) (option_map task_of duty.entry) (action_of doing.entry) (shown_step shown.entry) (option_map (λ h. h.value) newcomer) in b ≡ (agrees_with parts.old (option_map (λ h. h.value) newcomer) && (has_right_notes config.now placed && is_synced config.now placed))) }
+    ensures left { IfOk result (λ b. b ≡ true → shown_situation s.new ≡ after_step config.now (shown_situation s.old) (option_map task_of duty.entry) (shown_step shown.entry) (placed_with config.now (shown_situation s.old) (option_map task_of duty.entry) (action_of doing.entry) (shown_step shown.entry) (option_map (λ h. h.value) newcomer)).effect) }
     ensures kept { IfOk result (λ b. b ≡ true → parts.new ≡ with_value parts.old (option_map (λ h. h.value) newcomer)) }
 {
     if !admit(parts, newcomer.as_ref())? {
@@ -258,8 +257,8 @@ fn judge_doing(
     shown: Shown<'_>,
     doing: Doing<'_>,
 ) -> Result<bool, AllocError>
-    requires { IsTrue (are_apart s.old.connections) }
-    ensures { IfOk result (λ b. IsJudged config.now (situation_of s.old) parts.old (option_map task_of duty.entry) (step_of shown.entry) (placed_by config.now (situation_of s.old) (option_map task_of duty.entry) (action_of doing.entry) (step_of shown.entry)) b (situation_of s.new) parts.new) }
+    requires { IsTrue (have_numbers_apart s.old.connections) }
+    ensures { IfOk result (λ b. IsJudged config.now (shown_situation s.old) parts.old (option_map task_of duty.entry) (shown_step shown.entry) (placed_by config.now (shown_situation s.old) (option_map task_of duty.entry) (action_of doing.entry) (shown_step shown.entry)) b (shown_situation s.new) parts.new) }
 {
     if !is_fit(alloc, config, s, duty, shown, doing)? {
         return Ok(false);
@@ -280,8 +279,8 @@ pub fn judge(
     duty: Option<Duty<'_>>,
     shown: Shown<'_>,
 ) -> Result<bool, AllocError>
-    requires { IsTrue (are_apart s.old.connections) }
-    ensures { IfOk result (λ b. IsJudged config.now (situation_of s.old) parts.old (option_map task_of duty.entry) (step_of shown.entry) (placed_step_in config.now (situation_of s.old) (option_map task_of duty.entry) (step_of shown.entry)) b (situation_of s.new) parts.new) }
+    requires { IsTrue (have_numbers_apart s.old.connections) }
+    ensures { IfOk result (λ b. IsJudged config.now (shown_situation s.old) parts.old (option_map task_of duty.entry) (shown_step shown.entry) (placed_step_in config.now (shown_situation s.old) (option_map task_of duty.entry) (shown_step shown.entry)) b (shown_situation s.new) parts.new) }
 {
     let waited = waited(s, shown.conn);
     let doing = do_due(config, waited, duty, shown);

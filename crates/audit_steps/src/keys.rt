@@ -8,8 +8,8 @@ ghost use Rattle.audit_model.specs.Situation.{live_keys_at};
 ghost use Rattle.audit_model.specs.Values.{without_key};
 
 use audit_held::{Holding, Seen};
-use audit_judge::is_live;
 use audit_model::Config;
+use audit_notes::is_live;
 use itoa::Buffer;
 use std::alloc::{AllocError, Global};
 use std::collections::BTreeMap;

@@ -7,8 +7,8 @@ ghost use Rattle.audit_model.specs.Bytewise.{same, text_line};
 ghost use Rattle.audit_model.specs.declared.command.Command.TheVariants as says;
 ghost use Rattle.audit_model.specs.Replies.{reply_of};
 ghost use Rattle.audit_model.specs.Situation.{view_in};
-ghost use Rattle.audit_situation.specs.States.{situation_of};
-ghost use Rattle.audit_owing.specs.Doings.{action_of};
+ghost use Rattle.audit_situation.specs.States.{shown_situation};
+ghost use Rattle.audit_actions.specs.Doings.{action_of};
 ghost use Rattle.audit_steps.specs.Judging.{reply_fits};
 
 use crate::doing::is_sync;
@@ -17,8 +17,8 @@ use crate::replies::{
     accepts, fault_text, is_said, ok_or_off, outcome_text, sum_or_error, sum_with, value_or_none,
     value_reply, yes_or_no,
 };
+use audit_actions::{Doing, found, may_refuse};
 use audit_model::Config;
-use audit_owing::{Doing, found, may_refuse};
 use audit_situation::State;
 use std::alloc::{AllocError, Global};
 
@@ -30,7 +30,7 @@ fn add_reply(
     key: &[u8],
     number: u64,
 ) -> Result<Vec<u8>, AllocError>
-    ensures { IfOk result (λ r. (ms : Option ℕ) (values : List Value) → Some r.items ≡ reply_of config.now (view_in config.now (situation_of s.now)) values (Running (says.Add key.now ms number))) }
+    ensures { IfOk result (λ r. (ms : Option ℕ) (values : List Value) → Some r.items ≡ reply_of config.now (view_in config.now (shown_situation s.now)) values (Running (says.Add key.now ms number))) }
 {
     if accepts(config) {
         sum_or_error(alloc, sum_with(found(config, s, key), number))
@@ -46,7 +46,7 @@ fn load_reply(
     s: &State,
     key: &[u8],
 ) -> Result<Option<Vec<u8>>, AllocError>
-    ensures { IfOk result (λ r. (values : List Value) → option_map (λ t. t.items) r ≡ reply_of config.now (view_in config.now (situation_of s.now)) values (Running (says.Load key.now))) }
+    ensures { IfOk result (λ r. (values : List Value) → option_map (λ t. t.items) r ≡ reply_of config.now (view_in config.now (shown_situation s.now)) values (Running (says.Load key.now))) }
 {
     match found(config, s, key) {
         Some(held) => Ok(Some(value_reply(alloc, held.bytes)?)),
@@ -68,7 +68,7 @@ fn owed(
     s: &State,
     doing: Doing<'_>,
 ) -> Result<Option<Vec<u8>>, AllocError>
-    ensures { IfOk result (λ r. (values : List Value) → is_sync (action_of doing.entry) ≡ false → option_map (λ t. t.items) r ≡ reply_of config.now (view_in config.now (situation_of s.now)) values (action_of doing.entry)) }
+    ensures { IfOk result (λ r. (values : List Value) → is_sync (action_of doing.entry) ≡ false → option_map (λ t. t.items) r ≡ reply_of config.now (view_in config.now (shown_situation s.now)) values (action_of doing.entry)) }
 {
     match doing {
         Doing::Set { .. } => text(alloc, ok_or_off(config)),
@@ -105,7 +105,7 @@ pub fn replies_rightly(
     doing: Doing<'_>,
     reply: Option<&[u8]>,
 ) -> Result<bool, AllocError>
-    ensures { IfOk result (λ b. (values : List Value) → b ≡ (is_sync (action_of doing.entry) || reply_fits config.now (view_in config.now (situation_of s.now)) (action_of doing.entry) (option_map (λ r. r.now) reply.entry) values)) }
+    ensures { IfOk result (λ b. (values : List Value) → b ≡ (is_sync (action_of doing.entry) || reply_fits config.now (view_in config.now (shown_situation s.now)) (action_of doing.entry) (option_map (λ r. r.now) reply.entry) values)) }
 {
     if is_sync(doing) {
         return Ok(true);

@@ -3,13 +3,13 @@ ghost use Rattle.std.specs.Prelude.{◌≡◌, ◌++◌, IfOk, option_map, decim
 ghost use Rattle.std.specs.Option.{option_eq};
 ghost use Rattle.audit_model.specs.Bytewise.{same, text_line};
 ghost use Rattle.audit_model.specs.History.{accepts_values};
-ghost use Rattle.audit_model.specs.Replies.{value_reply, value_or_none, yes_or_no, ok_or_off, sum_with, sum_or_error, fault_text, outcome_text, counts_of};
+ghost use Rattle.audit_model.specs.Replies.{value_reply, value_or_none, yes_or_no, ok_or_off, sum_with, sum_or_error, fault_text, outcome_text, count_and_weight};
 ghost use Rattle.audit_held.specs.Seeing.{held_of};
 ghost use Rattle.audit_held.specs.Weights.{values_of};
 
 use audit_held::{Holding, Seen};
+use audit_lines::number;
 use audit_model::{Config, LineError, Outcome};
-use cache_numbers::number;
 use itoa::Buffer;
 use std::alloc::{AllocError, Global};
 
@@ -126,7 +126,7 @@ pub fn outcome_text(alloc: Global, outcome: &Outcome) -> Result<Vec<u8>, AllocEr
 
 /// How many values there are, and what they weigh together.
 pub fn counts_of(alloc: Global, held: &Holding) -> Result<Vec<u8>, AllocError>
-    ensures { IfOk result (λ line. line.items ≡ counts_of (values_of held.now)) }
+    ensures { IfOk result (λ line. line.items ≡ count_and_weight (values_of held.now)) }
 {
     let mut number = Buffer::new();
     let mut weight = Buffer::new();

@@ -2,12 +2,12 @@
 ghost use Rattle.std.specs.Prelude.{◌≡◌, ◌||◌, not, option_map, nat_le, if◌then◌else◌};
 ghost use Rattle.audit_model.specs.History.{Abandoning};
 ghost use Rattle.audit_model.specs.Steps.{action_in, action_of_line, is_task_of, may_hold};
-ghost use Rattle.audit_owing.specs.Doings.{action_of};
-ghost use Rattle.audit_steps.specs.Showing.{step_of, task_of, runs_lines, stores};
+ghost use Rattle.audit_actions.specs.Doings.{action_of};
+ghost use Rattle.audit_steps.specs.Showing.{shown_step, task_of, runs_lines, stores};
 
 use crate::doing::{do_line, is_hold};
+use audit_actions::Doing;
 use audit_model::{Accepted, Config, Note, Outcome, Step};
-use audit_owing::Doing;
 
 /// What a record shows of a step.
 #[derive(Clone, Copy)]
@@ -34,7 +34,7 @@ pub enum Duty<'a> {
 
 /// What a record shows of a step of a connection.
 pub fn show(step: &Step) -> Shown<'_>
-    ensures { step_of result ≡ step.now }
+    ensures { shown_step result ≡ step.now }
 {
     let reply = match &step.reply {
         Some(reply) => Some(reply.as_slice()),
@@ -53,7 +53,7 @@ pub fn show(step: &Step) -> Shown<'_>
 
 /// What a line does that is held back or not.
 fn do_shown<'a>(config: &Config, shown: Shown<'a>) -> Doing<'a>
-    ensures { action_of result ≡ action_of_line config.now (step_of shown.entry) }
+    ensures { action_of result ≡ action_of_line config.now (shown_step shown.entry) }
 {
     if shown.held {
         Doing::Hold
@@ -69,7 +69,7 @@ pub fn do_due<'a>(
     duty: Option<Duty<'a>>,
     shown: Shown<'a>,
 ) -> Doing<'a>
-    ensures { action_of result ≡ action_in config.now waited (option_map task_of duty.entry) (step_of shown.entry) }
+    ensures { action_of result ≡ action_in config.now waited (option_map task_of duty.entry) (shown_step shown.entry) }
 {
     match duty {
         Some(Duty::Store(key, outcome)) => Doing::Store(key, outcome),
@@ -83,7 +83,7 @@ pub fn do_due<'a>(
 
 /// What a given-up `LOAD` does that began to wait so often.
 fn do_again<'a>(config: &Config, waited: u64, shown: Shown<'a>) -> Doing<'a>
-    ensures { action_of result ≡ (if nat_le 200 waited then Abandoning else action_of_line config.now (step_of shown.entry)) }
+    ensures { action_of result ≡ (if nat_le 200 waited then Abandoning else action_of_line config.now (shown_step shown.entry)) }
 {
     if 200 <= waited {
         Doing::Abandon

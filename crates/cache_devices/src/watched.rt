@@ -9,7 +9,8 @@ ghost use Rattle.cache_devices.specs.Failures.{HasFailed, counted, took_none};
 use std::io;
 use std::io::{Read, Write};
 
-/// A device, and how many of its calls failed: an error, or a write that took nothing of a piece that is not empty.
+/// A reader or a writer, and how many of its calls failed: an error, an interruption too, or a write that took nothing of a piece that is
+/// not empty. So a contract can say that an error comes only where the device failed in the call.
 #[derive(Drop)]
 pub struct Watched<T> {
     inner: T,
@@ -17,7 +18,7 @@ pub struct Watched<T> {
 }
 
 impl<T> Watched<T> {
-    /// A device of which no call has failed.
+    /// The device, of which no call has failed.
     pub fn new(inner: T) -> Watched<T>
         ensures holds { device result ≡ inner }
         ensures none_failed { failures result ≡ 0 }
@@ -32,7 +33,7 @@ impl<T> Watched<T> {
         &self.inner
     }
 
-    /// How many calls failed, at most `u64::MAX`.
+    /// How many of its calls failed; once it is `u64::MAX` it stays so.
     pub fn failed(&self) -> u64
         ensures { result ≡ failures self.now }
     {
@@ -41,7 +42,7 @@ impl<T> Watched<T> {
 }
 
 impl<R: Read> Watched<R> {
-    /// Reads what there is, at most as much as fits.
+    /// Reads what there is, at most as much as fits, and answers how many bytes. An error is counted and handed on.
     pub fn read(&mut self, buf: &mut [u8]) -> io::Result<usize>
         ensures bound { ReadsAtMost result buf.new }
         ensures bytes { ReadConsumes (R.remaining (device self.old)) (R.remaining (device self.new)) result buf.new }
@@ -58,7 +59,7 @@ impl<R: Read> Watched<R> {
 }
 
 impl<W: Write> Watched<W> {
-    /// Writes a beginning of the bytes. It fails also where it takes none of them.
+    /// Writes a beginning of the bytes, and answers how many it took. An error, or taking none of some, is counted; an error is handed on.
     pub fn write(&mut self, buf: &[u8]) -> io::Result<usize>
         ensures bound { WritesAtMost result buf.now }
         ensures bytes { WriteAppends (W.contents (device self.old)) (W.contents (device self.new)) result buf.now }
@@ -77,7 +78,7 @@ impl<W: Write> Watched<W> {
         result
     }
 
-    /// Has the device hand on what it was given.
+    /// Has the device hand on what it was given. An error is counted and handed on.
     pub fn flush(&mut self) -> io::Result<()>
         ensures bytes { Keeps (W.contents (device self.old)) (W.contents (device self.new)) }
         ensures counts { failures self.new ≡ counted (is_err result) (failures self.old) }

@@ -20,14 +20,14 @@ use Rattle.cache_live.specs.Taken.{TakesInput}
 use Rattle.cache_live.proofs.Performing.{config-kept, goes-on}
 use Rattle.cache_namespace.proofs.Places.{at-replaced}
 use Rattle.cache_shared.proofs.Counting.{count-empty, count-more}
-use Rattle.cache_shared.specs.Events.{Reached, record_count}
+use Rattle.cache_shared.specs.Events.{IsReached, record_count}
 use Rattle.cache_spaces.proofs.Journaling.{got}
 use Rattle.cache_spaces.proofs.Noting.{same-or-not}
-use Rattle.cache_spaces.specs.Moves.{At, part_in}
+use Rattle.cache_spaces.specs.Moves.{At, hashed_part}
 use Rattle.cache_spaces.specs.Recorded.{namespace_of}
 use Rattle.cache_spaces.specs.Serves.{IsUnknown, SameSpace, TakesLoads, TakesNotice, TakesOutput}
 use Rattle.cache_spaces.specs.Services.{AreNew, Refuses}
-use Rattle.cache_spaces.specs.Spaces.{Stands, config_of}
+use Rattle.cache_spaces.specs.Spaces.{StandsFor, config_of}
 use Rattle.cache_spaces.specs.declared.space.Space.{Space}
 
 -- ---- places
@@ -117,17 +117,17 @@ lived-more i output old new n w a =
     let config = config-kept a.was a.is a.fact.happened a.fact.is_held a.fact.takes in
     let last = g.leads.next in
     let u : Transcript = record { made = t.0.made; records = t.0.records ++ g.entry ∷ [] } in
-    let more : LeadsBy (config_of a.was) (part_in (config_of a.was)) u last =
-    leads_by-more (config_of a.was) (part_in (config_of a.was)) t.0.made t.0.records g.entry h.led.last last h.parted g.leads.follows g.parted in
+    let more : LeadsBy (config_of a.was) (hashed_part (config_of a.was)) u last =
+    leads_by-more (config_of a.was) (hashed_part (config_of a.was)) t.0.made t.0.records g.entry h.led.last last h.parted g.leads.follows g.parted in
     lived-set (TakesInput i output) old new k n (n + 1) w a t.0 u t.1
     (record {
       led = record { last = last; stands = g.leads.stands; leads = subst (λ c. LeadsTo c u last) (sym config) more.leads };
-      parted = subst (λ c. LeadsBy c (part_in c) u last) (sym config) more;
+      parted = subst (λ c. LeadsBy c (hashed_part c) u last) (sym config) more;
     })
     (count-more w.journals (slice_set w.journals k u) k t.0 u t.1 refl (length-append t.0.records (g.entry ∷ [])) ∙ ap (λ c. c + 1) w.records)
 
 -- nothing that is told of it changed
-pub lived-still : (F : Space → Space → Type 0) (old new : List Space) (k n : ℕ) → ((x y : Space) → F x y → ((s : Situation) → Stands x s → Stands y s) × (config_of y ≡ config_of x)) → At old new k F → Lived old n → Lived new n
+pub lived-still : (F : Space → Space → Type 0) (old new : List Space) (k n : ℕ) → ((x y : Space) → F x y → ((s : Situation) → StandsFor x s → StandsFor y s) × (config_of y ≡ config_of x)) → At old new k F → Lived old n → Lived new n
 lived-still F old new k n same a w =
     let t = journal-at F old new k n w a in
     let h = w.each k a.was t.0 a.at t.1 in
@@ -135,7 +135,7 @@ lived-still F old new k n same a w =
     lived-set F old new k n n w a t.0 t.0 t.1
     (record {
       led = record { last = h.led.last; stands = e.0 h.led.last h.led.stands; leads = subst (λ c. LeadsTo c t.0 h.led.last) (sym e.1) h.led.leads };
-      parted = subst (λ c. LeadsBy c (part_in c) t.0 h.led.last) (sym e.1) h.parted;
+      parted = subst (λ c. LeadsBy c (hashed_part c) t.0 h.led.last) (sym e.1) h.parted;
     })
     (ap record_count (set-same w.journals k t.0 t.1) ∙ w.records)
 
@@ -163,14 +163,14 @@ lived-loads k old new n (Err e) taken refused w = lived-refused (λ was. ⊥) ol
 
 -- ---- journals that obey
 
-pub reached : (spaces : List Space) (n : ℕ) → Lived spaces n → Reached spaces n
+pub reached : (spaces : List Space) (n : ℕ) → Lived spaces n → IsReached spaces n
 reached spaces n w = record {
   journals = w.journals;
   are = record {
     count = w.count;
     each = λ k space journal s j.
         let h = w.each k space journal s j in
-        let o = obeys-led (config_of space) (part_in (config_of space)) journal h.led.last h.parted in
+        let o = obeys-led (config_of space) (hashed_part (config_of space)) journal h.led.last h.parted in
         record { obeys = o.0; admitted = o.1; leads = h.led };
   };
   count = w.records;

@@ -18,7 +18,7 @@ use Rattle.cache_spaces.proofs.Noting.{same-or-not}
 use Rattle.cache_spaces.specs.Moves.{At}
 use Rattle.cache_spaces.specs.Serves.{IsUnknown, SameSpace, TakesNotice, TakesOutput}
 use Rattle.cache_spaces.specs.Services.{InSpace, Refuses, RefusesLook}
-use Rattle.cache_spaces.specs.Spaces.{connections_of, notices_of, output_of}
+use Rattle.cache_spaces.specs.Spaces.{connections_of, notices_of, untaken_output}
 use Rattle.cache_spaces.specs.declared.space.Space.{Space}
 
 -- what is seen of the namespace of a number; nothing where there is none
@@ -48,7 +48,7 @@ positive zero more e = absurd (false≢true e)
 positive (suc n) more e = omega arith
 
 -- the replies of another connection of the namespace
-other-output : (x y : Space) (n m : ℕ) (text : List ℕ) → TakesOutput x y n text → 0 < m → m ≢ n → output_of y m ≡ output_of x m
+other-output : (x y : Space) (n m : ℕ) (text : List ℕ) → TakesOutput x y n text → 0 < m → m ≢ n → untaken_output y m ≡ untaken_output x m
 other-output x y n m text t lt ne =
     let from : 0 < n = positive n (nat_le n (length (connections_of x))) t.opened in
     ap (λ o. option_map_or (λ (c : Connection). c.output.items) o []) (t.others (m - 1) (λ e. ne (omega (arith, e, lt, from))))
@@ -60,28 +60,28 @@ abbrev pub Refused : List Space → List Space → Conn → Result (Vec ℕ Glob
 Refused old new conn r = IfErr r (λ e. Refuses old new conn.namespace e (λ was. IsUnknown was conn.number e))
 
 pub untaken-others : (conn other : Conn) (old new : List Space) (r : Result (Vec ℕ Global) ServiceError) → Taken old new conn r → Refused old new conn r → 0 < other.number → other ≢ conn
-    → look (λ space. output_of space other.number) new other.namespace ≡ look (λ space. output_of space other.number) old other.namespace
+    → look (λ space. untaken_output space other.number) new other.namespace ≡ look (λ space. untaken_output space other.number) old other.namespace
 untaken-others conn other old new (Ok text) taken refused lt ne =
-    look-still (λ space. output_of space other.number) (λ was is. TakesOutput was is conn.number text.items) old new conn.namespace other.namespace taken
+    look-still (λ space. untaken_output space other.number) (λ was is. TakesOutput was is conn.number text.items) old new conn.namespace other.namespace taken
     (λ same x y t. other-output x y conn.number other.number text.items t lt (λ number. ne (same-conn other conn same number)))
 untaken-others conn other old new (Err e) taken refused lt ne =
-    look-refused (λ space. output_of space other.number) (λ was. IsUnknown was conn.number e) old new conn.namespace other.namespace e (λ x y s. s.outputs other.number) refused
+    look-refused (λ space. untaken_output space other.number) (λ was. IsUnknown was conn.number e) old new conn.namespace other.namespace e (λ x y s. s.outputs other.number) refused
 
 pub untaken-kept : (conn : Conn) (old new : List Space) (r : Result (Vec ℕ Global) ServiceError) → Refused old new conn r
-    → OnErr r (look (λ space. output_of space conn.number) new conn.namespace ≡ look (λ space. output_of space conn.number) old conn.namespace)
+    → OnErr r (look (λ space. untaken_output space conn.number) new conn.namespace ≡ look (λ space. untaken_output space conn.number) old conn.namespace)
 untaken-kept conn old new (Ok text) refused = tt
 untaken-kept conn old new (Err e) refused =
-    look-refused (λ space. output_of space conn.number) (λ was. IsUnknown was conn.number e) old new conn.namespace conn.namespace e (λ x y s. s.outputs conn.number) refused
+    look-refused (λ space. untaken_output space conn.number) (λ was. IsUnknown was conn.number e) old new conn.namespace conn.namespace e (λ x y s. s.outputs conn.number) refused
 
 pub untaken-known : (conn : Conn) (old new : List Space) (r : Result (Vec ℕ Global) ServiceError) → Taken old new conn r
     → OnOk r (InSpace old conn.namespace (λ space. (known (connections_of space)).was_opened conn.number ≡ true))
 untaken-known conn old new (Ok text) a = record { space = a.was; at = a.at; fact = a.fact.opened }
 untaken-known conn old new (Err e) taken = tt
 
-pub untaken-none : (conn : Conn) (old new : List Space) (r : Result (Vec ℕ Global) ServiceError) → Taken old new conn r → OnOk r (look (λ space. output_of space conn.number) new conn.namespace ≡ [])
+pub untaken-none : (conn : Conn) (old new : List Space) (r : Result (Vec ℕ Global) ServiceError) → Taken old new conn r → OnOk r (look (λ space. untaken_output space conn.number) new conn.namespace ≡ [])
 untaken-none conn old new (Ok text) a =
     let here : slice_get new conn.namespace ≡ Some a.is = ap (λ l. slice_get l conn.namespace) a.set ∙ at-replaced old conn.namespace a.is (slice_get_within old conn.namespace a.was a.at) in
-    ap (λ o. option_map_or (λ space. output_of space conn.number) o []) here ∙ a.fact.none
+    ap (λ o. option_map_or (λ space. untaken_output space conn.number) o []) here ∙ a.fact.none
 untaken-none conn old new (Err e) taken = tt
 
 pub untaken-refused : (conn : Conn) (old new : List Space) (r : Result (Vec ℕ Global) ServiceError) → Refused old new conn r

@@ -23,13 +23,13 @@ use Rattle.audit_receipts.specs.declared.output.Output.TheVariants.{Opened, All,
 use Rattle.cache_live.specs.Taken.{TakesEvent, TakesInput, comes_to}
 use Rattle.cache_namespace.specs.Ordered.{OrdersSteps}
 use Rattle.cache_namespace.specs.Ran.{ends_held}
-use Rattle.cache_namespace.specs.Taken.{RefusedFor, fed, holds_at, known, record_of}
-use Rattle.cache_shared.specs.Events.{Happens, Leads, Performs}
+use Rattle.cache_namespace.specs.Taken.{RefusedFor, feed_event, holds_at, known, record_of}
+use Rattle.cache_shared.specs.Events.{Happens, RecordLeads, Performs}
 use Rattle.cache_spaces.specs.Moves.{At, are_parted_in}
 use Rattle.cache_spaces.proofs.Noting.{own-number, refused-as, refused-settling}
 use Rattle.cache_spaces.specs.Recorded.{RefusedInput, namespace_of}
-use Rattle.cache_spaces.specs.Serves.{RefusedAnswer, Serves, Settled, Settles, Takes, known_of}
-use Rattle.cache_spaces.specs.Spaces.{Stands, config_of, connections_of, recency_of}
+use Rattle.cache_spaces.specs.Serves.{RefusedAnswer, Serves, Settled, Settles, ServesEvent, known_of}
+use Rattle.cache_spaces.specs.Spaces.{StandsFor, config_of, connections_of, recency_of}
 use Rattle.cache_spaces.specs.Services.{Refuses}
 use Rattle.cache_spaces.specs.declared.space.Space.{Space}
 
@@ -51,7 +51,7 @@ pub record GoesOn (was is : Space) (s : Situation) (happened : Event) (is_held :
   pub entry : Record
   pub event : entry.event ≡ happened
   pub comes : (namespace : ℕ) → comes_to namespace happened is_held ≡ output_of namespace entry
-  pub leads : Leads was is s entry
+  pub leads : RecordLeads was is s entry
   pub parted : IsTrue (are_parted_in (config_of was) s entry)
 
 by-taking : (was is : Space) (number : ℕ) (s : Situation) (happened : Event) (is_held : Bool) → Serves was is number s happened is_held → GoesOn was is s happened is_held
@@ -80,7 +80,7 @@ by-settling was is s happened is_held done x = record {
   parted = x.parted;
 }
 
-pub goes-on : (was is : Space) (happened : Event) (is_held : Bool) → TakesEvent was is happened is_held → (s : Situation) → Stands was s → GoesOn was is s happened is_held
+pub goes-on : (was is : Space) (happened : Event) (is_held : Bool) → TakesEvent was is happened is_held → (s : Situation) → StandsFor was s → GoesOn was is s happened is_held
 goes-on was is (event.Open conn) is_held t s stands = by-taking was is conn s (event.Open conn) is_held (t.serves s stands)
 goes-on was is (event.Close conn) is_held t s stands = by-taking was is conn s (event.Close conn) is_held (t.serves s stands)
 goes-on was is (event.Feed conn piece moment) is_held t s stands = by-taking was is conn s (event.Feed conn piece moment) is_held (t.serves s stands)
@@ -116,7 +116,7 @@ refuses-as Cause Other old new k e h (inr a) = inr (record { was = a.was; is = a
 -- ---- each kind of input
 
 pub takes-open : (old new : List Space) (namespace : ℕ) (conn : Conn) → conn.namespace ≡ namespace
-    → At old new namespace (λ was is. Takes was is conn.number (event.Open conn.number) false × (conn.number ≡ length (connections_of was) + 1))
+    → At old new namespace (λ was is. ServesEvent was is conn.number (event.Open conn.number) false × (conn.number ≡ length (connections_of was) + 1))
     → At old new namespace (TakesInput (input.Open namespace) (Opened conn))
 takes-open old new namespace conn e a =
     let here : suc (length (connections_of a.was)) ≡ conn.number = let n = a.fact.1 in omega (arith, n) in
@@ -135,7 +135,7 @@ takes-open old new namespace conn e a =
     }
 
 pub takes-close : (Closes : Space → Type 0) (old new : List Space) (conn : Conn)
-    → At old new conn.namespace (λ was is. Takes was is conn.number (event.Close conn.number) false × Closes is)
+    → At old new conn.namespace (λ was is. ServesEvent was is conn.number (event.Close conn.number) false × Closes is)
     → At old new conn.namespace (TakesInput (input.Close conn) Done)
 takes-close Closes old new conn a = record {
   was = a.was;
@@ -152,7 +152,7 @@ takes-close Closes old new conn a = record {
 }
 
 pub takes-feed : (old new : List Space) (conn : Conn) (piece : List ℕ) (moment : Instant) (is_held : Bool)
-    → At old new conn.namespace (λ was is. Takes was is conn.number (fed conn.number piece moment.nanos) is_held)
+    → At old new conn.namespace (λ was is. ServesEvent was is conn.number (feed_event conn.number piece moment.nanos) is_held)
     → At old new conn.namespace (TakesInput (input.Feed conn piece moment) (if is_held then Held else All))
 takes-feed old new conn piece moment is_held a = record {
   was = a.was;
@@ -181,14 +181,14 @@ refused-close old new conn e refused =
     (λ x h. record { happened = event.Close conn.number; event = own-number conn.namespace (Some (event.Close conn.number)); refused = inl h }) refused
 
 pub refused-feed : (old new : List Space) (conn : Conn) (piece : List ℕ) (moment : Instant) (e : ServiceError)
-    → Refuses old new conn.namespace e (λ was. RefusedFor (config_of was) (connections_of was) (fed conn.number piece moment.nanos) (holds_at (connections_of was) conn.number) e)
+    → Refuses old new conn.namespace e (λ was. RefusedFor (config_of was) (connections_of was) (feed_event conn.number piece moment.nanos) (holds_at (connections_of was) conn.number) e)
     → Refuses old new conn.namespace e (RefusedInput (input.Feed conn piece moment) e)
 refused-feed old new conn piece moment e refused =
-    refuses-as (λ was. RefusedFor (config_of was) (connections_of was) (fed conn.number piece moment.nanos) (holds_at (connections_of was) conn.number) e) (RefusedInput (input.Feed conn piece moment) e) old new conn.namespace e
+    refuses-as (λ was. RefusedFor (config_of was) (connections_of was) (feed_event conn.number piece moment.nanos) (holds_at (connections_of was) conn.number) e) (RefusedInput (input.Feed conn piece moment) e) old new conn.namespace e
     (λ x h. record {
       happened = event.Feed conn.number piece moment;
       event = own-number conn.namespace (Some (event.Feed conn.number piece moment));
-      refused = refused-as (refusal_of (config_of x) (known (connections_of x)) (fed conn.number piece moment.nanos)) (holds_at (connections_of x) conn.number) e h;
+      refused = refused-as (refusal_of (config_of x) (known (connections_of x)) (feed_event conn.number piece moment.nanos)) (holds_at (connections_of x) conn.number) e h;
     }) refused
 
 -- ---- loads that are settled

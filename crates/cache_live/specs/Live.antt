@@ -6,11 +6,11 @@ use Rattle.audit_model.specs.declared.input.Conn.{Conn}
 use Rattle.audit_model.specs.declared.transcript.Note.{Note}
 use Rattle.cache_live.specs.declared.live.LiveService.{LiveService}
 use Rattle.cache_spaces.specs.Services.{spaces_of}
-use Rattle.cache_spaces.specs.Spaces.{notices_of, output_of}
+use Rattle.cache_spaces.specs.Spaces.{notices_of, untaken_output}
 use Rattle.cache_spaces.specs.declared.service.Service.{Service}
 
-abbrev pub service_of : LiveService → Service
-service_of live = live.service
+abbrev pub live_service : LiveService → Service
+live_service live = live.service
 
 -- how many inputs it took
 abbrev pub events_of : LiveService → ℕ
@@ -18,7 +18,7 @@ events_of live = live.events
 
 -- the reply bytes of a connection that were not taken
 abbrev pub untaken_of : LiveService → Conn → List ℕ
-untaken_of live conn = option_map_or (λ space. output_of space conn.number) (slice_get (spaces_of live.service) conn.namespace) []
+untaken_of live conn = option_map_or (λ space. untaken_output space conn.number) (slice_get (spaces_of live.service) conn.namespace) []
 
 -- the notes of a namespace that were told and not taken
 abbrev pub untold_of : LiveService → ℕ → List Note

@@ -7,7 +7,7 @@ use Rattle.audit_model.specs.declared.input.Input.{Input}
 use Rattle.audit_receipts.specs.declared.output.Output.{Output}
 use Rattle.audit_receipts.specs.declared.output.Output.TheVariants.{Opened, All, Held, Done}
 use Rattle.cache_spaces.specs.Recorded.{namespace_of}
-use Rattle.cache_spaces.specs.Serves.{Settled, Takes}
+use Rattle.cache_spaces.specs.Serves.{Settled, ServesEvent}
 use Rattle.cache_spaces.specs.Spaces.{connections_of}
 use Rattle.cache_spaces.specs.declared.space.Space.{Space}
 
@@ -28,7 +28,7 @@ comes_to namespace happened is_held = Done
 abbrev pub TakesEvent : Space → Space → Event → (is_held : Bool) → Type 0
 TakesEvent was is (event.Answer load outcome moment) is_held = Settled was is (event.Answer load outcome moment)
 TakesEvent was is (event.GiveUp load moment) is_held = Settled was is (event.GiveUp load moment)
-TakesEvent was is happened is_held = Takes was is (conn_of happened) happened is_held
+TakesEvent was is happened is_held = ServesEvent was is (conn_of happened) happened is_held
 
 -- The input's event happened, and came to that output: its replies stand behind the output of its connection, or of those that waited for
 -- its load, and its notes behind the notices.

@@ -9,7 +9,7 @@ use cache_spaces::{Output, Refusal, Service};
 use rand_xoshiro::Xoshiro256PlusPlus;
 use std::alloc::Global;
 
-/// A service with a count of the inputs that it took. It keeps no journal, so its memory does not grow with them.
+/// A service that keeps of the inputs that it took but their count, as the core of a `SharedService`. It keeps no journal.
 ///
 /// There are journals of as many records as inputs were taken, which obey and lead to where it stands.
 #[derive(Drop)]
@@ -20,7 +20,7 @@ pub struct LiveService {
 }
 
 impl LiveService {
-    ghost use Rattle.cache_live.specs.Live.{events_of, service_of};
+    ghost use Rattle.cache_live.specs.Live.{events_of, live_service};
     ghost use Rattle.cache_live.specs.Taken.{TakesInput};
     ghost use Rattle.cache_namespace.specs.Taken.{known};
     ghost use Rattle.cache_shared.specs.Events.{RefusesEvent};
@@ -31,14 +31,17 @@ impl LiveService {
     ghost use Rattle.cache_spaces.specs.Spaces.{closing_of, connections_of};
     ghost use Rattle.cache_spaces.specs.declared.space.Space.{Space as Seen};
 
-    /// A service of these configurations, made at that moment, which has taken no input. Refused as `Service::new` is.
+    /// A service of one namespace for each configuration, in their order, made at that moment, which has taken no input.
+    ///
+    /// Refused with `Moment` above 2^63 - 1 nanoseconds, then with `Config` where there are not 1 to 16 configurations or one is out of
+    /// range, then with `OutOfMemory`.
     pub fn new(
         alloc: Global,
         configs: &[Config],
         generator: Xoshiro256PlusPlus,
         moment: Instant,
     ) -> Result<LiveService, ServiceError>
-        ensures made { IfOk result (λ live. AreNew (spaces_of (service_of live)) configs.now generator moment.nanos) }
+        ensures made { IfOk result (λ live. AreNew (spaces_of (live_service live)) configs.now generator moment.nanos) }
         ensures none { IfOk result (λ live. events_of live ≡ 0) }
         ensures moment { IsErrOf result ServiceError.Moment ↔ (2 ^ 63 ≤ moment.nanos) }
         ensures config { IsErrOf result ServiceError.Config ↔ ((moment.nanos < 2 ^ 63) × (are_taken configs.now ≡ false)) }
@@ -50,14 +53,14 @@ impl LiveService {
         }
     }
 
-    /// Takes an input, and keeps nothing of it but its count.
+    /// Takes an input, answers what it came to, and keeps nothing of it but its count.
     ///
-    /// An input that is refused is handed back; then nothing has changed. Besides the service's refusals, `UsedUp` where the count of
-    /// inputs is used up.
+    /// An input that is refused is handed back, with the cause that `Service` has for it, or with `UsedUp` where 2^64 - 1 inputs were
+    /// taken; then nothing has changed.
     pub fn step(&mut self, input: Input) -> Result<Output, Refusal>
-        ensures taken { IfOk result (λ output. At (spaces_of (service_of self.old)) (spaces_of (service_of self.new)) (namespace_of input) (TakesInput input output)) }
+        ensures taken { IfOk result (λ output. At (spaces_of (live_service self.old)) (spaces_of (live_service self.new)) (namespace_of input) (TakesInput input output)) }
         ensures count { OnOk result (events_of self.new ≡ events_of self.old + 1) }
-        ensures refused { IfErr result (λ refusal. RefusesEvent input refusal.error (events_of self.old) (spaces_of (service_of self.old)) (spaces_of (service_of self.new))) }
+        ensures refused { IfErr result (λ refusal. RefusesEvent input refusal.error (events_of self.old) (spaces_of (live_service self.old)) (spaces_of (live_service self.new))) }
         ensures uncounted { OnErr result (events_of self.new ≡ events_of self.old) }
         ensures back { IfErr result (λ refusal. refusal.input ≡ input) }
     {
@@ -76,10 +79,11 @@ impl LiveService {
         Ok(output)
     }
 
-    /// The reply bytes of a connection since the last taking, moved out. It is no event. Refused with `NoNamespace`, `NoConnection`.
+    /// The reply bytes of a connection since the last taking, with their line ends, moved out; also after it closed. It is no event. Takes
+    /// no memory. Refused with `NoNamespace`, then with `NoConnection`.
     pub fn take_output(&mut self, conn: Conn) -> Result<Vec<u8>, ServiceError>
-        ensures taken { IfOk result (λ text. At (spaces_of (service_of self.old)) (spaces_of (service_of self.new)) conn.namespace (λ was is. TakesOutput was is conn.number text.items)) }
-        ensures refused { IfErr result (λ e. Refuses (spaces_of (service_of self.old)) (spaces_of (service_of self.new)) conn.namespace e (λ was. IsUnknown was conn.number e)) }
+        ensures taken { IfOk result (λ text. At (spaces_of (live_service self.old)) (spaces_of (live_service self.new)) conn.namespace (λ was is. TakesOutput was is conn.number text.items)) }
+        ensures refused { IfErr result (λ e. Refuses (spaces_of (live_service self.old)) (spaces_of (live_service self.new)) conn.namespace e (λ was. IsUnknown was conn.number e)) }
         ensures events { events_of self.new ≡ events_of self.old }
     {
         match self.service.take_output(conn) {
@@ -88,11 +92,11 @@ impl LiveService {
         }
     }
 
-    /// The loads of a namespace that went out and were not taken, with their keys, in the order in which they were sent; moved out. It is
-    /// no event. Takes no memory. Refused with `NoNamespace`.
+    /// The loads of a namespace that went out and were not taken, with their keys, in the order in which they were sent; moved out, so that
+    /// each comes once. It is no event. Takes no memory. Refused with `NoNamespace`.
     pub fn take_loads(&mut self, namespace: u64) -> Result<Vec<(LoadId, Bytes)>, ServiceError>
-        ensures taken { IfOk result (λ loads. At (spaces_of (service_of self.old)) (spaces_of (service_of self.new)) namespace (λ was is. TakesLoads was is loads.items)) }
-        ensures refused { IfErr result (λ e. Refuses (spaces_of (service_of self.old)) (spaces_of (service_of self.new)) namespace e (λ was. ⊥)) }
+        ensures taken { IfOk result (λ loads. At (spaces_of (live_service self.old)) (spaces_of (live_service self.new)) namespace (λ was is. TakesLoads was is loads.items)) }
+        ensures refused { IfErr result (λ e. Refuses (spaces_of (live_service self.old)) (spaces_of (live_service self.new)) namespace e (λ was. ⊥)) }
         ensures events { events_of self.new ≡ events_of self.old }
     {
         match self.service.take_loads(namespace) {
@@ -101,10 +105,11 @@ impl LiveService {
         }
     }
 
-    /// The oldest note of a namespace that was told and not taken. It is no event. Refused with `NoNamespace`.
+    /// The oldest note of a namespace that was told and not taken; none where there is none. It is no event. Takes no memory. Refused with
+    /// `NoNamespace`.
     pub fn next_notice(&mut self, namespace: u64) -> Result<Option<Note>, ServiceError>
-        ensures taken { IfOk result (λ note. At (spaces_of (service_of self.old)) (spaces_of (service_of self.new)) namespace (λ was is. TakesNotice was is note)) }
-        ensures refused { IfErr result (λ e. Refuses (spaces_of (service_of self.old)) (spaces_of (service_of self.new)) namespace e (λ was. ⊥)) }
+        ensures taken { IfOk result (λ note. At (spaces_of (live_service self.old)) (spaces_of (live_service self.new)) namespace (λ was is. TakesNotice was is note)) }
+        ensures refused { IfErr result (λ e. Refuses (spaces_of (live_service self.old)) (spaces_of (live_service self.new)) namespace e (λ was. ⊥)) }
         ensures events { events_of self.new ≡ events_of self.old }
     {
         match self.service.next_notice(namespace) {
@@ -113,26 +118,26 @@ impl LiveService {
         }
     }
 
-    /// Why a connection is closed, if it is. Refused with `NoNamespace`, `NoConnection`.
+    /// Why a connection is closed; none while it is open. Refused with `NoNamespace`, then with `NoConnection`.
     pub fn closed(&self, conn: Conn) -> Result<Option<Closing>, ServiceError>
-        ensures closing { IfOk result (λ closing. (space : Seen) → IsSpace (spaces_of (service_of self.now)) conn.namespace space → closing ≡ closing_of space conn.number) }
-        ensures refused { IfErr result (λ e. RefusesLook (spaces_of (service_of self.now)) conn.namespace e (λ space. IsUnknown space conn.number e)) }
-        ensures known { OnOk result ((space : Seen) → IsSpace (spaces_of (service_of self.now)) conn.namespace space → (known (connections_of space)).was_opened conn.number ≡ true) }
-        ensures found { OnOk result (conn.namespace < length (spaces_of (service_of self.now))) }
+        ensures closing { IfOk result (λ closing. (space : Seen) → IsSpace (spaces_of (live_service self.now)) conn.namespace space → closing ≡ closing_of space conn.number) }
+        ensures refused { IfErr result (λ e. RefusesLook (spaces_of (live_service self.now)) conn.namespace e (λ space. IsUnknown space conn.number e)) }
+        ensures known { OnOk result ((space : Seen) → IsSpace (spaces_of (live_service self.now)) conn.namespace space → (known (connections_of space)).was_opened conn.number ≡ true) }
+        ensures found { OnOk result (conn.namespace < length (spaces_of (live_service self.now))) }
     {
         self.service.closed(conn)
     }
 
-    /// How many inputs it took.
+    /// How many inputs it took, at most 2^64 - 1.
     pub fn events(&self) -> u64
         ensures { result ≡ events_of self.now }
     {
         self.events
     }
 
-    /// The service.
+    /// The service that took them, to be looked at.
     pub fn service(&self) -> &Service
-        ensures { result.now ≡ service_of self.now }
+        ensures { result.now ≡ live_service self.now }
     {
         &self.service
     }

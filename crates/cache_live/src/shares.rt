@@ -6,9 +6,9 @@ use cache_spaces::{Output, Refusal};
 
 impl Core for LiveService {
     ghost use Rattle.std.specs.Prelude.{[], false};
-    ghost use Rattle.cache_live.specs.Live.{events_of, service_of};
+    ghost use Rattle.cache_live.specs.Live.{events_of, live_service};
 
-    ghost service = { service_of };
+    ghost service = { live_service };
 
     ghost events = { events_of };
 
@@ -35,7 +35,7 @@ impl Core for LiveService {
 }
 
 impl Takings for LiveService {
-    ghost use Rattle.cache_live.specs.Live.{service_of, untaken_of, untold_of};
+    ghost use Rattle.cache_live.specs.Live.{live_service, untaken_of, untold_of};
 
     ghost untaken = { untaken_of };
 

@@ -9,7 +9,7 @@ use Rattle.std.proofs.lemmas.Slice.Eq.{bytes_eq-Decides}
 use Rattle.audit_model.specs.Bytewise.{same}
 use Rattle.audit_model.specs.Situation.{PendingLoad, with_waiting}
 use Rattle.audit_model.specs.declared.input.LoadId.{LoadId}
-use Rattle.cache_loads.specs.Keys.{agrees_on, are_in_turn, has_its_key, have_their_keys, pending, were_sent}
+use Rattle.cache_loads.specs.Keys.{agrees_on, are_in_turn, has_its_key, have_their_keys, pending_load, were_sent}
 use Rattle.cache_loads.specs.declared.load.Load.{Load}
 
 -- ---- lists
@@ -162,9 +162,9 @@ same-refl key = (bytes_eq-Decides key key).1 refl
 
 -- ---- a load that is sent
 
-pub send-sent : (sent n : ℕ) (load : Load) (first rest old : List Load) → n ≡ suc sent → first ≡ load ∷ rest → rest ≡ old → load.number ≡ n → were_sent sent (map pending old) ≡ true → were_sent n (map pending first) ≡ true
+pub send-sent : (sent n : ℕ) (load : Load) (first rest old : List Load) → n ≡ suc sent → first ≡ load ∷ rest → rest ≡ old → load.number ≡ n → were_sent sent (map pending_load old) ≡ true → were_sent n (map pending_load first) ≡ true
 send-sent sent n load first rest old e put same_rest is all =
-    ap (λ ls. were_sent n (map pending ls)) put ∙ ap (λ ls. were_sent n (pending load ∷ map pending ls)) same_rest ∙ sent-more sent n (pending load) (map pending old) e is all
+    ap (λ ls. were_sent n (map pending_load ls)) put ∙ ap (λ ls. were_sent n (pending_load load ∷ map pending_load ls)) same_rest ∙ sent-more sent n (pending_load load) (map pending_load old) e is all
 
 pub send-turn : (ns sent n : ℕ) (outs front last : List (LoadId × List ℕ)) (id : LoadId) (key : List ℕ) → n ≡ suc sent → last ≡ front ++ (id, key) ∷ [] → front ≡ outs → id.namespace ≡ ns → id.number ≡ n → length outs ≤ sent → are_in_turn ns (sent - length outs) outs ≡ true
     → are_in_turn ns (n - length last) last ≡ true
@@ -176,9 +176,9 @@ send-turn ns sent n outs front last id key e put same_front is number few turn =
     ∙ in-turn-more ns (sent - length outs) sent outs id key turn (omega arith) is (number ∙ e)
 
 pub send-keyed : (ns sent n : ℕ) (load : Load) (first rest old : List Load) (outs front last : List (LoadId × List ℕ)) (id : LoadId) (key : List ℕ) → n ≡ suc sent → first ≡ load ∷ rest → rest ≡ old → last ≡ front ++ (id, key) ∷ [] → front ≡ outs
-    → length outs ≤ sent → are_in_turn ns (sent - length outs) outs ≡ true → were_sent sent (map pending old) ≡ true → load.number ≡ n → id.number ≡ n → load.key ≡ key → have_their_keys (map pending old) outs ≡ true
-    → have_their_keys (map pending first) last ≡ true
+    → length outs ≤ sent → are_in_turn ns (sent - length outs) outs ≡ true → were_sent sent (map pending_load old) ≡ true → load.number ≡ n → id.number ≡ n → load.key ≡ key → have_their_keys (map pending_load old) outs ≡ true
+    → have_their_keys (map pending_load first) last ≡ true
 send-keyed ns sent n load first rest old outs front last id key e put same_rest put_last same_front few turn all is number keyed have =
-    ap (λ ls. have_their_keys (map pending ls) last) (put ∙ ap (λ ls. load ∷ ls) same_rest)
-    ∙ ap (λ xs. have_their_keys (pending load ∷ map pending old) xs) (put_last ∙ ap (λ xs. xs ++ (id, key) ∷ []) same_front)
-    ∙ keys-more ns (sent - length outs) sent (pending load) (map pending old) outs (id, key) turn (omega arith) all (is ∙ e) (number ∙ e) (ap (λ k. same load.key k) (sym keyed) ∙ same-refl load.key) have
+    ap (λ ls. have_their_keys (map pending_load ls) last) (put ∙ ap (λ ls. load ∷ ls) same_rest)
+    ∙ ap (λ xs. have_their_keys (pending_load load ∷ map pending_load old) xs) (put_last ∙ ap (λ xs. xs ++ (id, key) ∷ []) same_front)
+    ∙ keys-more ns (sent - length outs) sent (pending_load load) (map pending_load old) outs (id, key) turn (omega arith) all (is ∙ e) (number ∙ e) (ap (λ k. same load.key k) (sym keyed) ∙ same-refl load.key) have

@@ -7,8 +7,8 @@ use Rattle.audit_model.specs.declared.input.LoadId.{LoadId}
 use Rattle.cache_loads.specs.declared.load.Load.{Load}
 
 -- the load, with those that wait for it
-abbrev pub pending : Load → PendingLoad
-pending load = record { number = load.number; key = load.key; waiting = load.waiting.items }
+abbrev pub pending_load : Load → PendingLoad
+pending_load load = record { number = load.number; key = load.key; waiting = load.waiting.items }
 
 -- they are the namespace's loads in turn, behind so many
 abbrev pub are_in_turn : ℕ → ℕ → List (LoadId × List ℕ) → Bool

@@ -5,7 +5,7 @@ use Rattle.std.specs.Option.{option_map}
 use Rattle.audit_model.specs.Bytewise.{same}
 use Rattle.audit_model.specs.Situation.{PendingLoad, with_waiting}
 use Rattle.audit_model.specs.declared.input.LoadId.{LoadId}
-use Rattle.cache_loads.specs.Keys.{pending}
+use Rattle.cache_loads.specs.Keys.{pending_load}
 use Rattle.cache_loads.specs.declared.load.Load.{Load}
 use Rattle.cache_loads.specs.declared.loads.Loads.{Loads}
 
@@ -14,24 +14,24 @@ abbrev pub HasRoom : List ℕ → Load → Type 0
 HasRoom key load = same load.key key ≡ true → vec_len load.waiting < vec_capacity load.waiting
 
 -- the loads under way, the newest first
-abbrev pub pending_of : Loads → List PendingLoad
-pending_of loads = map pending loads.under_way.items
+abbrev pub loads_pending : Loads → List PendingLoad
+loads_pending loads = map pending_load loads.under_way.items
 
 -- how many were sent
 abbrev pub sent_of : Loads → ℕ
 sent_of loads = loads.sent
 
 -- those that went out and were not taken, with their keys, in the order in which they were sent
-abbrev pub outgoing_of : Loads → List (LoadId × List ℕ)
-outgoing_of loads = loads.outgoing.items
+abbrev pub outgoing_loads : Loads → List (LoadId × List ℕ)
+outgoing_loads loads = loads.outgoing.items
 
 -- how many were taken
-abbrev pub taken_of : Loads → ℕ
-taken_of loads = sent_of loads - length (outgoing_of loads)
+abbrev pub loads_taken : Loads → ℕ
+loads_taken loads = sent_of loads - length (outgoing_loads loads)
 
 -- the namespace whose loads they are
-abbrev pub namespace_of : Loads → ℕ
-namespace_of loads = loads.namespace
+abbrev pub namespace_of_loads : Loads → ℕ
+namespace_of_loads loads = loads.namespace
 
 -- the key's load under way
 abbrev pub load_with_key : List ℕ → List PendingLoad → Option ℕ
@@ -62,17 +62,17 @@ sending namespace key (Some number) = (record { namespace = namespace; number = 
 
 -- the same loads are under way, and the same went out
 pub record SameLoads (old new : Loads) : Type 0 where
-  pub pending : pending_of new ≡ pending_of old
+  pub pending : loads_pending new ≡ loads_pending old
   pub sent : sent_of new ≡ sent_of old
-  pub outgoing : outgoing_of new ≡ outgoing_of old
-  pub namespace : namespace_of new ≡ namespace_of old
+  pub outgoing : outgoing_loads new ≡ outgoing_loads old
+  pub namespace : namespace_of_loads new ≡ namespace_of_loads old
 
 -- the same loads were taken, of the same namespace
 pub record SameTaken (old new : Loads) : Type 0 where
-  pub taken : taken_of new ≡ taken_of old
-  pub namespace : namespace_of new ≡ namespace_of old
+  pub taken : loads_taken new ≡ loads_taken old
+  pub namespace : namespace_of_loads new ≡ namespace_of_loads old
 
 -- the first of the loads with that number stands there, or there is none
 abbrev pub IsPlaceOf : ℕ → List Load → Option ℕ → Type 0
-IsPlaceOf number loads None = load_numbered number (map pending loads) ≡ None
-IsPlaceOf number loads (Some index) = (load : Load) × (slice_get loads index ≡ Some load) × (load_numbered number (map pending loads) ≡ Some (pending load))
+IsPlaceOf number loads None = load_numbered number (map pending_load loads) ≡ None
+IsPlaceOf number loads (Some index) = (load : Load) × (slice_get loads index ≡ Some load) × (load_numbered number (map pending_load loads) ≡ Some (pending_load load))

@@ -4,16 +4,16 @@ use Rattle.cache_loads.specs.declared.standing.Standing.{Standing}
 use Rattle.cache_loads.specs.declared.standing.Standing.TheVariants.{Ready, Held, Waiting}
 
 -- its first unread line is held back
-abbrev pub holds : Standing → Bool
-holds Ready = false
-holds Held = true
-holds Waiting = false
+abbrev pub holds_line : Standing → Bool
+holds_line Ready = false
+holds_line Held = true
+holds_line Waiting = false
 
--- its first unread line is a `LOAD` that waits
-abbrev pub waits : Standing → Bool
-waits Ready = false
-waits Held = false
-waits Waiting = true
+-- its first unread line is a `LOAD` that waits_for_load
+abbrev pub waits_for_load : Standing → Bool
+waits_for_load Ready = false
+waits_for_load Held = false
+waits_for_load Waiting = true
 
 -- its first unread line is one of these
 abbrev pub keeps_line : Standing → Bool

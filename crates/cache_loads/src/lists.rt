@@ -3,7 +3,7 @@ ghost use Rattle.std.specs.Prelude.{◌≡◌, ◌<◌, ◌++◌, ◌∷◌, ◌
 ghost use Rattle.std.specs.List.{filter};
 ghost use Rattle.std.specs.Option.{option_map};
 ghost use Rattle.audit_model.specs.Situation.{with_waiting, without_waiting};
-ghost use Rattle.cache_loads.specs.Keys.{pending};
+ghost use Rattle.cache_loads.specs.Keys.{pending_load};
 ghost use Rattle.cache_loads.specs.Pending.{load_numbered, HasRoom, IsPlaceOf};
 
 use crate::load::{Load, join, leave, reserve_joining};
@@ -32,8 +32,8 @@ pub fn put_last(outgoing: &mut Vec<(LoadId, Bytes)>, id: LoadId, key: Bytes)
 
 /// Has a connection wait for the loads of a key. An `Err` changes nothing.
 pub fn join_all(loads: &mut Vec<Load>, key: &[u8], conn: u64) -> Result<(), AllocError>
-    ensures joined { OnOk result (map pending loads.new.items ≡ map (with_waiting conn key.now) (map pending loads.old.items)) }
-    ensures same { OnErr result (map pending loads.new.items ≡ map pending loads.old.items) }
+    ensures joined { OnOk result (map pending_load loads.new.items ≡ map (with_waiting conn key.now) (map pending_load loads.old.items)) }
+    ensures same { OnErr result (map pending_load loads.new.items ≡ map pending_load loads.old.items) }
 {
     match reserve_all(loads.as_mut_slice(), key) {
         Ok(()) => {
@@ -46,7 +46,7 @@ pub fn join_all(loads: &mut Vec<Load>, key: &[u8], conn: u64) -> Result<(), Allo
 
 /// Makes room for one more connection in each load of a key.
 fn reserve_all(loads: &mut [Load], key: &[u8]) -> Result<(), AllocError>
-    ensures same { map pending loads.new ≡ map pending loads.old }
+    ensures same { map pending_load loads.new ≡ map pending_load loads.old }
     ensures room { OnOk result (All (HasRoom key.now) loads.new) }
 {
     for load in loads.iter_mut() {
@@ -58,7 +58,7 @@ fn reserve_all(loads: &mut [Load], key: &[u8]) -> Result<(), AllocError>
 /// Adds a connection to each load of a key; there is room for it.
 fn add_to_all(loads: &mut [Load], key: &[u8], conn: u64)
     requires room { All (HasRoom key.now) loads.old }
-    ensures joined { map pending loads.new ≡ map (with_waiting conn key.now) (map pending loads.old) }
+    ensures joined { map pending_load loads.new ≡ map (with_waiting conn key.now) (map pending_load loads.old) }
 {
     for load in loads.iter_mut() {
         join(load, key, conn);
@@ -67,14 +67,14 @@ fn add_to_all(loads: &mut [Load], key: &[u8], conn: u64)
 
 /// Takes a connection out of all loads.
 pub fn leave_all(loads: &mut Vec<Load>, conn: u64)
-    ensures left { map pending loads.new.items ≡ map (without_waiting conn) (map pending loads.old.items) }
+    ensures left { map pending_load loads.new.items ≡ map (without_waiting conn) (map pending_load loads.old.items) }
 {
     leave_each(loads.as_mut_slice(), conn);
 }
 
 /// Takes a connection out of each of these loads.
 fn leave_each(loads: &mut [Load], conn: u64)
-    ensures left { map pending loads.new ≡ map (without_waiting conn) (map pending loads.old) }
+    ensures left { map pending_load loads.new ≡ map (without_waiting conn) (map pending_load loads.old) }
 {
     for load in loads.iter_mut() {
         leave(load, conn);
@@ -83,8 +83,8 @@ fn leave_each(loads: &mut [Load], conn: u64)
 
 /// Takes out the load of that number.
 pub fn take_out(loads: &mut Vec<Load>, number: u64) -> Option<Load>
-    ensures found { option_map pending result ≡ load_numbered number (map pending loads.old.items) }
-    ensures left { map pending loads.new.items ≡ filter (λ load. not (load.number == number)) (map pending loads.old.items) }
+    ensures found { option_map pending_load result ≡ load_numbered number (map pending_load loads.old.items) }
+    ensures left { map pending_load loads.new.items ≡ filter (λ load. not (load.number == number)) (map pending_load loads.old.items) }
 {
     let index = place_of(loads, number)?;
     let load = loads.remove(index);

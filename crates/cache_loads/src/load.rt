@@ -2,7 +2,7 @@
 ghost use Rattle.std.specs.Prelude.{◌≡◌, ◌<◌, ◌≤◌, ◌+◌, ◌++◌, ◌∷◌, [], IfOk, OnOk, true, length, vec_len, vec_capacity};
 ghost use Rattle.audit_model.specs.Bytewise.{same};
 ghost use Rattle.audit_model.specs.Situation.{with_waiting, without_waiting};
-ghost use Rattle.cache_loads.specs.Keys.{pending};
+ghost use Rattle.cache_loads.specs.Keys.{pending_load};
 ghost use Rattle.cache_loads.specs.Pending.{HasRoom};
 
 use audit_model::Bytes;
@@ -35,7 +35,7 @@ pub fn alone(alloc: Global, conn: u64) -> Result<Vec<u64>, AllocError>
 
 /// Makes room for one more connection, where it is a load of that key.
 pub fn reserve_joining(load: &mut Load, key: &[u8]) -> Result<(), AllocError>
-    ensures same { pending load.new ≡ pending load.old }
+    ensures same { pending_load load.new ≡ pending_load load.old }
     ensures room { OnOk result (HasRoom key.now load.new) }
 {
     if !is_of_key(load, key) {
@@ -47,7 +47,7 @@ pub fn reserve_joining(load: &mut Load, key: &[u8]) -> Result<(), AllocError>
 /// Adds a connection that waits, where it is a load of that key; there is room for it.
 pub fn join(load: &mut Load, key: &[u8], conn: u64)
     requires room { HasRoom key.now load.old }
-    ensures joined { pending load.new ≡ with_waiting conn key.now (pending load.old) }
+    ensures joined { pending_load load.new ≡ with_waiting conn key.now (pending_load load.old) }
 {
     if is_of_key(load, key) {
         add(&mut load.waiting, conn);
@@ -66,7 +66,7 @@ fn add(waiting: &mut Vec<u64>, conn: u64)
 
 /// Takes a connection out.
 pub fn leave(load: &mut Load, conn: u64)
-    ensures left { pending load.new ≡ without_waiting conn (pending load.old) }
+    ensures left { pending_load load.new ≡ without_waiting conn (pending_load load.old) }
 {
     load.waiting.retain(|waits| *waits != conn);
 }

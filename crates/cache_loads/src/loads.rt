@@ -3,7 +3,7 @@ ghost use Rattle.std.specs.Prelude.{◌≡◌, ℕ, suc, ◌+◌, ◌-◌, ◌�
 ghost use Rattle.std.specs.List.{filter};
 ghost use Rattle.std.specs.Option.{option_map};
 ghost use Rattle.audit_model.specs.Situation.{with_waiting, without_waiting};
-ghost use Rattle.cache_loads.specs.Keys.{pending, are_in_turn, have_their_keys, were_sent};
+ghost use Rattle.cache_loads.specs.Keys.{pending_load, are_in_turn, have_their_keys, were_sent};
 
 use crate::lists::{join_all, leave_all, put_first, put_last, take_out};
 use crate::load::{Load, alone, is_of_key};
@@ -20,19 +20,19 @@ pub struct Loads {
     outgoing: Vec<(LoadId, Bytes)>,
     ghost fewer: { length outgoing.items ≤ sent },
     ghost in_turn: { IsTrue (are_in_turn namespace (sent - length outgoing.items) outgoing.items) },
-    ghost sent_before: { IsTrue (were_sent sent (map pending under_way.items)) },
-    ghost keyed: { IsTrue (have_their_keys (map pending under_way.items) outgoing.items) },
+    ghost sent_before: { IsTrue (were_sent sent (map pending_load under_way.items)) },
+    ghost keyed: { IsTrue (have_their_keys (map pending_load under_way.items) outgoing.items) },
 }
 
 impl Loads {
-    ghost use Rattle.cache_loads.specs.Pending.{pending_of, sent_of, outgoing_of, namespace_of, load_with_key, load_numbered, number_to_send, when_joined, when_sent, sending, SameLoads, SameTaken, taken_of};
+    ghost use Rattle.cache_loads.specs.Pending.{loads_pending, sent_of, outgoing_loads, namespace_of_loads, load_with_key, load_numbered, number_to_send, when_joined, when_sent, sending, SameLoads, SameTaken, loads_taken};
 
     /// No loads yet, which takes no memory.
     pub fn new(alloc: Global, namespace: u64) -> Loads
-        ensures none { pending_of result ≡ [] }
+        ensures none { loads_pending result ≡ [] }
         ensures sent { sent_of result ≡ 0 }
-        ensures outgoing { outgoing_of result ≡ [] }
-        ensures namespace { namespace_of result ≡ namespace }
+        ensures outgoing { outgoing_loads result ≡ [] }
+        ensures namespace { namespace_of_loads result ≡ namespace }
     {
         Loads {
             namespace,
@@ -44,14 +44,14 @@ impl Loads {
 
     /// How many loads are under way.
     pub fn count(&self) -> usize
-        ensures { result ≡ length (pending_of self.now) }
+        ensures { result ≡ length (loads_pending self.now) }
     {
         self.under_way.len()
     }
 
     /// The number of the key's load under way.
     pub fn find(&self, key: &[u8]) -> Option<u64>
-        ensures { result ≡ load_with_key key.now (pending_of self.now) }
+        ensures { result ≡ load_with_key key.now (loads_pending self.now) }
     {
         for load in &self.under_way {
             if is_of_key(load, key) {
@@ -63,7 +63,7 @@ impl Loads {
 
     /// The load under way of that number.
     pub fn get(&self, number: u64) -> Option<&Load>
-        ensures { option_map (λ load. pending load.now) result ≡ load_numbered number (pending_of self.now) }
+        ensures { option_map (λ load. pending_load load.now) result ≡ load_numbered number (loads_pending self.now) }
     {
         for load in &self.under_way {
             if load.number == number {
@@ -76,10 +76,10 @@ impl Loads {
     /// Has a connection wait for the key's load; where none is under way a new one goes out, and its number is answered. An `Err`
     /// changes nothing.
     pub fn wait(&mut self, alloc: Global, key: &[u8], conn: u64) -> Result<Option<u64>, AllocError>
-        ensures number { IfOk result (λ number. number ≡ number_to_send key.now (sent_of self.old) (pending_of self.old)) }
-        ensures pending { IfOk result (λ number. pending_of self.new ≡ when_joined conn key.now number (pending_of self.old)) }
+        ensures number { IfOk result (λ number. number ≡ number_to_send key.now (sent_of self.old) (loads_pending self.old)) }
+        ensures pending { IfOk result (λ number. loads_pending self.new ≡ when_joined conn key.now number (loads_pending self.old)) }
         ensures sent { IfOk result (λ number. sent_of self.new ≡ when_sent number (sent_of self.old)) }
-        ensures outgoing { IfOk result (λ number. outgoing_of self.new ≡ outgoing_of self.old ++ sending (namespace_of self.old) key.now number) }
+        ensures outgoing { IfOk result (λ number. outgoing_loads self.new ≡ outgoing_loads self.old ++ sending (namespace_of_loads self.old) key.now number) }
         ensures goes { SameTaken self.old self.new }
         ensures same { OnErr result (SameLoads self.old self.new) }
     {
@@ -101,9 +101,9 @@ impl Loads {
     /// is. An `Err` changes nothing.
     fn send(&mut self, alloc: Global, key: &[u8], conn: u64) -> Result<u64, AllocError>
         ensures number { IfOk result (λ number. number ≡ suc (sent_of self.old)) }
-        ensures pending { IfOk result (λ number. pending_of self.new ≡ when_joined conn key.now (Some number) (pending_of self.old)) }
+        ensures pending { IfOk result (λ number. loads_pending self.new ≡ when_joined conn key.now (Some number) (loads_pending self.old)) }
         ensures sent { OnOk result (sent_of self.new ≡ suc (sent_of self.old)) }
-        ensures outgoing { IfOk result (λ number. outgoing_of self.new ≡ outgoing_of self.old ++ sending (namespace_of self.old) key.now (Some number)) }
+        ensures outgoing { IfOk result (λ number. outgoing_loads self.new ≡ outgoing_loads self.old ++ sending (namespace_of_loads self.old) key.now (Some number)) }
         ensures goes { SameTaken self.old self.new }
         ensures same { OnErr result (SameLoads self.old self.new) }
     {
@@ -131,9 +131,9 @@ impl Loads {
 
     /// Takes a connection that closed out of those that wait; its load stays under way.
     pub fn leave(&mut self, conn: u64)
-        ensures pending { pending_of self.new ≡ map (without_waiting conn) (pending_of self.old) }
+        ensures pending { loads_pending self.new ≡ map (without_waiting conn) (loads_pending self.old) }
         ensures sent { sent_of self.new ≡ sent_of self.old }
-        ensures outgoing { outgoing_of self.new ≡ outgoing_of self.old }
+        ensures outgoing { outgoing_loads self.new ≡ outgoing_loads self.old }
         ensures goes { SameTaken self.old self.new }
     {
         leave_all(&mut self.under_way, conn);
@@ -141,10 +141,10 @@ impl Loads {
 
     /// Takes out the load under way of that number, which is answered or given up.
     pub fn settle(&mut self, number: u64) -> Option<Load>
-        ensures settled { option_map pending result ≡ load_numbered number (pending_of self.old) }
-        ensures pending { pending_of self.new ≡ filter (λ load. not (load.number == number)) (pending_of self.old) }
+        ensures settled { option_map pending_load result ≡ load_numbered number (loads_pending self.old) }
+        ensures pending { loads_pending self.new ≡ filter (λ load. not (load.number == number)) (loads_pending self.old) }
         ensures sent { sent_of self.new ≡ sent_of self.old }
-        ensures outgoing { outgoing_of self.new ≡ outgoing_of self.old }
+        ensures outgoing { outgoing_loads self.new ≡ outgoing_loads self.old }
         ensures goes { SameTaken self.old self.new }
     {
         take_out(&mut self.under_way, number)
@@ -152,15 +152,15 @@ impl Loads {
 
     /// The loads that went out and were not taken, with their keys, in the order in which they were sent; moved out.
     pub fn take(&mut self, alloc: Global) -> Vec<(LoadId, Bytes)>
-        ensures taken { result.items ≡ outgoing_of self.old }
-        ensures none { outgoing_of self.new ≡ [] }
-        ensures pending { pending_of self.new ≡ pending_of self.old }
+        ensures taken { result.items ≡ outgoing_loads self.old }
+        ensures none { outgoing_loads self.new ≡ [] }
+        ensures pending { loads_pending self.new ≡ loads_pending self.old }
         ensures sent { sent_of self.new ≡ sent_of self.old }
-        ensures namespace { namespace_of self.new ≡ namespace_of self.old }
+        ensures namespace { namespace_of_loads self.new ≡ namespace_of_loads self.old }
         // each goes out once: they are the namespace's loads behind those that were taken before
-        ensures in_turn { IsTrue (are_in_turn (namespace_of self.old) (taken_of self.old) result.items) }
-        ensures all { taken_of self.new ≡ sent_of self.old }
-        ensures keys { IsTrue (have_their_keys (pending_of self.old) result.items) }
+        ensures in_turn { IsTrue (are_in_turn (namespace_of_loads self.old) (loads_taken self.old) result.items) }
+        ensures all { loads_taken self.new ≡ sent_of self.old }
+        ensures keys { IsTrue (have_their_keys (loads_pending self.old) result.items) }
     {
         mem::replace(&mut self.outgoing, Vec::new(alloc))
     }

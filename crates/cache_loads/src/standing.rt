@@ -1,6 +1,6 @@
 //! What a connection does with its first unread line.
 ghost use Rattle.std.specs.Prelude.{◌≡◌};
-ghost use Rattle.cache_loads.specs.Standings.{holds, waits};
+ghost use Rattle.cache_loads.specs.Standings.{holds_line, waits_for_load};
 
 /// A connection runs lines, or waits before its first unread line.
 #[derive(Clone, Copy, Debug, PartialEq, Eq, Drop)]
@@ -15,7 +15,7 @@ pub enum Standing {
 
 /// Whether a line is held back.
 pub fn is_holding(standing: Standing) -> bool
-    ensures { result ≡ holds standing }
+    ensures { result ≡ holds_line standing }
 {
     match standing {
         Standing::Ready => false,
@@ -26,7 +26,7 @@ pub fn is_holding(standing: Standing) -> bool
 
 /// Whether a `LOAD` waits.
 pub fn is_waiting(standing: Standing) -> bool
-    ensures { result ≡ waits standing }
+    ensures { result ≡ waits_for_load standing }
 {
     match standing {
         Standing::Ready => false,

@@ -12,7 +12,7 @@ use Rattle.audit_model.specs.declared.transcript.Note.{Note}
 use Rattle.audit_model.specs.declared.transcript.Step.{Step}
 use Rattle.rand_core.specs.Stream.{Stream}
 use Rattle.cache_store.specs.Identifiers.{Register, KeepsIdentifiers, AreUsedUp, drawn, stream_after}
-use Rattle.cache_steps.specs.Drawing.{Draws}
+use Rattle.cache_steps.specs.Drawing.{DrawsForParts}
 use Rattle.cache_steps.specs.Right.{step_saying}
 use Rattle.cache_steps.proofs.Drawn.{draws-none, spends-none}
 use Rattle.cache_namespace.specs.Drawing.{Identifiers, Spends, StepDraws, StepsDraw, says_drop}
@@ -72,7 +72,7 @@ held-draws config number line a = record {
 
 -- a line's step, by what it wrote
 pub step-drawn : (config : Config) (number : ℕ) (line reply old new : List ℕ) (accepted : Option Accepted) (told : List Note) (a b : Identifiers)
-    → Draws a.stream b.stream a.registered b.registered
+    → DrawsForParts a.stream b.stream a.registered b.registered
     → (says_drop (reading config line) ≡ true → new ≡ old ++ codes "ERR id\n" → AreUsedUp (part_count config) a.stream b.stream a.registered)
     → new ≡ old ++ reply → StepDraws config (step_saying number line reply accepted told) a b
 step-drawn config number line reply old new accepted told a b d used w = record {

@@ -21,15 +21,15 @@ use Rattle.audit_model.specs.declared.config.Config.{Config}
 use Rattle.audit_model.specs.declared.transcript.Accepted.{Accepted}
 use Rattle.audit_model.specs.declared.transcript.Note.{Note}
 use Rattle.audit_model.specs.declared.transcript.Step.{Step}
-use Rattle.cache_lines.specs.Next.{IsLine, IsPartial}
-use Rattle.cache_lines.proofs.Lines.{IsLine-first_line, IsPartial-first_line, IsPartial-not_long}
-use Rattle.cache_steps.specs.Right.{step_saying, placed_by, held_when_run}
+use Rattle.audit_lines.specs.Next.{IsLine, IsPartial}
+use Rattle.audit_lines.proofs.Lines.{IsLine-first_line, IsPartial-first_line, IsPartial-not_long}
+use Rattle.cache_steps.specs.Right.{step_saying, placed_doing, held_when_run}
 use Rattle.cache_steps.proofs.Answering.{same-refl, none_succeeded}
 use Rattle.cache_store.specs.Promises.{no_deed}
 use Rattle.cache_namespace.specs.Drawing.{Workings, identifiers_in}
 use Rattle.cache_namespace.specs.Making.{Making}
 use Rattle.cache_namespace.specs.Gathered.{Gathered, gather}
-use Rattle.cache_namespace.specs.Lines.{ArePartedIn, Runs, IsThere, are_timely, ended, ends_quit, held_step, holding, is_timely_after, placed_in, ready, says_quit, set_in, with_drops}
+use Rattle.cache_namespace.specs.Lines.{ArePartedIn, Runs, IsThere, are_timely, situation_behind, ends_quit, held_step, holding, is_timely_after, effect_of_step, ready, says_quit, set_in, with_drops}
 use Rattle.cache_namespace.specs.Ran.{RanOne, RanLines, RanReady, RanFeed, ends_held, standing_with}
 use Rattle.cache_namespace.specs.Waiting.{holding_load}
 use Rattle.cache_namespace.proofs.Drawn.{draws-first, draws-more, held-draws, spends-same}
@@ -53,7 +53,7 @@ runs-end config number making [] s t runs stops =
 runs-end config number making (step ∷ steps) s t runs stops =
     ap (λ b. let now_due = due_if b number in let placed = placed_step_in config s (first_due now_due) step in
     if is_right config placed then after_steps config (after_step config s placed.task step placed.effect) (left_after now_due) steps else None) runs.0
-    ∙ ap (λ b. if b then after_steps config (after_step config s (Some (RunLines number)) step (placed_in config number s step)) (RunLines number ∷ []) steps else None) runs.1
+    ∙ ap (λ b. if b then after_steps config (after_step config s (Some (RunLines number)) step (effect_of_step config number s step)) (RunLines number ∷ []) steps else None) runs.1
     ∙ runs-end config number making steps _ t runs.4 stops
 
 -- one more value in its part
@@ -67,7 +67,7 @@ runs-parted config number making [] s t runs = refl
 runs-parted config number making (step ∷ steps) s t runs =
     ap (λ b. let now_due = due_if b number in let placed = placed_step_in config s (first_due now_due) step in
     list_all (is_parted making.part_of) (cons_option placed.effect.value (accepted_values (placed_steps_in config (after_step config s placed.task step placed.effect) (left_after now_due) steps)))) runs.0
-    ∙ cons-parted making.part_of (placed_in config number s step).value _ runs.2 (runs-parted config number making steps _ t runs.4)
+    ∙ cons-parted making.part_of (effect_of_step config number s step).value _ runs.2 (runs-parted config number making steps _ t runs.4)
 
 -- and each `SYNC` among them leaves timely values
 pub runs-timely : (config : Config) (number : ℕ) (making : Making) (steps : List Step) (s t : Situation) → Runs config number making s steps t → are_timely config making.made s (RunLines number ∷ []) steps ≡ true
@@ -104,7 +104,7 @@ pub stops-held : (base : Situation) (left : List HeldValue) (number : ℕ) (line
 stops-held base left number line rest there =
     ap (λ c. option_map_or (λ k. is_ready k.standing && is_some (first_line k.unread)) c false) (found-there base left number (holding number line rest) there refl)
 
-pub stops-quit : (base : Situation) (left : List HeldValue) (number : ℕ) (c : Connection) → c.number ≡ number → may_run_in (ended true base left c) number ≡ false
+pub stops-quit : (base : Situation) (left : List HeldValue) (number : ℕ) (c : Connection) → c.number ≡ number → may_run_in (situation_behind true base left c) number ≡ false
 stops-quit base left number c is =
     ap (λ n. option_map_or (λ k. is_ready k.standing && is_some (first_line k.unread)) (find (λ k. k.number == number) (without_number n base.connections)) false) is
     ∙ ap (λ o. option_map_or (λ k. is_ready k.standing && is_some (first_line k.unread)) o false) (find-dropped number base.connections)
@@ -112,9 +112,9 @@ stops-quit base left number c is =
 -- ---- a command held back
 
 right-held : (config : Config) (s : Situation) (number : ℕ) (line : List ℕ)
-    → is_right config (placed_by config s (Some (RunLines number)) (Some line) Holding (held_step number line)) ≡ true
+    → is_right config (placed_doing config s (Some (RunLines number)) (Some line) Holding (held_step number line)) ≡ true
 right-held config s number line =
-    let placed = placed_by config s (Some (RunLines number)) (Some line) Holding (held_step number line) in
+    let placed = placed_doing config s (Some (RunLines number)) (Some line) Holding (held_step number line) in
     and_from _ true (and_from _ true (and_from _ _ (and_from _ true (and_from _ true (and_from _ true (and_from _ _ (and_from (is_in_turn placed) true (eq-eqb number number refl) refl) (same-refl line)) refl) refl) refl)
     (none_succeeded (map (candidate_at config s.latest) s.held ++ []))) refl) refl
 
@@ -128,7 +128,7 @@ runs-held config base number making s steps left rest line n there at said runs 
     let step = held_step number line in
     let after = all_held_after config base.latest left no_deed [] in
     runs-more config number making steps s t step _ runs (may-run base left number rest n there at)
-    (subst (λ d. is_right config (placed_by config t (Some (RunLines number)) d Holding step) ≡ true) (sym (line-due base left number rest line n there at said)) (right-held config t number line))
+    (subst (λ d. is_right config (placed_doing config t (Some (RunLines number)) d Holding step) ≡ true) (sym (line-due base left number rest line n there at said)) (right-held config t number line))
     refl refl
     (placed-again base left after number (ready number rest) (holding number line (behind_lines 1 rest)) (effect_in config (view_in config t) Holding step)
     (connection_after (Some (RunLines number)) step (effect_in config (view_in config t) Holding step)) false there (line-fits number rest n at) refl (λ s. refl) refl
@@ -167,8 +167,8 @@ starts-quit config x (y ∷ ys) quit one e = e
 
 -- lines ran until less than one, or too long a one, was left, or a `QUIT` ran
 pub ready-stopped : (config : Config) (base : Situation) (number : ℕ) (making : Making) (held : List HeldValue) (bytes : List ℕ) (quit : Bool) (rest : List ℕ) (Stands : List HeldValue → Type 0) (dropped : Bool) (drawn drawing : Workings) (old new : Gathered)
-    → (r : RanLines config base number making held bytes quit rest Stands dropped drawn drawing old new) → may_run_in (ended quit (with_drops dropped base) r.left (ready number rest)) number ≡ false
-    → RanReady config base number making held bytes quit false (λ left. ended quit (with_drops dropped base) left (standing_with number false 0 rest)) Stands drawn drawing old new
+    → (r : RanLines config base number making held bytes quit rest Stands dropped drawn drawing old new) → may_run_in (situation_behind quit (with_drops dropped base) r.left (ready number rest)) number ≡ false
+    → RanReady config base number making held bytes quit false (λ left. situation_behind quit (with_drops dropped base) left (standing_with number false 0 rest)) Stands drawn drawing old new
 ready-stopped config base number making held bytes quit rest Stands dropped drawn drawing old new r stops = record {
   steps = r.steps;
   left = r.left;
@@ -189,7 +189,7 @@ ready-stopped config base number making held bytes quit rest Stands dropped draw
 pub ready-held : (config : Config) (base : Situation) (number : ℕ) (making : Making) (held : List HeldValue) (bytes rest line : List ℕ) (n : ℕ) (Stands : List HeldValue → Type 0) (dropped : Bool) (drawn drawing : Workings) (old middle new : Gathered)
     → IsThere number base → (r : RanLines config base number making held bytes false rest Stands dropped drawn drawing old middle) → IsLine rest n → line ≡ without_return (take n rest)
     → Stands (all_held_after config base.latest r.left no_deed []) → new ≡ gather middle (held_step number line ∷ [])
-    → RanReady config base number making held bytes false true (λ left. ended false (with_drops dropped base) left (standing_with number true 0 rest)) Stands drawn drawing old new
+    → RanReady config base number making held bytes false true (λ left. situation_behind false (with_drops dropped base) left (standing_with number true 0 rest)) Stands drawn drawing old new
 ready-held config base number making held bytes rest line n Stands dropped drawn drawing old middle new there r at said stands gathers =
     let from = with_drops dropped base in
     let left = all_held_after config base.latest r.left no_deed [] in
@@ -236,7 +236,7 @@ right-released : (config : Config) (base : Situation) (number : ℕ) (making : M
     → (one : RanOne config (held_with base held number times bytes piece) number making (held_line bytes) quit Stood dropped drawn drawing old new)
     → is_right config (placed_step_in config (held_with base held number times bytes piece) (Some (RunHeld number)) (step_released number bytes one.reply one.accepted one.told)) ≡ true
 right-released config base number making held times bytes piece quit Stood dropped drawn drawing old new there one =
-    subst (λ d. is_right config (placed_by config (held_with base held number times bytes piece) (Some (RunHeld number)) d (action_by (reading config (held_line bytes))) (step_released number bytes one.reply one.accepted one.told)) ≡ true)
+    subst (λ d. is_right config (placed_doing config (held_with base held number times bytes piece) (Some (RunHeld number)) d (action_by (reading config (held_line bytes))) (step_released number bytes one.reply one.accepted one.told)) ≡ true)
     (sym (ap (line_in (Some (RunHeld number))) (found-there base held number (holding_load number (held_line bytes) (behind_lines 1 bytes ++ piece) times) there refl)))
     (right-in-turn config (held_with base held number times bytes piece) (RunHeld number) number (held_line bytes) one.reply one.accepted one.told one.right (eq-eqb number number refl))
 
@@ -245,10 +245,10 @@ after-released : (config : Config) (base : Situation) (number : ℕ) (making : M
     → (one : RanOne config (held_with base held number times bytes piece) number making (held_line bytes) quit Stood dropped drawn drawing old new)
     → after_step config (held_with base held number times bytes piece) (Some (RunHeld number)) (step_released number bytes one.reply one.accepted one.told)
     (effect_in config (view_in config (held_with base held number times bytes piece)) (action_by (reading config (held_line bytes))) (step_released number bytes one.reply one.accepted one.told))
-    ≡ ended quit (with_drops dropped base) (held_when_run config (held_with base held number times bytes piece) (action_by (reading config (held_line bytes))) (step_saying 0 [] one.reply one.accepted one.told)) (ready number (behind_lines 1 bytes ++ piece))
+    ≡ situation_behind quit (with_drops dropped base) (held_when_run config (held_with base held number times bytes piece) (action_by (reading config (held_line bytes))) (step_saying 0 [] one.reply one.accepted one.told)) (ready number (behind_lines 1 bytes ++ piece))
 after-released config base number making held times bytes piece quit Stood dropped drawn drawing old new there one =
     after-held config base held number (holding_load number (held_line bytes) (behind_lines 1 bytes ++ piece) times) (held_line bytes) one.reply one.accepted one.told quit there refl one.plain
-    ∙ ap (λ b. ended quit (with_drops b base) (held_when_run config (held_with base held number times bytes piece) (action_by (reading config (held_line bytes))) (step_saying 0 [] one.reply one.accepted one.told)) (ready number (behind_lines 1 bytes ++ piece))) (sym one.dropped_is)
+    ∙ ap (λ b. situation_behind quit (with_drops b base) (held_when_run config (held_with base held number times bytes piece) (action_by (reading config (held_line bytes))) (step_saying 0 [] one.reply one.accepted one.told)) (ready number (behind_lines 1 bytes ++ piece))) (sym one.dropped_is)
 
 -- a feed of a connection that holds a command back: that command runs first
 pub feeds-held : (config : Config) (base : Situation) (number : ℕ) (making : Making) (held : List HeldValue) (times : ℕ) (bytes piece : List ℕ) (quit is_held : Bool) (target : List HeldValue → Situation) (Stood Stands : List HeldValue → Type 0) (was : Bool) (drawn middling drawing : Workings) (old middle new : Gathered)
@@ -289,14 +289,14 @@ feeds-held config base number making held times bytes piece quit is_held target 
 -- a feed of a connection that holds a `QUIT` back: nothing runs behind it
 pub feeds-quit : (config : Config) (base : Situation) (number : ℕ) (making : Making) (held : List HeldValue) (times : ℕ) (bytes piece rest : List ℕ) (Stands : List HeldValue → Type 0) (dropped : Bool) (drawn drawing : Workings) (old new : Gathered)
     → IsThere number base → RanOne config (held_with base held number times bytes piece) number making (held_line bytes) true Stands dropped drawn drawing old new
-    → RanFeed config base number making held true times bytes piece true false (λ left. ended true (with_drops dropped base) left (standing_with number false 0 rest)) Stands drawn drawing old new
+    → RanFeed config base number making held true times bytes piece true false (λ left. situation_behind true (with_drops dropped base) left (standing_with number false 0 rest)) Stands drawn drawing old new
 feeds-quit config base number making held times bytes piece rest Stands dropped drawn drawing old new there one =
     let s = held_with base held number times bytes piece in
     let step = step_released number bytes one.reply one.accepted one.told in
     let effect = effect_in config (view_in config s) (action_by (reading config (held_line bytes))) step in
     let left = held_when_run config s (action_by (reading config (held_line bytes))) (step_saying 0 [] one.reply one.accepted one.told) in
     let after = after-released config base number making held times bytes piece true Stands dropped drawn drawing old new there one in
-    let last = ended true (with_drops dropped base) left (ready number (behind_lines 1 bytes ++ piece)) in
+    let last = situation_behind true (with_drops dropped base) left (ready number (behind_lines 1 bytes ++ piece)) in
     record {
       steps = step ∷ [];
       left = left;

@@ -24,10 +24,10 @@ use Rattle.cache_namespace.specs.Lines.{are_timely, set_in, ready}
 use Rattle.cache_namespace.specs.Ordered.{HaveKeys}
 use Rattle.cache_namespace.specs.Ran.{with_piece}
 use Rattle.cache_namespace.specs.Shown.{shown, standing_as, is_listed, is_open_with, open_from, situation, put_in}
-use Rattle.cache_namespace.specs.Taken.{is_quit, FeedsConnection, Takes, fed, known, holds_at}
+use Rattle.cache_namespace.specs.Taken.{is_quit, FeedsConnection, FollowsEvent, feed_event, known, holds_at}
 use Rattle.cache_namespace.specs.Waiting.{UnderWay, no_loads, when_left}
 use Rattle.audit_model.specs.Stream.{behind_lines}
-use Rattle.cache_loads.specs.Standings.{holds, keeps_line, waits}
+use Rattle.cache_loads.specs.Standings.{holds_line, keeps_line, waits_for_load}
 use Rattle.cache_namespace.specs.Whole.{is_long_line, is_near}
 use Rattle.cache_loads.specs.declared.standing.Standing.{Standing}
 use Rattle.cache_loads.specs.declared.standing.Standing.TheVariants as now
@@ -74,10 +74,10 @@ leb-above a b lt = go (nat_le a b) refl
     go true e = let h = leb-true a b e in absurd (omega arith)
     go false e = refl
 
-holding-shown : (m : ℕ) (c : Connection) → is_holding (shown m c).standing ≡ holds c.standing
+holding-shown : (m : ℕ) (c : Connection) → is_holding (shown m c).standing ≡ holds_line c.standing
 holding-shown m c = go c.standing
   where
-    go : (standing : Standing) → is_holding (standing_as m standing c.waited c.unread.bytes).standing ≡ holds standing
+    go : (standing : Standing) → is_holding (standing_as m standing c.waited c.unread.bytes).standing ≡ holds_line standing
     go now.Ready = refl
     go now.Held = refl
     go now.Waiting = refl
@@ -103,7 +103,7 @@ listed-open m c = go c.closing c.standing c.unread.bytes c.short c.near
     not-long true h = h
     not-long false h = refl
 
-    go : (closing : Option Closing) (standing : Standing) (bytes : List ℕ) → IsTrue (is_some closing || keeps_line standing || not (is_long_line bytes)) → IsTrue (is_some closing || not (waits standing) || is_near bytes)
+    go : (closing : Option Closing) (standing : Standing) (bytes : List ℕ) → IsTrue (is_some closing || keeps_line standing || not (is_long_line bytes)) → IsTrue (is_some closing || not (waits_for_load standing) || is_near bytes)
         → is_open_with m closing standing c.waited bytes ≡ is_none closing
     go (Some by) standing bytes h near = refl
     go None now.Ready bytes h near = not-long (is_long_line bytes) h
@@ -114,12 +114,12 @@ listed-open m c = go c.closing c.standing c.unread.bytes c.short c.near
 pub follows-feed : (config : Config) (making : Making) (latest m i moment : ℕ) (l joined : UnderWay) (old new : Connection) (cs : List Connection) (dropped dropping : Bool) (x : List HeldValue) (piece : List ℕ) (is_held : Bool) (Stands : List HeldValue → Type 0) (drawn drawing : Workings) (was is : Gathered)
     → m ≡ suc i → i < length cs → get_or cs i old ≡ old → is_listed m old ≡ true → moment < 2 ^ 63
     → FeedsConnection config (situation (max moment latest) l cs dropped x) m making x old piece new is_held Stands dropping joined drawn drawing was is
-    → Takes config making (situation latest l cs dropped x) (fed m piece moment) is_held (is_quit new.closing) Stands (situation (max moment latest) (when_left (is_none new.closing) m joined) (slice_set cs i new) dropping) drawn drawing was is
+    → FollowsEvent config making (situation latest l cs dropped x) (feed_event m piece moment) is_held (is_quit new.closing) Stands (situation (max moment latest) (when_left (is_none new.closing) m joined) (slice_set cs i new) dropping) drawn drawing was is
 follows-feed config making latest m i moment l joined old new cs dropped dropping x piece is_held Stands drawn drawing was is e lt at listed low f =
     let s = situation latest l cs dropped x in
     let known = known-open latest m i l old cs dropped x e lt at listed in
     let found = found-open m i old cs e lt at listed in
-    let rest = after_steps config (after_event (fed m piece moment) s) (tasks_in s (fed m piece moment)) f.steps in
+    let rest = after_steps config (after_event (feed_event m piece moment) s) (tasks_in s (feed_event m piece moment)) f.steps in
     record {
       steps = f.steps;
       left = f.left;
@@ -158,7 +158,7 @@ follows-feed config making latest m i moment l joined old new cs dropped droppin
 -- a new connection's record follows
 pub follows-open : (config : Config) (making : Making) (latest m : ℕ) (l : UnderWay) (new : Connection) (cs : List Connection) (dropped : Bool) (x : List HeldValue) (Stands : List HeldValue → Type 0) (drawn : Workings) (was : Gathered)
     → m ≡ suc (length cs) → new.closing ≡ None → new.standing ≡ now.Ready → new.unread.bytes ≡ [] → Stands x
-    → Takes config making (situation latest l cs dropped x) (event.Open m) false false Stands (situation latest l (cs ++ new ∷ []) dropped) drawn drawn was was
+    → FollowsEvent config making (situation latest l cs dropped x) (event.Open m) false false Stands (situation latest l (cs ++ new ∷ []) dropped) drawn drawn was was
 follows-open config making latest m l new cs dropped x Stands drawn was e is_open free empty stands =
     let n_is : 1 + length cs ≡ m = omega arith in
     record {
@@ -183,7 +183,7 @@ follows-open config making latest m l new cs dropped x Stands drawn was e is_ope
 -- a closing's record follows
 pub follows-close : (config : Config) (making : Making) (latest m i : ℕ) (l : UnderWay) (old new : Connection) (cs : List Connection) (dropped : Bool) (x : List HeldValue) (by : Closing) (Stands : List HeldValue → Type 0) (drawn : Workings) (was : Gathered)
     → m ≡ suc i → i < length cs → get_or cs i old ≡ old → old.closing ≡ None → new.closing ≡ Some by → Stands x
-    → Takes config making (situation latest l cs dropped x) (event.Close m) false false Stands (situation latest (when_left false m l) (slice_set cs i new) dropped) drawn drawn was was
+    → FollowsEvent config making (situation latest l cs dropped x) (event.Close m) false false Stands (situation latest (when_left false m l) (slice_set cs i new) dropped) drawn drawn was was
 follows-close config making latest m i l old new cs dropped x by Stands drawn was e lt at is_open closed stands =
     let s = situation latest l cs dropped x in
     let known = known-open latest m i l old cs dropped x e lt at (listed-open m old ∙ ap is_none is_open) in
@@ -227,19 +227,19 @@ known-none m i c cs e lt at is_open =
 
 -- an event that is taken, memory aside
 pub admitted : (config : Config) (m i moment : ℕ) (c : Connection) (cs : List Connection) (piece : List ℕ) → m ≡ suc i → i < length cs → get_or cs i c ≡ c → c.closing ≡ None → moment < 2 ^ 63
-    → refusal_of config (known cs) (fed m piece moment) ≡ None
+    → refusal_of config (known cs) (feed_event m piece moment) ≡ None
 admitted config m i moment c cs piece e lt at is_open low =
     ap (λ o. option_or o (refusal_where (nat_le (2 ^ 63) moment) error.Moment)) (known-none m i c cs e lt at is_open)
     ∙ ap (λ a. refusal_where a error.Moment) (leb-above (2 ^ 63) moment low)
 
 -- a moment that is too late
 pub refused-late : (config : Config) (m i moment : ℕ) (c : Connection) (cs : List Connection) (piece : List ℕ) → m ≡ suc i → i < length cs → get_or cs i c ≡ c → c.closing ≡ None → 2 ^ 63 ≤ moment
-    → refusal_of config (known cs) (fed m piece moment) ≡ Some error.Moment
+    → refusal_of config (known cs) (feed_event m piece moment) ≡ Some error.Moment
 refused-late config m i moment c cs piece e lt at is_open high =
     ap (λ o. option_or o (refusal_where (nat_le (2 ^ 63) moment) error.Moment)) (known-none m i c cs e lt at is_open)
     ∙ ap (λ a. refusal_where a error.Moment) (le-leb (2 ^ 63) moment high)
 
 -- whether a command is held back
-pub holds-is : (m i : ℕ) (c : Connection) (cs : List Connection) → m ≡ suc i → i < length cs → get_or cs i c ≡ c → c.closing ≡ None → holds_at cs m ≡ holds c.standing
+pub holds-is : (m i : ℕ) (c : Connection) (cs : List Connection) → m ≡ suc i → i < length cs → get_or cs i c ≡ c → c.closing ≡ None → holds_at cs m ≡ holds_line c.standing
 holds-is m i c cs e lt at is_open =
     ap (λ o. option_map_or (λ (k : model.Connection). is_holding k.standing) o false) (found-open m i c cs e lt at (listed-open m c ∙ ap is_none is_open)) ∙ holding-shown m c

@@ -12,9 +12,9 @@ use Rattle.audit_model.specs.declared.config.Config.{Config}
 use Rattle.audit_model.specs.declared.transcript.Step.{Step}
 use Rattle.cache_steps.specs.Order.{Order, Settled, Used, Unknown, AgreesWith, order_by}
 use Rattle.cache_store.specs.Recency.{AreKeysOf}
-use Rattle.cache_namespace.specs.Lines.{Runs, ended, placed_in}
+use Rattle.cache_namespace.specs.Lines.{Runs, situation_behind, effect_of_step}
 use Rattle.cache_namespace.specs.Making.{Making}
-use Rattle.cache_namespace.specs.Ordered.{HasKeys, HaveKeys, HaveKeysBehind, OrdersSteps, order_after, order_behind}
+use Rattle.cache_namespace.specs.Ordered.{HasKeys, HaveKeys, HaveKeysBehind, OrdersSteps, order_behind_step, order_behind}
 
 -- a store's keys in their order of use are those held
 pub keys-known : (Recency : Bool → List (List ℕ) → Type 0) (Stands : List HeldValue → Type 0) (places : ℕ) (order : Order) (held : List HeldValue)
@@ -25,24 +25,24 @@ keys-known Recency Stands places (Used keys) held law agrees stands = (agrees, t
 keys-known Recency Stands places Unknown held law agrees stands = (agrees, tt)
 
 -- as it now is, or closed by a `QUIT`
-pub has-ended : (order : Order) (quit : Bool) (base : Situation) (left : List HeldValue) (c : Connection) → HasKeys order left → HasKeys order (ended quit base left c).held
+pub has-ended : (order : Order) (quit : Bool) (base : Situation) (left : List HeldValue) (c : Connection) → HasKeys order left → HasKeys order (situation_behind quit base left c).held
 has-ended order true base left c h = h
 has-ended order false base left c h = h
 
 -- one step more
 pub order-behind-more : (config : Config) (n : ℕ) (order : Order) (steps : List Step) (step : Step)
-    → order_behind config n order (steps ++ step ∷ []) ≡ order_after config n (order_behind config n order steps) step
+    → order_behind config n order (steps ++ step ∷ []) ≡ order_behind_step config n (order_behind config n order steps) step
 order-behind-more config n order [] step = refl
-order-behind-more config n order (x ∷ xs) step = order-behind-more config n (order_after config n order x) xs step
+order-behind-more config n order (x ∷ xs) step = order-behind-more config n (order_behind_step config n order x) xs step
 
 pub runs-keys-more : (config : Config) (number : ℕ) (making : Making) (n : ℕ) (order : Order) (steps : List Step) (s t : Situation) (step : Step)
     → Runs config number making s steps t → HaveKeysBehind config number n order s steps
-    → HasKeys (order_after config n (order_behind config n order steps) step) (after_step config t (Some (RunLines number)) step (placed_in config number t step)).held
+    → HasKeys (order_behind_step config n (order_behind config n order steps) step) (after_step config t (Some (RunLines number)) step (effect_of_step config number t step)).held
     → HaveKeysBehind config number n order s (steps ++ step ∷ [])
 runs-keys-more config number making n order [] s t step runs keys h =
-    (subst (λ (x : Situation). HasKeys (order_after config n order step) (after_step config x (Some (RunLines number)) step (placed_in config number x step)).held) runs h, tt)
+    (subst (λ (x : Situation). HasKeys (order_behind_step config n order step) (after_step config x (Some (RunLines number)) step (effect_of_step config number x step)).held) runs h, tt)
 runs-keys-more config number making n order (x ∷ xs) s t step runs keys h =
-    (keys.0, runs-keys-more config number making n (order_after config n order x) xs _ t step runs.4 keys.1 h)
+    (keys.0, runs-keys-more config number making n (order_behind_step config n order x) xs _ t step runs.4 keys.1 h)
 
 -- the tasks that are due while lines may run or not
 abbrev due_if : Bool → ℕ → List Task
@@ -57,8 +57,8 @@ keys-in-turn config number making n order (step ∷ steps) s t runs keys =
     let now_due = due_if b number in
     let placed = placed_step_in config s (first_due now_due) step in
     let u = after_step config s placed.task step placed.effect in
-    HasKeys (order_after config n order step) u.held × HaveKeys config n (order_after config n order step) u (left_after now_due) steps) (sym runs.0)
-    (keys.0, keys-in-turn config number making n (order_after config n order step) steps _ t runs.4 keys.1)
+    HasKeys (order_behind_step config n order step) u.held × HaveKeys config n (order_behind_step config n order step) u (left_after now_due) steps) (sym runs.0)
+    (keys.0, keys-in-turn config number making n (order_behind_step config n order step) steps _ t runs.4 keys.1)
 
 -- ---- steps behind which nothing is known
 
@@ -76,7 +76,7 @@ unknown-by n (Ok (says.DropIf prefix)) = refl
 unknown-by n (Ok says.Quit) = refl
 unknown-by n (Err fault) = refl
 
-unknown-after : (config : Config) (n : ℕ) (step : Step) → order_after config n Unknown step ≡ Unknown
+unknown-after : (config : Config) (n : ℕ) (step : Step) → order_behind_step config n Unknown step ≡ Unknown
 unknown-after config n step = go step.held
   where
     go : (b : Bool) → (if b then Unknown else order_by n (reading config step.line) Unknown) ≡ Unknown
@@ -98,7 +98,7 @@ unknown-keys config n s tasks (step ∷ steps) =
 
 -- steps of which the first leaves nothing known
 pub orders-lost : (config : Config) (old new : Bool → List (List ℕ) → Type 0) (s : Situation) (tasks : List Task) (first : Step) (rest : List Step)
-    → ((n : ℕ) (order : Order) → order_after config n order first ≡ Unknown) → OrdersSteps config old new s tasks (first ∷ rest)
+    → ((n : ℕ) (order : Order) → order_behind_step config n order first ≡ Unknown) → OrdersSteps config old new s tasks (first ∷ rest)
 orders-lost config old new s tasks first rest lost = λ places order plain agrees.
     let n = suc places in
     let now_due = due (may_run_in s) tasks in

@@ -19,9 +19,9 @@ use Rattle.audit_model.specs.Stream.{behind_lines, without_return}
 use Rattle.audit_model.specs.declared.command.Command.TheVariants as says
 use Rattle.audit_model.specs.declared.config.Config.{Config}
 use Rattle.audit_model.specs.declared.transcript.Step.{Step}
-use Rattle.cache_lines.specs.Next.{IsLine}
-use Rattle.cache_lines.proofs.Lines.{IsLine-first_line}
-use Rattle.cache_loads.specs.Pending.{SameLoads, number_to_send, pending_of, sent_of, when_joined, when_sent}
+use Rattle.audit_lines.specs.Next.{IsLine}
+use Rattle.audit_lines.proofs.Lines.{IsLine-first_line}
+use Rattle.cache_loads.specs.Pending.{SameLoads, number_to_send, loads_pending, sent_of, when_joined, when_sent}
 use Rattle.cache_loads.specs.declared.loads.Loads.{Loads}
 use Rattle.cache_steps.specs.Loading.{Waits, step_silent}
 use Rattle.cache_steps.specs.Order.{AgreesWith, order_by}
@@ -31,12 +31,12 @@ use Rattle.cache_steps.proofs.LoadSteps as loading
 use Rattle.cache_store.specs.Promises.{no_deed}
 use Rattle.cache_namespace.specs.Drawing.{Identifiers, StepDraws, Workings, identifiers_in, says_drop}
 use Rattle.cache_namespace.specs.Gathered.{Gathered, gather}
-use Rattle.cache_namespace.specs.Lines.{IsThere, Runs, ended, has_its_part, is_timely_after, placed_in, ready, says_quit, set_in, with_drops}
+use Rattle.cache_namespace.specs.Lines.{IsThere, Runs, situation_behind, has_its_part, is_timely_after, effect_of_step, ready, says_quit, set_in, with_drops}
 use Rattle.cache_namespace.specs.Making.{Making}
-use Rattle.cache_namespace.specs.Ordered.{HasKeys, HaveKeys, order_after, order_behind}
+use Rattle.cache_namespace.specs.Ordered.{HasKeys, HaveKeys, order_behind_step, order_behind}
 use Rattle.cache_namespace.specs.Ran.{RanFeed, RanLines, RanReady, ends_held}
 use Rattle.cache_namespace.specs.Shown.{standing_as}
-use Rattle.cache_namespace.specs.Waiting.{UnderWay, holding_load, loads_in, sent_by, under_way, waiting, when_waiting, with_under_way}
+use Rattle.cache_namespace.specs.Waiting.{UnderWay, holding_load, loads_in, load_sent_for, under_way, waiting, when_waiting, with_under_way}
 use Rattle.cache_namespace.specs.Whole.{has_line, held_line}
 use Rattle.cache_loads.specs.declared.standing.Standing.TheVariants as now
 use Rattle.cache_namespace.proofs.Drawn.{draws-first, draws-more, spends-same}
@@ -128,7 +128,7 @@ ready-waits config base number making held bytes rest line key n load Stands dro
             subst (AgreesWith drawing.recency places) (sym (order-behind-more config (suc places) order r.steps step ∙ ap (λ x. order_by (suc places) x before) reads)) tt,
             keys-in-turn config number making (suc places) order (r.steps ++ step ∷ []) _ _ runs
                 (runs-keys-more config number making (suc places) order r.steps _ (set_in from r.left (ready number rest)) step r.runs a.1
-                (subst (λ x. HasKeys (order_by (suc places) x before) (after_step config (set_in from r.left (ready number rest)) (Some (RunLines number)) step (placed_in config number (set_in from r.left (ready number rest)) step)).held) (sym reads) tt)),
+                (subst (λ x. HasKeys (order_by (suc places) x before) (after_step config (set_in from r.left (ready number rest)) (Some (RunLines number)) step (effect_of_step config number (set_in from r.left (ready number rest)) step)).held) (sym reads) tt)),
           );
       gathered = gathers ∙ ap (λ g. gather g (step ∷ [])) r.gathered ∙ gather-more old r.steps (step ∷ []);
     }
@@ -185,33 +185,33 @@ feeds-waits config base number making held times bytes piece key load Stands dra
 
 -- those that stay the same
 pub same-under : (old new : Loads) → SameLoads old new → under_way new ≡ under_way old
-same-under old new same = ap (λ n. record { sent = n; pending = pending_of new }) same.sent ∙ ap (λ ps. record { sent = sent_of old; pending = ps }) same.pending
+same-under old new same = ap (λ n. record { sent = n; pending = loads_pending new }) same.sent ∙ ap (λ ps. record { sent = sent_of old; pending = ps }) same.pending
 
 -- what such a feed leaves, with the loads that are under way
 pub ready-by : (config : Config) (base : Situation) (number : ℕ) (making : Making) (held : List HeldValue) (bytes : List ℕ) (quit is_held : Bool) (Stands : List HeldValue → Type 0) (dropped : Bool) (loads : UnderWay) (c : Connection) (drawn drawing : Workings) (old new : Gathered)
-    → loads_in base ≡ loads → RanReady config base number making held bytes quit is_held (λ left. ended quit (with_drops dropped base) left c) Stands drawn drawing old new
-    → RanReady config base number making held bytes quit is_held (λ left. ended quit (with_under_way loads (with_drops dropped base)) left c) Stands drawn drawing old new
+    → loads_in base ≡ loads → RanReady config base number making held bytes quit is_held (λ left. situation_behind quit (with_drops dropped base) left c) Stands drawn drawing old new
+    → RanReady config base number making held bytes quit is_held (λ left. situation_behind quit (with_under_way loads (with_drops dropped base)) left c) Stands drawn drawing old new
 ready-by config base number making held bytes quit is_held Stands dropped loads c drawn drawing old new under r =
-    subst (λ u. RanReady config base number making held bytes quit is_held (λ left. ended quit (with_under_way u (with_drops dropped base)) left c) Stands drawn drawing old new) under r
+    subst (λ u. RanReady config base number making held bytes quit is_held (λ left. situation_behind quit (with_under_way u (with_drops dropped base)) left c) Stands drawn drawing old new) under r
 
 pub feeds-by : (config : Config) (base : Situation) (number : ℕ) (making : Making) (held : List HeldValue) (was_held : Bool) (times : ℕ) (bytes piece : List ℕ) (quit is_held : Bool) (Stands : List HeldValue → Type 0) (dropped : Bool) (loads : UnderWay) (c : Connection) (drawn drawing : Workings) (old new : Gathered)
-    → loads_in base ≡ loads → RanFeed config base number making held was_held times bytes piece quit is_held (λ left. ended quit (with_drops dropped base) left c) Stands drawn drawing old new
-    → RanFeed config base number making held was_held times bytes piece quit is_held (λ left. ended quit (with_under_way loads (with_drops dropped base)) left c) Stands drawn drawing old new
+    → loads_in base ≡ loads → RanFeed config base number making held was_held times bytes piece quit is_held (λ left. situation_behind quit (with_drops dropped base) left c) Stands drawn drawing old new
+    → RanFeed config base number making held was_held times bytes piece quit is_held (λ left. situation_behind quit (with_under_way loads (with_drops dropped base)) left c) Stands drawn drawing old new
 feeds-by config base number making held was_held times bytes piece quit is_held Stands dropped loads c drawn drawing old new under r =
-    subst (λ u. RanFeed config base number making held was_held times bytes piece quit is_held (λ left. ended quit (with_under_way u (with_drops dropped base)) left c) Stands drawn drawing old new) under r
+    subst (λ u. RanFeed config base number making held was_held times bytes piece quit is_held (λ left. situation_behind quit (with_under_way u (with_drops dropped base)) left c) Stands drawn drawing old new) under r
 
 -- a held `LOAD` waits, in the words of the feed
 pub feeds-waits-on : (config : Config) (base : Situation) (number : ℕ) (making : Making) (held : List HeldValue) (was_held : Bool) (times n : ℕ) (bytes piece all key : List ℕ) (Stands : List HeldValue → Type 0) (dropped : Bool) (loads : UnderWay) (drawn : Workings) (old new : Gathered)
     → was_held ≡ true → n ≡ times + 1 → all ≡ bytes ++ piece → has_line bytes ≡ true → base.dropped ≡ dropped → when_waiting number key (loads_in base) ≡ loads
     → IsThere number base → reading config (held_line bytes) ≡ Ok (says.Load key) → live_at config base.latest held key ≡ None → Stands (all_held_after config base.latest held no_deed [])
-    → new ≡ gather old (step_waits number (held_line bytes) (sent_by key (loads_in base)) ∷ [])
-    → RanFeed config base number making held was_held times bytes piece false false (λ left. ended false (with_under_way loads (with_drops dropped base)) left (standing_as number now.Waiting n all)) Stands drawn drawn old new
+    → new ≡ gather old (step_waits number (held_line bytes) (load_sent_for key (loads_in base)) ∷ [])
+    → RanFeed config base number making held was_held times bytes piece false false (λ left. situation_behind false (with_under_way loads (with_drops dropped base)) left (standing_as number now.Waiting n all)) Stands drawn drawn old new
 feeds-waits-on config base number making held was_held times n bytes piece all key Stands dropped loads drawn old new was count is whole same joined there reads none stands gathers =
     let Waited : Bool → Situation → List ℕ → List ℕ → ℕ → Type _ = λ h s line behind k.
     RanFeed config base number making held h times bytes piece false false (λ left. set_in s left (waiting number line behind k)) Stands drawn drawn old new in
     let s = with_under_way (when_waiting number key (loads_in base)) base in
     let counts : 1 + times ≡ n = omega arith in
-    let a : Waited true s (held_line bytes) (behind_lines 1 bytes ++ piece) (1 + times) = feeds-waits config base number making held times bytes piece key (sent_by key (loads_in base)) Stands drawn old new there reads refl none stands gathers in
+    let a : Waited true s (held_line bytes) (behind_lines 1 bytes ++ piece) (1 + times) = feeds-waits config base number making held times bytes piece key (load_sent_for key (loads_in base)) Stands drawn old new there reads refl none stands gathers in
     subst (λ h. Waited h (with_under_way loads (with_drops dropped base)) (held_line all) (behind_lines 1 all) n) (sym was)
     (subst (λ u. Waited true (with_under_way u (with_drops dropped base)) (held_line all) (behind_lines 1 all) n) joined
     (subst (λ d. Waited true (with_under_way (when_waiting number key (loads_in base)) (with_drops d base)) (held_line all) (behind_lines 1 all) n) same

@@ -23,7 +23,7 @@ use Rattle.audit_model.specs.declared.transcript.Step.{Step}
 use Rattle.cache_loads.specs.Pending.{number_to_send, when_joined, when_sent}
 use Rattle.cache_steps.proofs.Answering.{same-refl}
 use Rattle.cache_steps.specs.Loading.{step_silent}
-use Rattle.cache_steps.specs.Right.{DoesRight, placed_by, step_saying}
+use Rattle.cache_steps.specs.Right.{DoesRight, placed_doing, step_saying}
 use Rattle.cache_namespace.specs.Lines.{IsThere, held_step, ready, set_in, with_drops}
 use Rattle.cache_namespace.specs.Waiting.{holding_load, waiting, with_loads}
 use Rattle.cache_namespace.proofs.FeedSteps.{find-dropped}
@@ -90,20 +90,20 @@ turned step conn line = record step { conn = conn; line = line; held = false }
 
 -- a step that is right in all but turn and line, whose line is due, is right
 pub right-turn : (config : Config) (s : Situation) (task : Task) (conn : ℕ) (line : List ℕ) (action : Action) (step : Step) → DoesRight config s action (turned step 0 [])
-    → is_in_turn (placed_by config s (Some task) (Some line) action (turned step conn line)) ≡ true
-    → is_right config (placed_by config s (Some task) (Some line) action (turned step conn line)) ≡ true
+    → is_in_turn (placed_doing config s (Some task) (Some line) action (turned step conn line)) ≡ true
+    → is_right config (placed_doing config s (Some task) (Some line) action (turned step conn line)) ≡ true
 right-turn config s task conn line action step r turn =
-    let placed = placed_by config s (Some task) (Some line) action (turned step conn line) in
+    let placed = placed_doing config s (Some task) (Some line) action (turned step conn line) in
     and_from _ _ (and_from _ _ (and_from _ _ (and_from _ _ (and_from _ _ (and_from _ _ (and_from _ _ (and_from (is_in_turn placed) (is_held_rightly placed) turn refl) (same-refl line)) r.replies) r.loads) r.accepts) r.tells) r.silent) r.within
 
 -- the step in its place, by its line and what it does
 pub placed-is : (config : Config) (s : Situation) (task : Task) (step : Step) (c : Connection) (line : List ℕ) (action : Action)
     → connection_in step.conn s ≡ Some c → line_in (Some task) (Some c) ≡ Some line → action_in config c.waited (Some task) step ≡ action
-    → placed_step_in config s (Some task) step ≡ placed_by config s (Some task) (Some line) action step
+    → placed_step_in config s (Some task) step ≡ placed_doing config s (Some task) (Some line) action step
 placed-is config s task step c line action found due does =
-    ap (λ o. placed_by config s (Some task) (line_in (Some task) o) (action_in config (option_map_or (λ (k : Connection). k.waited) o 0) (Some task) step) step) found
-    ∙ ap (λ l. placed_by config s (Some task) l (action_in config c.waited (Some task) step) step) due
-    ∙ ap (λ a. placed_by config s (Some task) (Some line) a step) does
+    ap (λ o. placed_doing config s (Some task) (line_in (Some task) o) (action_in config (option_map_or (λ (k : Connection). k.waited) o 0) (Some task) step) step) found
+    ∙ ap (λ l. placed_doing config s (Some task) l (action_in config c.waited (Some task) step) step) due
+    ∙ ap (λ a. placed_doing config s (Some task) (Some line) a step) does
 
 -- ---- a `LOAD` that begins to wait
 

@@ -4,7 +4,7 @@ use Rattle.std.specs.Prelude.{is_some}
 use Rattle.std.specs.List.{find}
 use Rattle.std.proofs.lemmas.Bool.{eq-eqb}
 use Rattle.audit_model.specs.Situation.{Situation, Connection, HeldValue, connection_in, with_connection, without_number, without_waiting, is_overlong}
-use Rattle.cache_namespace.specs.Lines.{ended, set_in, IsThere}
+use Rattle.cache_namespace.specs.Lines.{situation_behind, set_in, IsThere}
 
 -- the connection under that number
 abbrev pub numbered : ℕ → Connection → Connection
@@ -81,7 +81,7 @@ set-again base held left n c d fits =
 
 -- nor where it closes
 pub quit-again : (base : Situation) (held left : List HeldValue) (n : ℕ) (c d : Connection) → is_overlong (numbered n c) ≡ false
-    → with_connection true (numbered n d) (record (set_in base held (numbered n c)) { held = left }) ≡ ended true base left (numbered n d)
+    → with_connection true (numbered n d) (record (set_in base held (numbered n c)) { held = left }) ≡ situation_behind true base left (numbered n d)
 quit-again base held left n c d fits =
     ap (λ b. record base {
       held = left;
@@ -92,6 +92,6 @@ quit-again base held left n c d fits =
 
 -- as it now is, or closed by a `QUIT`
 pub ended-again : (base : Situation) (held left : List HeldValue) (n : ℕ) (c d : Connection) (quit : Bool) → is_overlong (numbered n c) ≡ false
-    → with_connection quit (numbered n d) (record (set_in base held (numbered n c)) { held = left }) ≡ ended quit base left (numbered n d)
+    → with_connection quit (numbered n d) (record (set_in base held (numbered n c)) { held = left }) ≡ situation_behind quit base left (numbered n d)
 ended-again base held left n c d true fits = quit-again base held left n c d fits
 ended-again base held left n c d false fits = set-again base held left n c d fits

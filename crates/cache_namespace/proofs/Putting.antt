@@ -12,12 +12,12 @@ use Rattle.cache_namespace.specs.Gathered.{Gathered}
 use Rattle.std.specs.Prelude.{IsTrue}
 use Rattle.audit_model.specs.Follows.{after_steps}
 use Rattle.audit_model.specs.Places.{tasks_to_feed}
-use Rattle.cache_namespace.specs.Lines.{ArePartedIn, are_timely, ended, set_in, ready, with_drops}
+use Rattle.cache_namespace.specs.Lines.{ArePartedIn, are_timely, situation_behind, set_in, ready, with_drops}
 use Rattle.cache_namespace.specs.Ordered.{OrdersSteps}
 use Rattle.cache_namespace.specs.Ran.{RanFeed, standing_with, with_piece}
 use Rattle.cache_namespace.specs.Shown.{put_in, put_parts, standing_as}
 use Rattle.cache_namespace.specs.Waiting.{UnderWay, with_under_way}
-use Rattle.cache_loads.specs.Standings.{holds, waits}
+use Rattle.cache_loads.specs.Standings.{holds_line, waits_for_load}
 use Rattle.cache_loads.specs.declared.standing.Standing.{Standing}
 use Rattle.cache_loads.specs.declared.standing.Standing.TheVariants as now
 use Rattle.cache_namespace.specs.Taken.{is_quit, FeedsConnection}
@@ -42,24 +42,24 @@ put-long base left number why standing times bytes c is long =
 
 -- a connection that a `QUIT` closed
 pub put-quit : (base : Situation) (left : List HeldValue) (number : ℕ) (standing : Standing) (times : ℕ) (bytes rest : List ℕ)
-    → ended true base left (ready number rest) ≡ put_parts base left number (Some by.Quit) standing times bytes
+    → situation_behind true base left (ready number rest) ≡ put_parts base left number (Some by.Quit) standing times bytes
 put-quit base left number standing times bytes rest = refl
 
--- what runs lines stands as one that does, or that holds a line back
-pub stands-as : (number : ℕ) (standing : Standing) (times : ℕ) (bytes : List ℕ) → waits standing ≡ false → standing_with number (holds standing) times bytes ≡ standing_as number standing times bytes
+-- what runs lines stands as one that does, or that holds_line a line back
+pub stands-as : (number : ℕ) (standing : Standing) (times : ℕ) (bytes : List ℕ) → waits_for_load standing ≡ false → standing_with number (holds_line standing) times bytes ≡ standing_as number standing times bytes
 stands-as number now.Ready times bytes e = refl
 stands-as number now.Held times bytes e = refl
 stands-as number now.Waiting times bytes e = let no : true ≡ false = e in cc
 
 -- the steps of a feed, with the connection as it is then
 pub feeds-to : (config : Config) (base : Situation) (number : ℕ) (making : Making) (values : List HeldValue) (old new : Connection) (piece : List ℕ) (quit is_held : Bool) (target : List HeldValue → Situation) (Stands : List HeldValue → Type 0) (dropped : Bool) (loads : UnderWay) (drawn drawing : Workings) (was is : Gathered)
-    → waits old.standing ≡ false
-    → (r : RanFeed config base number making values (holds old.standing) old.waited old.unread.bytes piece quit is_held target Stands drawn drawing was is)
+    → waits_for_load old.standing ≡ false
+    → (r : RanFeed config base number making values (holds_line old.standing) old.waited old.unread.bytes piece quit is_held target Stands drawn drawing was is)
     → ((left : List HeldValue) → target left ≡ put_in (with_under_way loads (with_drops dropped base)) left number new) → quit ≡ is_quit new.closing
     → FeedsConnection config base number making values old piece new is_held Stands dropped loads drawn drawing was is
 feeds-to config base number making values old new piece quit is_held target Stands dropped loads drawn drawing was is runs r puts ends =
     let at = stands-as number old.standing old.waited old.unread.bytes runs in
-    let tasks = tasks_to_feed number (holds old.standing) in
+    let tasks = tasks_to_feed number (holds_line old.standing) in
     record {
       steps = r.steps;
       left = r.left;

@@ -15,15 +15,15 @@ use Rattle.audit_model.specs.declared.transcript.Accepted.{Accepted}
 use Rattle.audit_model.specs.declared.transcript.Note.{Note}
 use Rattle.cache_store.specs.Running.{is_timely}
 use Rattle.cache_steps.specs.Order.{MovesOrder}
-use Rattle.cache_steps.specs.Right.{Answers, step_saying}
+use Rattle.cache_steps.specs.Right.{RepliesRightly, step_saying}
 use Rattle.cache_namespace.specs.Drawing.{says_drop}
 use Rattle.cache_namespace.specs.Lines.{IsPlain}
 use Rattle.cache_namespace.specs.Ran.{HasItsPart, IsPlainLine}
 
 pub answers-as : (was config : Config) (line : List ℕ) (r : Reading) (s : Situation) (accepted : Option Accepted) (Stands : List HeldValue → Type 0) (dropped : Bool) (Handed : List Note → Type 0) (old new : List ℕ)
-    → was ≡ config → reading config line ≡ r → Answers was s (action_by r) accepted Stands dropped Handed old new → Answers config s (action_by (reading config line)) accepted Stands dropped Handed old new
+    → was ≡ config → reading config line ≡ r → RepliesRightly was s (action_by r) accepted Stands dropped Handed old new → RepliesRightly config s (action_by (reading config line)) accepted Stands dropped Handed old new
 answers-as was config line r s accepted Stands dropped Handed old new same read a =
-    subst (λ t. Answers config s (action_by t) accepted Stands dropped Handed old new) (sym read) (subst (λ k. Answers k s (action_by r) accepted Stands dropped Handed old new) same a)
+    subst (λ t. RepliesRightly config s (action_by t) accepted Stands dropped Handed old new) (sym read) (subst (λ k. RepliesRightly k s (action_by r) accepted Stands dropped Handed old new) same a)
 
 pub moves-as : (was config : Config) (line : List ℕ) (r : Reading) (Old New : Bool → List (List ℕ) → Type 0) → was ≡ config → reading config line ≡ r → MovesOrder was Old New r → MovesOrder config Old New (reading config line)
 moves-as was config line r Old New same read m = subst (λ t. MovesOrder config Old New t) (sym read) (subst (λ k. MovesOrder k Old New r) same m)

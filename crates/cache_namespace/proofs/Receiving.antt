@@ -1,4 +1,4 @@
--- A piece for a connection whose `LOAD` waits.
+-- A piece for a connection whose `LOAD` waits_for_load.
 use Rattle.std.proofs.Common.{◌≡◌, ℕ, ◌<◌, ◌≤◌, Bool, true, false, not, ◌&&◌, ◌||◌, List, [], ◌∷◌, ◌++◌, length, Option, Some, None, if◌then◌else◌, refl, sym, ap, ◌∙◌, subst, arith, nat_le, nat_lt}
 use Rattle.std.specs.Prelude.{IsTrue, is_some, unwrap_or}
 use Rattle.std.proofs.lemmas.Bool.{lt-ltb, le-leb, ltb-true}
@@ -12,8 +12,8 @@ use Rattle.audit_model.specs.Stream.{behind_lines, without_return}
 use Rattle.audit_model.specs.declared.config.Config.{Config}
 use Rattle.audit_model.specs.declared.command.Closing.{Closing}
 use Rattle.audit_model.specs.declared.command.Closing.TheVariants as by
-use Rattle.cache_lines.proofs.Cuts.{Cut}
-use Rattle.cache_lines.proofs.Lines.{cut_at-append, cut_with}
+use Rattle.audit_lines.proofs.Cuts.{Cut}
+use Rattle.audit_lines.proofs.Lines.{cut_at-append, cut_with}
 use Rattle.cache_namespace.specs.Drawing.{Workings, identifiers_in}
 use Rattle.cache_namespace.specs.Gathered.{Gathered}
 use Rattle.cache_namespace.specs.Lines.{IsThere, set_in, with_drops}
@@ -22,7 +22,7 @@ use Rattle.cache_namespace.specs.Ran.{with_piece}
 use Rattle.cache_namespace.specs.Shown.{put_in, put_parts, shown, standing_as}
 use Rattle.cache_namespace.specs.Taken.{FeedsConnection, is_quit}
 use Rattle.cache_namespace.specs.Waiting.{UnderWay, loads_in, with_under_way}
-use Rattle.cache_loads.specs.Standings.{holds, keeps_line, waits}
+use Rattle.cache_loads.specs.Standings.{holds_line, keeps_line, waits_for_load}
 use Rattle.cache_namespace.specs.Whole.{has_line, held_line, is_long_line, is_near}
 use Rattle.cache_namespace.specs.declared.connection.Connection.{Connection}
 use Rattle.cache_loads.specs.declared.standing.Standing.{Standing}
@@ -63,7 +63,7 @@ held-more bytes more whole = ap of_cut (cut_at-append 10 bytes more) ∙ kept (c
 
 -- ---- what is known of the connection
 
-pub waits-is : (standing : Standing) → waits standing ≡ true → standing ≡ now.Waiting
+pub waits-is : (standing : Standing) → waits_for_load standing ≡ true → standing ≡ now.Waiting
 waits-is now.Ready e = let no : false ≡ true = e in cc
 waits-is now.Held e = let no : false ≡ true = e in cc
 waits-is now.Waiting e = refl
@@ -80,9 +80,9 @@ still-whole standing all e h = ap (λ st. not (keeps_line st) || has_line all) e
 pub still-short : (closing : Option Closing) (standing : Standing) (all : List ℕ) → closing ≡ None → standing ≡ now.Waiting → (is_some closing || keeps_line standing || not (is_long_line all)) ≡ true
 still-short closing standing all is_open e = ap (λ o. is_some o || keeps_line standing || not (is_long_line all)) is_open ∙ ap (λ st. keeps_line st || not (is_long_line all)) e
 
-pub still-near : (closing : Option Closing) (standing : Standing) (all : List ℕ) (n : ℕ) → closing ≡ None → standing ≡ now.Waiting → n ≡ length (behind_lines 1 all) → n ≤ 8192 → (is_some closing || not (waits standing) || is_near all) ≡ true
+pub still-near : (closing : Option Closing) (standing : Standing) (all : List ℕ) (n : ℕ) → closing ≡ None → standing ≡ now.Waiting → n ≡ length (behind_lines 1 all) → n ≤ 8192 → (is_some closing || not (waits_for_load standing) || is_near all) ≡ true
 still-near closing standing all n is_open e is le =
-    ap (λ o. is_some o || not (waits standing) || is_near all) is_open ∙ ap (λ st. not (waits st) || is_near all) e ∙ le-leb (length (behind_lines 1 all)) 8192 (omega arith)
+    ap (λ o. is_some o || not (waits_for_load standing) || is_near all) is_open ∙ ap (λ st. not (waits_for_load st) || is_near all) e ∙ le-leb (length (behind_lines 1 all)) 8192 (omega arith)
 
 -- ---- the connection with a piece more
 
@@ -145,7 +145,7 @@ feeds-waiting config base number making values old new piece Stands dropped load
       left = values;
       stands = stands;
       after =
-          ap (λ st. after_steps config (set_in base values (with_piece piece (standing_as number st old.waited old.unread.bytes))) (tasks_to_feed number (holds st)) []) e
+          ap (λ st. after_steps config (set_in base values (with_piece piece (standing_as number st old.waited old.unread.bytes))) (tasks_to_feed number (holds_line st)) []) e
           ∙ ap (λ b. if is_empty (due_if b number) then Some s else None) (stops-waiting base values number line behind old.waited there)
           ∙ ap (λ st. Some (set_in base values (with_piece piece (standing_as number st old.waited old.unread.bytes)))) (sym e)
           ∙ ap Some (took base values number)

@@ -8,15 +8,15 @@ use Rattle.audit_model.specs.declared.config.Config.{Config}
 use Rattle.audit_model.specs.declared.transcript.Accepted.{Accepted}
 use Rattle.audit_model.specs.declared.transcript.Note.{Note}
 use Rattle.audit_model.specs.declared.transcript.Step.{Step}
-use Rattle.cache_store.specs.Handing.{Hands}
-use Rattle.cache_steps.specs.Right.{Answers, step_saying}
+use Rattle.cache_store.specs.Handing.{AppendsNotes}
+use Rattle.cache_steps.specs.Right.{RepliesRightly, step_saying}
 use Rattle.std.specs.Prelude.{IsTrue, codes, not, ◌||◌}
 use Rattle.std.specs.List.{list_all}
 use Rattle.audit_model.specs.Commands.{is_sync}
 use Rattle.cache_store.specs.Running.{is_timely}
 use Rattle.audit_model.specs.History.{part_count}
 use Rattle.cache_store.specs.Identifiers.{KeepsIdentifiers, AreUsedUp}
-use Rattle.cache_steps.specs.Drawing.{Draws}
+use Rattle.cache_steps.specs.Drawing.{DrawsForParts}
 use Rattle.cache_namespace.specs.Drawing.{Workings, identifiers_in, says_drop}
 use Rattle.cache_namespace.specs.Lines.{says_quit}
 use Rattle.cache_namespace.proofs.Drawn.{step-drawn, step-kept}
@@ -28,8 +28,8 @@ use Rattle.cache_namespace.proofs.Knowing.{keys-known}
 
 pub ran-kept : (config : Config) (s : Situation) (number : ℕ) (line copy old_text new_text last_text : List ℕ) (accepted : Option Accepted) (quit : Bool) (before steps : List Step) (notes waiting drained last : List Note)
     (part_of : List ℕ → ℕ) (made : ℕ) (Stands Stays : List HeldValue → Type 0) (dropped dropping : Bool) (drawn drawing left : Workings)
-    → Answers config s (action_by (reading config line)) accepted Stands dropped (Hands waiting drained) old_text new_text
-    → IsPlainLine config line quit → says_quit (reading config line) ≡ quit → HasItsPart config part_of line accepted → ((held : List HeldValue) → Stands held → IsTrue (not (is_sync (action_by (reading config line))) || list_all (is_timely config made s.latest) held)) → Draws drawn.stream drawing.stream drawn.registered drawing.registered
+    → RepliesRightly config s (action_by (reading config line)) accepted Stands dropped (AppendsNotes waiting drained) old_text new_text
+    → IsPlainLine config line quit → says_quit (reading config line) ≡ quit → HasItsPart config part_of line accepted → ((held : List HeldValue) → Stands held → IsTrue (not (is_sync (action_by (reading config line))) || list_all (is_timely config made s.latest) held)) → DrawsForParts drawn.stream drawing.stream drawn.registered drawing.registered
     → (says_drop (reading config line) ≡ true → new_text ≡ old_text ++ codes "ERR id\n" → AreUsedUp (part_count config) drawn.stream drawing.stream drawn.registered)
     → KeepsIdentifiers drawing.stream left.stream drawing.registered left.registered
     → MovesOrder config drawn.recency drawing.recency (reading config line) → KeepsRecency drawing.recency left.recency
@@ -67,8 +67,8 @@ ran-kept config s number line copy old_text new_text last_text accepted quit bef
 -- a line that ran while none is made
 pub ran-loose : (config : Config) (s : Situation) (number : ℕ) (line old_text new_text : List ℕ) (accepted : Option Accepted) (quit : Bool) (waiting drained : List Note)
     (part_of : List ℕ → ℕ) (made : ℕ) (Stands : List HeldValue → Type 0) (dropped : Bool) (drawn drawing : Workings)
-    → Answers config s (action_by (reading config line)) accepted Stands dropped (Hands waiting drained) old_text new_text
-    → IsPlainLine config line quit → says_quit (reading config line) ≡ quit → HasItsPart config part_of line accepted → ((held : List HeldValue) → Stands held → IsTrue (not (is_sync (action_by (reading config line))) || list_all (is_timely config made s.latest) held)) → Draws drawn.stream drawing.stream drawn.registered drawing.registered
+    → RepliesRightly config s (action_by (reading config line)) accepted Stands dropped (AppendsNotes waiting drained) old_text new_text
+    → IsPlainLine config line quit → says_quit (reading config line) ≡ quit → HasItsPart config part_of line accepted → ((held : List HeldValue) → Stands held → IsTrue (not (is_sync (action_by (reading config line))) || list_all (is_timely config made s.latest) held)) → DrawsForParts drawn.stream drawing.stream drawn.registered drawing.registered
     → (says_drop (reading config line) ≡ true → new_text ≡ old_text ++ codes "ERR id\n" → AreUsedUp (part_count config) drawn.stream drawing.stream drawn.registered)
     → MovesOrder config drawn.recency drawing.recency (reading config line)
     → ((held : List HeldValue) (keys : List (List ℕ)) → Stands held → drawing.recency true keys → AreKeysOf held keys)

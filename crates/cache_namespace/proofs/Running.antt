@@ -19,13 +19,13 @@ use Rattle.audit_model.specs.Steps.{RunLines, action_by, is_right}
 use Rattle.audit_model.specs.Stream.{behind_lines, first_line, without_return}
 use Rattle.audit_model.specs.declared.config.Config.{Config}
 use Rattle.audit_model.specs.declared.transcript.Step.{Step}
-use Rattle.cache_lines.specs.Next.{IsLine}
-use Rattle.cache_lines.proofs.Lines.{IsLine-first_line, IsLine-behind_lines, IsLine-not_long}
-use Rattle.cache_steps.specs.Right.{step_saying, placed_by, held_when_run}
+use Rattle.audit_lines.specs.Next.{IsLine}
+use Rattle.audit_lines.proofs.Lines.{IsLine-first_line, IsLine-behind_lines, IsLine-not_long}
+use Rattle.cache_steps.specs.Right.{step_saying, placed_doing, held_when_run}
 use Rattle.cache_namespace.specs.Drawing.{Workings, identifiers_in, Spends}
 use Rattle.cache_namespace.specs.Making.{Making}
 use Rattle.cache_namespace.specs.Gathered.{Gathered, IsFresh, gather, reply_in}
-use Rattle.cache_namespace.specs.Lines.{Runs, IsThere, ended, ends_quit, has_its_part, is_timely_after, placed_in, ready, says_quit, set_in, with_drops}
+use Rattle.cache_namespace.specs.Lines.{Runs, IsThere, situation_behind, ends_quit, has_its_part, is_timely_after, effect_of_step, ready, says_quit, set_in, with_drops}
 use Rattle.cache_namespace.specs.Ran.{RanOne, RanLines}
 use Rattle.cache_namespace.specs.Ordered.{HasKeys, order_behind}
 use Rattle.cache_steps.specs.Order.{AgreesWith, order_by}
@@ -60,22 +60,22 @@ gather-more g xs ys = go g.kept
 
 pub runs-more : (config : Config) (number : ℕ) (making : Making) (steps : List Step) (s t : Situation) (step : Step) (u : Situation)
     → Runs config number making s steps t → may_run_in t number ≡ true → is_right config (placed_step_in config t (Some (RunLines number)) step) ≡ true
-    → has_its_part making.part_of (placed_in config number t step) ≡ true
-    → is_timely_after config making.made (placed_in config number t step) (after_step config t (Some (RunLines number)) step (placed_in config number t step)) ≡ true
-    → after_step config t (Some (RunLines number)) step (placed_in config number t step) ≡ u
+    → has_its_part making.part_of (effect_of_step config number t step) ≡ true
+    → is_timely_after config making.made (effect_of_step config number t step) (after_step config t (Some (RunLines number)) step (effect_of_step config number t step)) ≡ true
+    → after_step config t (Some (RunLines number)) step (effect_of_step config number t step) ≡ u
     → Runs config number making s (steps ++ step ∷ []) u
 runs-more config number making [] s t step u runs may right parted timely after = (
   subst (λ x. may_run_in x number ≡ true) runs may,
   subst (λ x. is_right config (placed_step_in config x (Some (RunLines number)) step) ≡ true) runs right,
-  subst (λ x. has_its_part making.part_of (placed_in config number x step) ≡ true) runs parted,
-  subst (λ x. is_timely_after config making.made (placed_in config number x step) (after_step config x (Some (RunLines number)) step (placed_in config number x step)) ≡ true) runs timely,
-  sym after ∙ ap (λ x. after_step config x (Some (RunLines number)) step (placed_in config number x step)) runs,
+  subst (λ x. has_its_part making.part_of (effect_of_step config number x step) ≡ true) runs parted,
+  subst (λ x. is_timely_after config making.made (effect_of_step config number x step) (after_step config x (Some (RunLines number)) step (effect_of_step config number x step)) ≡ true) runs timely,
+  sym after ∙ ap (λ x. after_step config x (Some (RunLines number)) step (effect_of_step config number x step)) runs,
 )
 runs-more config number making (x ∷ xs) s t step u runs may right parted timely after = (runs.0, runs.1, runs.2, runs.3, runs-more config number making xs _ t step u runs.4 may right parted timely after)
 
 -- what a step leaves is timely, as it now is or closed by a `QUIT`
 pub timely-ended : (config : Config) (made : ℕ) (effect : Effect) (quit : Bool) (base : Situation) (left : List HeldValue) (c : Connection) → (not (syncs effect) || list_all (is_timely config made base.latest) left) ≡ true
-    → is_timely_after config made effect (ended quit base left c) ≡ true
+    → is_timely_after config made effect (situation_behind quit base left c) ≡ true
 timely-ended config made effect true base left c timely = timely
 timely-ended config made effect false base left c timely = timely
 
@@ -117,9 +117,9 @@ ran-more config base number making held bytes mid rest line n quit Stood Stands 
     let step = step_saying number line one.reply one.accepted one.told in
     let action = action_by (reading config line) in
     let right : is_right config (placed_step_in config s (Some (RunLines number)) step) ≡ true =
-    subst (λ due. is_right config (placed_by config s (Some (RunLines number)) due action step) ≡ true) (sym (line-due from r.left number mid line n there at said))
+    subst (λ due. is_right config (placed_doing config s (Some (RunLines number)) due action step) ≡ true) (sym (line-due from r.left number mid line n there at said))
     (right-in-turn config s (RunLines number) number line one.reply one.accepted one.told one.right (eq-eqb number number refl)) in
-    let effect = placed_in config number s step in
+    let effect = effect_of_step config number s step in
     let after = after-line config from r.left number (ready number mid) line one.reply one.accepted one.told quit there (line-fits number mid n at) one.plain in
     record {
       steps = r.steps ++ step ∷ [];
@@ -129,7 +129,7 @@ ran-more config base number making held bytes mid rest line n quit Stood Stands 
           runs-more config number making r.steps _ s step _ r.runs (may-run from r.left number mid n there at) right one.parted
           (ap (is_timely_after config making.made effect) after ∙ timely-ended config making.made effect quit (with_drops (from.dropped || drops effect) from) (held_when_run config s action step) (ready number (behind_lines 1 mid)) one.timely)
           (after
-          ∙ ap (λ b. ended quit (with_drops b base) (held_when_run config s action step) (ready number (behind_lines 1 mid))) (sym one.dropped_is)
+          ∙ ap (λ b. situation_behind quit (with_drops b base) (held_when_run config s action step) (ready number (behind_lines 1 mid))) (sym one.dropped_is)
           ∙ ended-rest quit (λ e. IsLine-behind_lines mid n at ∙ sym (skips e)) (held_when_run config s action step));
       none_held = all-more (λ (x : Step). not x.held) r.steps step r.none_held refl;
       quits = ends-quit-more config r.steps step quit one.says;
@@ -147,7 +147,7 @@ ran-more config base number making held bytes mid rest line n quit Stood Stands 
     }
   where
     ended-rest : (quit : Bool) → (quit ≡ false → behind_lines 1 mid ≡ rest) → (left : List HeldValue)
-        → ended quit (with_drops dropped base) left (ready number (behind_lines 1 mid)) ≡ ended quit (with_drops dropped base) left (ready number rest)
+        → situation_behind quit (with_drops dropped base) left (ready number (behind_lines 1 mid)) ≡ situation_behind quit (with_drops dropped base) left (ready number rest)
     ended-rest true is left = refl
     ended-rest false is left = ap (λ b. set_in (with_drops dropped base) left (ready number b)) (is refl)
 

@@ -12,9 +12,9 @@ use Rattle.audit_model.specs.Stream.{behind_lines}
 use Rattle.audit_model.specs.declared.config.Config.{Config}
 use Rattle.audit_model.specs.declared.transcript.Accepted.{Accepted}
 use Rattle.audit_model.specs.declared.transcript.Note.{Note}
-use Rattle.cache_steps.specs.Right.{DoesRight, step_saying, placed_by, held_when_run}
+use Rattle.cache_steps.specs.Right.{DoesRight, step_saying, placed_doing, held_when_run}
 use Rattle.cache_steps.proofs.Answering.{same-refl}
-use Rattle.cache_namespace.specs.Lines.{IsPlain, IsThere, ended, set_in, with_drops}
+use Rattle.cache_namespace.specs.Lines.{IsPlain, IsThere, situation_behind, set_in, with_drops}
 use Rattle.cache_namespace.proofs.Placing.{found-there, ended-again, numbered}
 
 -- the effect of a step of a line
@@ -24,10 +24,10 @@ effect_saying config s conn line reply accepted told = effect_in config (view_in
 -- a step that is right in all but turn and line, whose line is due, is right
 pub right-in-turn : (config : Config) (s : Situation) (task : Task) (conn : ℕ) (line reply : List ℕ) (accepted : Option Accepted) (told : List Note)
     → DoesRight config s (action_by (reading config line)) (step_saying 0 [] reply accepted told)
-    → is_in_turn (placed_by config s (Some task) (Some line) (action_by (reading config line)) (step_saying conn line reply accepted told)) ≡ true
-    → is_right config (placed_by config s (Some task) (Some line) (action_by (reading config line)) (step_saying conn line reply accepted told)) ≡ true
+    → is_in_turn (placed_doing config s (Some task) (Some line) (action_by (reading config line)) (step_saying conn line reply accepted told)) ≡ true
+    → is_right config (placed_doing config s (Some task) (Some line) (action_by (reading config line)) (step_saying conn line reply accepted told)) ≡ true
 right-in-turn config s task conn line reply accepted told r turn =
-    let placed = placed_by config s (Some task) (Some line) (action_by (reading config line)) (step_saying conn line reply accepted told) in
+    let placed = placed_doing config s (Some task) (Some line) (action_by (reading config line)) (step_saying conn line reply accepted told) in
     and_from _ _ (and_from _ _ (and_from _ _ (and_from _ _ (and_from _ _ (and_from _ _ (and_from _ _ (and_from (is_in_turn placed) (is_held_rightly placed) turn refl) (same-refl line)) r.replies) r.loads) r.accepts) r.tells) r.silent) r.within
 
 -- a plain step puts its connection in its place again, or closes it
@@ -35,7 +35,7 @@ pub placed-again : (base : Situation) (held left : List HeldValue) (n : ℕ) (c 
     → IsThere n base → is_overlong (numbered n c) ≡ false → quits effect ≡ quit → ((s : Situation) → join_load n effect s ≡ s) → after (numbered n c) ≡ numbered n d
     → (let s = record (set_in base held (numbered n c)) { held = left; dropped = base.dropped || drops effect } in
     option_map_or (λ k. with_connection (quits effect) (after k) (join_load n effect s)) (connection_in n s) s)
-    ≡ ended quit (with_drops (base.dropped || drops effect) base) left (numbered n d)
+    ≡ situation_behind quit (with_drops (base.dropped || drops effect) base) left (numbered n d)
 placed-again base held left n c d effect after quit there fits stays alone e =
     let put = set_in base held (numbered n c) in
     let s = record put { held = left; dropped = base.dropped || drops effect } in
@@ -57,7 +57,7 @@ released c = record { number = c.number; unread = c.unread; standing = Ready; wa
 pub after-line : (config : Config) (base : Situation) (held : List HeldValue) (n : ℕ) (c : Connection) (line reply : List ℕ) (accepted : Option Accepted) (told : List Note) (quit : Bool)
     → IsThere n base → is_overlong (numbered n c) ≡ false → IsPlain (effect_saying config (set_in base held (numbered n c)) n line reply accepted told) quit
     → after_step config (set_in base held (numbered n c)) (Some (RunLines n)) (step_saying n line reply accepted told) (effect_saying config (set_in base held (numbered n c)) n line reply accepted told)
-    ≡ ended quit (with_drops (base.dropped || drops (effect_saying config (set_in base held (numbered n c)) n line reply accepted told)) base)
+    ≡ situation_behind quit (with_drops (base.dropped || drops (effect_saying config (set_in base held (numbered n c)) n line reply accepted told)) base)
     (held_when_run config (set_in base held (numbered n c)) (action_by (reading config line)) (step_saying n line reply accepted told)) (numbered n (beyond c))
 after-line config base held n c line reply accepted told quit there fits plain =
     let s = set_in base held (numbered n c) in
@@ -70,7 +70,7 @@ after-line config base held n c line reply accepted told quit there fits plain =
 pub after-held : (config : Config) (base : Situation) (held : List HeldValue) (n : ℕ) (c : Connection) (line reply : List ℕ) (accepted : Option Accepted) (told : List Note) (quit : Bool)
     → IsThere n base → is_overlong (numbered n c) ≡ false → IsPlain (effect_saying config (set_in base held (numbered n c)) n line reply accepted told) quit
     → after_step config (set_in base held (numbered n c)) (Some (RunHeld n)) (step_saying n line reply accepted told) (effect_saying config (set_in base held (numbered n c)) n line reply accepted told)
-    ≡ ended quit (with_drops (base.dropped || drops (effect_saying config (set_in base held (numbered n c)) n line reply accepted told)) base)
+    ≡ situation_behind quit (with_drops (base.dropped || drops (effect_saying config (set_in base held (numbered n c)) n line reply accepted told)) base)
     (held_when_run config (set_in base held (numbered n c)) (action_by (reading config line)) (step_saying n line reply accepted told)) (numbered n (released c))
 after-held config base held n c line reply accepted told quit there fits plain =
     let s = set_in base held (numbered n c) in

@@ -9,7 +9,7 @@ use Rattle.audit_model.specs.declared.config.Config.{Config}
 use Rattle.audit_model.specs.declared.transcript.Step.{Step}
 use Rattle.rand_core.specs.Stream.{Stream}
 use Rattle.cache_store.specs.Identifiers.{Register, DrawsAlone, AreUsedUp}
-use Rattle.cache_steps.specs.Drawing.{Draws}
+use Rattle.cache_steps.specs.Drawing.{DrawsForParts}
 
 -- what a generator of identifiers will give, and which of them are registered in each part
 pub record Identifiers : Type 0 where
@@ -47,7 +47,7 @@ Spends old new = DrawsAlone old.stream new.stream old.registered new.registered
 -- The step draws some, and each part registers one of them at most; where it is refused for its identifier, one part drew a thousand, each
 -- of which was registered there.
 pub record StepDraws (config : Config) (step : Step) (old new : Identifiers) : Type 0 where
-  pub draws : Draws old.stream new.stream old.registered new.registered
+  pub draws : DrawsForParts old.stream new.stream old.registered new.registered
   pub used_up : refuses_id config step ≡ true → AreUsedUp (part_count config) old.stream new.stream old.registered
 
 -- a step draws after some were spent, and others draw after it

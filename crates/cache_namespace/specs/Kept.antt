@@ -10,13 +10,13 @@ abbrev pub IsRoomy : Kept → Type 0
 IsRoomy kept = vec_len kept.steps + vec_len kept.more ≤ vec_capacity kept.steps
 
 -- there is room for one more step besides, and for its line
-pub record IsReady (kept : Kept) : Type 0 where
+pub record HasRoomForStep (kept : Kept) : Type 0 where
   pub step : vec_len kept.steps + vec_len kept.more < vec_capacity kept.steps
   pub line : 8192 ≤ vec_capacity kept.spare
   pub empty : vec_len kept.spare ≡ 0
 
 abbrev pub IsReadyToHold : Option Kept → Type 0
-IsReadyToHold kept = MatchOption kept (Unit {0}) IsReady
+IsReadyToHold kept = MatchOption kept (Unit {0}) HasRoomForStep
 
 -- where a record is made, there is room for those that are still to be kept
 abbrev pub KeepsRoom : Option Kept → Type 0
@@ -30,9 +30,9 @@ more_in kept = option_map (λ k. vec_len k.more) kept
 abbrev pub HasMore : ℕ → Option Kept → Type 0
 HasMore count kept = MatchOption kept (Unit {0}) (λ k. IsRoomy k × (count ≤ vec_len k.more))
 
-abbrev pub steps_of : Option Kept → Option (List Step)
-steps_of kept = option_map (λ k. k.steps.items) kept
+abbrev pub kept_steps : Option Kept → Option (List Step)
+kept_steps kept = option_map (λ k. k.steps.items) kept
 
 -- what is gathered so far
 abbrev pub gathered : List ℕ → Option Kept → List Note → Gathered
-gathered text kept waiting = record { text = text; kept = steps_of kept; waiting = waiting }
+gathered text kept waiting = record { text = text; kept = kept_steps kept; waiting = waiting }

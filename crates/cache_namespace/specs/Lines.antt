@@ -37,15 +37,15 @@ abbrev pub with_drops : Bool → Situation → Situation
 with_drops dropped s = record s { dropped = dropped }
 
 -- the situation, but with those values held and that connection as it now is, or closed by a `QUIT`
-abbrev pub ended : Bool → Situation → List HeldValue → Connection → Situation
-ended quit base held connection = if quit then without_connection connection.number (record base { held = held }) else set_in base held connection
+abbrev pub situation_behind : Bool → Situation → List HeldValue → Connection → Situation
+situation_behind quit base held connection = if quit then without_connection connection.number (record base { held = held }) else set_in base held connection
 
 -- the connection is open there
 abbrev pub IsThere : ℕ → Situation → Type 0
 IsThere number s = IsTrue (is_some (connection_in number s))
 
-abbrev pub placed_in : Config → ℕ → Situation → Step → Effect
-placed_in config number s step = (placed_step_in config s (Some (RunLines number)) step).effect
+abbrev pub effect_of_step : Config → ℕ → Situation → Step → Effect
+effect_of_step config number s step = (placed_step_in config s (Some (RunLines number)) step).effect
 
 -- the value that the step accepts, if any, stands in its key's part
 abbrev pub has_its_part : (List ℕ → ℕ) → Effect → Bool
@@ -73,9 +73,9 @@ abbrev pub Runs : Config → ℕ → Making → Situation → List Step → Situ
 Runs config number making s [] t = t ≡ s
 Runs config number making s (step ∷ steps) t =
     IsTrue (may_run_in s number) × IsTrue (is_right config (placed_step_in config s (Some (RunLines number)) step))
-    × IsTrue (has_its_part making.part_of (placed_in config number s step))
-    × IsTrue (is_timely_after config making.made (placed_in config number s step) (after_step config s (Some (RunLines number)) step (placed_in config number s step)))
-    × Runs config number making (after_step config s (Some (RunLines number)) step (placed_in config number s step)) steps t
+    × IsTrue (has_its_part making.part_of (effect_of_step config number s step))
+    × IsTrue (is_timely_after config making.made (effect_of_step config number s step) (after_step config s (Some (RunLines number)) step (effect_of_step config number s step)))
+    × Runs config number making (after_step config s (Some (RunLines number)) step (effect_of_step config number s step)) steps t
 
 -- a step that does nothing but to values, and may close its connection; it joins no load
 pub record IsPlain (effect : Effect) (quit : Bool) : Type 0 where

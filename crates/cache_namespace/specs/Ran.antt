@@ -22,7 +22,7 @@ use Rattle.cache_namespace.specs.Making.{Making}
 use Rattle.cache_namespace.specs.Ordered.{HasKeys, OrdersLines, OrdersSteps}
 use Rattle.cache_steps.specs.Order.{Order, AgreesWith, order_by}
 use Rattle.cache_store.specs.Recency.{IsPlainLru}
-use Rattle.cache_namespace.specs.Lines.{ArePartedIn, IsPlain, are_timely, Runs, ended, ends_quit, has_its_part, ready, says_quit, set_in, with_drops}
+use Rattle.cache_namespace.specs.Lines.{ArePartedIn, IsPlain, are_timely, Runs, situation_behind, ends_quit, has_its_part, ready, says_quit, set_in, with_drops}
 
 -- The line's step was right but for its turn, its values stand, and its reply and notes were gathered.
 pub record RanOne (config : Config) (s : Situation) (number : ℕ) (making : Making) (line : List ℕ) (quit : Bool) (Stands : List HeldValue → Type 0) (dropped : Bool) (drawn drawing : Workings) (old new : Gathered) : Type 0 where
@@ -64,7 +64,7 @@ pub record RanLines (config : Config) (base : Situation) (number : ℕ) (making 
   pub steps : List Step
   pub left : List HeldValue
   pub stands : Stands left
-  pub runs : Runs config number making (set_in base held (ready number bytes)) steps (ended quit (with_drops dropped base) left (ready number rest))
+  pub runs : Runs config number making (set_in base held (ready number bytes)) steps (situation_behind quit (with_drops dropped base) left (ready number rest))
   pub none_held : IsTrue (list_all (λ step. not step.held) steps)
   pub quits : ends_quit config steps ≡ quit
   pub draws : StepsDraw config steps (identifiers_in drawn) (identifiers_in drawing)

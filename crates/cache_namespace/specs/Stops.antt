@@ -1,7 +1,7 @@
 -- Why no further line runs.
 use Rattle.std.specs.Prelude.{ℕ, ◌<◌, ◌≤◌, Bool, true, false, List, length, IsTrue}
 use Rattle.audit_model.specs.Bytewise.{cut_at}
-use Rattle.cache_lines.specs.Next.{IsLine, IsPartial}
+use Rattle.audit_lines.specs.Next.{IsLine, IsPartial}
 use Rattle.cache_namespace.specs.Whole.{has_line}
 use Rattle.cache_namespace.specs.declared.feeding.End.{End}
 use Rattle.cache_namespace.specs.declared.feeding.End.TheVariants as at
@@ -21,12 +21,12 @@ StopsFor (Held n) rest = IsLine rest n
 StopsFor (Misses n) rest = IsLine rest n
 StopsFor Quit rest = Unit {0}
 
-abbrev pub is_quit : Stop → Bool
-is_quit More = false
-is_quit TooLong = false
-is_quit (Held n) = false
-is_quit (Misses n) = false
-is_quit Quit = true
+abbrev pub stops_by_quit : Stop → Bool
+stops_by_quit More = false
+stops_by_quit TooLong = false
+stops_by_quit (Held n) = false
+stops_by_quit (Misses n) = false
+stops_by_quit Quit = true
 
 -- it is a `LOAD` that is to wait
 abbrev pub is_miss : Stop → Bool

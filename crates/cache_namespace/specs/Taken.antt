@@ -26,15 +26,15 @@ use Rattle.cache_namespace.specs.Lines.{ArePartedIn, are_timely, ends_quit, set_
 use Rattle.cache_namespace.specs.Ran.{ends_held, with_piece}
 use Rattle.cache_namespace.specs.Shown.{shown, put_in, situation}
 use Rattle.cache_namespace.specs.Waiting.{UnderWay, no_loads, with_under_way}
-use Rattle.cache_loads.specs.Standings.{holds}
+use Rattle.cache_loads.specs.Standings.{holds_line}
 use Rattle.cache_namespace.specs.declared.connection.Connection.{Connection}
 
 -- the record of an event that is no answer
 abbrev pub record_of : Event → List Step → Record
 record_of happened steps = record { event = happened; own = None; notices = []; steps = steps }
 
-abbrev pub fed : ℕ → List ℕ → ℕ → Event
-fed conn piece moment = event.Feed conn piece (record { nanos = moment })
+abbrev pub feed_event : ℕ → List ℕ → ℕ → Event
+feed_event conn piece moment = event.Feed conn piece (record { nanos = moment })
 
 -- it is closed by a `QUIT`
 abbrev pub is_quit : Option Closing → Bool
@@ -46,18 +46,18 @@ pub record FeedsConnection (config : Config) (base : Situation) (number : ℕ) (
   pub steps : List Step
   pub left : List HeldValue
   pub stands : Stands left
-  pub after : after_steps config (set_in base values (with_piece piece (shown number old))) (tasks_to_feed number (holds old.standing)) steps ≡ Some (put_in (with_under_way loads (with_drops dropped base)) left number new)
-  pub parted : ArePartedIn config making.part_of (set_in base values (with_piece piece (shown number old))) (tasks_to_feed number (holds old.standing)) steps
-  pub timely : IsTrue (are_timely config making.made (set_in base values (with_piece piece (shown number old))) (tasks_to_feed number (holds old.standing)) steps)
+  pub after : after_steps config (set_in base values (with_piece piece (shown number old))) (tasks_to_feed number (holds_line old.standing)) steps ≡ Some (put_in (with_under_way loads (with_drops dropped base)) left number new)
+  pub parted : ArePartedIn config making.part_of (set_in base values (with_piece piece (shown number old))) (tasks_to_feed number (holds_line old.standing)) steps
+  pub timely : IsTrue (are_timely config making.made (set_in base values (with_piece piece (shown number old))) (tasks_to_feed number (holds_line old.standing)) steps)
   pub ends : ends_held steps ≡ is_held
   pub quits : ends_quit config steps ≡ is_quit new.closing
   pub draws : StepsDraw config steps (identifiers_in drawn) (identifiers_in drawing)
-  pub ordered : OrdersSteps config drawn.recency drawing.recency (set_in base values (with_piece piece (shown number old))) (tasks_to_feed number (holds old.standing)) steps
+  pub ordered : OrdersSteps config drawn.recency drawing.recency (set_in base values (with_piece piece (shown number old))) (tasks_to_feed number (holds_line old.standing)) steps
   pub gathered : is ≡ gather was steps
 
 -- The event's record followed, with these steps, of which the last one may be held or a `QUIT`; each value that they accept stands in its
 -- key's part; each `SYNC` left timely values; identifiers were drawn as they say; their replies, steps and notes were gathered.
-pub record Takes (config : Config) (making : Making) (s : Situation) (happened : Event) (is_held quit : Bool) (Stands : List HeldValue → Type 0) (situated : List HeldValue → Situation) (drawn drawing : Workings) (was is : Gathered) : Type 0 where
+pub record FollowsEvent (config : Config) (making : Making) (s : Situation) (happened : Event) (is_held quit : Bool) (Stands : List HeldValue → Type 0) (situated : List HeldValue → Situation) (drawn drawing : Workings) (was is : Gathered) : Type 0 where
   pub steps : List Step
   pub left : List HeldValue
   pub stands : Stands left
@@ -75,7 +75,7 @@ abbrev pub text_at : List Connection → ℕ → List ℕ
 text_at connections index = option_map_or (λ c. c.output.items) (slice_get connections index) []
 
 -- what a namespace knows of its store
-pub record IsSound (wanted : Config) (frame : Frame) (latest : ℕ) : Type 0 where
+pub record KnowsStore (wanted : Config) (frame : Frame) (latest : ℕ) : Type 0 where
   pub config : frame.config ≡ wanted
   pub in_time : frame.latest ≤ latest
   pub moment : latest < 2 ^ 63
@@ -105,7 +105,7 @@ waits_at connections number = is_waiting_in (situation 0 no_loads connections fa
 abbrev pub closing_at : List Connection → ℕ → Option Closing
 closing_at connections index = option_map_or (λ c. c.closing) (slice_get connections index) None
 
--- open, or closed for what it was fed: too long a line, too many bytes behind a `LOAD` that waits, or a `QUIT`
+-- open, or closed for what it was feed_event: too long a line, too many bytes behind a `LOAD` that waits, or a `QUIT`
 abbrev pub IsOpenOrEnded : Option Closing → Type 0
 IsOpenOrEnded closing = (closing ≡ None) ⊎ (closing ≡ Some by.Long) ⊎ (closing ≡ Some by.Quit) ⊎ (closing ≡ Some by.Behind)
 

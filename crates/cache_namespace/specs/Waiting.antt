@@ -3,7 +3,7 @@ use Rattle.std.specs.Prelude.{◌≡◌, ℕ, Bool, true, false, List, [], map, 
 use Rattle.audit_model.specs.Grammar.{Reading}
 use Rattle.audit_model.specs.declared.command.Command.TheVariants as says
 use Rattle.audit_model.specs.Situation.{Situation, Connection, PendingLoad, Held, Waiting, without_waiting}
-use Rattle.cache_loads.specs.Pending.{number_to_send, pending_of, sent_of, when_joined, when_sent}
+use Rattle.cache_loads.specs.Pending.{number_to_send, loads_pending, sent_of, when_joined, when_sent}
 use Rattle.cache_loads.specs.declared.loads.Loads.{Loads}
 
 -- a connection whose `LOAD` waits, with those bytes unread behind it; how often it began to wait
@@ -28,7 +28,7 @@ no_loads = record { sent = 0; pending = [] }
 
 -- as a table has them
 abbrev pub under_way : Loads → UnderWay
-under_way loads = record { sent = sent_of loads; pending = pending_of loads }
+under_way loads = record { sent = sent_of loads; pending = loads_pending loads }
 
 -- when a connection stayed open, or closed and waits no more
 abbrev pub when_left : Bool → ℕ → UnderWay → UnderWay
@@ -49,9 +49,9 @@ is_load (Ok (says.Load key)) = true
 is_load reading = false
 
 -- the number of the load that a connection sends which begins to wait for that key: none where the key's load is under way
-abbrev pub sent_by : List ℕ → UnderWay → Option ℕ
-sent_by key loads = number_to_send key loads.sent loads.pending
+abbrev pub load_sent_for : List ℕ → UnderWay → Option ℕ
+load_sent_for key loads = number_to_send key loads.sent loads.pending
 
 -- the loads when the connection waits for the key's load, which it sends where none is under way
 abbrev pub when_waiting : ℕ → List ℕ → UnderWay → UnderWay
-when_waiting conn key loads = record { sent = when_sent (sent_by key loads) loads.sent; pending = when_joined conn key (sent_by key loads) loads.pending }
+when_waiting conn key loads = record { sent = when_sent (load_sent_for key loads) loads.sent; pending = when_joined conn key (load_sent_for key loads) loads.pending }

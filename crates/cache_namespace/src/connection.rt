@@ -1,11 +1,11 @@
 //! One connection.
 ghost use Rattle.std.specs.Prelude.{◌≡◌, [], IsTrue, not, ◌||◌, is_some, None, vec_len, vec_capacity};
-ghost use Rattle.cache_loads.specs.Standings.{keeps_line, waits};
+ghost use Rattle.cache_loads.specs.Standings.{keeps_line, waits_for_load};
 ghost use Rattle.cache_namespace.specs.Whole.{has_line, is_long_line, is_near, is_few, has_room};
 ghost use Rattle.cache_loads.specs.declared.standing.Standing.TheVariants as now;
 
+use audit_lines::Buffer;
 use audit_model::Closing;
-use cache_lines::Buffer;
 use cache_loads::Standing;
 use std::alloc::Global;
 
@@ -22,9 +22,9 @@ pub struct Connection {
     pub closing: Option<Closing>,
     ghost whole: { IsTrue (not (keeps_line standing) || has_line unread.bytes) },
     ghost short: { IsTrue (is_some closing || keeps_line standing || not (is_long_line unread.bytes)) },
-    ghost near: { IsTrue (is_some closing || not (waits standing) || is_near unread.bytes) },
+    ghost near: { IsTrue (is_some closing || not (waits_for_load standing) || is_near unread.bytes) },
     ghost few: { IsTrue (is_few standing waited) },
-    ghost roomy: { IsTrue (not (waits standing) || has_room (vec_len output) (vec_capacity output) (vec_len spare) (vec_capacity spare)) },
+    ghost roomy: { IsTrue (not (waits_for_load standing) || has_room (vec_len output) (vec_capacity output) (vec_len spare) (vec_capacity spare)) },
 }
 
 /// A connection that nothing has come to.

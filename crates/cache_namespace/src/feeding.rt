@@ -8,22 +8,22 @@ ghost use Rattle.cache_store.specs.Recency.{KeepsRecency};
 ghost use Rattle.cache_namespace.specs.Drawing.{workings};
 ghost use Rattle.cache_steps.specs.Right.{KeepsFrame, step_saying};
 ghost use Rattle.cache_namespace.specs.Gathered.{IsFresh, gather};
-ghost use Rattle.cache_namespace.specs.Kept.{IsReadyToHold, KeepsRoom, gathered, more_in, steps_of};
+ghost use Rattle.cache_namespace.specs.Kept.{IsReadyToHold, KeepsRoom, gathered, more_in, kept_steps};
 ghost use Rattle.cache_namespace.specs.Making.{making_of};
 ghost use Rattle.cache_namespace.specs.Lines.{IsThere, held_step};
-ghost use Rattle.cache_namespace.specs.Ends.{left_by};
+ghost use Rattle.cache_namespace.specs.Ends.{situation_left};
 ghost use Rattle.cache_namespace.specs.Waiting.{loads_in, under_way};
 ghost use Rattle.cache_loads.specs.Pending.{SameLoads, SameTaken};
 ghost use Rattle.cache_namespace.specs.Ran.{RanReady, RanFeed};
 ghost use Rattle.cache_namespace.specs.Stops.{EndsFor, ends_by_quit, holds_back, standing_at};
-ghost use Rattle.cache_loads.specs.Standings.{waits};
+ghost use Rattle.cache_loads.specs.Standings.{waits_for_load};
 ghost use Rattle.cache_namespace.specs.Whole.{has_line, has_room, held_line};
 
 use crate::joining::join_first;
 use crate::kept::Kept;
 use crate::lines::{Done, Stop, release, run_lines};
+use audit_lines::{Buffer, Next};
 use audit_model::Config;
-use cache_lines::{Buffer, Next};
 use cache_loads::Loads;
 use cache_store::Store;
 use std::alloc::Global;
@@ -85,7 +85,7 @@ pub fn hold_first(kept: &mut Option<Kept>, alloc: Global, number: u64, unread: &
 fn say(kept: &mut Option<Kept>, alloc: Global, number: u64, line: &[u8], text: &mut Vec<u8>)
     requires ready { IsReadyToHold kept.old }
     requires short { length line.now ≤ 8192 }
-    ensures step { MatchOption kept.old (text.new ≡ text.old) (λ k. (text.new.items ≡ []) × (steps_of kept.new ≡ Some (k.steps.items ++ step_saying number line.now text.old.items None [] ∷ []))) }
+    ensures step { MatchOption kept.old (text.new ≡ text.old) (λ k. (text.new.items ≡ []) × (kept_steps kept.new ≡ Some (k.steps.items ++ step_saying number line.now text.old.items None [] ∷ []))) }
     ensures room { KeepsRoom kept.new }
     ensures more { more_in kept.new ≡ more_in kept.old }
 {
@@ -105,7 +105,7 @@ pub fn say_first(
 )
     requires ready { IsReadyToHold kept.old }
     requires whole { IsTrue (has_line unread.now.bytes) }
-    ensures step { MatchOption kept.old (text.new ≡ text.old) (λ k. (text.new.items ≡ []) × (steps_of kept.new ≡ Some (k.steps.items ++ step_saying number (held_line unread.now.bytes) text.old.items None [] ∷ []))) }
+    ensures step { MatchOption kept.old (text.new ≡ text.old) (λ k. (text.new.items ≡ []) × (kept_steps kept.new ≡ Some (k.steps.items ++ step_saying number (held_line unread.now.bytes) text.old.items None [] ∷ []))) }
     ensures room { KeepsRoom kept.new }
     ensures more { more_in kept.new ≡ more_in kept.old }
 {
@@ -137,9 +137,9 @@ pub fn run_ready<S: Store>(
     requires fresh { IsFresh (gathered text.old.items kept.old (S.untaken store.old)) }
     requires ready { IsReadyToHold kept.old }
     requires room { length piece.now ≤ unread.old.room }
-    ensures ran { (base : Situation) (held : List HeldValue) → base.latest ≡ now → base.dropped ≡ (S.frame store.old).dropped → loads_in base ≡ under_way loads.old → IsThere number base → S.stands store.old held → RanReady config.now base number (making_of (S.frame store.old)) held (unread.old.bytes ++ piece.now) (ends_by_quit result) (holds_back result) (left_by number base (S.frame store.new).dropped (under_way loads.new) result unread.new.bytes) (S.stands store.new) (workings (S.stream store.old) (S.registered store.old) (S.recency store.old)) (workings (S.stream store.new) (S.registered store.new) (S.recency store.new)) (gathered text.old.items kept.old (S.untaken store.old)) (gathered text.new.items kept.new (S.untaken store.new)) }
+    ensures ran { (base : Situation) (held : List HeldValue) → base.latest ≡ now → base.dropped ≡ (S.frame store.old).dropped → loads_in base ≡ under_way loads.old → IsThere number base → S.stands store.old held → RanReady config.now base number (making_of (S.frame store.old)) held (unread.old.bytes ++ piece.now) (ends_by_quit result) (holds_back result) (situation_left number base (S.frame store.new).dropped (under_way loads.new) result unread.new.bytes) (S.stands store.new) (workings (S.stream store.old) (S.registered store.old) (S.recency store.old)) (workings (S.stream store.new) (S.registered store.new) (S.recency store.new)) (gathered text.old.items kept.old (S.untaken store.old)) (gathered text.new.items kept.new (S.untaken store.new)) }
     ensures ends { EndsFor result unread.new.bytes }
-    ensures room { waits (standing_at result) ≡ true → IsTrue (has_room (vec_len text.new) (vec_capacity text.new) (vec_len spare.new) (vec_capacity spare.new)) }
+    ensures room { waits_for_load (standing_at result) ≡ true → IsTrue (has_room (vec_len text.new) (vec_capacity text.new) (vec_len spare.new) (vec_capacity spare.new)) }
     ensures frame { KeepsFrame (S.frame store.old) (S.frame store.new) now }
     ensures fresh { IsFresh (gathered text.new.items kept.new (S.untaken store.new)) }
     ensures keeps_room { KeepsRoom kept.new }
@@ -190,9 +190,9 @@ pub fn feed_lines<S: Store>(
     requires ready { IsReadyToHold kept.old }
     requires whole { IsTrue (not held || has_line unread.old.bytes) }
     requires few { waited < 200 }
-    ensures ran { IfOk result (λ end. (base : Situation) (values : List HeldValue) → base.latest ≡ now → base.dropped ≡ (S.frame store.old).dropped → loads_in base ≡ under_way loads.old → IsThere number base → S.stands store.old values → RanFeed config.now base number (making_of (S.frame store.old)) values held waited unread.old.bytes piece.now (ends_by_quit end) (holds_back end) (left_by number base (S.frame store.new).dropped (under_way loads.new) end unread.new.bytes) (S.stands store.new) (workings (S.stream store.old) (S.registered store.old) (S.recency store.old)) (workings (S.stream store.new) (S.registered store.new) (S.recency store.new)) (gathered text.old.items kept.old (S.untaken store.old)) (gathered text.new.items kept.new (S.untaken store.new))) }
+    ensures ran { IfOk result (λ end. (base : Situation) (values : List HeldValue) → base.latest ≡ now → base.dropped ≡ (S.frame store.old).dropped → loads_in base ≡ under_way loads.old → IsThere number base → S.stands store.old values → RanFeed config.now base number (making_of (S.frame store.old)) values held waited unread.old.bytes piece.now (ends_by_quit end) (holds_back end) (situation_left number base (S.frame store.new).dropped (under_way loads.new) end unread.new.bytes) (S.stands store.new) (workings (S.stream store.old) (S.registered store.old) (S.recency store.old)) (workings (S.stream store.new) (S.registered store.new) (S.recency store.new)) (gathered text.old.items kept.old (S.untaken store.old)) (gathered text.new.items kept.new (S.untaken store.new))) }
     ensures ends { IfOk result (λ end. EndsFor end unread.new.bytes) }
-    ensures room { IfOk result (λ end. waits (standing_at end) ≡ true → IsTrue (has_room (vec_len text.new) (vec_capacity text.new) (vec_len spare.new) (vec_capacity spare.new))) }
+    ensures room { IfOk result (λ end. waits_for_load (standing_at end) ≡ true → IsTrue (has_room (vec_len text.new) (vec_capacity text.new) (vec_len spare.new) (vec_capacity spare.new))) }
     ensures frame { KeepsFrame (S.frame store.old) (S.frame store.new) now }
     ensures fresh { IsFresh (gathered text.new.items kept.new (S.untaken store.new)) }
     ensures unread { OnErr result (unread.new.bytes ≡ unread.old.bytes) }

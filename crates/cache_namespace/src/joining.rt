@@ -5,14 +5,14 @@ ghost use Rattle.audit_model.specs.declared.command.Command.TheVariants as says;
 ghost use Rattle.audit_model.specs.declared.transcript.Note.{Note};
 ghost use Rattle.cache_loads.specs.Pending.{SameLoads, SameTaken};
 ghost use Rattle.cache_namespace.specs.Gathered.{gather};
-ghost use Rattle.cache_namespace.specs.Kept.{IsReadyToHold, gathered, more_in, steps_of};
-ghost use Rattle.cache_namespace.specs.Waiting.{is_load, sent_by, under_way, when_waiting};
+ghost use Rattle.cache_namespace.specs.Kept.{IsReadyToHold, gathered, more_in, kept_steps};
+ghost use Rattle.cache_namespace.specs.Waiting.{is_load, load_sent_for, under_way, when_waiting};
 ghost use Rattle.cache_namespace.specs.Whole.{has_line, has_room, held_line};
 ghost use Rattle.cache_steps.specs.Loading.{step_silent};
 
 use crate::kept::Kept;
+use audit_lines::{Buffer, Next, Request, read_line};
 use audit_model::Config;
-use cache_lines::{Buffer, Next, Request, read_line};
 use cache_loads::Loads;
 use std::alloc::{AllocError, Global};
 
@@ -44,11 +44,11 @@ fn wait_for(
 ) -> Result<(), AllocError>
     requires ready { IsReadyToHold kept.old }
     ensures joined { OnOk result (under_way loads.new ≡ when_waiting number key.now (under_way loads.old)) }
-    ensures step { OnOk result ((text : List ℕ) (waiting : List Note) → gathered text kept.new waiting ≡ gather (gathered text kept.old waiting) (step_silent number line.now (sent_by key.now (under_way loads.old)) None [] ∷ [])) }
+    ensures step { OnOk result ((text : List ℕ) (waiting : List Note) → gathered text kept.new waiting ≡ gather (gathered text kept.old waiting) (step_silent number line.now (load_sent_for key.now (under_way loads.old)) None [] ∷ [])) }
     ensures ready { IsReadyToHold kept.new }
     ensures more { more_in kept.new ≡ more_in kept.old }
     ensures same { OnErr result (SameLoads loads.old loads.new) }
-    ensures kept { OnErr result (steps_of kept.new ≡ steps_of kept.old) }
+    ensures kept { OnErr result (kept_steps kept.new ≡ kept_steps kept.old) }
     ensures goes { SameTaken loads.old loads.new }
 {
     match kept {
@@ -80,13 +80,13 @@ fn join_load(
     requires ready { IsReadyToHold kept.old }
     requires load { is_load (reading config.now line.now) ≡ true }
     ensures joined { OnOk result ((key : List ℕ) → reading config.now line.now ≡ Ok (says.Load key) → under_way loads.new ≡ when_waiting number key (under_way loads.old)) }
-    ensures step { OnOk result ((key : List ℕ) → reading config.now line.now ≡ Ok (says.Load key) → (text : List ℕ) (waiting : List Note) → gathered text kept.new waiting ≡ gather (gathered text kept.old waiting) (step_silent number line.now (sent_by key (under_way loads.old)) None [] ∷ [])) }
+    ensures step { OnOk result ((key : List ℕ) → reading config.now line.now ≡ Ok (says.Load key) → (text : List ℕ) (waiting : List Note) → gathered text kept.new waiting ≡ gather (gathered text kept.old waiting) (step_silent number line.now (load_sent_for key (under_way loads.old)) None [] ∷ [])) }
     ensures room { OnOk result (IsTrue (has_room (vec_len output.new) (vec_capacity output.new) (vec_len spare.new) (vec_capacity spare.new))) }
     ensures output { output.new.items ≡ output.old.items }
     ensures ready { IsReadyToHold kept.new }
     ensures more { more_in kept.new ≡ more_in kept.old }
     ensures same { OnErr result (SameLoads loads.old loads.new) }
-    ensures kept { OnErr result (steps_of kept.new ≡ steps_of kept.old) }
+    ensures kept { OnErr result (kept_steps kept.new ≡ kept_steps kept.old) }
     ensures goes { SameTaken loads.old loads.new }
 {
     reserve_room(output, spare)?;
@@ -121,13 +121,13 @@ pub fn join_first(
     requires whole { IsTrue (has_line unread.now.bytes) }
     requires load { is_load (reading config.now (held_line unread.now.bytes)) ≡ true }
     ensures joined { OnOk result ((key : List ℕ) → reading config.now (held_line unread.now.bytes) ≡ Ok (says.Load key) → under_way loads.new ≡ when_waiting number key (under_way loads.old)) }
-    ensures step { OnOk result ((key : List ℕ) → reading config.now (held_line unread.now.bytes) ≡ Ok (says.Load key) → (text : List ℕ) (waiting : List Note) → gathered text kept.new waiting ≡ gather (gathered text kept.old waiting) (step_silent number (held_line unread.now.bytes) (sent_by key (under_way loads.old)) None [] ∷ [])) }
+    ensures step { OnOk result ((key : List ℕ) → reading config.now (held_line unread.now.bytes) ≡ Ok (says.Load key) → (text : List ℕ) (waiting : List Note) → gathered text kept.new waiting ≡ gather (gathered text kept.old waiting) (step_silent number (held_line unread.now.bytes) (load_sent_for key (under_way loads.old)) None [] ∷ [])) }
     ensures room { OnOk result (IsTrue (has_room (vec_len output.new) (vec_capacity output.new) (vec_len spare.new) (vec_capacity spare.new))) }
     ensures output { output.new.items ≡ output.old.items }
     ensures ready { IsReadyToHold kept.new }
     ensures more { more_in kept.new ≡ more_in kept.old }
     ensures same { OnErr result (SameLoads loads.old loads.new) }
-    ensures kept { OnErr result (steps_of kept.new ≡ steps_of kept.old) }
+    ensures kept { OnErr result (kept_steps kept.new ≡ kept_steps kept.old) }
     ensures goes { SameTaken loads.old loads.new }
 {
     match unread.next() {

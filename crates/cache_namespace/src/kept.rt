@@ -1,14 +1,14 @@
 //! The steps of a record, while it is made.
 ghost use Rattle.std.specs.Prelude.{◌≡◌, ◌<◌, ◌≤◌, ◌+◌, ◌++◌, ◌∷◌, [], length, IfOk, OnOk, OnErr, Some, None, vec_len, vec_capacity};
 ghost use Rattle.audit_model.specs.declared.transcript.Step.{Step as Ran};
-ghost use Rattle.cache_namespace.specs.Kept.{IsReady, IsRoomy};
+ghost use Rattle.cache_namespace.specs.Kept.{HasRoomForStep, IsRoomy};
 ghost use Rattle.cache_namespace.specs.Lines.{held_step};
 ghost use Rattle.cache_steps.specs.Loading.{step_silent};
 ghost use Rattle.cache_steps.specs.Right.{step_saying};
 
 use crate::spare::{Spare, new_spare};
+use audit_lines::MAX_LINE;
 use audit_model::{Accepted, Note, Seq, Step};
-use cache_lines::MAX_LINE;
 use std::alloc::{AllocError, Global};
 use std::mem;
 
@@ -31,7 +31,7 @@ pub struct Draft {
 impl Kept {
     /// No step yet, and room to hold a command back.
     pub fn new(alloc: Global) -> Result<Kept, AllocError>
-        ensures { IfOk result (λ kept. IsReady kept × (kept.steps.items ≡ [])) }
+        ensures { IfOk result (λ kept. HasRoomForStep kept × (kept.steps.items ≡ [])) }
     {
         let steps = Vec::with_capacity(alloc, 1)?;
         let spare = Vec::with_capacity(alloc, MAX_LINE)?;
@@ -66,7 +66,7 @@ impl Kept {
         requires room { IsRoomy self.old }
         requires some { 0 < vec_len self.old.more }
         ensures steps { self.new.steps.items ≡ self.old.steps.items }
-        ensures ready { IsReady self.new }
+        ensures ready { HasRoomForStep self.new }
         ensures more { vec_len self.new.more + 1 ≡ vec_len self.old.more }
     {
         let Some(Spare { bytes, .. }) = self.more.pop() else {
@@ -77,9 +77,9 @@ impl Kept {
 
     /// Makes ready for a step of that line which tells at most so many notes. An `Err` changes no step.
     pub fn begin(&mut self, alloc: Global, line: &[u8], most: usize) -> Result<Draft, AllocError>
-        requires { IsReady self.old }
+        requires { HasRoomForStep self.old }
         ensures steps { self.new.steps.items ≡ self.old.steps.items }
-        ensures ready { IsReady self.new }
+        ensures ready { HasRoomForStep self.new }
         ensures room { OnOk result (vec_len self.new.steps + vec_len self.new.more + 2 ≤ vec_capacity self.new.steps) }
         ensures more { self.new.more ≡ self.old.more }
         ensures draft { IfOk result (λ draft. (draft.line.items ≡ line.now) × (draft.notes.items ≡ []) × (most ≤ vec_capacity draft.notes)) }
@@ -101,9 +101,9 @@ impl Kept {
         text: &mut Vec<u8>,
     )
         requires room { vec_len self.old.steps + vec_len self.old.more + 2 ≤ vec_capacity self.old.steps }
-        requires ready { IsReady self.old }
+        requires ready { HasRoomForStep self.old }
         ensures steps { self.new.steps.items ≡ self.old.steps.items ++ step_saying conn draft.line.items text.old.items accepted draft.notes.items ∷ [] }
-        ensures ready { IsReady self.new }
+        ensures ready { HasRoomForStep self.new }
         ensures more { self.new.more ≡ self.old.more }
         ensures text { text.new.items ≡ [] }
     {
@@ -124,10 +124,10 @@ impl Kept {
     /// Adds the step of a `LOAD` that begins to wait, with the number of the load that it sent, if any.
     pub fn end_waiting(&mut self, alloc: Global, draft: Draft, conn: u64, load: Option<u64>)
         requires room { vec_len self.old.steps + vec_len self.old.more + 2 ≤ vec_capacity self.old.steps }
-        requires ready { IsReady self.old }
+        requires ready { HasRoomForStep self.old }
         requires silent { draft.notes.items ≡ [] }
         ensures steps { self.new.steps.items ≡ self.old.steps.items ++ step_silent conn draft.line.items load None [] ∷ [] }
-        ensures ready { IsReady self.new }
+        ensures ready { HasRoomForStep self.new }
         ensures more { self.new.more ≡ self.old.more }
     {
         let Draft { line, notes } = draft;
@@ -145,7 +145,7 @@ impl Kept {
 
     /// Adds a step that holds a line back.
     pub fn hold(&mut self, alloc: Global, conn: u64, line: &[u8])
-        requires ready { IsReady self.old }
+        requires ready { HasRoomForStep self.old }
         requires short { length line.now ≤ MAX_LINE }
         ensures steps { self.new.steps.items ≡ self.old.steps.items ++ held_step conn line.now ∷ [] }
         ensures room { IsRoomy self.new }
@@ -167,7 +167,7 @@ impl Kept {
 
     /// Adds a step of that line with what was written as its reply, in the room for a command that is held back.
     pub fn say(&mut self, alloc: Global, conn: u64, line: &[u8], text: &mut Vec<u8>)
-        requires ready { IsReady self.old }
+        requires ready { HasRoomForStep self.old }
         requires short { length line.now ≤ MAX_LINE }
         ensures steps { self.new.steps.items ≡ self.old.steps.items ++ step_saying conn line.now text.old.items None [] ∷ [] }
         ensures room { IsRoomy self.new }

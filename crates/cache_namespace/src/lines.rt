@@ -6,28 +6,28 @@ ghost use Rattle.audit_model.specs.Grammar.{reading};
 ghost use Rattle.audit_model.specs.History.{part_count};
 ghost use Rattle.audit_model.specs.Situation.{Situation, HeldValue};
 ghost use Rattle.audit_model.specs.Steps.{action_by};
-ghost use Rattle.cache_store.specs.Handing.{Hands};
+ghost use Rattle.cache_store.specs.Handing.{AppendsNotes};
 ghost use Rattle.cache_store.specs.Identifiers.{KeepsIdentifiers, DrawsAlone, AreUsedUp};
 ghost use Rattle.cache_store.specs.Running.{is_timely};
 ghost use Rattle.cache_store.specs.Promises.{IsUnchanged};
 ghost use Rattle.cache_store.specs.Recency.{KeepsRecency};
-ghost use Rattle.cache_steps.specs.Drawing.{Draws};
+ghost use Rattle.cache_steps.specs.Drawing.{DrawsForParts};
 ghost use Rattle.cache_steps.specs.Order.{MovesOrder};
-ghost use Rattle.cache_steps.specs.Right.{Answers, KeepsFrame};
+ghost use Rattle.cache_steps.specs.Right.{RepliesRightly, KeepsFrame};
 ghost use Rattle.cache_namespace.specs.Drawing.{workings, says_drop};
 ghost use Rattle.cache_namespace.specs.Gathered.{IsFresh};
 ghost use Rattle.cache_namespace.specs.Kept.{IsReadyToHold, gathered, more_in};
 ghost use Rattle.cache_namespace.specs.Making.{making_of};
 ghost use Rattle.cache_namespace.specs.Lines.{IsThere, says_quit};
 ghost use Rattle.cache_namespace.specs.Ran.{RanOne, RanLines, IsPlainLine, HasItsPart, Misses};
-ghost use Rattle.cache_namespace.specs.Stops.{StopsFor, is_quit, is_miss, quits_now, misses_now};
+ghost use Rattle.cache_namespace.specs.Stops.{StopsFor, stops_by_quit, is_miss, quits_now, misses_now};
 ghost use Rattle.cache_namespace.specs.Whole.{has_line, held_line};
 ghost use Rattle.audit_model.specs.Stream.{behind_lines};
 ghost use Rattle.std.specs.Prelude.{IsTrue};
 
 use crate::kept::Kept;
+use audit_lines::{Buffer, Next, Request, read_line};
 use audit_model::{Accepted, Config, Note};
-use cache_lines::{Buffer, Next, Request, read_line};
 use cache_steps::{add, clear, del, drop_prefix, fault, get, has, keys, load, quit, set, sync};
 use cache_store::Store;
 use std::alloc::{AllocError, Global};
@@ -53,13 +53,13 @@ fn run_line<S: Store>(
     requires in_time { (S.frame store.old).latest ≤ now }
     requires moment { now < 2 ^ 63 }
     requires short { length line.now ≤ 8192 }
-    ensures ok { IfOk result (λ ran. ran.misses ≡ false → (s : Situation) → s.latest ≡ now → s.dropped ≡ (S.frame store.old).dropped → S.stands store.old s.held → Answers config.now s (action_by (reading config.now line.now)) ran.accepted (S.stands store.new) (S.frame store.new).dropped (Hands (S.untaken store.old) (S.untaken store.new)) text.old.items text.new.items) }
+    ensures ok { IfOk result (λ ran. ran.misses ≡ false → (s : Situation) → s.latest ≡ now → s.dropped ≡ (S.frame store.old).dropped → S.stands store.old s.held → RepliesRightly config.now s (action_by (reading config.now line.now)) ran.accepted (S.stands store.new) (S.frame store.new).dropped (AppendsNotes (S.untaken store.old) (S.untaken store.new)) text.old.items text.new.items) }
     ensures missed { IfOk result (λ ran. ran.misses ≡ true → (store.new ≡ store.old) × (text.new.items ≡ text.old.items) × Misses config.now now line.now (S.stands store.old)) }
     ensures plain { IfOk result (λ ran. IsPlainLine config.now line.now ran.quits) }
     ensures says { IfOk result (λ ran. says_quit (reading config.now line.now) ≡ ran.quits) }
     ensures parted { IfOk result (λ ran. HasItsPart config.now (S.frame store.old).part_of line.now ran.accepted) }
     ensures timely { OnOk result ((held : List HeldValue) → S.stands store.new held → IsTrue (not (is_sync (action_by (reading config.now line.now))) || list_all (is_timely config.now (S.frame store.old).made now) held)) }
-    ensures draws { OnOk result (Draws (S.stream store.old) (S.stream store.new) (S.registered store.old) (S.registered store.new)) }
+    ensures draws { OnOk result (DrawsForParts (S.stream store.old) (S.stream store.new) (S.registered store.old) (S.registered store.new)) }
     ensures used_up { OnOk result (says_drop (reading config.now line.now) ≡ true → text.new.items ≡ text.old.items ++ codes "ERR id\n" → AreUsedUp (part_count config.now) (S.stream store.old) (S.stream store.new) (S.registered store.old)) }
     ensures spends { OnErr result (DrawsAlone (S.stream store.old) (S.stream store.new) (S.registered store.old) (S.registered store.new)) }
     ensures few { length (S.untaken store.new) ≤ length (S.untaken store.old) + S.count store.old + 1 }
@@ -319,7 +319,7 @@ pub fn run_lines<S: Store>(
     requires moment { now < 2 ^ 63 }
     requires fresh { IsFresh (gathered text.old.items kept.old (S.untaken store.old)) }
     requires ready { IsReadyToHold kept.old }
-    ensures ran { (base : Situation) (held : List HeldValue) → base.latest ≡ now → base.dropped ≡ (S.frame store.old).dropped → IsThere number base → S.stands store.old held → RanLines config.now base number (making_of (S.frame store.old)) held unread.old.bytes (is_quit result) unread.new.bytes (S.stands store.new) (S.frame store.new).dropped (workings (S.stream store.old) (S.registered store.old) (S.recency store.old)) (workings (S.stream store.new) (S.registered store.new) (S.recency store.new)) (gathered text.old.items kept.old (S.untaken store.old)) (gathered text.new.items kept.new (S.untaken store.new)) }
+    ensures ran { (base : Situation) (held : List HeldValue) → base.latest ≡ now → base.dropped ≡ (S.frame store.old).dropped → IsThere number base → S.stands store.old held → RanLines config.now base number (making_of (S.frame store.old)) held unread.old.bytes (stops_by_quit result) unread.new.bytes (S.stands store.new) (S.frame store.new).dropped (workings (S.stream store.old) (S.registered store.old) (S.recency store.old)) (workings (S.stream store.new) (S.registered store.new) (S.recency store.new)) (gathered text.old.items kept.old (S.untaken store.old)) (gathered text.new.items kept.new (S.untaken store.new)) }
     ensures stops { StopsFor result unread.new.bytes }
     ensures missed { is_miss result ≡ true → Misses config.now now (held_line unread.new.bytes) (S.stands store.new) }
     ensures frame { KeepsFrame (S.frame store.old) (S.frame store.new) now }

@@ -11,15 +11,15 @@ ghost use Rattle.cache_store.specs.Running.{is_bounded};
 ghost use Rattle.cache_namespace.specs.Drawing.{workings};
 ghost use Rattle.cache_steps.specs.Right.{KeepsFrame};
 ghost use Rattle.cache_namespace.specs.Gathered.{Gathered, IsFresh};
-ghost use Rattle.cache_namespace.specs.Kept.{IsReadyToHold, gathered, steps_of};
+ghost use Rattle.cache_namespace.specs.Kept.{IsReadyToHold, gathered, kept_steps};
 ghost use Rattle.cache_namespace.specs.Making.{making_of};
 ghost use Rattle.cache_namespace.specs.Lines.{IsThere};
 ghost use Rattle.cache_namespace.specs.Shown.{situation};
 ghost use Rattle.cache_namespace.specs.Waiting.{UnderWay, loads_in, under_way, when_left};
-ghost use Rattle.cache_loads.specs.Standings.{holds, waits};
+ghost use Rattle.cache_loads.specs.Standings.{holds_line, waits_for_load};
 ghost use Rattle.audit_model.specs.Belongs.{refusal_of, refusal_of_conn};
 ghost use Rattle.audit_model.specs.declared.event.Event.TheVariants as event;
-ghost use Rattle.cache_namespace.specs.Taken.{is_quit, FeedsConnection, IsOpenOrEnded, Takes, fed, known, holds_at, RefusedFor, text_at, closing_at, waits_at, ReplacedAt, SameConnections, LooksSame, IsSound};
+ghost use Rattle.cache_namespace.specs.Taken.{is_quit, FeedsConnection, IsOpenOrEnded, FollowsEvent, feed_event, known, holds_at, RefusedFor, text_at, closing_at, waits_at, ReplacedAt, SameConnections, LooksSame, KnowsStore};
 
 use crate::connection::{Connection, new_connection};
 use crate::feeding::{End, FeedError, feed_lines};
@@ -52,7 +52,7 @@ fn feed_ready<S: Store>(
     requires fresh { IsFresh (gathered connection.old.output.items kept.old (S.untaken store.old)) }
     requires ready { IsReadyToHold kept.old }
     requires open { connection.old.closing ≡ None }
-    requires runs { waits connection.old.standing ≡ false }
+    requires runs { waits_for_load connection.old.standing ≡ false }
     ensures ran { IfOk result (λ is_held. (base : Situation) (values : List HeldValue) → base.latest ≡ now → base.dropped ≡ (S.frame store.old).dropped → loads_in base ≡ under_way loads.old → IsThere number base → S.stands store.old values → FeedsConnection config.now base number (making_of (S.frame store.old)) values connection.old piece.now connection.new is_held (S.stands store.new) (S.frame store.new).dropped (under_way loads.new) (workings (S.stream store.old) (S.registered store.old) (S.recency store.old)) (workings (S.stream store.new) (S.registered store.new) (S.recency store.new)) (gathered connection.old.output.items kept.old (S.untaken store.old)) (gathered connection.new.output.items kept.new (S.untaken store.new))) }
     ensures frame { KeepsFrame (S.frame store.old) (S.frame store.new) now }
     ensures fresh { IsFresh (gathered connection.new.output.items kept.new (S.untaken store.new)) }
@@ -61,7 +61,7 @@ fn feed_ready<S: Store>(
     ensures unchanged { OnErr result (IsUnchanged (S.stands store.old) (S.stands store.new) (S.frame store.old) (S.frame store.new) (S.untaken store.old) (S.untaken store.new)) }
     ensures spends { OnErr result (DrawsAlone (S.stream store.old) (S.stream store.new) (S.registered store.old) (S.registered store.new)) }
     ensures ungathered { OnErr result (gathered connection.new.output.items kept.new (S.untaken store.new) ≡ gathered connection.old.output.items kept.old (S.untaken store.old)) }
-    ensures again { IsErrOf result FeedError.HeldAgain → holds connection.old.standing ≡ true }
+    ensures again { IsErrOf result FeedError.HeldAgain → holds_line connection.old.standing ≡ true }
     ensures loads { OnErr result (SameLoads loads.old loads.new) }
     ensures closing { OnOk result (IsOpenOrEnded connection.new.closing) }
     ensures goes { SameTaken loads.old loads.new }
@@ -147,7 +147,7 @@ fn feed_connection<S: Store>(
     ensures unchanged { OnErr result (IsUnchanged (S.stands store.old) (S.stands store.new) (S.frame store.old) (S.frame store.new) (S.untaken store.old) (S.untaken store.new)) }
     ensures spends { OnErr result (DrawsAlone (S.stream store.old) (S.stream store.new) (S.registered store.old) (S.registered store.new)) }
     ensures ungathered { OnErr result (gathered connection.new.output.items kept.new (S.untaken store.new) ≡ gathered connection.old.output.items kept.old (S.untaken store.old)) }
-    ensures again { IsErrOf result FeedError.HeldAgain → holds connection.old.standing ≡ true }
+    ensures again { IsErrOf result FeedError.HeldAgain → holds_line connection.old.standing ≡ true }
     ensures loads { OnErr result (SameLoads loads.old loads.new) }
     ensures closing { OnOk result (IsOpenOrEnded connection.new.closing) }
     ensures goes { SameTaken loads.old loads.new }
@@ -191,7 +191,7 @@ fn feed_at<S: Store>(
     ensures unchanged { OnErr result (IsUnchanged (S.stands store.old) (S.stands store.new) (S.frame store.old) (S.frame store.new) (S.untaken store.old) (S.untaken store.new)) }
     ensures spends { OnErr result (DrawsAlone (S.stream store.old) (S.stream store.new) (S.registered store.old) (S.registered store.new)) }
     ensures ungathered { OnErr result (gathered (text_at connections.new.items index) kept.new (S.untaken store.new) ≡ gathered (text_at connections.old.items index) kept.old (S.untaken store.old)) }
-    ensures again { IsErrOf result FeedError.HeldAgain → (c : Open) → slice_get connections.old.items index ≡ Some c → holds c.standing ≡ true }
+    ensures again { IsErrOf result FeedError.HeldAgain → (c : Open) → slice_get connections.old.items index ≡ Some c → holds_line c.standing ≡ true }
     ensures closing { OnOk result (IsOpenOrEnded (closing_at connections.new.items index)) }
     ensures loads { OnErr result (SameLoads loads.old loads.new) }
     ensures count { length connections.new.items ≡ length connections.old.items }
@@ -245,9 +245,9 @@ pub struct Namespace<S: Drop> {
 impl<S: Store> Namespace<S> {
     /// Opens a connection, and answers its number. An `Err` changes nothing.
     pub fn open(&mut self, alloc: Global) -> Result<u64, AllocError>
-        requires sound { IsSound self.old.config (S.frame self.old.store) self.old.latest }
+        requires sound { KnowsStore self.old.config (S.frame self.old.store) self.old.latest }
         ensures number { IfOk result (λ number. number ≡ length self.old.connections.items + 1) }
-        ensures ran { IfOk result (λ number. (values : List HeldValue) (was : Gathered) → S.stands self.old.store values → Takes self.old.config (making_of (S.frame self.old.store)) (situation self.old.latest (under_way self.old.loads) self.old.connections.items (S.frame self.old.store).dropped values) (event.Open number) false false (S.stands self.new.store) (situation self.new.latest (under_way self.new.loads) self.new.connections.items (S.frame self.new.store).dropped) (workings (S.stream self.old.store) (S.registered self.old.store) (S.recency self.old.store)) (workings (S.stream self.new.store) (S.registered self.new.store) (S.recency self.new.store)) was was) }
+        ensures ran { IfOk result (λ number. (values : List HeldValue) (was : Gathered) → S.stands self.old.store values → FollowsEvent self.old.config (making_of (S.frame self.old.store)) (situation self.old.latest (under_way self.old.loads) self.old.connections.items (S.frame self.old.store).dropped values) (event.Open number) false false (S.stands self.new.store) (situation self.new.latest (under_way self.new.loads) self.new.connections.items (S.frame self.new.store).dropped) (workings (S.stream self.old.store) (S.registered self.old.store) (S.recency self.old.store)) (workings (S.stream self.new.store) (S.registered self.new.store) (S.recency self.new.store)) was was) }
         ensures rest { self.new ≡ record self.old { connections = self.new.connections } }
         ensures bounded { OnOk result ((values : List HeldValue) → S.stands self.new.store values → IsTrue (is_bounded self.old.config values)) }
         ensures connections { OnOk result ((c : Open) × (c.output.items ≡ []) × (c.closing ≡ None) × (self.new.connections.items ≡ self.old.connections.items ++ c ∷ [])) }
@@ -268,25 +268,25 @@ impl<S: Store> Namespace<S> {
         moment: u64,
         kept: &mut Option<Kept>,
     ) -> Result<bool, ServiceError>
-        requires sound { IsSound self.old.config (S.frame self.old.store) self.old.latest }
+        requires sound { KnowsStore self.old.config (S.frame self.old.store) self.old.latest }
         requires fresh { IsFresh (gathered (text_at self.old.connections.items (number - 1)) kept.old (S.untaken self.old.store)) }
         requires ready { IsReadyToHold kept.old }
-        ensures ran { IfOk result (λ is_held. (values : List HeldValue) → S.stands self.old.store values → Takes self.old.config (making_of (S.frame self.old.store)) (situation self.old.latest (under_way self.old.loads) self.old.connections.items (S.frame self.old.store).dropped values) (fed number piece.now moment) is_held (is_quit (closing_at self.new.connections.items (number - 1))) (S.stands self.new.store) (situation self.new.latest (under_way self.new.loads) self.new.connections.items (S.frame self.new.store).dropped) (workings (S.stream self.old.store) (S.registered self.old.store) (S.recency self.old.store)) (workings (S.stream self.new.store) (S.registered self.new.store) (S.recency self.new.store)) (gathered (text_at self.old.connections.items (number - 1)) kept.old (S.untaken self.old.store)) (gathered (text_at self.new.connections.items (number - 1)) kept.new (S.untaken self.new.store))) }
+        ensures ran { IfOk result (λ is_held. (values : List HeldValue) → S.stands self.old.store values → FollowsEvent self.old.config (making_of (S.frame self.old.store)) (situation self.old.latest (under_way self.old.loads) self.old.connections.items (S.frame self.old.store).dropped values) (feed_event number piece.now moment) is_held (is_quit (closing_at self.new.connections.items (number - 1))) (S.stands self.new.store) (situation self.new.latest (under_way self.new.loads) self.new.connections.items (S.frame self.new.store).dropped) (workings (S.stream self.old.store) (S.registered self.old.store) (S.recency self.old.store)) (workings (S.stream self.new.store) (S.registered self.new.store) (S.recency self.new.store)) (gathered (text_at self.old.connections.items (number - 1)) kept.old (S.untaken self.old.store)) (gathered (text_at self.new.connections.items (number - 1)) kept.new (S.untaken self.new.store))) }
         ensures others { OnOk result ((place : ℕ) → place ≢ number - 1 → slice_get self.new.connections.items place ≡ slice_get self.old.connections.items place) }
         ensures bounded { OnOk result ((values : List HeldValue) → S.stands self.new.store values → IsTrue (is_bounded self.old.config values)) }
         ensures made { (S.frame self.new.store).made ≡ (S.frame self.old.store).made }
         ensures part_of { (S.frame self.new.store).part_of ≡ (S.frame self.old.store).part_of }
-        ensures sound { IsSound self.new.config (S.frame self.new.store) self.new.latest }
+        ensures sound { KnowsStore self.new.config (S.frame self.new.store) self.new.latest }
         ensures config { self.new.config ≡ self.old.config }
         ensures fresh { IsFresh (gathered (text_at self.new.connections.items (number - 1)) kept.new (S.untaken self.new.store)) }
-        ensures refused { IfErr result (RefusedFor self.old.config self.old.connections.items (fed number piece.now moment) (holds_at self.old.connections.items number)) }
+        ensures refused { IfErr result (RefusedFor self.old.config self.old.connections.items (feed_event number piece.now moment) (holds_at self.old.connections.items number)) }
         ensures unmoved { OnErr result (KeepsRecency (S.recency self.old.store) (S.recency self.new.store)) }
         ensures unchanged { OnErr result (IsUnchanged (S.stands self.old.store) (S.stands self.new.store) (S.frame self.old.store) (S.frame self.new.store) (S.untaken self.old.store) (S.untaken self.new.store)) }
         ensures spends { OnErr result (DrawsAlone (S.stream self.old.store) (S.stream self.new.store) (S.registered self.old.store) (S.registered self.new.store)) }
         ensures same { OnErr result (SameConnections self.old.connections.items self.new.connections.items) }
         ensures latest { OnErr result (self.new.latest ≡ self.old.latest) }
         ensures loads { OnErr result (SameLoads self.old.loads self.new.loads) }
-        ensures kept { OnErr result (steps_of kept.new ≡ steps_of kept.old) }
+        ensures kept { OnErr result (kept_steps kept.new ≡ kept_steps kept.old) }
         ensures closing { OnOk result (IsOpenOrEnded (closing_at self.new.connections.items (number - 1))) }
         ensures count { length self.new.connections.items ≡ length self.old.connections.items }
         ensures goes { SameTaken self.old.loads self.new.loads }
@@ -323,8 +323,8 @@ impl<S: Store> Namespace<S> {
 
     /// Closes a connection, and drops what came and was not used.
     pub fn close(&mut self, number: u64) -> Result<(), ServiceError>
-        requires sound { IsSound self.old.config (S.frame self.old.store) self.old.latest }
-        ensures ran { OnOk result ((values : List HeldValue) (was : Gathered) → S.stands self.old.store values → Takes self.old.config (making_of (S.frame self.old.store)) (situation self.old.latest (under_way self.old.loads) self.old.connections.items (S.frame self.old.store).dropped values) (event.Close number) false false (S.stands self.new.store) (situation self.new.latest (under_way self.new.loads) self.new.connections.items (S.frame self.new.store).dropped) (workings (S.stream self.old.store) (S.registered self.old.store) (S.recency self.old.store)) (workings (S.stream self.new.store) (S.registered self.new.store) (S.recency self.new.store)) was was) }
+        requires sound { KnowsStore self.old.config (S.frame self.old.store) self.old.latest }
+        ensures ran { OnOk result ((values : List HeldValue) (was : Gathered) → S.stands self.old.store values → FollowsEvent self.old.config (making_of (S.frame self.old.store)) (situation self.old.latest (under_way self.old.loads) self.old.connections.items (S.frame self.old.store).dropped values) (event.Close number) false false (S.stands self.new.store) (situation self.new.latest (under_way self.new.loads) self.new.connections.items (S.frame self.new.store).dropped) (workings (S.stream self.old.store) (S.registered self.old.store) (S.recency self.old.store)) (workings (S.stream self.new.store) (S.registered self.new.store) (S.recency self.new.store)) was was) }
         ensures texts { (place : ℕ) → text_at self.new.connections.items place ≡ text_at self.old.connections.items place }
         ensures others { (place : ℕ) → place ≢ number - 1 → slice_get self.new.connections.items place ≡ slice_get self.old.connections.items place }
         ensures bounded { OnOk result ((values : List HeldValue) → S.stands self.new.store values → IsTrue (is_bounded self.old.config values)) }

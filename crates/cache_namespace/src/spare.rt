@@ -1,7 +1,7 @@
 //! Room for a line.
 ghost use Rattle.std.specs.Prelude.{◌≡◌, ◌≤◌, vec_len, vec_capacity};
 
-use cache_lines::MAX_LINE;
+use audit_lines::MAX_LINE;
 use std::alloc::{AllocError, Global};
 
 /// Room for one line, of at most 8192 bytes.

@@ -10,8 +10,8 @@ ghost use Rattle.cache_namespace.specs.Whole.{has_line, has_room};
 ghost use Rattle.cache_loads.specs.declared.standing.Standing.TheVariants as now;
 
 use crate::connection::Connection;
+use audit_lines::{Buffer, Next};
 use audit_model::Closing;
-use cache_lines::{Buffer, Next};
 use cache_loads::Standing;
 use std::alloc::{AllocError, Global};
 use std::mem;

@@ -10,9 +10,11 @@ use cache_spaces::RecordedService;
 use rand_xoshiro::Xoshiro256PlusPlus;
 use std::alloc::Global;
 
-/// The transcripts of the inputs, one a configuration, in their order.
+/// The transcripts of the inputs, handed in order to a service just made: one for each configuration, in their order, each of which obeys,
+/// belongs to the inputs and begins at that moment.
 ///
-/// An input that a service would refuse, for memory too, stands in none, and play goes on. Fails only as `Service::new` does.
+/// An input that a service would refuse, for memory too, stands in none, and play goes on. It fails with `Moment` above 2^63 - 1
+/// nanoseconds, then with `Config` where there are not 1 to 16 configurations or one is out of range, else with `OutOfMemory`.
 pub fn play(
     alloc: Global,
     configs: &[Config],

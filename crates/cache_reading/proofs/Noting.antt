@@ -11,7 +11,7 @@ use Rattle.std.proofs.lemmas.Option.{none-some, same_Some}
 use Rattle.audit_model.specs.declared.transcript.Note.{Note}
 use Rattle.audit_model.specs.declared.transcript.Record.{Record}
 use Rattle.audit_model.specs.declared.transcript.Step.{Step}
-use Rattle.cache_reading.specs.Notes.{before_in, joined, lists_of, notes_before, notes_in, rest_in, lists_at, notes_from, told_at}
+use Rattle.cache_reading.specs.Notes.{before_in, lists_joined, lists_of, notes_before, notes_of_records, rest_in, lists_at, notes_from, told_at}
 use Rattle.cache_reading.specs.declared.told.Told.{Told}
 
 module _ {X : Type 0} where
@@ -21,24 +21,24 @@ module _ {X : Type 0} where
   get-over (x ∷ xs) zero h = absurd (omega arith)
   get-over (x ∷ xs) (suc k) h = get-over xs k (omega arith)
 
-  joined-from : (lists : List (List X)) (k : ℕ) → joined (drop k lists) ≡ get_or lists k [] ++ joined (drop (suc k) lists)
+  joined-from : (lists : List (List X)) (k : ℕ) → lists_joined (drop k lists) ≡ get_or lists k [] ++ lists_joined (drop (suc k) lists)
   joined-from [] zero = refl
   joined-from [] (suc k) = refl
   joined-from (x ∷ xs) zero = refl
   joined-from (x ∷ xs) (suc k) = joined-from xs k
 
-  joined-next : (lists : List (List X)) (k : ℕ) → joined (drop (k + 1) lists) ≡ rest_in lists (k + 1) 0
-  joined-next lists k = joined-from lists (k + 1) ∙ ap (λ m. get_or lists (k + 1) [] ++ joined (drop m lists)) (sym (add-one (k + 1)))
+  joined-next : (lists : List (List X)) (k : ℕ) → lists_joined (drop (k + 1) lists) ≡ rest_in lists (k + 1) 0
+  joined-next lists k = joined-from lists (k + 1) ∙ ap (λ m. get_or lists (k + 1) [] ++ lists_joined (drop m lists)) (sym (add-one (k + 1)))
 
   -- nothing stands in that list from there on
   pub next-list : (lists : List (List X)) (k n : ℕ) → length (get_or lists k []) ≤ n → rest_in lists k n ≡ rest_in lists (k + 1) 0
-  next-list lists k n h = ap (λ l. l ++ joined (drop (k + 1) lists)) (drop_of_length-le (get_or lists k []) h) ∙ joined-next lists k
+  next-list lists k n h = ap (λ l. l ++ lists_joined (drop (k + 1) lists)) (drop_of_length-le (get_or lists k []) h) ∙ joined-next lists k
 
   -- there is no such list
   pub no-list : (lists : List (List X)) (k n : ℕ) → length lists ≤ k → rest_in lists k n ≡ []
   no-list lists k n h =
-      ap (λ l. l ++ joined (drop (k + 1) lists)) (ap (drop n) (get-over lists k h) ∙ drop-nil n)
-      ∙ ap joined (drop_of_length-le lists (omega arith))
+      ap (λ l. l ++ lists_joined (drop (k + 1) lists)) (ap (drop n) (get-over lists k h) ∙ drop-nil n)
+      ∙ ap lists_joined (drop_of_length-le lists (omega arith))
 
   drop-one : (xs : List X) (n : ℕ) (x : X) → slice_get xs n ≡ Some x → drop n xs ≡ x ∷ drop (suc n) xs
   drop-one [] n x e = absurd (none-some x e)
@@ -48,9 +48,9 @@ module _ {X : Type 0} where
   -- one stands there
   pub one-there : (lists : List (List X)) (k n : ℕ) (x : X) → slice_get (get_or lists k []) n ≡ Some x → rest_in lists k n ≡ x ∷ rest_in lists k (n + 1)
   one-there lists k n x e =
-      ap (λ l. l ++ joined (drop (k + 1) lists)) (drop-one (get_or lists k []) n x e ∙ ap (λ m. x ∷ drop m (get_or lists k [])) (sym (add-one n)))
+      ap (λ l. l ++ lists_joined (drop (k + 1) lists)) (drop-one (get_or lists k []) n x e ∙ ap (λ m. x ∷ drop m (get_or lists k [])) (sym (add-one n)))
 
-records-from : (records : List Record) (k : ℕ) → notes_in (drop k records) ≡ rest_in (lists_at records k) 0 0 ++ notes_in (drop (suc k) records)
+records-from : (records : List Record) (k : ℕ) → notes_of_records (drop k records) ≡ rest_in (lists_at records k) 0 0 ++ notes_of_records (drop (suc k) records)
 records-from [] zero = refl
 records-from [] (suc k) = refl
 records-from (x ∷ xs) zero = refl
@@ -60,8 +60,8 @@ records-from (x ∷ xs) (suc k) = records-from xs k
 pub next-record : (records : List Record) (k l n : ℕ) → rest_in (lists_at records k) l n ≡ []
     → notes_from records (record { entry = k; list = l; note = n }) ≡ notes_from records (record { entry = k + 1; list = 0; note = 0 })
 next-record records k l n e =
-    ap (λ (r : List Note). r ++ notes_in (drop (k + 1) records)) e ∙ records-from records (k + 1)
-    ∙ ap (λ m. rest_in (lists_at records (k + 1)) 0 0 ++ notes_in (drop m records)) (sym (add-one (k + 1)))
+    ap (λ (r : List Note). r ++ notes_of_records (drop (k + 1) records)) e ∙ records-from records (k + 1)
+    ∙ ap (λ m. rest_in (lists_at records (k + 1)) 0 0 ++ notes_of_records (drop m records)) (sym (add-one (k + 1)))
 
 lists-over : (records : List Record) (k : ℕ) → length records ≤ k → lists_at records k ≡ []
 lists-over [] zero h = refl
@@ -72,13 +72,13 @@ lists-over (x ∷ xs) (suc k) h = lists-over xs k (omega arith)
 -- there is no such record
 pub no-record : (records : List Record) (told : Told) → length records ≤ told.entry → notes_from records told ≡ []
 no-record records told h =
-    ap (λ (r : List Note). r ++ notes_in (drop (told.entry + 1) records)) (ap (λ l. rest_in l told.list told.note) (lists-over records told.entry h) ∙ no-list [] told.list told.note (omega arith))
-    ∙ ap notes_in (drop_of_length-le records (omega arith))
+    ap (λ (r : List Note). r ++ notes_of_records (drop (told.entry + 1) records)) (ap (λ l. rest_in l told.list told.note) (lists-over records told.entry h) ∙ no-list [] told.list told.note (omega arith))
+    ∙ ap notes_of_records (drop_of_length-le records (omega arith))
 
 -- one stands in that record
 pub one-in : (records : List Record) (k l n l' n' : ℕ) (x : Note) → rest_in (lists_at records k) l n ≡ x ∷ rest_in (lists_at records k) l' n'
     → notes_from records (record { entry = k; list = l; note = n }) ≡ x ∷ notes_from records (record { entry = k; list = l'; note = n' })
-one-in records k l n l' n' x e = ap (λ (r : List Note). r ++ notes_in (drop (k + 1) records)) e
+one-in records k l n l' n' x e = ap (λ (r : List Note). r ++ notes_of_records (drop (k + 1) records)) e
 
 -- the lists of the record that stands there
 pub lists-there : (records : List Record) (k : ℕ) (entry : Record) → slice_get records k ≡ Some entry → lists_at records k ≡ lists_of entry
@@ -123,29 +123,29 @@ told-more (x ∷ xs) (suc k) = told-more xs k
 -- ---- what was taken, and what was not
 
 module _ {X : Type 0} where
-  joined-parts : (lists : List (List X)) (k : ℕ) → joined (take k lists) ++ joined (drop k lists) ≡ joined lists
-  joined-parts lists k = sym (flat_map-append (λ (l : List X). l) (take k lists) (drop k lists)) ∙ ap joined (take-append-drop k lists)
+  joined-parts : (lists : List (List X)) (k : ℕ) → lists_joined (take k lists) ++ lists_joined (drop k lists) ≡ lists_joined lists
+  joined-parts lists k = sym (flat_map-append (λ (l : List X). l) (take k lists) (drop k lists)) ∙ ap lists_joined (take-append-drop k lists)
 
-  parts-in : (lists : List (List X)) (k n : ℕ) → before_in lists k n ++ rest_in lists k n ≡ joined lists
+  parts-in : (lists : List (List X)) (k n : ℕ) → before_in lists k n ++ rest_in lists k n ≡ lists_joined lists
   parts-in lists k n =
       let x = get_or lists k [] in
-      let rest = joined (drop (k + 1) lists) in
-      append_assoc (joined (take k lists)) (take n x) (drop n x ++ rest)
-      ∙ ap (λ l. joined (take k lists) ++ l) (sym (append_assoc (take n x) (drop n x) rest) ∙ ap (λ l. l ++ rest) (take-append-drop n x)
-      ∙ ap (λ m. x ++ joined (drop m lists)) (add-one k) ∙ sym (joined-from lists k))
+      let rest = lists_joined (drop (k + 1) lists) in
+      append_assoc (lists_joined (take k lists)) (take n x) (drop n x ++ rest)
+      ∙ ap (λ l. lists_joined (take k lists) ++ l) (sym (append_assoc (take n x) (drop n x) rest) ∙ ap (λ l. l ++ rest) (take-append-drop n x)
+      ∙ ap (λ m. x ++ lists_joined (drop m lists)) (add-one k) ∙ sym (joined-from lists k))
       ∙ joined-parts lists k
 
 -- the notes before a place, and those from there on, are all
-pub all-notes : (records : List Record) (told : Told) → notes_in records ≡ notes_before records told ++ notes_from records told
+pub all-notes : (records : List Record) (told : Told) → notes_of_records records ≡ notes_before records told ++ notes_from records told
 all-notes records told =
     let k = told.entry in
     let lists = lists_at records k in
-    let rest = notes_in (drop (k + 1) records) in
+    let rest = notes_of_records (drop (k + 1) records) in
     let whole : rest_in lists 0 0 ≡ before_in lists told.list told.note ++ rest_in lists told.list told.note = sym (joined-from lists 0) ∙ sym (parts-in lists told.list told.note) in
-    ap notes_in (sym (take-append-drop k records)) ∙ flat_map-append (λ (entry : Record). joined (lists_of entry)) (take k records) (drop k records)
-    ∙ ap (λ l. notes_in (take k records) ++ l) (records-from records k ∙ ap (λ m. rest_in lists 0 0 ++ notes_in (drop m records)) (sym (add-one k)) ∙ ap (λ l. l ++ rest) whole
+    ap notes_of_records (sym (take-append-drop k records)) ∙ flat_map-append (λ (entry : Record). lists_joined (lists_of entry)) (take k records) (drop k records)
+    ∙ ap (λ l. notes_of_records (take k records) ++ l) (records-from records k ∙ ap (λ m. rest_in lists 0 0 ++ notes_of_records (drop m records)) (sym (add-one k)) ∙ ap (λ l. l ++ rest) whole
     ∙ append_assoc (before_in lists told.list told.note) (rest_in lists told.list told.note) rest)
-    ∙ sym (append_assoc (notes_in (take k records)) (before_in lists told.list told.note) (rest_in lists told.list told.note ++ rest))
+    ∙ sym (append_assoc (notes_of_records (take k records)) (before_in lists told.list told.note) (rest_in lists told.list told.note ++ rest))
 
 -- so what was taken grows by what a taking gives
 pub told-grows : (records : List Record) (was is : Told) (given : List Note) → notes_from records was ≡ given ++ notes_from records is → notes_before records is ≡ notes_before records was ++ given
@@ -160,6 +160,6 @@ module _ {E : Type 0} where
   told-note records was is (Err x) e = e
 
   pub told-all : (records : List Record) (was : Told) (r : Result (Option Note) E) → IfOk r (λ note. IsNone note → notes_from records was ≡ [])
-      → IfOk r (λ note. IsNone note → notes_before records was ≡ notes_in records)
+      → IfOk r (λ note. IsNone note → notes_before records was ≡ notes_of_records records)
   told-all records was (Ok note) e = λ none. sym (append-nil (notes_before records was)) ∙ ap (λ l. notes_before records was ++ l) (sym (e none)) ∙ sym (all-notes records was)
   told-all records was (Err x) e = e

@@ -7,12 +7,12 @@ use Rattle.audit_model.specs.declared.transcript.Step.{Step}
 use Rattle.audit_model.specs.declared.transcript.Transcript.{Transcript}
 
 -- a step's reply, where the step is that connection's
-abbrev pub reply_to : ℕ → Step → List ℕ
-reply_to number step = if step.conn == number then unwrap_or step.reply [] else []
+abbrev pub reply_for : ℕ → Step → List ℕ
+reply_for number step = if step.conn == number then unwrap_or step.reply [] else []
 
 -- the replies of a connection, in order
-abbrev pub replies_to : ℕ → List Record → List ℕ
-replies_to number records = flat_map (λ entry. flat_map (reply_to number) entry.steps) records
+abbrev pub replies_for : ℕ → List Record → List ℕ
+replies_for number records = flat_map (λ entry. flat_map (reply_for number) entry.steps) records
 
 -- the records of a namespace
 abbrev pub records_at : List Transcript → ℕ → List Record

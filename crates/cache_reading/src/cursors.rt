@@ -1,14 +1,14 @@
 //! Numbers kept for each connection of each namespace.
 ghost use Rattle.std.specs.Prelude.{◌≡◌, ◌≢◌, ◌<◌, ℕ, get_or, vec_len, OnOk, OnErr};
 ghost use Rattle.audit_model.specs.declared.input.Conn.{Conn};
-ghost use Rattle.cache_reading.specs.Cursors.{cursor_at};
+ghost use Rattle.cache_reading.specs.Cursors.{reply_cursor};
 
 use audit_model::Conn;
 use std::alloc::{AllocError, Global};
 
 /// The number of a connection; 0 where none is kept.
 pub fn cursor_of(lists: &[Vec<u64>], conn: Conn) -> u64
-    ensures { result ≡ cursor_at lists.now conn.namespace conn.number }
+    ensures { result ≡ reply_cursor lists.now conn.namespace conn.number }
 {
     match lists.get(conn.namespace as usize) {
         Some(list) => number_at(list, conn.number),
@@ -33,9 +33,9 @@ pub fn set_cursor(
     conn: Conn,
     number: u64,
 ) -> Result<(), AllocError>
-    ensures set { OnOk result (cursor_at lists.new.items conn.namespace conn.number ≡ number) }
-    ensures others { (other : Conn) → other ≢ conn → cursor_at lists.new.items other.namespace other.number ≡ cursor_at lists.old.items other.namespace other.number }
-    ensures kept { OnErr result (cursor_at lists.new.items conn.namespace conn.number ≡ cursor_at lists.old.items conn.namespace conn.number) }
+    ensures set { OnOk result (reply_cursor lists.new.items conn.namespace conn.number ≡ number) }
+    ensures others { (other : Conn) → other ≢ conn → reply_cursor lists.new.items other.namespace other.number ≡ reply_cursor lists.old.items other.namespace other.number }
+    ensures kept { OnErr result (reply_cursor lists.new.items conn.namespace conn.number ≡ reply_cursor lists.old.items conn.namespace conn.number) }
 {
     let namespace = conn.namespace as usize;
     make_lists(alloc, lists, namespace)?;
@@ -45,7 +45,7 @@ pub fn set_cursor(
 /// Makes empty lists up to that place.
 fn make_lists(alloc: Global, lists: &mut Vec<Vec<u64>>, place: usize) -> Result<(), AllocError>
     ensures made { OnOk result (place < vec_len lists.new) }
-    ensures same { (n m : ℕ) → cursor_at lists.new.items n m ≡ cursor_at lists.old.items n m }
+    ensures same { (n m : ℕ) → reply_cursor lists.new.items n m ≡ reply_cursor lists.old.items n m }
 {
     if place < lists.len() {
         return Ok(());

@@ -1,9 +1,9 @@
 //! A recording service, and how far it was read.
 ghost use Rattle.std.specs.Prelude.{◌≡◌, ◌≢◌, ℕ, ◌<◌, ◌≤◌, ◌⊎◌, ◌++◌, [], true, length, drop, vec_len, IsNone, IfOk, IfErr, OnOk, OnErr};
 ghost use Rattle.std.specs.Option.{option_to_list};
-ghost use Rattle.cache_reading.specs.Cursors.{cursor_at};
+ghost use Rattle.cache_reading.specs.Cursors.{reply_cursor};
 ghost use Rattle.cache_reading.specs.Notes.{notes_from, told_at};
-ghost use Rattle.cache_reading.specs.Replies.{records_at, replies_to};
+ghost use Rattle.cache_reading.specs.Replies.{records_at, replies_for};
 ghost use Rattle.audit_model.specs.declared.input.Conn.{Conn};
 ghost use Rattle.cache_namespace.specs.Taken.{known};
 ghost use Rattle.cache_spaces.specs.Journals.{journals_of, service_of};
@@ -18,7 +18,8 @@ use audit_model::{Conn, Note, Record, ServiceError};
 use cache_spaces::RecordedService;
 use std::alloc::{AllocError, Global};
 
-/// A service that keeps journals, whose replies and notes are taken from them. A taking is no event, and leaves the journals as they are.
+/// A service that keeps journals, and hands out the replies and notes that they hold, as the core of a `SharedService`. A taking is no
+/// event, leaves the journals as they are, and takes memory for a copy.
 #[derive(Drop)]
 pub struct ReadService {
     pub(crate) alloc: Global,
@@ -30,10 +31,10 @@ pub struct ReadService {
 }
 
 impl ReadService {
-    ghost use Rattle.cache_reading.specs.Notes.{notes_in};
-    ghost use Rattle.cache_reading.specs.Read.{journals_in, recorded_of, told_in, untold_in};
+    ghost use Rattle.cache_reading.specs.Notes.{notes_of_records};
+    ghost use Rattle.cache_reading.specs.Read.{journals_in, recorded_of, notes_taken, untold_in};
 
-    /// The service, nothing of which was taken.
+    /// The recording service, none of whose replies and notes was taken. Takes no memory.
     pub fn new(alloc: Global, recorded: RecordedService) -> ReadService
         ensures { recorded_of result ≡ recorded }
     {
@@ -45,26 +46,26 @@ impl ReadService {
         }
     }
 
-    /// The recording service.
+    /// The recording service, to be looked at: its journals.
     pub fn recorded(&self) -> &RecordedService
         ensures { result.now ≡ recorded_of self.now }
     {
         &self.recorded
     }
 
-    /// The oldest note of a namespace that was told and not taken. It is no event. The notes that were taken so far are a front of those
-    /// that the namespace's journal holds, in its order, and this is the one behind them.
+    /// The oldest note of a namespace that was told and not taken; none where there is none. It is no event. The notes that were taken so
+    /// far are a front of those that the namespace's journal holds, in its order, and this is the one behind them.
     ///
     /// It is copied. Refused with `NoNamespace`, and with `OutOfMemory` where there is no memory for the copy; then nothing has changed.
     pub fn next_notice(&mut self, namespace: u64) -> Result<Option<Note>, ServiceError>
-        ensures note { IfOk result (λ note. told_in self.new namespace ≡ told_in self.old namespace ++ option_to_list note) }
-        ensures none { IfOk result (λ note. IsNone note → told_in self.old namespace ≡ notes_in (records_at (journals_in self.old) namespace)) }
+        ensures note { IfOk result (λ note. notes_taken self.new namespace ≡ notes_taken self.old namespace ++ option_to_list note) }
+        ensures none { IfOk result (λ note. IsNone note → notes_taken self.old namespace ≡ notes_of_records (records_at (journals_in self.old) namespace)) }
         ensures rest { IfOk result (λ note. untold_in self.old namespace ≡ option_to_list note ++ untold_in self.new namespace) }
         ensures last { IfOk result (λ note. IsNone note → untold_in self.old namespace ≡ []) }
-        ensures all { notes_in (records_at (journals_in self.new) namespace) ≡ told_in self.new namespace ++ untold_in self.new namespace }
-        ensures others { (other : ℕ) → other ≢ namespace → (told_in self.new other ≡ told_in self.old other) × (untold_in self.new other ≡ untold_in self.old other) }
+        ensures all { notes_of_records (records_at (journals_in self.new) namespace) ≡ notes_taken self.new namespace ++ untold_in self.new namespace }
+        ensures others { (other : ℕ) → other ≢ namespace → (notes_taken self.new other ≡ notes_taken self.old other) × (untold_in self.new other ≡ untold_in self.old other) }
         ensures refused { IfErr result (λ e. (e ≡ ServiceError.OutOfMemory) ⊎ ((e ≡ ServiceError.NoNamespace) × (length (spaces_of (service_of (recorded_of self.old))) ≤ namespace))) }
-        ensures kept { OnErr result ((told_in self.new namespace ≡ told_in self.old namespace) × (untold_in self.new namespace ≡ untold_in self.old namespace)) }
+        ensures kept { OnErr result ((notes_taken self.new namespace ≡ notes_taken self.old namespace) × (untold_in self.new namespace ≡ untold_in self.old namespace)) }
         ensures recorded { recorded_of self.new ≡ recorded_of self.old }
     {
         let ReadService {
@@ -76,7 +77,7 @@ impl ReadService {
         take_note(*alloc, recorded, told, namespace)
     }
 
-    /// The recording service, moved out.
+    /// The recording service, moved out; what was not taken stands in its journals.
     pub fn into_recorded(self) -> RecordedService
         ensures { result ≡ recorded_of self }
     {
@@ -85,20 +86,20 @@ impl ReadService {
     }
 }
 
-/// The replies of a connection since the last taking. Others' stay. Refused with `NoNamespace`, `NoConnection`, and with `OutOfMemory` where
-/// there is no memory for the copy or for how far it was read; then they come with the next taking.
+/// The replies of a connection since the last taking. Others' stay. Refused with `NoNamespace`, `NoConnection`, and with `OutOfMemory`
+/// where there is no memory for the copy or for how far it was read; then they come with the next taking.
 pub fn take_replies(
     alloc: Global,
     recorded: &RecordedService,
     read: &mut Vec<Vec<u64>>,
     conn: Conn,
 ) -> Result<Vec<u8>, ServiceError>
-    ensures taken { IfOk result (λ text. text.items ≡ replies_to conn.number (drop (cursor_at read.old.items conn.namespace conn.number) (records_at (journals_of recorded.now) conn.namespace))) }
-    ensures all { IfOk result (λ text. cursor_at read.new.items conn.namespace conn.number ≡ length (records_at (journals_of recorded.now) conn.namespace)) }
+    ensures taken { IfOk result (λ text. text.items ≡ replies_for conn.number (drop (reply_cursor read.old.items conn.namespace conn.number) (records_at (journals_of recorded.now) conn.namespace))) }
+    ensures all { IfOk result (λ text. reply_cursor read.new.items conn.namespace conn.number ≡ length (records_at (journals_of recorded.now) conn.namespace)) }
     ensures known { OnOk result (InSpace (spaces_of (service_of recorded.now)) conn.namespace (λ space. (known (connections_of space)).was_opened conn.number ≡ true)) }
-    ensures others { (other : Conn) → other ≢ conn → cursor_at read.new.items other.namespace other.number ≡ cursor_at read.old.items other.namespace other.number }
+    ensures others { (other : Conn) → other ≢ conn → reply_cursor read.new.items other.namespace other.number ≡ reply_cursor read.old.items other.namespace other.number }
     ensures refused { IfErr result (λ e. (e ≡ ServiceError.OutOfMemory) ⊎ RefusesLook (spaces_of (service_of recorded.now)) conn.namespace e (λ space. IsUnknown space conn.number e)) }
-    ensures kept { OnErr result (cursor_at read.new.items conn.namespace conn.number ≡ cursor_at read.old.items conn.namespace conn.number) }
+    ensures kept { OnErr result (reply_cursor read.new.items conn.namespace conn.number ≡ reply_cursor read.old.items conn.namespace conn.number) }
 {
     match recorded.service().closed(conn) {
         Ok(_) => {}

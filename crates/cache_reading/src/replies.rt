@@ -1,7 +1,7 @@
 //! Replies, gathered from records.
 ghost use Rattle.std.specs.Prelude.{◌≡◌, ◌++◌, drop, IfOk, OnOk};
 ghost use Rattle.std.specs.List.{flat_map};
-ghost use Rattle.cache_reading.specs.Replies.{replies_to, reply_to};
+ghost use Rattle.cache_reading.specs.Replies.{replies_for, reply_for};
 
 use audit_model::{Record, Step};
 use std::alloc::{AllocError, Global};
@@ -13,7 +13,7 @@ pub fn gather_from(
     place: u64,
     number: u64,
 ) -> Result<Vec<u8>, AllocError>
-    ensures { IfOk result (λ text. text.items ≡ replies_to number (drop place records.now)) }
+    ensures { IfOk result (λ text. text.items ≡ replies_for number (drop place records.now)) }
 {
     gather(alloc, records_from(records, place), number)
 }
@@ -31,7 +31,7 @@ fn records_from(records: &[Record], place: u64) -> &[Record]
 
 /// The replies of a connection in these records.
 fn gather(alloc: Global, records: &[Record], number: u64) -> Result<Vec<u8>, AllocError>
-    ensures { IfOk result (λ text. text.items ≡ replies_to number records.now) }
+    ensures { IfOk result (λ text. text.items ≡ replies_for number records.now) }
 {
     let mut text = Vec::new(alloc);
     for entry in records {
@@ -42,7 +42,7 @@ fn gather(alloc: Global, records: &[Record], number: u64) -> Result<Vec<u8>, All
 
 /// Adds the replies of a connection in these steps.
 fn add_replies(steps: &[Step], number: u64, text: &mut Vec<u8>) -> Result<(), AllocError>
-    ensures { OnOk result (text.new.items ≡ text.old.items ++ flat_map (reply_to number) steps.now) }
+    ensures { OnOk result (text.new.items ≡ text.old.items ++ flat_map (reply_for number) steps.now) }
 {
     for step in steps {
         add_reply(step, number, text)?;
@@ -52,7 +52,7 @@ fn add_replies(steps: &[Step], number: u64, text: &mut Vec<u8>) -> Result<(), Al
 
 /// Adds the reply of a step, if it is that connection's.
 fn add_reply(step: &Step, number: u64, text: &mut Vec<u8>) -> Result<(), AllocError>
-    ensures { OnOk result (text.new.items ≡ text.old.items ++ reply_to number step.now) }
+    ensures { OnOk result (text.new.items ≡ text.old.items ++ reply_for number step.now) }
 {
     if step.conn != number {
         return Ok(());

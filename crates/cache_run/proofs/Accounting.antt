@@ -22,11 +22,11 @@ use Rattle.cache_namespace.specs.Taken.{record_of}
 use Rattle.cache_spaces.proofs.Putting.{same-space}
 use Rattle.cache_spaces.specs.Moves.{At}
 use Rattle.cache_spaces.specs.Serves as served
-use Rattle.cache_spaces.specs.Serves.{SameSpace, Takes, TakesLoads, TakesOutput, known_of}
-use Rattle.cache_spaces.specs.Spaces.{Stands, closing_of, config_of, connections_of, outgoing_of, place_of, taken_of}
+use Rattle.cache_spaces.specs.Serves.{SameSpace, ServesEvent, TakesLoads, TakesOutput, known_of}
+use Rattle.cache_spaces.specs.Spaces.{StandsFor, closing_of, config_of, connections_of, outgoing_of, place_of, taken_of}
 use Rattle.cache_spaces.specs.declared.space.Space.{Space}
-use Rattle.run_laws.specs.Sending.{IsSettlingOf, are_all, are_others, are_old_or_later, is_under_way}
-use Rattle.run_laws.proofs.Sending.{all-from, all-own, all-without, one-of, passes-record, settle}
+use Rattle.audit_waiting_laws.specs.Sending.{IsSettlingOf, are_all, are_others, are_old_or_later, is_under_way}
+use Rattle.audit_waiting_laws.proofs.Sending.{all-from, all-own, all-without, one-of, passes-record, settle}
 use Rattle.cache_run.specs.Accounts.{Accounts, AddsNoLoads, HasTakenAll, KeepsLoads, SendsLater, SettlesLoad, are_accounted, is_left, pending_of, were_taken}
 use Rattle.cache_run.specs.Connected.{Connected}
 use Rattle.cache_run.proofs.Placing.{at-is, at-map, at-more, at-same, at-was}
@@ -35,17 +35,17 @@ use Rattle.cache_run.proofs.Settling.{situated}
 
 -- ---- what a situation says of a namespace
 
-pub pending-is : (x : Space) (s : Situation) → Stands x s → s.pending ≡ pending_of x
+pub pending-is : (x : Space) (s : Situation) → StandsFor x s → s.pending ≡ pending_of x
 pending-is x s stands = ap (λ (t : Situation). t.pending) stands.same
 
-sent-is : (x : Space) (s : Situation) → Stands x s → s.sent ≡ sent_of x.inner.loads
+sent-is : (x : Space) (s : Situation) → StandsFor x s → s.sent ≡ sent_of x.inner.loads
 sent-is x s stands = ap (λ (t : Situation). t.sent) stands.same
 
-taken-sent : (x : Space) (s : Situation) → Stands x s → taken_of x ≤ s.sent
+taken-sent : (x : Space) (s : Situation) → StandsFor x s → taken_of x ≤ s.sent
 taken-sent x s stands = let is = sent-is x s stands in omega arith
 
 -- what is so of the loads under way, where each situation stays
-pub pending-same : (was is : Space) (f : List PendingLoad → Bool) → ((s : Situation) → Stands was s → Stands is s) → f (pending_of was) ≡ true → f (pending_of is) ≡ true
+pub pending-same : (was is : Space) (f : List PendingLoad → Bool) → ((s : Situation) → StandsFor was s → StandsFor is s) → f (pending_of was) ≡ true → f (pending_of is) ≡ true
 pending-same was is f keep e =
     ∥∥₁_elim (situated was) (Prim.hlevel props) (λ w. ap f (sym (pending-is is w.0 (keep w.0 w.1)) ∙ pending-is was w.0 w.1) ∙ e)
 
@@ -54,7 +54,7 @@ pending-same was is f keep e =
 pub own-loads : (loads : List PendingLoad) → are_all (λ n. is_under_way n loads) loads ≡ true
 own-loads loads = all-own (λ n. is_under_way n loads) loads (λ n is. is)
 
-pub keeps-same : (was is : Space) → ((s : Situation) → Stands was s → Stands is s) → taken_of is ≡ taken_of was → KeepsLoads was is
+pub keeps-same : (was is : Space) → ((s : Situation) → StandsFor was s → StandsFor is s) → taken_of is ≡ taken_of was → KeepsLoads was is
 keeps-same was is keep taken = record { taken = taken; loads = pending-same was is (λ loads. are_all (λ n. is_under_way n (pending_of was)) loads) keep (own-loads (pending_of was)) }
 
 pub later-kept : (was is : Space) → KeepsLoads was is → SendsLater was is
@@ -63,7 +63,7 @@ later-kept was is k =
     let q : ℕ → Bool = λ n. is_under_way n (pending_of was) || nat_lt (taken_of was) n in
     record { taken = k.taken; loads = all-from p p q (pending_of is) (λ n a b. or_left (p n) (nat_lt (taken_of was) n) a) k.loads k.loads }
 
-later-follows : (was is : Space) (s t : Situation) (entry : Record) → Stands was s → Stands is t → Follows (config_of was) s entry t → are_old_or_later (pending_of was) (taken_of was) (pending_of is) ≡ true
+later-follows : (was is : Space) (s t : Situation) (entry : Record) → StandsFor was s → StandsFor is t → Follows (config_of was) s entry t → are_old_or_later (pending_of was) (taken_of was) (pending_of is) ≡ true
 later-follows was is s t entry before after follows =
     let p : ℕ → Bool = λ n. is_under_way n (pending_of was) || nat_lt (taken_of was) n in
     let few = taken-sent was s before in
@@ -72,7 +72,7 @@ later-follows was is s t entry before after follows =
     let passed = passes-record (config_of was) p s t entry follows (above, ap (are_all p) (pending-is was s before) ∙ own) in
     ap (are_all p) (sym (pending-is is t after)) ∙ passed.1
 
-pub later-takes : (was is : Space) (number : ℕ) (happened : Event) (held : Bool) → Takes was is number happened held → SendsLater was is
+pub later-takes : (was is : Space) (number : ℕ) (happened : Event) (held : Bool) → ServesEvent was is number happened held → SendsLater was is
 later-takes was is number happened held takes = record {
   taken = takes.goes.taken;
   loads = ∥∥₁_elim (situated was) (Prim.hlevel props) (λ w. let r = takes.serves w.0 w.1 in later-follows was is w.0 r.next (record_of happened r.steps) w.1 r.stands r.follows);
@@ -363,8 +363,8 @@ module _ (first second third : List Space) (n : ℕ) where
   at-accounts-more x y z a b = at-more (λ was is. Accounts was is x y) (λ was is. Accounts was is y z) (λ was is. Accounts was is x z) first second third n a b (λ u v w p q. accounts-more u v w x y z p q)
 
 module _ (old new : List Space) (n : ℕ) where
-  pub at-later-takes : (number : ℕ) (happened : Event) (held : Bool) → At old new n (λ was is. Takes was is number happened held) → At old new n SendsLater
-  at-later-takes number happened held a = at-map (λ was is. Takes was is number happened held) SendsLater old new n a (λ x y t. later-takes x y number happened held t)
+  pub at-later-takes : (number : ℕ) (happened : Event) (held : Bool) → At old new n (λ was is. ServesEvent was is number happened held) → At old new n SendsLater
+  at-later-takes number happened held a = at-map (λ was is. ServesEvent was is number happened held) SendsLater old new n a (λ x y t. later-takes x y number happened held t)
 
   pub at-later-output : (number : ℕ) (text : List ℕ) → At old new n (λ was is. TakesOutput was is number text) → At old new n SendsLater
   at-later-output number text a = at-map (λ was is. TakesOutput was is number text) SendsLater old new n a (λ x y t. later-output x y number text t)
@@ -405,7 +405,7 @@ at-adds-more first second third n a b = at-more AddsNoLoads AddsNoLoads AddsNoLo
 -- they take no load, and each that is under way was so before
 keeps-quiet : (was is : Space) (number : ℕ) (happened : Event) (held : Bool)
     → ((s t : Situation) (steps : List Step) → Follows (config_of was) s (record_of happened steps) t → (p : ℕ → Bool) → are_all p s.pending ≡ true → are_all p t.pending ≡ true)
-    → Takes was is number happened held → KeepsLoads was is
+    → ServesEvent was is number happened held → KeepsLoads was is
 keeps-quiet was is number happened held quiet takes =
     let p : ℕ → Bool = λ n. is_under_way n (pending_of was) in
     record {
@@ -428,13 +428,13 @@ close-quiet : (number : ℕ) (config : Config) (s t : Situation) (steps : List S
 close-quiet number config s t steps follows p all =
     quiet-if p _ (after_event (event.Close number) s) t (subst (λ l. Follows config s (record_of (event.Close number) l) t) (close-still config s number steps t follows) follows) (all-without p number s.pending all)
 
-pub at-opens : (old new : List Space) (n number : ℕ) → At old new n (λ was is. Takes was is number (event.Open number) false × (number ≡ length (connections_of was) + 1)) → At old new n KeepsLoads
+pub at-opens : (old new : List Space) (n number : ℕ) → At old new n (λ was is. ServesEvent was is number (event.Open number) false × (number ≡ length (connections_of was) + 1)) → At old new n KeepsLoads
 at-opens old new n number a =
-    at-map (λ was is. Takes was is number (event.Open number) false × (number ≡ length (connections_of was) + 1)) KeepsLoads old new n a (λ x y p. keeps-quiet x y number (event.Open number) false (open-quiet number (config_of x)) p.0)
+    at-map (λ was is. ServesEvent was is number (event.Open number) false × (number ≡ length (connections_of was) + 1)) KeepsLoads old new n a (λ x y p. keeps-quiet x y number (event.Open number) false (open-quiet number (config_of x)) p.0)
 
-pub at-closes : (old new : List Space) (n number : ℕ) → At old new n (λ was is. Takes was is number (event.Close number) false × (closing_of is number ≡ Some by.Asked)) → At old new n KeepsLoads
+pub at-closes : (old new : List Space) (n number : ℕ) → At old new n (λ was is. ServesEvent was is number (event.Close number) false × (closing_of is number ≡ Some by.Asked)) → At old new n KeepsLoads
 at-closes old new n number a =
-    at-map (λ was is. Takes was is number (event.Close number) false × (closing_of is number ≡ Some by.Asked)) KeepsLoads old new n a (λ x y p. keeps-quiet x y number (event.Close number) false (close-quiet number (config_of x)) p.0)
+    at-map (λ was is. ServesEvent was is number (event.Close number) false × (closing_of is number ≡ Some by.Asked)) KeepsLoads old new n a (λ x y p. keeps-quiet x y number (event.Close number) false (close-quiet number (config_of x)) p.0)
 
 pub at-keeps-same : (old new : List Space) (n : ℕ) → At old new n SameSpace → At old new n KeepsLoads
 at-keeps-same old new n a = at-map SameSpace KeepsLoads old new n a (λ x y same. keeps-same x y same.stands same.goes.taken)

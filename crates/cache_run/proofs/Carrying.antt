@@ -18,7 +18,7 @@ use Rattle.cache_namespace.specs.Taken.{record_of}
 use Rattle.cache_spaces.specs.Spaces.{notices_of}
 use Rattle.cache_spaces.specs.declared.space.Space.{Space}
 use Rattle.cache_run.specs.Carried.{Askings, Broken, Carried, Left, Readings, close_records, nothing_left, open_records, records_of}
-use Rattle.cache_run.specs.Happened.{Asking, Turn, AreInPlace, AreRight, IsInPlace, asked_in, moment_in, notes_in, notes_of, piece_in, records_in, replies_in}
+use Rattle.cache_run.specs.Happened.{Asking, Turn, AreInPlace, AreRight, IsInPlace, asked_in, moment_in, turn_notes, record_notes, piece_in, records_in, replies_in}
 use Rattle.cache_run.specs.Delivered.{Delivered, Undelivered}
 use Rattle.cache_run.specs.Worlds.{Outside, World, outside, world}
 use Rattle.cache_run.specs.declared.errors.RunError.{RunError}
@@ -110,8 +110,8 @@ module _ {C L : Type 0} (config : Config) (number : ℕ) (reads : C → ℕ → 
   carried-more a b c opens closes drops left x y =
       let xs = x.turns in
       let ys = y.turns in
-      let told = flat_map (notes_in number) in
-      let last = flat_map notes_of drops in
+      let told = flat_map (turn_notes number) in
+      let last = flat_map record_notes drops in
       record {
         turns = xs ++ ys;
         right = right-more config xs ys x.right y.right;
@@ -121,7 +121,7 @@ module _ {C L : Type 0} (config : Config) (number : ℕ) (reads : C → ℕ → 
             ∙ ap (after_records config a.situation) (sym (append-nil (open_records number opens ++ flat_map (records_in number) xs))) ∙ x.follows) (y.placed b.situation refl);
         follows = subst (λ rs. after_records config a.situation rs ≡ Some c.situation) (records-join number opens closes xs ys drops) (records-more config a.situation (records_of number opens xs false []) b.situation (records_of number false ys closes drops) c.situation x.follows y.follows);
         notices = y.notices ∙ ap (λ z. (z ++ told ys) ++ last) (x.notices ∙ append-nil (a.notices ++ told xs))
-            ∙ ap (λ z. z ++ last) (append_assoc a.notices (told xs) (told ys) ∙ ap (λ z. a.notices ++ z) (sym (flat_map-append (notes_in number) xs ys)));
+            ∙ ap (λ z. z ++ last) (append_assoc a.notices (told xs) (told ys) ∙ ap (λ z. a.notices ++ z) (sym (flat_map-append (turn_notes number) xs ys)));
         read = subst (Consumes a.outside.remaining c.outside.remaining) (join-behind (pieces xs) (pieces ys) left.lost ∙ ap (λ z. z ++ left.lost) (sym (flat_map-append piece_in xs ys)))
             (consumes_more a.outside.remaining b.outside.remaining c.outside.remaining (pieces xs ++ []) (pieces ys ++ left.lost) x.read y.read);
         sent = x.sent ++ y.sent;
@@ -161,7 +161,7 @@ module _ {C L : Type 0} (config : Config) (number : ℕ) (reads : C → ℕ → 
       → Carried config number reads loads (world x s (outside r v k m)) (world y t (outside q w l n)) false false [] (record { late = []; lost = []; asked = []; unsent = unsent })
   carried-one x y s t r q v w k l m n piece moment asks unsent d read clock loader =
       let f = d.answered.turn in
-      let own = notes_in number f in
+      let own = turn_notes number f in
       record {
         turns = f ∷ [];
         right = (d.answered.right, tt);
@@ -257,19 +257,19 @@ module _ {C L : Type 0} (config : Config) (number : ℕ) (reads : C → ℕ → 
 
   -- loads were given up behind what was carried
   pub carried-drops : (a b : World C L) (y : Space) (u : Situation) (opens closes : Bool) (drops more : List Record) (left : Left)
-      → Carried config number reads loads a b opens closes drops left → after_records config b.situation more ≡ Some u → notices_of y ≡ b.notices ++ flat_map notes_of more
+      → Carried config number reads loads a b opens closes drops left → after_records config b.situation more ≡ Some u → notices_of y ≡ b.notices ++ flat_map record_notes more
       → Carried config number reads loads a (world y u b.outside) opens closes (drops ++ more) left
   carried-drops a b y u opens closes drops more left c follows notices =
       let o = open_records number opens ++ flat_map (records_in number) c.turns in
       let z = close_records number closes in
-      let before = a.notices ++ flat_map (notes_in number) c.turns in
+      let before = a.notices ++ flat_map (turn_notes number) c.turns in
       record {
         turns = c.turns;
         right = c.right;
         placed = c.placed;
         follows = subst (λ rs. after_records config a.situation rs ≡ Some u) (append_assoc o (z ++ drops) more ∙ ap (λ l. o ++ l) (append_assoc z drops more))
             (records-more config a.situation (records_of number opens c.turns closes drops) b.situation more u c.follows follows);
-        notices = notices ∙ ap (λ l. l ++ flat_map notes_of more) c.notices ∙ append_assoc before (flat_map notes_of drops) (flat_map notes_of more) ∙ ap (λ l. before ++ l) (sym (flat_map-append notes_of drops more));
+        notices = notices ∙ ap (λ l. l ++ flat_map record_notes more) c.notices ∙ append_assoc before (flat_map record_notes drops) (flat_map record_notes more) ∙ ap (λ l. before ++ l) (sym (flat_map-append record_notes drops more));
         read = c.read;
         sent = c.sent;
         wrote = c.wrote;

@@ -12,13 +12,13 @@ use Rattle.audit_model.specs.declared.input.ServiceError.{ServiceError}
 use Rattle.audit_model.specs.declared.input.ServiceError.TheVariants as error
 use Rattle.cache_namespace.proofs.Following.{admitted, known-none}
 use Rattle.cache_namespace.proofs.Places.{closing-is}
-use Rattle.cache_namespace.specs.Taken.{IsOpenOrEnded, RefusedFor, fed, known}
+use Rattle.cache_namespace.specs.Taken.{IsOpenOrEnded, RefusedFor, feed_event, known}
 use Rattle.cache_spaces.specs.Moves.{At}
-use Rattle.cache_spaces.specs.Serves.{IsUnknown, SameSpace, Takes, TakesOutput}
+use Rattle.cache_spaces.specs.Serves.{IsUnknown, SameSpace, ServesEvent, TakesOutput}
 use Rattle.cache_spaces.specs.Services.{InSpace, Refuses}
-use Rattle.cache_spaces.specs.Spaces.{closing_of, config_of, connections_of, output_of}
+use Rattle.cache_spaces.specs.Spaces.{closing_of, config_of, connections_of, untaken_output}
 use Rattle.cache_spaces.specs.declared.space.Space.{Space}
-use Rattle.cache_run.specs.Connected.{Connected, IsEnded, IsFed, IsLeftBy, IsReady, IsTaken}
+use Rattle.cache_run.specs.Connected.{Connected, IsEnded, IsFed, IsLeftBy, IsReady, HasTakenReplies}
 use Rattle.cache_run.proofs.Placing.{at-is, at-was}
 
 -- what stands at a place
@@ -29,7 +29,7 @@ found-at (x ∷ xs) (suc i) lt = found-at xs i (omega (arith, lt))
 
 -- a refusal for the moment, where the connection is open
 pub moment-late : (space : Space) (number : ℕ) (piece : List ℕ) (moment : ℕ) (held : Bool) → 0 < number → number ≤ length (connections_of space) → closing_of space number ≡ None
-    → RefusedFor (config_of space) (connections_of space) (fed number piece moment) held error.Moment → 2 ^ 63 ≤ moment
+    → RefusedFor (config_of space) (connections_of space) (feed_event number piece moment) held error.Moment → 2 ^ 63 ≤ moment
 moment-late space number piece moment held positive bound is_open refused =
     ⊎_elim (λ low. absurd (go low)) (λ high. high) (cases_lt moment (2 ^ 63))
   where
@@ -70,12 +70,12 @@ not-unknown space number e positive bound unknown =
 
 -- ---- how it stands after a call
 
-pub connected-fed : (old new : List Space) (n number : ℕ) (piece : List ℕ) (moment : ℕ) (held : Bool) → Connected old n number IsReady → At old new n (λ was is. Takes was is number (fed number piece moment) held) → Connected new n number IsFed
+pub connected-fed : (old new : List Space) (n number : ℕ) (piece : List ℕ) (moment : ℕ) (held : Bool) → Connected old n number IsReady → At old new n (λ was is. ServesEvent was is number (feed_event number piece moment) held) → Connected new n number IsFed
 connected-fed old new n number piece moment held c a =
     let count = a.fact.count in
-    let same = ap (λ x. length (connections_of x)) (at-was (λ was is. Takes was is number (fed number piece moment) held) old new n a c.space c.at) in
+    let same = ap (λ x. length (connections_of x)) (at-was (λ was is. ServesEvent was is number (feed_event number piece moment) held) old new n a c.space c.at) in
     let bound = c.known in
-    record { space = a.is; at = at-is (λ was is. Takes was is number (fed number piece moment) held) old new n a; positive = c.positive; known = omega arith; left = a.fact.left }
+    record { space = a.is; at = at-is (λ was is. ServesEvent was is number (feed_event number piece moment) held) old new n a; positive = c.positive; known = omega arith; left = a.fact.left }
 
 pub connected-same : (old new : List Space) (n number : ℕ) → Connected old n number IsReady → At old new n SameSpace → Connected new n number IsReady
 connected-same old new n number c a =
@@ -88,10 +88,10 @@ connected-same old new n number c a =
       at = at-is SameSpace old new n a;
       positive = c.positive;
       known = omega arith;
-      left = (a.fact.closings number ∙ ap (λ x. closing_of x number) was ∙ c.left.0, a.fact.outputs number ∙ ap (λ x. output_of x number) was ∙ c.left.1);
+      left = (a.fact.closings number ∙ ap (λ x. closing_of x number) was ∙ c.left.0, a.fact.outputs number ∙ ap (λ x. untaken_output x number) was ∙ c.left.1);
     }
 
-pub connected-taken : (old new : List Space) (n number : ℕ) (text : List ℕ) → Connected old n number IsFed → At old new n (λ was is. TakesOutput was is number text) → Connected new n number IsTaken
+pub connected-taken : (old new : List Space) (n number : ℕ) (text : List ℕ) → Connected old n number IsFed → At old new n (λ was is. TakesOutput was is number text) → Connected new n number HasTakenReplies
 connected-taken old new n number text c a =
     let was = at-was (λ was is. TakesOutput was is number text) old new n a c.space c.at in
     let count = a.fact.count in
@@ -110,15 +110,15 @@ pub connected-map : (IsLeft IsWanted : ℕ → Space → Type 0) (spaces : List 
 connected-map IsLeft IsWanted spaces n number c h = record { space = c.space; at = c.at; positive = c.positive; known = c.known; left = h c.space c.left }
 
 -- where the replies were taken, whatever comes of it
-pub left-by : {T E : Type 0} (spaces : List Space) (n number : ℕ) (r : Result T E) → Connected spaces n number IsTaken → Connected spaces n number (IsLeftBy r)
+pub left-by : {T E : Type 0} (spaces : List Space) (n number : ℕ) (r : Result T E) → Connected spaces n number HasTakenReplies → Connected spaces n number (IsLeftBy r)
 left-by spaces n number (Ok done) c = c
-left-by spaces n number (Err e) c = connected-map IsTaken IsFed spaces n number c (λ x left. left.0)
+left-by spaces n number (Err e) c = connected-map HasTakenReplies IsFed spaces n number c (λ x left. left.0)
 
 -- what is true of it where it stands
 pub connected-here : (IsLeft IsWanted : ℕ → Space → Type 0) (spaces : List Space) (n number : ℕ) (c : Connected spaces n number IsLeft) → IsWanted number c.space → Connected spaces n number IsWanted
 connected-here IsLeft IsWanted spaces n number c wanted = record { space = c.space; at = c.at; positive = c.positive; known = c.known; left = wanted }
 
--- a connection that has closed has closed for what it was fed
+-- a connection that has closed has closed for what it was feed_event
 pub ended-where-closed : (closing : Option Closing) (why : Closing) → IsOpenOrEnded closing → closing ≡ Some why → IsEnded closing
 ended-where-closed closing why (inl none) is = let h : None ≡ Some why = sym none ∙ is in cc
 ended-where-closed closing why (inr ended) is = ended

@@ -13,7 +13,7 @@ use Rattle.audit_model.specs.declared.transcript.Note.{Note}
 use Rattle.audit_model.specs.declared.transcript.Record.{Record}
 use Rattle.audit_model.specs.declared.input.LoadId.{LoadId}
 use Rattle.cache_loads.specs.Keys.{agrees_on, are_in_turn, has_its_key, have_their_keys}
-use Rattle.run_laws.specs.Keys.{HasKey}
+use Rattle.audit_waiting_laws.specs.Keys.{HasKey}
 use Rattle.cache_namespace.specs.Taken.{closing_at, text_at}
 use Rattle.cache_settling.specs.Answered.{giving_up}
 use Rattle.cache_spaces.proofs.Putting.{same-space}
@@ -22,8 +22,8 @@ use Rattle.cache_spaces.specs.Serves as served
 use Rattle.cache_spaces.specs.Serves.{SameSpace, TakesLoads}
 use Rattle.cache_spaces.specs.Spaces.{config_of, notices_of, place_of, taken_of}
 use Rattle.cache_spaces.specs.declared.space.Space.{Space}
-use Rattle.cache_run.specs.Happened.{AreDrops, notes_of}
-use Rattle.cache_run.specs.Loading.{AreKnown, GivesUp, GivesUpLoads, SameButLoads, TakesMore}
+use Rattle.cache_run.specs.Happened.{AreDrops, record_notes}
+use Rattle.cache_run.specs.Loading.{AreKnown, OnlyGivesUp, GivesUpLoads, SameButLoads, TakesMore}
 use Rattle.cache_run.proofs.Carrying.{record-one, records-more}
 use Rattle.cache_run.proofs.Connecting.{found-at}
 use Rattle.cache_run.proofs.Going.{goes-more, goes-same}
@@ -45,15 +45,15 @@ taken-same was is loads t = record {
   count = ap length t.connections;
 }
 
-given-none : (config : Config) (s t : Situation) (before after : List Note) → t ≡ s → after ≡ before → GivesUp config s t before after
+given-none : (config : Config) (s t : Situation) (before after : List Note) → t ≡ s → after ≡ before → OnlyGivesUp config s t before after
 given-none config s t before after same notices = record { drops = []; dropped = tt; follows = ap (λ x. Some x) (sym same); notices = notices ∙ sym (append-nil before) }
 
-given-more : (config : Config) (s t u : Situation) (a b c : List Note) → GivesUp config s t a b → GivesUp config t u b c → GivesUp config s u a c
+given-more : (config : Config) (s t u : Situation) (a b c : List Note) → OnlyGivesUp config s t a b → OnlyGivesUp config t u b c → OnlyGivesUp config s u a c
 given-more config s t u a b c x y = record {
   drops = x.drops ++ y.drops;
   dropped = drops-more x.drops y.drops x.dropped y.dropped;
   follows = records-more config s x.drops t y.drops u x.follows y.follows;
-  notices = y.notices ∙ ap (λ l. l ++ flat_map notes_of y.drops) x.notices ∙ append_assoc a (flat_map notes_of x.drops) (flat_map notes_of y.drops) ∙ ap (λ l. a ++ l) (sym (flat_map-append notes_of x.drops y.drops));
+  notices = y.notices ∙ ap (λ l. l ++ flat_map record_notes y.drops) x.notices ∙ append_assoc a (flat_map record_notes x.drops) (flat_map record_notes y.drops) ∙ ap (λ l. a ++ l) (sym (flat_map-append record_notes x.drops y.drops));
 }
 
 -- ---- the keys of loads that were taken
@@ -80,15 +80,15 @@ known-taken place before (out ∷ outs) s turn few have =
 -- nothing was given up
 pub drops-none : (number : ℕ) (was is : Space) → SameButLoads was is → GivesUpLoads number was is
 drops-none number was is same = (
-  goes-same number was is (λ s t. GivesUp (config_of was) s t (notices_of was) (notices_of is)) same (λ s. given-none (config_of was) s s (notices_of was) (notices_of is) refl same.notices),
+  goes-same number was is (λ s t. OnlyGivesUp (config_of was) s t (notices_of was) (notices_of is)) same (λ s. given-none (config_of was) s s (notices_of was) (notices_of is) refl same.notices),
   λ closed is_open. closed (sym (same.closings number) ∙ is_open),
 )
 
 -- one after another
 pub drops-again : (number : ℕ) (x y z : Space) → GivesUpLoads number x y → GivesUpLoads number y z → GivesUpLoads number x z
 drops-again number x y z a b = (
-  goes-more number x y z (λ s t. GivesUp (config_of x) s t (notices_of x) (notices_of y)) (λ s t. GivesUp (config_of y) s t (notices_of y) (notices_of z)) (λ s t. GivesUp (config_of x) s t (notices_of x) (notices_of z)) a.0 b.0
-      (λ s t u f g. given-more (config_of x) s t u (notices_of x) (notices_of y) (notices_of z) f (subst (λ k. GivesUp k t u (notices_of y) (notices_of z)) a.0.config g)),
+  goes-more number x y z (λ s t. OnlyGivesUp (config_of x) s t (notices_of x) (notices_of y)) (λ s t. OnlyGivesUp (config_of y) s t (notices_of y) (notices_of z)) (λ s t. OnlyGivesUp (config_of x) s t (notices_of x) (notices_of z)) a.0 b.0
+      (λ s t u f g. given-more (config_of x) s t u (notices_of x) (notices_of y) (notices_of z) f (subst (λ k. OnlyGivesUp k t u (notices_of y) (notices_of z)) a.0.config g)),
   λ closed. b.1 (a.1 closed),
 )
 
@@ -107,7 +107,7 @@ drops-one number was is load settled = (
             drops = r.entry ∷ [];
             dropped = ((load, r.event), tt);
             follows = record-one (config_of was) s r.entry r.next r.follows;
-            notices = r.notices ∙ ap (λ l. notices_of was ++ l) (sym (append-nil (notes_of r.entry)));
+            notices = r.notices ∙ ap (λ l. notices_of was ++ l) (sym (append-nil (record_notes r.entry)));
           };
           others = λ other ne. others-left number other was is s (giving_up load 0) r law.0 ne;
         };

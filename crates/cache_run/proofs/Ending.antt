@@ -18,18 +18,18 @@ use Rattle.audit_model.specs.declared.transcript.Record.{Record}
 use Rattle.audit_model.specs.declared.transcript.Step.{Step}
 use Rattle.cache_namespace.specs.Taken.{IsOpenOrEnded, record_of, known}
 use Rattle.cache_spaces.specs.Moves.{At}
-use Rattle.cache_spaces.specs.Serves.{SameSpace, Takes}
+use Rattle.cache_spaces.specs.Serves.{SameSpace, ServesEvent}
 use Rattle.cache_spaces.specs.Spaces.{closing_of, config_of, connections_of, notices_of}
 use Rattle.cache_spaces.specs.declared.space.Space.{Space}
 use Rattle.audit_model.specs.declared.event.Outcome.{Outcome}
-use Rattle.run_laws.specs.Alone.{WaitsAlone}
-use Rattle.run_laws.proofs.Events.{quiet}
-use Rattle.cache_run.specs.Accounts.{Accounts, AddsNoLoads, DropsAll, KeepsLoads, SendsLater, nobody_waits, pending_of}
+use Rattle.audit_waiting_laws.specs.Alone.{WaitsAlone}
+use Rattle.audit_waiting_laws.proofs.Events.{quiet}
+use Rattle.cache_run.specs.Accounts.{Accounts, AddsNoLoads, DropsAll, KeepsLoads, SendsLater, has_no_waiting, pending_of}
 use Rattle.cache_run.specs.Carried.{Broken, Carried, nothing_left}
 use Rattle.cache_run.specs.Connected.{Connected, IsEnded, IsFed, IsOver, IsReady}
 use Rattle.cache_run.specs.Delivered.{Unfed}
 use Rattle.cache_run.specs.Goes.{Goes}
-use Rattle.cache_run.specs.Loading.{GivesUp, GivesUpLoads}
+use Rattle.cache_run.specs.Loading.{OnlyGivesUp, GivesUpLoads}
 use Rattle.cache_run.specs.Runs.{Closes, Quiet, ServesPartly, ServesWhole, next_number}
 use Rattle.cache_run.specs.Worlds.{Outside, world}
 use Rattle.cache_run.specs.declared.errors.RunError.{RunError}
@@ -58,10 +58,10 @@ closed-alone config s number steps t follows alone = (quiet config s t (record_o
 
 -- ---- the opening
 
-pub at-opened : (old new : List Space) (n number : ℕ) → At old new n (λ was is. Takes was is number (event.Open number) false × (number ≡ length (connections_of was) + 1))
+pub at-opened : (old new : List Space) (n number : ℕ) → At old new n (λ was is. ServesEvent was is number (event.Open number) false × (number ≡ length (connections_of was) + 1))
     → At old new n (λ was is. (number ≡ next_number was) × Goes number was is (λ s t. Quiet (config_of was) (event.Open number) s t (notices_of was) (notices_of is)))
 at-opened old new n number a =
-    at-map (λ was is. Takes was is number (event.Open number) false × (number ≡ length (connections_of was) + 1)) (λ was is. (number ≡ next_number was) × Goes number was is (λ s t. Quiet (config_of was) (event.Open number) s t (notices_of was) (notices_of is))) old new n a
+    at-map (λ was is. ServesEvent was is number (event.Open number) false × (number ≡ length (connections_of was) + 1)) (λ was is. (number ≡ next_number was) × Goes number was is (λ s t. Quiet (config_of was) (event.Open number) s t (notices_of was) (notices_of is))) old new n a
     (λ x y p. (
       p.1,
       record {
@@ -79,13 +79,13 @@ at-opened old new n number a =
       },
     ))
 
-pub connected-opened : (old new : List Space) (n number : ℕ) → At old new n (λ was is. Takes was is number (event.Open number) false × (number ≡ length (connections_of was) + 1)) → Connected new n number IsReady
+pub connected-opened : (old new : List Space) (n number : ℕ) → At old new n (λ was is. ServesEvent was is number (event.Open number) false × (number ≡ length (connections_of was) + 1)) → Connected new n number IsReady
 connected-opened old new n number a =
     let next = a.fact.1 in
     let count = a.fact.0.count in
     record {
       space = a.is;
-      at = at-is (λ was is. Takes was is number (event.Open number) false × (number ≡ length (connections_of was) + 1)) old new n a;
+      at = at-is (λ was is. ServesEvent was is number (event.Open number) false × (number ≡ length (connections_of was) + 1)) old new n a;
       positive = omega arith;
       known = omega arith;
       left = a.fact.0.left;
@@ -93,10 +93,10 @@ connected-opened old new n number a =
 
 -- ---- the closing
 
-pub at-closed : (old new : List Space) (n number : ℕ) → Connected old n number IsFed → At old new n (λ was is. Takes was is number (event.Close number) false × (closing_of is number ≡ Some by.Asked))
+pub at-closed : (old new : List Space) (n number : ℕ) → Connected old n number IsFed → At old new n (λ was is. ServesEvent was is number (event.Close number) false × (closing_of is number ≡ Some by.Asked))
     → At old new n (Closes number)
 at-closed old new n number c a =
-    at-with (λ was is. Takes was is number (event.Close number) false × (closing_of is number ≡ Some by.Asked)) (Closes number) old new n c.space c.at a
+    at-with (λ was is. ServesEvent was is number (event.Close number) false × (closing_of is number ≡ Some by.Asked)) (Closes number) old new n c.space c.at a
     (λ y p. inl (
       p.0.left.0,
       p.1,
@@ -197,7 +197,7 @@ module _ {C L : Type 0} (reads : C → ℕ → C → Type 0) (loads : L → List
   dropped : (x w v : Space) (closes : Bool) (e : RunError) → Goes number x w (λ s t. Broken (config_of x) number reads loads (world x s before) (world w t after) true closes [] e) → GivesUpLoads number w v
       → Goes number x v (λ s t. (drops : List Record) × Broken (config_of x) number reads loads (world x s before) (world v t after) true closes drops e)
   dropped x w v closes e g d =
-      goes-more number x w v (λ s t. Broken (config_of x) number reads loads (world x s before) (world w t after) true closes [] e) (λ s t. GivesUp (config_of w) s t (notices_of w) (notices_of v))
+      goes-more number x w v (λ s t. Broken (config_of x) number reads loads (world x s before) (world w t after) true closes [] e) (λ s t. OnlyGivesUp (config_of w) s t (notices_of w) (notices_of v))
       (λ s t. (drops : List Record) × Broken (config_of x) number reads loads (world x s before) (world v t after) true closes drops e) g d.0
       (λ s t u f q. (
         q.drops,
@@ -287,7 +287,7 @@ fed-after spaces n number remaining (Err e) left = left
 
 -- where no other connection waits, nobody does behind the closing
 abbrev AloneStays : ℕ → Space → Space → Type 0
-AloneStays number x w = WaitsAlone number (pending_of x) → IsTrue (nobody_waits (pending_of w))
+AloneStays number x w = WaitsAlone number (pending_of x) → IsTrue (has_no_waiting (pending_of w))
 
 alone-closes : (number : ℕ) (x z w : Space) (F : Situation → Situation → Type 0) → 0 < number → Goes number x z F → Closes number z w → AloneStays number x w
 alone-closes number x z w F positive g (inl closes) =

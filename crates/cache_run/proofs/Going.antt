@@ -4,19 +4,19 @@ use Rattle.std.specs.List.{slice_get, flat_map}
 use Rattle.std.specs.Option.{option_map_or}
 use Rattle.audit_model.specs.Situation.{Situation}
 use Rattle.cache_namespace.specs.Gathered.{reply_in}
-use Rattle.cache_namespace.specs.Taken.{fed, record_of}
+use Rattle.cache_namespace.specs.Taken.{feed_event, record_of}
 use Rattle.audit_model.specs.Follows.{Follows}
 use Rattle.audit_model.specs.declared.config.Config.{Config}
 use Rattle.audit_model.specs.declared.transcript.Note.{Note}
 use Rattle.audit_model.specs.declared.transcript.Step.{Step}
 use Rattle.std.proofs.lemmas.List.{append-nil}
-use Rattle.run_laws.proofs.Events.{records}
+use Rattle.audit_waiting_laws.proofs.Events.{records}
 use Rattle.cache_run.proofs.Carrying.{record-one}
 use Rattle.cache_namespace.specs.declared.connection.Connection.{Connection}
 use Rattle.cache_spaces.specs.Moves.{At}
-use Rattle.cache_spaces.specs.Serves.{SameSpace, Takes, TakesOutput}
+use Rattle.cache_spaces.specs.Serves.{SameSpace, ServesEvent, TakesOutput}
 use Rattle.cache_run.specs.Loading.{SameButLoads}
-use Rattle.cache_spaces.specs.Spaces.{closing_of, config_of, connections_of, notices_of, output_of}
+use Rattle.cache_spaces.specs.Spaces.{closing_of, config_of, connections_of, notices_of, untaken_output}
 use Rattle.cache_spaces.specs.declared.space.Space.{Space}
 use Rattle.cache_run.specs.Connected.{Connected, IsReady}
 use Rattle.cache_run.specs.Delivered.{Answered, IsCause, Unanswered}
@@ -27,7 +27,7 @@ use Rattle.cache_run.specs.declared.errors.RunError.TheVariants.{OutOfMemory}
 use Rattle.cache_run.proofs.Placing.{at-map, at-more, at-with}
 
 -- what is seen of a connection at the same place
-pub seen-alike : (was is : Space) (other : ℕ) → slice_get (connections_of is) (other - 1) ≡ slice_get (connections_of was) (other - 1) → (output_of is other ≡ output_of was other) × (closing_of is other ≡ closing_of was other)
+pub seen-alike : (was is : Space) (other : ℕ) → slice_get (connections_of is) (other - 1) ≡ slice_get (connections_of was) (other - 1) → (untaken_output is other ≡ untaken_output was other) × (closing_of is other ≡ closing_of was other)
 seen-alike was is other e = (ap (λ o. option_map_or (λ (c : Connection). c.output.items) o []) e, ap (λ o. option_map_or (λ (c : Connection). c.closing) o None) e)
 
 -- one after another
@@ -84,8 +84,8 @@ at-goes-map number n xs ys F G a h =
 
 -- ---- a piece
 
--- the turn of a piece that was fed
-pub fed-turn : (config : Config) (number : ℕ) (piece : List ℕ) (moment : ℕ) (steps : List Step) (s t : Situation) (before after : List Note) (text : List ℕ) → Follows config s (record_of (fed number piece moment) steps) t
+-- the turn of a piece that was feed_event
+pub fed-turn : (config : Config) (number : ℕ) (piece : List ℕ) (moment : ℕ) (steps : List Step) (s t : Situation) (before after : List Note) (text : List ℕ) → Follows config s (record_of (feed_event number piece moment) steps) t
     → after ≡ before ++ flat_map (λ step. step.notices) steps → text ≡ flat_map reply_in steps → Answered config number piece moment [] s t before after text
 fed-turn config number piece moment steps s t before after text follows notices replies = record {
   turn = Fed piece moment steps;
@@ -94,19 +94,19 @@ fed-turn config number piece moment steps s t before after text follows notices 
   asks_are = refl;
   right = tt;
   placed = tt;
-  follows = record-one config s (record_of (fed number piece moment) steps) t follows;
+  follows = record-one config s (record_of (feed_event number piece moment) steps) t follows;
   notices = notices ∙ ap (λ z. before ++ z) (sym (append-nil (flat_map (λ step. step.notices) steps)));
   replies = replies ∙ sym (append-nil (flat_map reply_in steps));
 }
 
--- it was fed and its replies were taken
+-- it was feed_event and its replies were taken
 pub at-answered : (old between new : List Space) (n number : ℕ) (piece : List ℕ) (moment : ℕ) (held : Bool) (text : List ℕ) → Connected old n number IsReady
-    → At old between n (λ was is. Takes was is number (fed number piece moment) held) → At between new n (λ was is. TakesOutput was is number text)
+    → At old between n (λ was is. ServesEvent was is number (feed_event number piece moment) held) → At between new n (λ was is. TakesOutput was is number text)
     → At old new n (λ was is. Goes number was is (λ s t. Answered (config_of was) number piece moment [] s t (notices_of was) (notices_of is) text))
 at-answered old between new n number piece moment held text c a b =
-    at-more (λ x y. (output_of x number ≡ []) × Takes x y number (fed number piece moment) held) (λ y z. TakesOutput y z number text)
+    at-more (λ x y. (untaken_output x number ≡ []) × ServesEvent x y number (feed_event number piece moment) held) (λ y z. TakesOutput y z number text)
     (λ x z. Goes number x z (λ s t. Answered (config_of x) number piece moment [] s t (notices_of x) (notices_of z) text)) old between new n
-    (at-with (λ x y. Takes x y number (fed number piece moment) held) (λ x y. (output_of x number ≡ []) × Takes x y number (fed number piece moment) held) old between n c.space c.at a (λ y takes. (c.left.1, takes)))
+    (at-with (λ x y. ServesEvent x y number (feed_event number piece moment) held) (λ x y. (untaken_output x number ≡ []) × ServesEvent x y number (feed_event number piece moment) held) old between n c.space c.at a (λ y takes. (c.left.1, takes)))
     b
     (λ x y z takes taken. record {
       each = λ s stands alone.
@@ -114,7 +114,7 @@ at-answered old between new n number piece moment held text c a b =
           record {
             next = r.next;
             stands = taken.stands r.next r.stands;
-            alone = (records (config_of x) s r.next (record_of (fed number piece moment) r.steps) number r.follows refl alone).1;
+            alone = (records (config_of x) s r.next (record_of (feed_event number piece moment) r.steps) number r.follows refl alone).1;
             fact = fed-turn (config_of x) number piece moment r.steps s r.next (notices_of x) (notices_of z) text r.follows (taken.notices ∙ r.notices) (taken.taken ∙ r.output ∙ ap (λ o. o ++ flat_map reply_in r.steps) takes.0);
             others = λ other ne.
                 let p = seen-alike x y other (takes.1.others (other - 1) ne) in
@@ -123,19 +123,19 @@ at-answered old between new n number piece moment held text c a b =
       config = taken.config ∙ takes.1.config;
     })
 
--- it was fed, and a command was held back
+-- it was feed_event, and a command was held back
 pub at-held : (old new : List Space) (n number : ℕ) (piece : List ℕ) (moment : ℕ) (held : Bool)
-    → At old new n (λ was is. Takes was is number (fed number piece moment) held)
+    → At old new n (λ was is. ServesEvent was is number (feed_event number piece moment) held)
     → At old new n (λ was is. Goes number was is (λ s t. Unanswered (config_of was) number piece moment [] s t (notices_of was) (notices_of is) OutOfMemory))
 at-held old new n number piece moment held a =
-    at-map (λ x y. Takes x y number (fed number piece moment) held) (λ x y. Goes number x y (λ s t. Unanswered (config_of x) number piece moment [] s t (notices_of x) (notices_of y) OutOfMemory)) old new n a
+    at-map (λ x y. ServesEvent x y number (feed_event number piece moment) held) (λ x y. Goes number x y (λ s t. Unanswered (config_of x) number piece moment [] s t (notices_of x) (notices_of y) OutOfMemory)) old new n a
     (λ x y takes. record {
       each = λ s stands alone.
           let r = takes.serves s stands in
           record {
             next = r.next;
             stands = r.stands;
-            alone = (records (config_of x) s r.next (record_of (fed number piece moment) r.steps) number r.follows refl alone).1;
+            alone = (records (config_of x) s r.next (record_of (feed_event number piece moment) r.steps) number r.follows refl alone).1;
             fact = inr (flat_map reply_in r.steps, fed-turn (config_of x) number piece moment r.steps s r.next (notices_of x) (notices_of y) (flat_map reply_in r.steps) r.follows r.notices refl, refl);
             others = λ other ne. seen-alike x y other (takes.others (other - 1) ne);
           };

@@ -26,12 +26,12 @@ use Rattle.cache_spaces.specs.Serves as served
 use Rattle.cache_spaces.specs.Serves.{SameSpace, TakesLoads, known_of}
 use Rattle.cache_spaces.specs.Spaces.{closing_of, config_of, connections_of, loads_of, place_of, taken_of}
 use Rattle.cache_spaces.specs.declared.space.Space.{Space}
-use Rattle.run_laws.specs.Alone.{WaitsAlone}
-use Rattle.run_laws.specs.Closed.{NobodyWaits}
-use Rattle.run_laws.specs.Sending.{are_all, is_under_way}
-use Rattle.run_laws.proofs.Closed.{closed, given-up}
-use Rattle.run_laws.proofs.Sending.{all-but, all-from, all-own, one-of}
-use Rattle.cache_run.specs.Accounts.{Accounts, AddsNoLoads, DropsAll, DropsUnwaited, is_left, nobody_waits, pending_of}
+use Rattle.audit_waiting_laws.specs.Alone.{WaitsAlone}
+use Rattle.audit_waiting_laws.specs.Closed.{NobodyWaits}
+use Rattle.audit_waiting_laws.specs.Sending.{are_all, is_under_way}
+use Rattle.audit_waiting_laws.proofs.Closed.{closed, given-up}
+use Rattle.audit_waiting_laws.proofs.Sending.{all-but, all-from, all-own, one-of}
+use Rattle.cache_run.specs.Accounts.{Accounts, AddsNoLoads, DropsAll, DropsUnwaited, is_left, has_no_waiting, pending_of}
 use Rattle.cache_run.specs.Goes.{Goes}
 use Rattle.cache_run.proofs.Accounting.{accounts-begun, in-turn-has, others-unknown, own-loads, pending-is, pending-same, sent-under, taken-count}
 use Rattle.cache_run.proofs.Placing.{at-map, at-more}
@@ -43,13 +43,13 @@ empty-is : (cs : List ℕ) → is_empty cs ≡ true → cs ≡ []
 empty-is [] e = refl
 empty-is (c ∷ cs) e = let no : false ≡ true = e in cc
 
-nobody-each : (loads : List PendingLoad) → nobody_waits loads ≡ true → NobodyWaits loads
+nobody-each : (loads : List PendingLoad) → has_no_waiting loads ≡ true → NobodyWaits loads
 nobody-each [] e = tt
-nobody-each (load ∷ loads) e = let parts = and_parts (is_empty load.waiting) (nobody_waits loads) e in (empty-is load.waiting parts.0, nobody-each loads parts.1)
+nobody-each (load ∷ loads) e = let parts = and_parts (is_empty load.waiting) (has_no_waiting loads) e in (empty-is load.waiting parts.0, nobody-each loads parts.1)
 
-nobody-all : (loads : List PendingLoad) → NobodyWaits loads → nobody_waits loads ≡ true
+nobody-all : (loads : List PendingLoad) → NobodyWaits loads → has_no_waiting loads ≡ true
 nobody-all [] none = refl
-nobody-all (load ∷ loads) none = and_from (is_empty load.waiting) (nobody_waits loads) (ap is_empty none.0) (nobody-all loads none.1)
+nobody-all (load ∷ loads) none = and_from (is_empty load.waiting) (has_no_waiting loads) (ap is_empty none.0) (nobody-all loads none.1)
 
 -- a connection that has closed is not found
 unfound : (number : ℕ) (cs : List Connection) → 0 < number → closing_at cs (number - 1) ≢ None → find (λ (c : model.Connection). c.number == number) (open_from 1 cs) ≡ None
@@ -65,7 +65,7 @@ unfound number cs positive closes = go (find (λ (c : model.Connection). c.numbe
         absurd (closes (ap (closing_at cs) index ∙ closing-is cs f.index f.is f.at ∙ open_now))
 
 -- where no other connection waits, and this one has closed, nobody does
-pub nobody-behind : (number : ℕ) (x w : Space) (F : Situation → Situation → Type 0) → 0 < number → Goes number x w F → closing_of w number ≢ None → WaitsAlone number (pending_of x) → nobody_waits (pending_of w) ≡ true
+pub nobody-behind : (number : ℕ) (x w : Space) (F : Situation → Situation → Type 0) → 0 < number → Goes number x w F → closing_of w number ≢ None → WaitsAlone number (pending_of x) → has_no_waiting (pending_of w) ≡ true
 nobody-behind number x w F positive goes closes alone =
     ∥∥₁_elim (situated x) (Prim.hlevel props)
     (λ v.
@@ -91,12 +91,12 @@ drops-settled was is load settled none =
       nobody = ∥∥₁_elim (situated was) (Prim.hlevel props)
           (λ w.
           let r = settled.settles w.0 w.1 in
-          let law = given-up (config_of was) w.0 r.next r.entry load _ r.event r.follows (nobody-each w.0.pending (ap nobody_waits (pending-is was w.0 w.1) ∙ none)) in
-          ap nobody_waits (sym (pending-is is r.next r.stands)) ∙ nobody-all r.next.pending law.2);
+          let law = given-up (config_of was) w.0 r.next r.entry load _ r.event r.follows (nobody-each w.0.pending (ap has_no_waiting (pending-is was w.0 w.1) ∙ none)) in
+          ap has_no_waiting (sym (pending-is is r.next r.stands)) ∙ nobody-all r.next.pending law.2);
       loads = ∥∥₁_elim (situated was) (Prim.hlevel props)
           (λ w.
           let r = settled.settles w.0 w.1 in
-          let law = given-up (config_of was) w.0 r.next r.entry load _ r.event r.follows (nobody-each w.0.pending (ap nobody_waits (pending-is was w.0 w.1) ∙ none)) in
+          let law = given-up (config_of was) w.0 r.next r.entry load _ r.event r.follows (nobody-each w.0.pending (ap has_no_waiting (pending-is was w.0 w.1) ∙ none)) in
           ap (are_all p) (sym (pending-is is r.next r.stands) ∙ ap (λ (t : Situation). t.pending) law.1) ∙ all-but p load w.0.pending (ap (are_all (λ n. n == load || p n)) (pending-is was w.0 w.1) ∙ own));
     }
 
@@ -106,7 +106,7 @@ drops-unknown was is load same unknown none =
     let q : ℕ → Bool = λ n. not (n == load) in
     record {
       taken = same.goes.taken;
-      nobody = pending-same was is nobody_waits same.stands none;
+      nobody = pending-same was is has_no_waiting same.stands none;
       loads = pending-same was is (are_all (λ n. u n && q n)) same.stands (all-from u q (λ n. u n && q n) (pending_of was) (λ n a b. and_from (u n) (q n) a b) (own-loads (pending_of was)) (others-unknown load was unknown));
     }
 
@@ -163,7 +163,7 @@ drops-all : (outs loads : List (LoadId × List ℕ)) (x y z w : Space) → Drops
 drops-all outs loads x y z w p t q none =
     let a = p none in
     let u : ℕ → Bool = λ n. is_under_way n (pending_of y) in
-    let b = q (pending-same y z nobody_waits t.stands a.nobody) in
+    let b = q (pending-same y z has_no_waiting t.stands a.nobody) in
     let same : are_all u (pending_of z) ≡ true = pending-same y z (are_all u) t.stands (own-loads (pending_of y)) in
     let before : ℕ → Bool = λ n. is_under_way n (pending_of x) && not (is_left n outs) in
     let behind : ℕ → Bool = λ n. is_under_way n (pending_of z) && not (is_left n loads) in
@@ -184,7 +184,7 @@ drops-all outs loads x y z w p t q none =
     b.loads b.loads
 
 -- each that is under way was kept
-pub kept-behind : (x w v : Space) (outs : List (LoadId × List ℕ)) → Accounts x w [] outs → DropsAll outs w v → nobody_waits (pending_of w) ≡ true → AddsNoLoads x v
+pub kept-behind : (x w v : Space) (outs : List (LoadId × List ℕ)) → Accounts x w [] outs → DropsAll outs w v → has_no_waiting (pending_of w) ≡ true → AddsNoLoads x v
 kept-behind x w v outs a d none =
     let p : ℕ → Bool = λ n. is_under_way n (pending_of x) in
     let q : ℕ → Bool = λ n. p n || (is_left n outs || nat_lt (taken_of w) n) in

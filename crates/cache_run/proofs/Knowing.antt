@@ -9,8 +9,8 @@ use Rattle.audit_model.specs.declared.config.Config.{Config}
 use Rattle.audit_model.specs.declared.event.Outcome.{Outcome}
 use Rattle.audit_model.specs.declared.input.LoadId.{LoadId}
 use Rattle.audit_model.specs.declared.transcript.Record.{Record}
-use Rattle.run_laws.specs.Keys.{IsKnown}
-use Rattle.run_laws.proofs.Keys.{keeps}
+use Rattle.audit_waiting_laws.specs.Keys.{IsKnown}
+use Rattle.audit_waiting_laws.proofs.Keys.{keeps}
 use Rattle.cache_run.specs.Carried.{Carried, Left, records_of}
 use Rattle.cache_run.specs.Loading.{AreKnown}
 use Rattle.cache_run.specs.Worlds.{World}

@@ -25,16 +25,16 @@ use Rattle.cache_spaces.proofs.Putting.{same-space}
 use Rattle.cache_spaces.specs.Moves.{At}
 use Rattle.cache_spaces.specs.Serves as served
 use Rattle.cache_spaces.specs.Serves.{SameSpace, Settles, TakesOutput, known_of}
-use Rattle.cache_spaces.specs.Spaces.{Stands, closing_of, config_of, connections_of, loads_of, notices_of, output_of}
+use Rattle.cache_spaces.specs.Spaces.{StandsFor, closing_of, config_of, connections_of, loads_of, notices_of, untaken_output}
 use Rattle.cache_spaces.specs.declared.space.Space.{Space}
-use Rattle.run_laws.specs.Alone.{IsTurnOf, StepsOf, WaitsAlone}
-use Rattle.run_laws.proofs.Events.{records}
-use Rattle.run_laws.proofs.Keys.{answered-key, given-up-key}
-use Rattle.run_laws.specs.Keys.{IsKnown}
-use Rattle.cache_run.specs.Connected.{Connected, IsEnded, IsFed, IsTaken}
+use Rattle.audit_waiting_laws.specs.Alone.{IsTurnOf, StepsOf, WaitsAlone}
+use Rattle.audit_waiting_laws.proofs.Events.{records}
+use Rattle.audit_waiting_laws.proofs.Keys.{answered-key, given-up-key}
+use Rattle.audit_waiting_laws.specs.Keys.{IsKnown}
+use Rattle.cache_run.specs.Connected.{Connected, IsEnded, IsFed, HasTakenReplies}
 use Rattle.cache_run.specs.Delivered.{AnsweredLoad}
 use Rattle.cache_run.specs.Goes.{Goes}
-use Rattle.cache_run.specs.Happened.{Asking, Dropped, asking_of, IsGivenUpFor, IsKeyOf, IsSettledBy, Settled, notes_of, replies_of}
+use Rattle.cache_run.specs.Happened.{Asking, Dropped, asking_of, IsGivenUpFor, IsKeyOf, IsSettledBy, Settled, record_notes, record_replies}
 use Rattle.cache_run.proofs.Carrying.{record-one}
 use Rattle.cache_run.proofs.Going.{at-but-loads, but-loads, goes-more, goes-same, seen-alike}
 use Rattle.cache_run.specs.Loading.{SameButLoads}
@@ -61,21 +61,21 @@ no-steps number other (step ∷ steps) own ne = go (no-steps number other steps 
 
 -- ---- what a settled load leaves of a connection
 
-own-output : (number : ℕ) (was is : Space) (s : Situation) (happened : Event) (r : Settles was is s happened) → 0 < number → output_of is number ≡ output_of was number ++ replies_to number r.entry.steps
+own-output : (number : ℕ) (was is : Space) (s : Situation) (happened : Event) (r : Settles was is s happened) → 0 < number → untaken_output is number ≡ untaken_output was number ++ replies_to number r.entry.steps
 own-output zero was is s happened r positive = absurd (omega (arith, positive))
 own-output (suc n) was is s happened r positive = r.outputs n
 
 other-left : (number place : ℕ) (was is : Space) (s : Situation) (happened : Event) (r : Settles was is s happened) → StepsOf number r.entry.steps → suc place - 1 ≢ number - 1
-    → (output_of is (suc place) ≡ output_of was (suc place)) × (closing_of is (suc place) ≡ closing_of was (suc place))
+    → (untaken_output is (suc place) ≡ untaken_output was (suc place)) × (closing_of is (suc place) ≡ closing_of was (suc place))
 other-left number place was is s happened r own ne =
     let apart : suc place ≢ number = λ e. ne (ap (λ n. n - 1) e) in
     let no_step = no-steps number (suc place) r.entry.steps own apart in (
-      r.outputs place ∙ ap (λ steps. output_of was (suc place) ++ flat_map reply_in steps) no_step ∙ append-nil (output_of was (suc place)),
+      r.outputs place ∙ ap (λ steps. untaken_output was (suc place) ++ flat_map reply_in steps) no_step ∙ append-nil (untaken_output was (suc place)),
       r.idle place no_step,
     )
 
 pub others-left : (number other : ℕ) (was is : Space) (s : Situation) (happened : Event) (r : Settles was is s happened) → StepsOf number r.entry.steps → other - 1 ≢ number - 1
-    → (output_of is other ≡ output_of was other) × (closing_of is other ≡ closing_of was other)
+    → (untaken_output is other ≡ untaken_output was other) × (closing_of is other ≡ closing_of was other)
 others-left number zero was is s happened r own ne = other-left number 0 was is s happened r own ne
 others-left number (suc place) was is s happened r own ne = other-left number place was is s happened r own ne
 
@@ -100,7 +100,7 @@ not-asked c (inl none) e = let h : None ≡ Some by.Asked = sym none ∙ e in cc
 not-asked c (inr ended) e = not-asked-ended c ended e
 
 -- a namespace stands for some situation
-pub situated : (x : Space) → ∥ ((s : Situation) × Stands x s) ∥₁
+pub situated : (x : Space) → ∥ ((s : Situation) × StandsFor x s) ∥₁
 situated x = ∥∥₁_map x.waiting (λ k. (situation x.inner.latest (loads_of x) (connections_of x) x.inner.store.dropped k.values, record { values = k.values; held = k.held; same = refl }))
 
 -- an open connection may have closed for what it was fed
@@ -136,9 +136,9 @@ pub settled-alone : (number : ℕ) (was is : Space) (s : Situation) (happened : 
 settled-alone number was is s happened r turns alone = records (config_of was) s r.next r.entry number r.follows (subst (IsTurnOf number) (sym r.event) (turns number)) alone
 
 -- a load was settled by what the loader said
-pub settled-goes : (number : ℕ) (was is : Space) (happened : Event) (asking : Asking) (load moment : ℕ) → 0 < number → output_of was number ≡ [] → IsSettledBy (config_of was) asking.answer moment happened
+pub settled-goes : (number : ℕ) (was is : Space) (happened : Event) (asking : Asking) (load moment : ℕ) → 0 < number → untaken_output was number ≡ [] → IsSettledBy (config_of was) asking.answer moment happened
     → ((s t : Situation) (entry : Record) → Follows (config_of was) s entry t → entry.event ≡ happened → IsKnown load asking.key s → IsKeyOf s entry.event asking.key) → served.Settled was is happened
-    → Goes number was is (λ s t. AnsweredLoad (config_of was) number load moment asking s t (notices_of was) (notices_of is) (output_of is number))
+    → Goes number was is (λ s t. AnsweredLoad (config_of was) number load moment asking s t (notices_of was) (notices_of is) (untaken_output is number))
 settled-goes number was is happened asking load moment positive none said keyed settled = record {
   each = λ s stands alone.
       let r = settled.settles s stands in
@@ -155,8 +155,8 @@ settled-goes number was is happened asking load moment positive none said keyed 
           placed = keyed s r.next r.entry r.follows r.event known;
           right = subst (IsSettledBy (config_of was) asking.answer moment) (sym r.event) said;
           follows = record-one (config_of was) s r.entry r.next r.follows;
-          notices = r.notices ∙ ap (λ l. notices_of was ++ l) (sym (append-nil (notes_of r.entry)));
-          replies = own-output number was is s happened r positive ∙ ap (λ o. o ++ replies_to number r.entry.steps) none ∙ own-replies number r.entry.steps law.0 ∙ sym (append-nil (replies_of r.entry));
+          notices = r.notices ∙ ap (λ l. notices_of was ++ l) (sym (append-nil (record_notes r.entry)));
+          replies = own-output number was is s happened r positive ∙ ap (λ o. o ++ replies_to number r.entry.steps) none ∙ own-replies number r.entry.steps law.0 ∙ sym (append-nil (record_replies r.entry));
         };
         others = λ other ne. others-left number other was is s happened r law.0 ne;
       };
@@ -168,12 +168,12 @@ some-none None e = refl
 some-none (Some x) e = cc
 
 -- no load of that number is under way in any situation that the namespace stands for
-unknown-there : (was : Space) (s : Situation) (load : ℕ) → Stands was s → (known_of was).is_under_way load ≡ false → key_in load s ≡ None
+unknown-there : (was : Space) (s : Situation) (load : ℕ) → StandsFor was s → (known_of was).is_under_way load ≡ false → key_in load s ≡ None
 unknown-there was s load stands unknown = ap (λ (t : Situation). key_in load t) stands.same ∙ some-none (key_in load (situation 0 (loads_of was) (connections_of was) false [])) unknown
 
 -- a load was not under way, and what the loader said was dropped
-pub dropped-goes : (number : ℕ) (was is : Space) (asking : Asking) (moment load : ℕ) → output_of was number ≡ [] → SameSpace was is → (known_of was).is_under_way load ≡ false
-    → Goes number was is (λ s t. AnsweredLoad (config_of was) number load moment asking s t (notices_of was) (notices_of is) (output_of is number))
+pub dropped-goes : (number : ℕ) (was is : Space) (asking : Asking) (moment load : ℕ) → untaken_output was number ≡ [] → SameSpace was is → (known_of was).is_under_way load ≡ false
+    → Goes number was is (λ s t. AnsweredLoad (config_of was) number load moment asking s t (notices_of was) (notices_of is) (untaken_output is number))
 dropped-goes number was is asking moment load none same unknown = record {
   each = λ s stands alone. record {
     next = s;
@@ -195,7 +195,7 @@ dropped-goes number was is asking moment load none same unknown = record {
   config = same.config;
 }
 
-module _ (old new : List Space) (n number : ℕ) (c : Connected old n number IsTaken) where
+module _ (old new : List Space) (n number : ℕ) (c : Connected old n number HasTakenReplies) where
   -- how the connection is left
   pub connected-settled : (happened : Event) → At old new n (λ was is. served.Settled was is happened) → Connected new n number IsFed
   connected-settled happened a =
@@ -211,7 +211,7 @@ module _ (old new : List Space) (n number : ℕ) (c : Connected old n number IsT
         left = settled-left number a.was a.is happened c.positive a.fact (subst (λ x. IsOpenOrEnded (closing_of x number)) (sym same) c.left.0);
       }
 
-  pub connected-but-loads : At old new n SameButLoads → Connected new n number IsTaken
+  pub connected-but-loads : At old new n SameButLoads → Connected new n number HasTakenReplies
   connected-but-loads a =
       let was = at-was SameButLoads old new n a c.space c.at in
       let count = a.fact.count in
@@ -222,75 +222,75 @@ module _ (old new : List Space) (n number : ℕ) (c : Connected old n number IsT
         at = at-is SameButLoads old new n a;
         positive = c.positive;
         known = omega arith;
-        left = (subst IsOpenOrEnded (sym (a.fact.closings number ∙ ap (λ x. closing_of x number) was)) c.left.0, a.fact.outputs number ∙ ap (λ x. output_of x number) was ∙ c.left.1);
+        left = (subst IsOpenOrEnded (sym (a.fact.closings number ∙ ap (λ x. closing_of x number) was)) c.left.0, a.fact.outputs number ∙ ap (λ x. untaken_output x number) was ∙ c.left.1);
       }
 
-  pub connected-kept : At old new n SameSpace → Connected new n number IsTaken
+  pub connected-kept : At old new n SameSpace → Connected new n number HasTakenReplies
   connected-kept a = connected-but-loads (at-but-loads old new n a)
 
-module _ (old new : List Space) (n number : ℕ) (moment : ℕ) (c : Connected old n number IsTaken) where
+module _ (old new : List Space) (n number : ℕ) (moment : ℕ) (c : Connected old n number HasTakenReplies) where
   -- a give-up
   pub at-given-up : (load : ℕ) → At old new n (λ was is. served.Settled was is (giving_up load moment))
-      → At old new n (λ was is. (asking : Asking) → IsGivenUpFor (config_of was) asking.answer → Goes number was is (λ s t. AnsweredLoad (config_of was) number load moment asking s t (notices_of was) (notices_of is) (output_of is number)))
+      → At old new n (λ was is. (asking : Asking) → IsGivenUpFor (config_of was) asking.answer → Goes number was is (λ s t. AnsweredLoad (config_of was) number load moment asking s t (notices_of was) (notices_of is) (untaken_output is number)))
   at-given-up load a =
       at-with (λ was is. served.Settled was is (giving_up load moment))
-      (λ was is. (asking : Asking) → IsGivenUpFor (config_of was) asking.answer → Goes number was is (λ s t. AnsweredLoad (config_of was) number load moment asking s t (notices_of was) (notices_of is) (output_of is number))) old new n c.space c.at a
+      (λ was is. (asking : Asking) → IsGivenUpFor (config_of was) asking.answer → Goes number was is (λ s t. AnsweredLoad (config_of was) number load moment asking s t (notices_of was) (notices_of is) (untaken_output is number))) old new n c.space c.at a
       (λ y settled asking refused. settled-goes number c.space y (giving_up load moment) asking load moment c.positive c.left.1 (inr (load, refl, refused))
       (λ s t entry follows is known. subst (λ h. IsKeyOf s h asking.key) (sym is) (given-up-key (config_of c.space) s t entry load _ asking.key follows is known.1)) settled)
 
   -- what was said of a load that is not under way
   pub at-dropped : (load : ℕ) → At old new n (λ was is. SameSpace was is × ((known_of was).is_under_way load ≡ false))
-      → At old new n (λ was is. (asking : Asking) → Goes number was is (λ s t. AnsweredLoad (config_of was) number load moment asking s t (notices_of was) (notices_of is) (output_of is number)))
+      → At old new n (λ was is. (asking : Asking) → Goes number was is (λ s t. AnsweredLoad (config_of was) number load moment asking s t (notices_of was) (notices_of is) (untaken_output is number)))
   at-dropped load a =
-      at-with (λ was is. SameSpace was is × ((known_of was).is_under_way load ≡ false)) (λ was is. (asking : Asking) → Goes number was is (λ s t. AnsweredLoad (config_of was) number load moment asking s t (notices_of was) (notices_of is) (output_of is number))) old new n c.space c.at a
+      at-with (λ was is. SameSpace was is × ((known_of was).is_under_way load ≡ false)) (λ was is. (asking : Asking) → Goes number was is (λ s t. AnsweredLoad (config_of was) number load moment asking s t (notices_of was) (notices_of is) (untaken_output is number))) old new n c.space c.at a
       (λ y same asking. dropped-goes number c.space y asking moment load c.left.1 same.0 same.1)
 
   -- an answer
   pub at-answer : (load : ℕ) (outcome : Outcome) → At old new n (λ was is. served.Settled was is (answering load outcome moment))
-      → At old new n (λ was is. (key : List ℕ) → Goes number was is (λ s t. AnsweredLoad (config_of was) number load moment (asking_of key (Some outcome)) s t (notices_of was) (notices_of is) (output_of is number)))
+      → At old new n (λ was is. (key : List ℕ) → Goes number was is (λ s t. AnsweredLoad (config_of was) number load moment (asking_of key (Some outcome)) s t (notices_of was) (notices_of is) (untaken_output is number)))
   at-answer load outcome a =
       at-with (λ was is. served.Settled was is (answering load outcome moment))
-      (λ was is. (key : List ℕ) → Goes number was is (λ s t. AnsweredLoad (config_of was) number load moment (asking_of key (Some outcome)) s t (notices_of was) (notices_of is) (output_of is number))) old new n c.space c.at a
+      (λ was is. (key : List ℕ) → Goes number was is (λ s t. AnsweredLoad (config_of was) number load moment (asking_of key (Some outcome)) s t (notices_of was) (notices_of is) (untaken_output is number))) old new n c.space c.at a
       (λ y settled key. settled-goes number c.space y (answering load outcome moment) (asking_of key (Some outcome)) load moment c.positive c.left.1 (inl (load, outcome, refl, refl))
       (λ s t entry follows is known. subst (λ h. IsKeyOf s h key) (sym is) (answered-key (config_of c.space) s t entry load outcome _ key follows is known.1)) settled)
 
 -- what comes behind calls that left the namespace the same
-after-same : (number : ℕ) (x y z : Space) (load moment : ℕ) (asking : Asking) → SameSpace x y → Goes number y z (λ s t. AnsweredLoad (config_of y) number load moment asking s t (notices_of y) (notices_of z) (output_of z number))
-    → Goes number x z (λ s t. AnsweredLoad (config_of x) number load moment asking s t (notices_of x) (notices_of z) (output_of z number))
+after-same : (number : ℕ) (x y z : Space) (load moment : ℕ) (asking : Asking) → SameSpace x y → Goes number y z (λ s t. AnsweredLoad (config_of y) number load moment asking s t (notices_of y) (notices_of z) (untaken_output z number))
+    → Goes number x z (λ s t. AnsweredLoad (config_of x) number load moment asking s t (notices_of x) (notices_of z) (untaken_output z number))
 after-same number x y z load moment asking same g =
-    goes-more number x y z (λ s t. t ≡ s) (λ s t. AnsweredLoad (config_of y) number load moment asking s t (notices_of y) (notices_of z) (output_of z number)) (λ s t. AnsweredLoad (config_of x) number load moment asking s t (notices_of x) (notices_of z) (output_of z number))
+    goes-more number x y z (λ s t. t ≡ s) (λ s t. AnsweredLoad (config_of y) number load moment asking s t (notices_of y) (notices_of z) (untaken_output z number)) (λ s t. AnsweredLoad (config_of x) number load moment asking s t (notices_of x) (notices_of z) (untaken_output z number))
     (goes-same number x y (λ s t. t ≡ s) (but-loads x y same) (λ s. refl)) g
     (λ s t u e f.
-    subst (λ v. AnsweredLoad (config_of x) number load moment asking v u (notices_of x) (notices_of z) (output_of z number)) e
-    (subst (λ k. AnsweredLoad k number load moment asking t u (notices_of x) (notices_of z) (output_of z number)) same.config
-    (subst (λ l. AnsweredLoad (config_of y) number load moment asking t u l (notices_of z) (output_of z number)) same.notices f)))
+    subst (λ v. AnsweredLoad (config_of x) number load moment asking v u (notices_of x) (notices_of z) (untaken_output z number)) e
+    (subst (λ k. AnsweredLoad k number load moment asking t u (notices_of x) (notices_of z) (untaken_output z number)) same.config
+    (subst (λ l. AnsweredLoad (config_of y) number load moment asking t u l (notices_of z) (untaken_output z number)) same.notices f)))
 
 -- an outcome was refused, and then its load was given up
 pub at-refused-outcome : (old mid new : List Space) (n number : ℕ) (load moment : ℕ) (outcome : Outcome) → At old mid n (λ was is. SameSpace was is × (is_some (refusal_of_outcome (config_of was) outcome) ≡ true))
-    → At mid new n (λ was is. (asking : Asking) → IsGivenUpFor (config_of was) asking.answer → Goes number was is (λ s t. AnsweredLoad (config_of was) number load moment asking s t (notices_of was) (notices_of is) (output_of is number)))
-    → At old new n (λ was is. (key : List ℕ) → Goes number was is (λ s t. AnsweredLoad (config_of was) number load moment (asking_of key (Some outcome)) s t (notices_of was) (notices_of is) (output_of is number)))
+    → At mid new n (λ was is. (asking : Asking) → IsGivenUpFor (config_of was) asking.answer → Goes number was is (λ s t. AnsweredLoad (config_of was) number load moment asking s t (notices_of was) (notices_of is) (untaken_output is number)))
+    → At old new n (λ was is. (key : List ℕ) → Goes number was is (λ s t. AnsweredLoad (config_of was) number load moment (asking_of key (Some outcome)) s t (notices_of was) (notices_of is) (untaken_output is number)))
 at-refused-outcome old mid new n number load moment outcome a b =
     at-more (λ was is. SameSpace was is × (is_some (refusal_of_outcome (config_of was) outcome) ≡ true))
-    (λ was is. (asking : Asking) → IsGivenUpFor (config_of was) asking.answer → Goes number was is (λ s t. AnsweredLoad (config_of was) number load moment asking s t (notices_of was) (notices_of is) (output_of is number)))
-    (λ was is. (key : List ℕ) → Goes number was is (λ s t. AnsweredLoad (config_of was) number load moment (asking_of key (Some outcome)) s t (notices_of was) (notices_of is) (output_of is number))) old mid new n a b
+    (λ was is. (asking : Asking) → IsGivenUpFor (config_of was) asking.answer → Goes number was is (λ s t. AnsweredLoad (config_of was) number load moment asking s t (notices_of was) (notices_of is) (untaken_output is number)))
+    (λ was is. (key : List ℕ) → Goes number was is (λ s t. AnsweredLoad (config_of was) number load moment (asking_of key (Some outcome)) s t (notices_of was) (notices_of is) (untaken_output is number))) old mid new n a b
     (λ x y z p given key.
     after-same number x y z load moment (asking_of key (Some outcome)) p.0 (given (asking_of key (Some outcome)) (subst (λ k. is_some (refusal_of_outcome k outcome) ≡ true) (sym p.0.config) p.1)))
 
 -- a give-up without an outcome
 pub at-unsaid : (old new : List Space) (n number : ℕ) (load moment : ℕ) (said : Option Outcome) → said ≡ None
-    → At old new n (λ was is. (asking : Asking) → IsGivenUpFor (config_of was) asking.answer → Goes number was is (λ s t. AnsweredLoad (config_of was) number load moment asking s t (notices_of was) (notices_of is) (output_of is number)))
-    → At old new n (λ was is. (key : List ℕ) → Goes number was is (λ s t. AnsweredLoad (config_of was) number load moment (asking_of key said) s t (notices_of was) (notices_of is) (output_of is number)))
+    → At old new n (λ was is. (asking : Asking) → IsGivenUpFor (config_of was) asking.answer → Goes number was is (λ s t. AnsweredLoad (config_of was) number load moment asking s t (notices_of was) (notices_of is) (untaken_output is number)))
+    → At old new n (λ was is. (key : List ℕ) → Goes number was is (λ s t. AnsweredLoad (config_of was) number load moment (asking_of key said) s t (notices_of was) (notices_of is) (untaken_output is number)))
 at-unsaid old new n number load moment said none a =
-    at-map (λ was is. (asking : Asking) → IsGivenUpFor (config_of was) asking.answer → Goes number was is (λ s t. AnsweredLoad (config_of was) number load moment asking s t (notices_of was) (notices_of is) (output_of is number)))
-    (λ was is. (key : List ℕ) → Goes number was is (λ s t. AnsweredLoad (config_of was) number load moment (asking_of key said) s t (notices_of was) (notices_of is) (output_of is number))) old new n a
+    at-map (λ was is. (asking : Asking) → IsGivenUpFor (config_of was) asking.answer → Goes number was is (λ s t. AnsweredLoad (config_of was) number load moment asking s t (notices_of was) (notices_of is) (untaken_output is number)))
+    (λ was is. (key : List ℕ) → Goes number was is (λ s t. AnsweredLoad (config_of was) number load moment (asking_of key said) s t (notices_of was) (notices_of is) (untaken_output is number))) old new n a
     (λ x y given key. given (asking_of key said) (subst (IsGivenUpFor (config_of x)) (sym none) tt))
 
 -- with the outcome that was said
 pub at-said : (old new : List Space) (n number : ℕ) (load moment : ℕ) (said : Option Outcome) (outcome : Outcome) → said ≡ Some outcome
-    → At old new n (λ was is. (key : List ℕ) → Goes number was is (λ s t. AnsweredLoad (config_of was) number load moment (asking_of key (Some outcome)) s t (notices_of was) (notices_of is) (output_of is number)))
-    → At old new n (λ was is. (key : List ℕ) → Goes number was is (λ s t. AnsweredLoad (config_of was) number load moment (asking_of key said) s t (notices_of was) (notices_of is) (output_of is number)))
+    → At old new n (λ was is. (key : List ℕ) → Goes number was is (λ s t. AnsweredLoad (config_of was) number load moment (asking_of key (Some outcome)) s t (notices_of was) (notices_of is) (untaken_output is number)))
+    → At old new n (λ was is. (key : List ℕ) → Goes number was is (λ s t. AnsweredLoad (config_of was) number load moment (asking_of key said) s t (notices_of was) (notices_of is) (untaken_output is number)))
 at-said old new n number load moment said outcome is a =
-    subst (λ o. At old new n (λ was is. (key : List ℕ) → Goes number was is (λ s t. AnsweredLoad (config_of was) number load moment (asking_of key o) s t (notices_of was) (notices_of is) (output_of is number)))) (sym is) a
+    subst (λ o. At old new n (λ was is. (key : List ℕ) → Goes number was is (λ s t. AnsweredLoad (config_of was) number load moment (asking_of key o) s t (notices_of was) (notices_of is) (untaken_output is number)))) (sym is) a
 
 pub on-ok : {X E : Type 0} (A B : Type 0) (r : Result X E) → OnOk r A → (A → B) → OnOk r B
 on-ok A B (Ok x) a h = h a
@@ -315,16 +315,16 @@ same-more x y z a b = record {
 }
 
 -- nothing was called
-pub same-here : (spaces : List Space) (n number : ℕ) → Connected spaces n number IsTaken → At spaces spaces n SameSpace
+pub same-here : (spaces : List Space) (n number : ℕ) → Connected spaces n number HasTakenReplies → At spaces spaces n SameSpace
 same-here spaces n number c = at-same SameSpace spaces n c.space c.at (same-space c.space c.space refl)
 
 -- the replies that came of it were taken
 pub at-replied : (old mid new : List Space) (n number : ℕ) (load moment : ℕ) (said : Option Outcome) (key text : List ℕ)
-    → At old mid n (λ was is. (key : List ℕ) → Goes number was is (λ s t. AnsweredLoad (config_of was) number load moment (asking_of key said) s t (notices_of was) (notices_of is) (output_of is number)))
+    → At old mid n (λ was is. (key : List ℕ) → Goes number was is (λ s t. AnsweredLoad (config_of was) number load moment (asking_of key said) s t (notices_of was) (notices_of is) (untaken_output is number)))
     → At mid new n (λ was is. TakesOutput was is number text)
     → At old new n (λ was is. Goes number was is (λ s t. AnsweredLoad (config_of was) number load moment (asking_of key said) s t (notices_of was) (notices_of is) text))
 at-replied old mid new n number load moment said key text a b =
-    at-more (λ was is. (key : List ℕ) → Goes number was is (λ s t. AnsweredLoad (config_of was) number load moment (asking_of key said) s t (notices_of was) (notices_of is) (output_of is number)))
+    at-more (λ was is. (key : List ℕ) → Goes number was is (λ s t. AnsweredLoad (config_of was) number load moment (asking_of key said) s t (notices_of was) (notices_of is) (untaken_output is number)))
     (λ was is. TakesOutput was is number text)
     (λ was is. Goes number was is (λ s t. AnsweredLoad (config_of was) number load moment (asking_of key said) s t (notices_of was) (notices_of is) text)) old mid new n a b
     (λ x y z goes taken. record {

@@ -13,8 +13,8 @@ use Rattle.cache_devices.proofs.Sending.{failed_after, failed_before, same_appen
 use Rattle.cache_devices.specs.Failures.{HasFailed}
 use Rattle.cache_run.specs.Turns.{HasAsked, HasRead}
 use Rattle.cache_spaces.specs.Moves.{At}
-use Rattle.cache_run.specs.Loading.{AreKnown, Breaks, Carries, SameButLoads, TakesMore}
-use Rattle.run_laws.specs.Keys.{IsKnown}
+use Rattle.cache_run.specs.Loading.{AreKnown, BreaksOff, Carries, SameButLoads, TakesMore}
+use Rattle.audit_waiting_laws.specs.Keys.{IsKnown}
 use Rattle.cache_spaces.specs.Spaces.{config_of, notices_of}
 use Rattle.cache_spaces.specs.declared.space.Space.{Space}
 use Rattle.audit_model.specs.declared.event.Outcome.{Outcome}
@@ -61,7 +61,7 @@ module _ {C L : Type 0} (reads : C → ℕ → C → Type 0) (loads : L → List
 
   pub turn-broken : (new : List Space) (outs : List (LoadId × List ℕ)) (piece : List ℕ) (moment : ℕ) (asks : List Asking) (r q v w : Option (List ℕ)) (k l : C) (m o : L) (e : RunError)
       → At old new n (λ was is. Goes number was is (λ s t. Undelivered (config_of was) number piece moment asks s t (notices_of was) (notices_of is) v w e)) → Consumes r q piece → reads k moment l → Askings loads m asks o
-      → Breaks reads loads old new n number (outside r v k m) (outside q w l o) outs e
+      → BreaksOff reads loads old new n number (outside r v k m) (outside q w l o) outs e
   turn-broken new outs piece moment asks r q v w k l m o e a read clock loader =
       at-goes-map number n old new (λ x y s t. Undelivered (config_of x) number piece moment asks s t (notices_of x) (notices_of y) v w e)
       (λ x y s t. AreKnown outs s → Broken (config_of x) number reads loads (world x s (outside r v k m)) (world y t (outside q w l o)) false false [] e) a
@@ -71,7 +71,7 @@ module _ {C L : Type 0} (reads : C → ℕ → C → Type 0) (loads : L → List
       → MatchResult result (λ done. At old new n (λ was is. Goes number was is (λ s t. Delivered (config_of was) number piece moment asks s t (notices_of was) (notices_of is) v w [])))
       (λ e. At old new n (λ was is. Goes number was is (λ s t. Undelivered (config_of was) number piece moment asks s t (notices_of was) (notices_of is) v w e)))
       → Consumes r q piece → reads k moment l → Askings loads m asks o
-      → MatchResult result (λ done. Carries reads loads old new n number (outside r v k m) (outside q w l o) outs outs) (λ e. Breaks reads loads old new n number (outside r v k m) (outside q w l o) outs e)
+      → MatchResult result (λ done. Carries reads loads old new n number (outside r v k m) (outside q w l o) outs outs) (λ e. BreaksOff reads loads old new n number (outside r v k m) (outside q w l o) outs e)
   turn-by (Ok done) new outs piece moment asks r q v w k l m o a read clock loader = turn-one new outs piece moment asks r q v w k l m o a read clock loader
   turn-by (Err e) new outs piece moment asks r q v w k l m o a read clock loader = turn-broken new outs piece moment asks r q v w k l m o e a read clock loader
 
@@ -93,7 +93,7 @@ module _ {C L : Type 0} (reads : C → ℕ → C → Type 0) (loads : L → List
   pub settled-broken : (new : List Space) (before : List (LoadId × List ℕ)) (load moment : ℕ) (asking : Asking) (text output rest : List ℕ) (r v w : Option (List ℕ)) (k l : C) (m o : L) (e : RunError)
       → ((s : Situation) → AreKnown before s → IsKnown load asking.key s) → output ≡ text → SentBut rest output v w → e ≢ Moment
       → At old new n (λ was is. Goes number was is (λ s t. AnsweredLoad (config_of was) number load moment asking s t (notices_of was) (notices_of is) text)) → reads k moment l → Askings loads m (asking ∷ []) o
-      → Breaks reads loads old new n number (outside r v k m) (outside r w l o) before e
+      → BreaksOff reads loads old new n number (outside r v k m) (outside r w l o) before e
   settled-broken new before load moment asking text output rest r v w k l m o e pick is sent ne a clock loader =
       at-goes-map number n old new (λ x y s t. AnsweredLoad (config_of x) number load moment asking s t (notices_of x) (notices_of y) text)
       (λ x y s t. AreKnown before s → Broken (config_of x) number reads loads (world x s (outside r v k m)) (world y t (outside r w l o)) false false [] e) a
@@ -106,13 +106,13 @@ module _ {C L : Type 0} (reads : C → ℕ → C → Type 0) (loads : L → List
       → ((s : Situation) → AreKnown before s → IsKnown load asking.key s × AreKnown after s) → output ≡ text
       → MatchResult result (λ done. Appends v w output) (λ e. (rest : List ℕ) × SentBut rest output v w) → IfErr result (Because ⊥ f u ⊥)
       → At old new n (λ was is. Goes number was is (λ s t. AnsweredLoad (config_of was) number load moment asking s t (notices_of was) (notices_of is) text)) → reads k moment l → Askings loads m (asking ∷ []) o
-      → MatchResult result (λ done. Carries reads loads old new n number (outside r v k m) (outside r w l o) before after) (λ e. Breaks reads loads old new n number (outside r v k m) (outside r w l o) before e)
+      → MatchResult result (λ done. Carries reads loads old new n number (outside r v k m) (outside r w l o) before after) (λ e. BreaksOff reads loads old new n number (outside r v k m) (outside r w l o) before e)
   settled-by f u (Ok done) new before after load moment asking text output r v w k l m o pick is wrote why a clock loader = settled-one new before after load moment asking text output r v w k l m o pick is wrote a clock loader
   settled-by f u (Err e) new before after load moment asking text output r v w k l m o pick is sent why a clock loader =
       settled-broken new before load moment asking text output sent.0 r v w k l m o e (λ s known. (pick s known).0) is sent.1 (not-late ⊥ f u e why) a clock loader
 
   -- an error without a loss
-  pub at-broken : (new : List Space) (a b : Outside C L) (before after : List (LoadId × List ℕ)) (e : RunError) → e ≢ Moment → Carries reads loads old new n number a b before after → Breaks reads loads old new n number a b before e
+  pub at-broken : (new : List Space) (a b : Outside C L) (before after : List (LoadId × List ℕ)) (e : RunError) → e ≢ Moment → Carries reads loads old new n number a b before after → BreaksOff reads loads old new n number a b before e
   at-broken new a b before after e ne h =
       at-goes-map number n old new (λ x y s t. AreKnown before s → Carried (config_of x) number reads loads (world x s a) (world y t b) false false [] nothing_left × AreKnown after t)
       (λ x y s t. AreKnown before s → Broken (config_of x) number reads loads (world x s a) (world y t b) false false [] e) h
@@ -125,7 +125,7 @@ module _ {C L : Type 0} (reads : C → ℕ → C → Type 0) (loads : L → List
       at-goes-map number n old new (λ x y s t. Unit {0} → Carried (config_of x) number reads loads (world x s a) (world y t b) false false [] nothing_left × AreKnown after t)
       (λ x y s t. Carried (config_of x) number reads loads (world x s a) (world y t b) false false [] nothing_left) h (λ x y s t d. (d tt).0)
 
-  pub at-fresh-broken : (new : List Space) (a b : Outside C L) (e : RunError) → Breaks reads loads old new n number a b [] e
+  pub at-fresh-broken : (new : List Space) (a b : Outside C L) (e : RunError) → BreaksOff reads loads old new n number a b [] e
       → At old new n (λ was is. Goes number was is (λ s t. Broken (config_of was) number reads loads (world was s a) (world is t b) false false [] e))
   at-fresh-broken new a b e h =
       at-goes-map number n old new (λ x y s t. Unit {0} → Broken (config_of x) number reads loads (world x s a) (world y t b) false false [] e)
@@ -144,7 +144,7 @@ module _ {C L : Type 0} (reads : C → ℕ → C → Type 0) (loads : L → List
       let m = g k.1 in
       (carried-more (config_of x) number reads loads (world x s a) (world y t b) (world z u d) false false [] nothing_left k.0 (subst (λ c. Carried c number reads loads (world y t b) (world z u d) false false [] nothing_left) same m.0), m.1))
 
-  pub at-broken-more : (e : RunError) → Carries reads loads first second n number a b before between → Breaks reads loads second third n number b d between e → Breaks reads loads first third n number a d before e
+  pub at-broken-more : (e : RunError) → Carries reads loads first second n number a b before between → BreaksOff reads loads second third n number b d between e → BreaksOff reads loads first third n number a d before e
   at-broken-more e p q =
       at-goes-more number n first second third (λ x y s t. AreKnown before s → Carried (config_of x) number reads loads (world x s a) (world y t b) false false [] nothing_left × AreKnown between t)
       (λ x y s t. AreKnown between s → Broken (config_of x) number reads loads (world x s b) (world y t d) false false [] e)
@@ -154,8 +154,8 @@ module _ {C L : Type 0} (reads : C → ℕ → C → Type 0) (loads : L → List
 
   -- turns, and then what a call carries, or an error
   pub at-more-by : {T : Type 0} (result : Result T RunError) (after : List (LoadId × List ℕ)) → Carries reads loads first second n number a b before between
-      → MatchResult result (λ done. Carries reads loads second third n number b d between after) (λ e. Breaks reads loads second third n number b d between e)
-      → MatchResult result (λ done. Carries reads loads first third n number a d before after) (λ e. Breaks reads loads first third n number a d before e)
+      → MatchResult result (λ done. Carries reads loads second third n number b d between after) (λ e. BreaksOff reads loads second third n number b d between e)
+      → MatchResult result (λ done. Carries reads loads first third n number a d before after) (λ e. BreaksOff reads loads first third n number a d before e)
   at-more-by (Ok done) after p q = at-carried-more after p q
   at-more-by (Err e) after p q = at-broken-more e p q
 

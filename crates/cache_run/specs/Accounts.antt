@@ -6,7 +6,7 @@ use Rattle.audit_model.specs.Situation.{PendingLoad}
 use Rattle.audit_model.specs.declared.input.LoadId.{LoadId}
 use Rattle.cache_spaces.specs.Spaces.{loads_of, outgoing_of, taken_of}
 use Rattle.cache_spaces.specs.declared.space.Space.{Space}
-use Rattle.run_laws.specs.Sending.{are_all, are_others, are_old_or_later, is_under_way}
+use Rattle.audit_waiting_laws.specs.Sending.{are_all, are_others, are_old_or_later, is_under_way}
 
 -- the loads under way
 abbrev pub pending_of : Space → List PendingLoad
@@ -58,19 +58,19 @@ abbrev pub HasTakenAll : Space → Space → Type 0
 HasTakenAll was is = outgoing_of is ≡ []
 
 -- nobody waits for these loads
-abbrev pub nobody_waits : List PendingLoad → Bool
-nobody_waits loads = list_all (λ load. is_empty load.waiting) loads
+abbrev pub has_no_waiting : List PendingLoad → Bool
+has_no_waiting loads = list_all (λ load. is_empty load.waiting) loads
 
 -- nobody waits for a load, none was taken, and each load under way was so before and was not dropped
 pub record DropsLoads (is_dropped : ℕ → Bool) (was is : Space) : Type 0 where
   pub taken : taken_of is ≡ taken_of was
-  pub nobody : IsTrue (nobody_waits (pending_of is))
+  pub nobody : IsTrue (has_no_waiting (pending_of is))
   pub loads : IsTrue (are_all (λ n. is_under_way n (pending_of was) && not (is_dropped n)) (pending_of is))
 
 -- where nobody waits for a load, these loads are dropped
 abbrev pub DropsUnwaited : (ℕ → Bool) → Space → Space → Type 0
-DropsUnwaited is_dropped was is = IsTrue (nobody_waits (pending_of was)) → DropsLoads is_dropped was is
+DropsUnwaited is_dropped was is = IsTrue (has_no_waiting (pending_of was)) → DropsLoads is_dropped was is
 
 -- where nobody waits for a load, each load under way was so before, is none of these, and had been taken
 abbrev pub DropsAll : List (LoadId × List ℕ) → Space → Space → Type 0
-DropsAll outs was is = IsTrue (nobody_waits (pending_of was)) → IsTrue (are_all (λ n. is_under_way n (pending_of was) && (not (is_left n outs) && nat_le n (taken_of was))) (pending_of is))
+DropsAll outs was is = IsTrue (has_no_waiting (pending_of was)) → IsTrue (are_all (λ n. is_under_way n (pending_of was) && (not (is_left n outs) && nat_le n (taken_of was))) (pending_of is))

@@ -5,7 +5,7 @@ use Rattle.audit_model.specs.declared.command.Closing.{Closing}
 use Rattle.audit_model.specs.declared.command.Closing.TheVariants as by
 use Rattle.cache_namespace.specs.Taken.{IsOpenOrEnded}
 use Rattle.cache_spaces.specs.Services.{IsSpace}
-use Rattle.cache_spaces.specs.Spaces.{connections_of, output_of, closing_of}
+use Rattle.cache_spaces.specs.Spaces.{connections_of, untaken_output, closing_of}
 use Rattle.cache_spaces.specs.declared.space.Space.{Space}
 
 -- the namespace knows the connection, and that is true of it
@@ -18,15 +18,15 @@ pub record Connected (spaces : List Space) (namespace number : ℕ) (IsLeft : �
 
 -- it is open, and its replies were taken
 abbrev pub IsReady : ℕ → Space → Type 0
-IsReady number space = (closing_of space number ≡ None) × (output_of space number ≡ [])
+IsReady number space = (closing_of space number ≡ None) × (untaken_output space number ≡ [])
 
 -- it has closed for what it was fed: too long a line, a `QUIT`, or too many bytes behind a `LOAD` that waits
 abbrev pub IsEnded : Option Closing → Type 0
 IsEnded closing = (closing ≡ Some by.Long) ⊎ (closing ≡ Some by.Quit) ⊎ (closing ≡ Some by.Behind)
 
 -- its replies were taken, and it may have closed for what it was fed
-abbrev pub IsTaken : ℕ → Space → Type 0
-IsTaken number space = IsOpenOrEnded (closing_of space number) × (output_of space number ≡ [])
+abbrev pub HasTakenReplies : ℕ → Space → Type 0
+HasTakenReplies number space = IsOpenOrEnded (closing_of space number) × (untaken_output space number ≡ [])
 
 -- it may have closed for what it was fed
 abbrev pub IsFed : ℕ → Space → Type 0
@@ -34,7 +34,7 @@ IsFed number space = IsOpenOrEnded (closing_of space number)
 
 -- its replies were taken, unless there was an error, and it may have closed for what it was fed
 abbrev pub IsLeftBy : {T E : Type 0} → Result T E → ℕ → Space → Type 0
-IsLeftBy (Ok done) = IsTaken
+IsLeftBy (Ok done) = HasTakenReplies
 IsLeftBy (Err e) = IsFed
 
 -- the input is at its end, or the connection has closed for what it was fed

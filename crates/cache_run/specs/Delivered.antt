@@ -5,8 +5,8 @@ use Rattle.audit_model.specs.Follows.{after_records}
 use Rattle.audit_model.specs.Situation.{Situation}
 use Rattle.audit_model.specs.declared.config.Config.{Config}
 use Rattle.audit_model.specs.declared.transcript.Note.{Note}
-use Rattle.run_laws.specs.Keys.{IsKnown}
-use Rattle.cache_run.specs.Happened.{Asking, Turn, IsInPlace, IsRight, asked_in, moment_in, notes_in, piece_in, records_in, replies_in}
+use Rattle.audit_waiting_laws.specs.Keys.{IsKnown}
+use Rattle.cache_run.specs.Happened.{Asking, Turn, IsInPlace, IsRight, asked_in, moment_in, turn_notes, piece_in, records_in, replies_in}
 use Rattle.cache_run.specs.declared.errors.RunError.{RunError}
 use Rattle.cache_run.specs.declared.errors.RunError.TheVariants.{OutOfMemory, Moment}
 
@@ -19,7 +19,7 @@ pub record Answered (config : Config) (number : ℕ) (piece : List ℕ) (moment 
   pub right : IsRight config turn
   pub placed : IsInPlace s turn
   pub follows : after_records config s (records_in number turn) ≡ Some t
-  pub notices : after ≡ before ++ notes_in number turn
+  pub notices : after ≡ before ++ turn_notes number turn
   pub replies : text ≡ replies_in number turn
 
 -- where that is the key of the load, if it is under way, the loader was asked by it

@@ -1,4 +1,4 @@
--- What happens in a run: pieces are fed, and loads are settled by what the loader says of their keys.
+-- What happens in a run: pieces are feed_event, and loads are settled by what the loader says of their keys.
 use Rattle.std.specs.Prelude.{◌≡◌, ℕ, true, List, [], ◌∷◌, Option, None, Some, IfSome, is_some, ◌⊎◌}
 use Rattle.std.specs.List.{flat_map}
 use Rattle.audit_model.specs.Belongs.{refusal_of_outcome}
@@ -13,7 +13,7 @@ use Rattle.audit_model.specs.declared.transcript.Note.{Note}
 use Rattle.audit_model.specs.declared.transcript.Record.{Record}
 use Rattle.audit_model.specs.declared.transcript.Step.{Step}
 use Rattle.cache_namespace.specs.Gathered.{reply_in}
-use Rattle.cache_namespace.specs.Taken.{fed, record_of}
+use Rattle.cache_namespace.specs.Taken.{feed_event, record_of}
 use Rattle.cache_settling.specs.Answered.{answering, giving_up}
 
 -- what a loader was asked, and what it said
@@ -21,7 +21,7 @@ pub record Asking : Type 0 where
   pub key : List ℕ
   pub answer : Option Outcome
 
--- a piece was fed at a moment, and these steps ran; or the loader was asked, and at that moment the load was settled by that record; or the
+-- a piece was feed_event at a moment, and these steps ran; or the loader was asked, and at that moment the load was settled by that record; or the
 -- load of that number was not under way any more, and what the loader said was dropped
 pub data Turn : Type 0 where
   Fed : (piece : List ℕ) → (moment : ℕ) → (steps : List Step) → Turn
@@ -48,23 +48,23 @@ asked_in (Dropped asking moment load) = asking ∷ []
 
 -- its record, if there is one
 abbrev pub records_in : ℕ → Turn → List Record
-records_in number (Fed piece moment steps) = record_of (fed number piece moment) steps ∷ []
+records_in number (Fed piece moment steps) = record_of (feed_event number piece moment) steps ∷ []
 records_in number (Settled asking moment entry) = entry ∷ []
 records_in number (Dropped asking moment load) = []
 
 -- the replies of a record's connections
-abbrev pub replies_of : Record → List ℕ
-replies_of entry = flat_map reply_in entry.steps
+abbrev pub record_replies : Record → List ℕ
+record_replies entry = flat_map reply_in entry.steps
 
 -- the notes of a record, those of an answer's own step first
-abbrev pub notes_of : Record → List Note
-notes_of entry = flat_map (λ step. step.notices) (steps_of entry)
+abbrev pub record_notes : Record → List Note
+record_notes entry = flat_map (λ step. step.notices) (steps_of entry)
 
 abbrev pub replies_in : ℕ → Turn → List ℕ
-replies_in number turn = flat_map replies_of (records_in number turn)
+replies_in number turn = flat_map record_replies (records_in number turn)
 
-abbrev pub notes_in : ℕ → Turn → List Note
-notes_in number turn = flat_map notes_of (records_in number turn)
+abbrev pub turn_notes : ℕ → Turn → List Note
+turn_notes number turn = flat_map record_notes (records_in number turn)
 
 -- what a loader was asked, and what it said
 abbrev pub asking_of : List ℕ → Option Outcome → Asking

@@ -14,7 +14,7 @@ use Rattle.cache_namespace.specs.Taken.{record_of}
 use Rattle.cache_spaces.specs.Spaces.{closing_of, config_of, connections_of, notices_of}
 use Rattle.cache_spaces.specs.declared.space.Space.{Space}
 use Rattle.audit_model.specs.declared.event.Outcome.{Outcome}
-use Rattle.run_laws.specs.Alone.{WaitsAlone}
+use Rattle.audit_waiting_laws.specs.Alone.{WaitsAlone}
 use Rattle.cache_run.specs.Accounts.{AddsNoLoads, pending_of}
 use Rattle.cache_run.specs.Carried.{Broken, Carried, nothing_left}
 use Rattle.cache_run.specs.Connected.{IsEnded}
@@ -40,9 +40,9 @@ Closes number was is =
 
 -- it closed as asked at the end of the input, or for what it was fed: too long a line, a `QUIT`, or too many bytes behind a `LOAD` that
 -- waits
-abbrev pub Ends : Bool → Option Closing → Option (List ℕ) → Type 0
-Ends true closing remaining = (closing ≡ Some by.Asked) × IsAtEnd remaining
-Ends false closing remaining = IsEnded closing
+abbrev pub EndsRun : Bool → Option Closing → Option (List ℕ) → Type 0
+EndsRun true closing remaining = (closing ≡ Some by.Asked) × IsAtEnd remaining
+EndsRun false closing remaining = IsEnded closing
 
 -- One connection was opened, fed with all that was read, and closed; the bytes written are its replies.
 pub record ServesWhole {C L : Type 0} (reads : C → ℕ → C → Type 0) (loads : L → List ℕ → Option Outcome → L → Type 0) (was is : Space) (before after : Outside C L) : Type 0 where
@@ -50,7 +50,7 @@ pub record ServesWhole {C L : Type 0} (reads : C → ℕ → C → Type 0) (load
   pub next : number ≡ next_number was
   pub closes : Bool
   pub goes : Goes number was is (λ s t. Carried (config_of was) number reads loads (world was s before) (world is t after) true closes [] nothing_left)
-  pub ends : Ends closes (closing_of is number) after.remaining
+  pub ends : EndsRun closes (closing_of is number) after.remaining
   -- each load under way behind it was under way before it
   pub settled : AddsNoLoads was is
 

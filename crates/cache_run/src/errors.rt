@@ -2,19 +2,25 @@
 ghost use Rattle.std.specs.Prelude.{◌≡◌, ◌⊎◌};
 
 use cache_devices::SendError;
+use thiserror::Error;
 
-/// Why a run stopped before its end.
-#[derive(Clone, Copy, Debug, PartialEq, Eq, Drop)]
+/// Why `run`, or `serve` of a shared service, stopped before its end. What was written is a beginning of the replies.
+#[derive(Clone, Copy, Debug, PartialEq, Eq, Drop, Error)]
 pub enum RunError {
-    /// The reader failed.
+    /// The reader failed in a read that was not interrupted.
+    #[error("read")]
     Read,
-    /// The writer failed.
+    /// The writer failed, or took none of the bytes.
+    #[error("write")]
     Write,
-    /// There was no memory.
+    /// There was no memory for the buffer, for an event, or for a line, which was held back.
+    #[error("out of memory")]
     OutOfMemory,
-    /// The writer was interrupted again and again, or a count of turns was used up.
+    /// The writer was interrupted again and again, or a count of 64 bits (of turns, of inputs) was used up.
+    #[error("used up")]
     UsedUp,
     /// The clock told a moment above 2^63 - 1 nanoseconds.
+    #[error("moment")]
     Moment,
 }
 

@@ -4,10 +4,10 @@ ghost use Rattle.cache_devices.specs.Sent.{SentBut};
 ghost use Rattle.std.specs.Prelude.{◌≤◌, ◌^◌, ℕ, List, [], IfOk, IfErr, MatchResult};
 ghost use Rattle.cache_devices.specs.Failures.{HasFailed};
 ghost use Rattle.cache_devices.specs.Watched.{device, failures};
-ghost use Rattle.cache_namespace.specs.Taken.{fed};
+ghost use Rattle.cache_namespace.specs.Taken.{feed_event};
 ghost use Rattle.cache_spaces.specs.Moves.{At};
-ghost use Rattle.cache_spaces.specs.Serves.{SameSpace, Takes, TakesOutput};
-ghost use Rattle.cache_spaces.specs.Services.{is_held, spaces_of};
+ghost use Rattle.cache_spaces.specs.Serves.{SameSpace, ServesEvent, TakesOutput};
+ghost use Rattle.cache_spaces.specs.Services.{feed_is_held, spaces_of};
 ghost use Rattle.cache_spaces.specs.Spaces.{config_of, notices_of};
 ghost use Rattle.cache_run.specs.Accounts.{SendsLater};
 ghost use Rattle.cache_run.specs.Causes.{Because};
@@ -24,7 +24,7 @@ use std::io::Write;
 /// Feeds a piece to a connection that is open.
 fn feed_piece(service: &mut Service, conn: Conn, piece: &[u8], moment: u64) -> Result<Fed, RunError>
     requires ready { Connected (spaces_of service.old) conn.namespace conn.number IsReady }
-    ensures taken { IfOk result (λ done. At (spaces_of service.old) (spaces_of service.new) conn.namespace (λ was is. Takes was is conn.number (fed conn.number piece.now moment) (is_held done))) }
+    ensures taken { IfOk result (λ done. At (spaces_of service.old) (spaces_of service.new) conn.namespace (λ was is. ServesEvent was is conn.number (feed_event conn.number piece.now moment) (feed_is_held done))) }
     ensures refused { IfErr result (λ e. At (spaces_of service.old) (spaces_of service.new) conn.namespace SameSpace × IsCause moment e) }
 {
     match service.feed(conn, piece, Instant { nanos: moment }) {

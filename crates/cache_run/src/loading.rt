@@ -6,14 +6,14 @@ ghost use Rattle.cache_devices.specs.Watched.{device, failures};
 ghost use Rattle.cache_spaces.specs.Moves.{At};
 ghost use Rattle.cache_spaces.specs.Serves.{SameSpace};
 ghost use Rattle.cache_spaces.specs.Services.{spaces_of};
-ghost use Rattle.cache_spaces.specs.Spaces.{config_of, notices_of, output_of};
+ghost use Rattle.cache_spaces.specs.Spaces.{config_of, notices_of, untaken_output};
 ghost use Rattle.cache_run.specs.Accounts.{Accounts, DropsAll, DropsUnwaited, HasTakenAll, SettlesLoad, is_left};
 ghost use Rattle.cache_run.specs.Causes.{Because};
-ghost use Rattle.cache_run.specs.Connected.{Connected, IsFed, IsLeftBy, IsTaken};
+ghost use Rattle.cache_run.specs.Connected.{Connected, IsFed, IsLeftBy, HasTakenReplies};
 ghost use Rattle.cache_run.specs.Delivered.{AnsweredLoad, IsCause};
 ghost use Rattle.cache_run.specs.Goes.{Goes};
 ghost use Rattle.cache_run.specs.Happened.{Asking, IsGivenUpFor, asking_of};
-ghost use Rattle.cache_run.specs.Loading.{Breaks, Carries, GivesUpLoads, TakesMore};
+ghost use Rattle.cache_run.specs.Loading.{BreaksOff, Carries, GivesUpLoads, TakesMore};
 ghost use Rattle.cache_run.specs.Turns.{HasAsked, HasToldLate};
 ghost use Rattle.cache_run.specs.Worlds.{outside};
 
@@ -27,8 +27,8 @@ use std::io::Write;
 
 /// Gives a load up. One that is not under way stays settled.
 fn give_up(service: &mut Service, conn: Conn, load: u64, moment: u64) -> Result<(), RunError>
-    requires taken { Connected (spaces_of service.old) conn.namespace conn.number IsTaken }
-    ensures ok { OnOk result (At (spaces_of service.old) (spaces_of service.new) conn.namespace (λ was is. (asking : Asking) → IsGivenUpFor (config_of was) asking.answer → Goes conn.number was is (λ s t. AnsweredLoad (config_of was) conn.number load moment asking s t (notices_of was) (notices_of is) (output_of is conn.number)))) }
+    requires taken { Connected (spaces_of service.old) conn.namespace conn.number HasTakenReplies }
+    ensures ok { OnOk result (At (spaces_of service.old) (spaces_of service.new) conn.namespace (λ was is. (asking : Asking) → IsGivenUpFor (config_of was) asking.answer → Goes conn.number was is (λ s t. AnsweredLoad (config_of was) conn.number load moment asking s t (notices_of was) (notices_of is) (untaken_output is conn.number)))) }
     ensures left { OnOk result (Connected (spaces_of service.new) conn.namespace conn.number IsFed) }
     ensures gone { OnOk result (At (spaces_of service.old) (spaces_of service.new) conn.namespace (SettlesLoad load)) }
     ensures err { IfErr result (λ e. At (spaces_of service.old) (spaces_of service.new) conn.namespace SameSpace × IsCause moment e) }
@@ -57,8 +57,8 @@ fn answer(
     outcome: Outcome,
     moment: u64,
 ) -> Result<bool, RunError>
-    requires taken { Connected (spaces_of service.old) conn.namespace conn.number IsTaken }
-    ensures settled { IfOk result (λ settled. settled ≡ true → At (spaces_of service.old) (spaces_of service.new) conn.namespace (λ was is. (key : List ℕ) → Goes conn.number was is (λ s t. AnsweredLoad (config_of was) conn.number load moment (asking_of key (Some outcome)) s t (notices_of was) (notices_of is) (output_of is conn.number)))) }
+    requires taken { Connected (spaces_of service.old) conn.namespace conn.number HasTakenReplies }
+    ensures settled { IfOk result (λ settled. settled ≡ true → At (spaces_of service.old) (spaces_of service.new) conn.namespace (λ was is. (key : List ℕ) → Goes conn.number was is (λ s t. AnsweredLoad (config_of was) conn.number load moment (asking_of key (Some outcome)) s t (notices_of was) (notices_of is) (untaken_output is conn.number)))) }
     ensures refused { IfOk result (λ settled. settled ≡ false → At (spaces_of service.old) (spaces_of service.new) conn.namespace (λ was is. SameSpace was is × (is_some (refusal_of_outcome (config_of was) outcome) ≡ true))) }
     ensures left { IfOk result (λ settled. settled ≡ true → Connected (spaces_of service.new) conn.namespace conn.number IsFed) }
     ensures gone { IfOk result (λ settled. settled ≡ true → At (spaces_of service.old) (spaces_of service.new) conn.namespace (SettlesLoad load)) }
@@ -90,8 +90,8 @@ fn settle(
     said: Option<Outcome>,
     moment: u64,
 ) -> Result<(), RunError>
-    requires taken { Connected (spaces_of service.old) conn.namespace conn.number IsTaken }
-    ensures ok { OnOk result (At (spaces_of service.old) (spaces_of service.new) conn.namespace (λ was is. (key : List ℕ) → Goes conn.number was is (λ s t. AnsweredLoad (config_of was) conn.number load moment (asking_of key said) s t (notices_of was) (notices_of is) (output_of is conn.number)))) }
+    requires taken { Connected (spaces_of service.old) conn.namespace conn.number HasTakenReplies }
+    ensures ok { OnOk result (At (spaces_of service.old) (spaces_of service.new) conn.namespace (λ was is. (key : List ℕ) → Goes conn.number was is (λ s t. AnsweredLoad (config_of was) conn.number load moment (asking_of key said) s t (notices_of was) (notices_of is) (untaken_output is conn.number)))) }
     ensures left { OnOk result (Connected (spaces_of service.new) conn.namespace conn.number IsFed) }
     ensures gone { OnOk result (At (spaces_of service.old) (spaces_of service.new) conn.namespace (SettlesLoad load)) }
     ensures err { IfErr result (λ e. At (spaces_of service.old) (spaces_of service.new) conn.namespace SameSpace × IsCause moment e) }
@@ -115,9 +115,9 @@ fn settle_load(
     said: Option<Outcome>,
     moment: u64,
 ) -> Result<Vec<u8>, RunError>
-    requires taken { Connected (spaces_of service.old) conn.namespace conn.number IsTaken }
+    requires taken { Connected (spaces_of service.old) conn.namespace conn.number HasTakenReplies }
     ensures ok { IfOk result (λ text. (key : List ℕ) → At (spaces_of service.old) (spaces_of service.new) conn.namespace (λ was is. Goes conn.number was is (λ s t. AnsweredLoad (config_of was) conn.number load moment (asking_of key said) s t (notices_of was) (notices_of is) text.items))) }
-    ensures taken { OnOk result (Connected (spaces_of service.new) conn.namespace conn.number IsTaken) }
+    ensures taken { OnOk result (Connected (spaces_of service.new) conn.namespace conn.number HasTakenReplies) }
     ensures gone { OnOk result (At (spaces_of service.old) (spaces_of service.new) conn.namespace (SettlesLoad load)) }
     ensures err { IfErr result (λ e. At (spaces_of service.old) (spaces_of service.new) conn.namespace SameSpace × IsCause moment e) }
 {
@@ -137,11 +137,11 @@ fn settle_last<W: Write, C: Clock, L: Loader>(
     clock: &mut C,
     loader: &mut L,
 ) -> Result<(), RunError>
-    requires taken { Connected (spaces_of service.old) conn.namespace conn.number IsTaken }
+    requires taken { Connected (spaces_of service.old) conn.namespace conn.number HasTakenReplies }
     requires some { taken.old.items ≢ [] }
     ensures goes { (remaining : Option (List ℕ)) → MatchResult result
         (λ done. Carries C.reads L.loads (spaces_of service.old) (spaces_of service.new) conn.namespace conn.number (outside remaining (W.contents (device writer.old)) clock.old loader.old) (outside remaining (W.contents (device writer.new)) clock.new loader.new) taken.old.items taken.new.items)
-        (λ e. Breaks C.reads L.loads (spaces_of service.old) (spaces_of service.new) conn.namespace conn.number (outside remaining (W.contents (device writer.old)) clock.old loader.old) (outside remaining (W.contents (device writer.new)) clock.new loader.new) taken.old.items e) }
+        (λ e. BreaksOff C.reads L.loads (spaces_of service.old) (spaces_of service.new) conn.namespace conn.number (outside remaining (W.contents (device writer.old)) clock.old loader.old) (outside remaining (W.contents (device writer.new)) clock.new loader.new) taken.old.items e) }
     ensures left { Connected (spaces_of service.new) conn.namespace conn.number (IsLeftBy result) }
     ensures accounted { At (spaces_of service.old) (spaces_of service.new) conn.namespace (λ was is. Accounts was is taken.old.items taken.new.items) }
     ensures asked { HasAsked L.loads loader.old 1 loader.new }
@@ -170,11 +170,11 @@ fn settle_next<W: Write, C: Clock, L: Loader>(
     clock: &mut C,
     loader: &mut L,
 ) -> Result<(), RunError>
-    requires taken { Connected (spaces_of service.old) conn.namespace conn.number IsTaken }
+    requires taken { Connected (spaces_of service.old) conn.namespace conn.number HasTakenReplies }
     requires some { taken.old.items ≢ [] }
     ensures goes { (remaining : Option (List ℕ)) → MatchResult result
         (λ done. Carries C.reads L.loads (spaces_of service.old) (spaces_of service.new) conn.namespace conn.number (outside remaining (W.contents (device writer.old)) clock.old loader.old) (outside remaining (W.contents (device writer.new)) clock.new loader.new) taken.old.items taken.new.items)
-        (λ e. Breaks C.reads L.loads (spaces_of service.old) (spaces_of service.new) conn.namespace conn.number (outside remaining (W.contents (device writer.old)) clock.old loader.old) (outside remaining (W.contents (device writer.new)) clock.new loader.new) taken.old.items e) }
+        (λ e. BreaksOff C.reads L.loads (spaces_of service.old) (spaces_of service.new) conn.namespace conn.number (outside remaining (W.contents (device writer.old)) clock.old loader.old) (outside remaining (W.contents (device writer.new)) clock.new loader.new) taken.old.items e) }
     ensures left { Connected (spaces_of service.new) conn.namespace conn.number (IsLeftBy result) }
     ensures accounted { At (spaces_of service.old) (spaces_of service.new) conn.namespace (λ was is. Accounts was is taken.old.items taken.new.items) }
     ensures asked { HasAsked L.loads loader.old 1 loader.new }
@@ -195,9 +195,9 @@ fn settle_next<W: Write, C: Clock, L: Loader>(
 
 /// Takes the loads of a namespace that have gone out, where none that was taken is left.
 fn take_more(service: &mut Service, conn: Conn, taken: &mut Vec<(LoadId, Bytes)>)
-    requires taken { Connected (spaces_of service.old) conn.namespace conn.number IsTaken }
+    requires taken { Connected (spaces_of service.old) conn.namespace conn.number HasTakenReplies }
     ensures same { At (spaces_of service.old) (spaces_of service.new) conn.namespace (λ was is. TakesMore was is taken.old.items taken.new.items) }
-    ensures taken { Connected (spaces_of service.new) conn.namespace conn.number IsTaken }
+    ensures taken { Connected (spaces_of service.new) conn.namespace conn.number HasTakenReplies }
     ensures accounted { At (spaces_of service.old) (spaces_of service.new) conn.namespace (λ was is. Accounts was is taken.old.items taken.new.items) }
     ensures all { taken.new.items ≡ [] → At (spaces_of service.old) (spaces_of service.new) conn.namespace HasTakenAll }
 {
@@ -219,10 +219,10 @@ pub fn settle_loads<W: Write, C: Clock, L: Loader>(
     clock: &mut C,
     loader: &mut L,
 ) -> Result<(), RunError>
-    requires taken { Connected (spaces_of service.old) conn.namespace conn.number IsTaken }
+    requires taken { Connected (spaces_of service.old) conn.namespace conn.number HasTakenReplies }
     ensures goes { (remaining : Option (List ℕ)) → MatchResult result
         (λ done. Carries C.reads L.loads (spaces_of service.old) (spaces_of service.new) conn.namespace conn.number (outside remaining (W.contents (device writer.old)) clock.old loader.old) (outside remaining (W.contents (device writer.new)) clock.new loader.new) taken.old.items taken.new.items)
-        (λ e. Breaks C.reads L.loads (spaces_of service.old) (spaces_of service.new) conn.namespace conn.number (outside remaining (W.contents (device writer.old)) clock.old loader.old) (outside remaining (W.contents (device writer.new)) clock.new loader.new) taken.old.items e) }
+        (λ e. BreaksOff C.reads L.loads (spaces_of service.old) (spaces_of service.new) conn.namespace conn.number (outside remaining (W.contents (device writer.old)) clock.old loader.old) (outside remaining (W.contents (device writer.new)) clock.new loader.new) taken.old.items e) }
     ensures left { Connected (spaces_of service.new) conn.namespace conn.number (IsLeftBy result) }
     ensures accounted { At (spaces_of service.old) (spaces_of service.new) conn.namespace (λ was is. Accounts was is taken.old.items taken.new.items) }
     ensures all { OnOk result ((taken.new.items ≡ []) × At (spaces_of service.old) (spaces_of service.new) conn.namespace HasTakenAll) }

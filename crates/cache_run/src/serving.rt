@@ -134,12 +134,17 @@ fn serve_with<R: Read, W: Write, C: Clock, L: Loader>(
     }
 }
 
-/// Serves one connection of a namespace, from its opening to the end of its input, where it is closed, or until it has closed.
+/// Serves one connection of a namespace that there is, from its opening to the end of its input, where it is closed, or until it has closed
+/// for what was read. It reads up to 8192 bytes at a time, feeds them at the clock's reading, and writes the replies before it reads on.
+/// Notes stay to be taken.
 ///
 /// Each load that goes out is asked of the loader by its key, and answered with what the loader says; given up where the loader gives no
-/// answer or one that is refused for its bytes or its time. After an error the connection is closed, and then loads that are left are
-/// given up at moment 0, which counts as the latest. Each load under way behind it was under way before it; after an error this is so
-/// where no other connection waits for a load. However it ends, no load is under way behind it where none was before.
+/// answer or one that is refused for its bytes or its time. After an error the connection is closed, and then loads that are left are given
+/// up at moment 0, which counts as the latest. Each load under way behind it was under way before it; after an error this is so where no
+/// other connection waits for a load. However it ends, no load is under way behind it where none was before.
+///
+/// Fails with `Read`, `Write`, `Moment` where the clock told more than 2^63 - 1 nanoseconds, `UsedUp`, or `OutOfMemory`, which is also the
+/// cause where no connection could be opened: then nothing was read or written.
 pub fn run<R: Read, W: Write, C: Clock, L: Loader>(
     service: &mut Service,
     alloc: Global,

@@ -6,8 +6,8 @@ ghost use Rattle.cache_spaces.specs.Moves.{At};
 ghost use Rattle.cache_spaces.specs.Services.{spaces_of};
 ghost use Rattle.cache_run.specs.Accounts.{Accounts, AddsNoLoads};
 ghost use Rattle.cache_run.specs.Causes.{Because};
-ghost use Rattle.cache_run.specs.Connected.{Connected, IsReady, IsTaken};
-ghost use Rattle.cache_run.specs.Loading.{Breaks, Carries};
+ghost use Rattle.cache_run.specs.Connected.{Connected, IsReady, HasTakenReplies};
+ghost use Rattle.cache_run.specs.Loading.{BreaksOff, Carries};
 ghost use Rattle.cache_run.specs.Turns.{HasAsked, HasRead, HasToldLate, LeavesSo, TurnLeavesSo};
 ghost use Rattle.cache_run.specs.Worlds.{outside};
 
@@ -30,7 +30,7 @@ pub enum Progress {
 
 /// Whether a run goes on behind a piece: not where the connection has closed.
 pub fn progress_of(service: &Service, conn: Conn) -> Progress
-    requires taken { Connected (spaces_of service.now) conn.namespace conn.number IsTaken }
+    requires taken { Connected (spaces_of service.now) conn.namespace conn.number HasTakenReplies }
     ensures { (remaining : Option (List ℕ)) → Connected (spaces_of service.now) conn.namespace conn.number (LeavesSo result remaining) }
 {
     match service.closed(conn) {
@@ -57,7 +57,7 @@ pub fn take_turn<R: Read, W: Write, C: Clock, L: Loader>(
         (λ progress. Carries C.reads L.loads (spaces_of service.old) (spaces_of service.new) conn.namespace conn.number
         (outside (R.remaining (device reader.old)) (W.contents (device writer.old)) clock.old loader.old)
         (outside (R.remaining (device reader.new)) (W.contents (device writer.new)) clock.new loader.new) taken.old.items taken.new.items)
-        (λ e. Breaks C.reads L.loads (spaces_of service.old) (spaces_of service.new) conn.namespace conn.number
+        (λ e. BreaksOff C.reads L.loads (spaces_of service.old) (spaces_of service.new) conn.namespace conn.number
         (outside (R.remaining (device reader.old)) (W.contents (device writer.old)) clock.old loader.old)
         (outside (R.remaining (device reader.new)) (W.contents (device writer.new)) clock.new loader.new) taken.old.items e) }
     ensures left { Connected (spaces_of service.new) conn.namespace conn.number (TurnLeavesSo result (R.remaining (device reader.new))) }

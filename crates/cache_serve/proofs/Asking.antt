@@ -16,7 +16,7 @@ use Rattle.audit_receipts.specs.declared.receipt.Receipt.{Receipt}
 use Rattle.cache_run.proofs.Carrying.{askings_more, consumes_more, readings_more, same_consumes}
 use Rattle.cache_run.specs.Carried.{Askings, Readings}
 use Rattle.cache_run.specs.Happened.{Asking}
-use Rattle.cache_serve.specs.Asked.{Asks, AsksOrNot, Attends, Deed, Drops, Feeds, FeedsMost, Grows, HasAsked, HasAskedMost, Idles, IsGivenUpFor, IsOfLoad, Opens, Settles, SettlesSo, Settling, answer_of, asking_of, asks_of, bytes_of, closing_inputs, feed_of, give_up_of, inputs_of, moment_of, number_of, settling_inputs, settlings_of}
+use Rattle.cache_serve.specs.Asked.{Asks, AsksOrNot, ServesConnection, ServedInput, Drops, Feeds, FeedsMost, Grows, HasAskedSome, HasAskedMost, Idles, MayBeGivenUp, IsOfLoad, Opens, Settles, SettlesSo, Settling, answer_input, settling_asking, asks_of, piece_bytes, closing_inputs, feed_input, give_up_input, inputs_of, clock_reading, load_number, settling_inputs, settlings_of}
 use Rattle.cache_serve.specs.Asked.{Fed, Settled, Answered, Dropped, GivenUp}
 use Rattle.cache_shared.specs.Seats.{Gains, SameReceipts, receipt_for, receipts_at}
 use Rattle.cache_spaces.specs.Recorded.{namespace_of}
@@ -72,13 +72,13 @@ opens-one n output conn a b is g = record { first = receipt_for (input.Open n) o
 -- ---- what a loader is asked
 
 module _ {D : Type 0} (loads : D → List ℕ → Option Outcome → D → Type 0) where
-  pub asked-none : (d : D) → HasAsked loads d d
+  pub asked-none : (d : D) → HasAskedSome loads d d
   asked-none d = ([], refl)
 
-  pub asked-one : (d e : D) (key : List ℕ) (answer : Option Outcome) → loads d key answer e → HasAsked loads d e
+  pub asked-one : (d e : D) (key : List ℕ) (answer : Option Outcome) → loads d key answer e → HasAskedSome loads d e
   asked-one d e key answer h = (record { key = key; answer = answer } ∷ [], (e, h, refl))
 
-  pub asked-more : (d e f : D) → HasAsked loads d e → HasAsked loads e f → HasAsked loads d f
+  pub asked-more : (d e f : D) → HasAskedSome loads d e → HasAskedSome loads e f → HasAskedSome loads d f
   asked-more d e f p q = (p.0 ++ q.0, askings_more loads d p.0 e q.0 f p.1 q.1)
 
   pub most-asked-none : (d : D) (i j : ℕ) → j ≡ i → HasAskedMost loads d d i j
@@ -95,7 +95,7 @@ module _ {D : Type 0} (loads : D → List ℕ → Option Outcome → D → Type 
   }
 
   -- what was asked before counts as well
-  pub most-asked-all : (d e f : D) (i j : ℕ) → HasAsked loads d e → HasAskedMost loads e f i j → HasAskedMost loads d f i j
+  pub most-asked-all : (d e f : D) (i j : ℕ) → HasAskedSome loads d e → HasAskedMost loads e f i j → HasAskedMost loads d f i j
   most-asked-all d e f i j p q = record {
     asks = p.0 ++ q.asks;
     loaded = askings_more loads d p.0 e q.asks f p.1 q.loaded;
@@ -106,12 +106,12 @@ module _ {D : Type 0} (loads : D → List ℕ → Option Outcome → D → Type 
 
 module _ (Unfit : ℕ → Outcome → Type 0) (n moment number : ℕ) (a b : Lists) where
   -- an answer was taken, or dropped
-  pub settles-answer : (key : List ℕ) (outcome : Outcome) → AsksOrNot n a b (answer_of n moment number outcome) → SettlesSo n a b Unfit moment number (record { key = key; answer = Some outcome })
+  pub settles-answer : (key : List ℕ) (outcome : Outcome) → AsksOrNot n a b (answer_input n moment number outcome) → SettlesSo n a b Unfit moment number (record { key = key; answer = Some outcome })
   settles-answer key outcome (inl none) = (record { settling = Dropped number (record { key = key; answer = Some outcome }); of = refl; numbered = refl; asks = none }, tt)
   settles-answer key outcome (inr asks) = (record { settling = Answered number key outcome; of = refl; numbered = refl; asks = asks }, tt)
 
   -- a give-up was taken, or dropped, where nothing was said, or what the service refuses
-  pub settles-give-up : (asking : Asking) → IfSome asking.answer (Unfit n) → AsksOrNot n a b (give_up_of n moment number) → SettlesSo n a b Unfit moment number asking
+  pub settles-give-up : (asking : Asking) → IfSome asking.answer (Unfit n) → AsksOrNot n a b (give_up_input n moment number) → SettlesSo n a b Unfit moment number asking
   settles-give-up asking unfit (inl none) = (record { settling = Dropped number asking; of = refl; numbered = refl; asks = none }, tt)
   settles-give-up asking unfit (inr asks) = (record { settling = GivenUp number asking; of = refl; numbered = refl; asks = asks }, unfit)
 
@@ -120,13 +120,13 @@ module _ (Unfit : ℕ → Outcome → Type 0) (n moment number : ℕ) (a b : Lis
   settles-said key said answer is s = subst (λ (o : Option Outcome). SettlesSo n a b Unfit moment number (record { key = key; answer = o })) (sym is) s
 
 -- a give-up was taken, or dropped
-pub settles-dropped : (n moment number : ℕ) (a b : Lists) (asking : Asking) → AsksOrNot n a b (give_up_of n moment number) → Settles n a b moment number asking
+pub settles-dropped : (n moment number : ℕ) (a b : Lists) (asking : Asking) → AsksOrNot n a b (give_up_input n moment number) → Settles n a b moment number asking
 settles-dropped n moment number a b asking (inl none) = record { settling = Dropped number asking; of = refl; numbered = refl; asks = none }
 settles-dropped n moment number a b asking (inr asks) = record { settling = GivenUp number asking; of = refl; numbered = refl; asks = asks }
 
 -- its load had gone out, and has that key
 of-load : (WentOut : ℕ → ℕ → List ℕ → Type 0) (n moment number : ℕ) (a b : Lists) (key : List ℕ) (answer : Option Outcome) (s : Settles n a b moment number (record { key = key; answer = answer })) → WentOut n number key → IsOfLoad WentOut n s.settling
-of-load WentOut n moment number a b key answer s out = subst (λ (asking : Asking). WentOut n (number_of s.settling) asking.key) (sym s.of) (subst (λ m. WentOut n m key) (sym s.numbered) out)
+of-load WentOut n moment number a b key answer s out = subst (λ (asking : Asking). WentOut n (load_number s.settling) asking.key) (sym s.of) (subst (λ m. WentOut n m key) (sym s.numbered) out)
 
 -- so it is behind what asked nothing
 pub behind-none : (n : ℕ) (a b c : Lists) (i : Input) → SameReceipts a b → AsksOrNot n b c i → AsksOrNot n a c i
@@ -155,7 +155,7 @@ module _ {D : Type 0} (WentOut : ℕ → ℕ → List ℕ → Type 0) (loads : D
         xs ++ ys,
         record {
           asks = subst (Asks n a c) (sym (flat_map-append (settling_inputs n 0) xs ys)) (asks-more n a b c (flat_map (settling_inputs n 0) xs) (flat_map (settling_inputs n 0) ys) p.1.asks q.1.asks);
-          loaded = subst (λ ks. Askings loads d ks f) (sym (map-append asking_of xs ys)) (askings_more loads d (map asking_of xs) e (map asking_of ys) f p.1.loaded q.1.loaded);
+          loaded = subst (λ ks. Askings loads d ks f) (sym (map-append settling_asking xs ys)) (askings_more loads d (map settling_asking xs) e (map settling_asking ys) f p.1.loaded q.1.loaded);
           out = All-append (IsOfLoad WentOut n) xs ys p.1.out q.1.out;
         },
       )
@@ -166,8 +166,8 @@ module _ {K D : Type 0} (WentOut : ℕ → ℕ → List ℕ → Type 0) (Unfit :
   none-settled : All (IsOfLoad WentOut conn.namespace) []
   none-settled = All-nil (IsOfLoad WentOut conn.namespace)
 
-  none-given-up : All (IsGivenUpFor Unfit conn.namespace) []
-  none-given-up = All-nil (IsGivenUpFor Unfit conn.namespace)
+  none-given-up : All (MayBeGivenUp Unfit conn.namespace) []
+  none-given-up = All-nil (MayBeGivenUp Unfit conn.namespace)
 
   -- nothing was done
   pub feeds-none : (a b : Lists) (r q : Option (List ℕ)) (k : K) (d : D) → SameReceipts a b → Consumes r q [] → Feeds WentOut Unfit reads loads a b r q k k d d conn [] []
@@ -177,7 +177,7 @@ module _ {K D : Type 0} (WentOut : ℕ → ℕ → List ℕ → Type 0) (Unfit :
   most-none a b r q k d same read = record { lost = []; late = []; feeds = feeds-none a b r q k d same read; few = omega arith }
 
   -- one piece was fed
-  pub feeds-one : (a b : Lists) (r q : Option (List ℕ)) (k l : K) (d : D) (bytes : List ℕ) (moment : ℕ) → Asks conn.namespace a b (feed_of conn (record { bytes = bytes; moment = moment }) ∷ []) → Consumes r q bytes → reads k moment l
+  pub feeds-one : (a b : Lists) (r q : Option (List ℕ)) (k l : K) (d : D) (bytes : List ℕ) (moment : ℕ) → Asks conn.namespace a b (feed_input conn (record { bytes = bytes; moment = moment }) ∷ []) → Consumes r q bytes → reads k moment l
       → Feeds WentOut Unfit reads loads a b r q k l d d conn [] []
   feeds-one a b r q k l d bytes moment asks read told = record {
     deeds = Fed (record { bytes = bytes; moment = moment }) ∷ [];
@@ -199,14 +199,14 @@ module _ {K D : Type 0} (WentOut : ℕ → ℕ → List ℕ → Type 0) (Unfit :
     told = (l, told, refl);
     loaded = (e, subst (λ (x : Asking). loads d x.key x.answer e) (sym s.0.of) h, refl);
     out = subst (λ m. All (IsOfLoad WentOut m) (s.0.settling ∷ [])) (sym here) (All-cons (IsOfLoad WentOut n) s.0.settling [] (of-load WentOut n moment number a b key answer s.0 out) (All-nil (IsOfLoad WentOut n)));
-    fit = subst (λ m. All (IsGivenUpFor Unfit m) (s.0.settling ∷ [])) (sym here) (All-cons (IsGivenUpFor Unfit n) s.0.settling [] s.1 (All-nil (IsGivenUpFor Unfit n)));
+    fit = subst (λ m. All (MayBeGivenUp Unfit m) (s.0.settling ∷ [])) (sym here) (All-cons (MayBeGivenUp Unfit n) s.0.settling [] s.1 (All-nil (MayBeGivenUp Unfit n)));
   }
 
   pub most-so : (a b : Lists) (r q : Option (List ℕ)) (k l : K) (d e : D) → Feeds WentOut Unfit reads loads a b r q k l d e conn [] [] → FeedsMost WentOut Unfit reads loads a b r q k l d e conn
   most-so a b r q k l d e f = record { lost = []; late = []; feeds = f; few = omega arith }
 
   -- one piece was fed, or refused
-  pub most-one : (a b : Lists) (r q : Option (List ℕ)) (k l : K) (d : D) (bytes : List ℕ) (moment : ℕ) → AsksOrNot conn.namespace a b (feed_of conn (record { bytes = bytes; moment = moment })) → Consumes r q bytes → reads k moment l
+  pub most-one : (a b : Lists) (r q : Option (List ℕ)) (k l : K) (d : D) (bytes : List ℕ) (moment : ℕ) → AsksOrNot conn.namespace a b (feed_input conn (record { bytes = bytes; moment = moment })) → Consumes r q bytes → reads k moment l
       → FeedsMost WentOut Unfit reads loads a b r q k l d d conn
   most-one a b r q k l d bytes moment (inl none) read told = record {
     lost = bytes;
@@ -221,12 +221,12 @@ module _ {K D : Type 0} (WentOut : ℕ → ℕ → List ℕ → Type 0) (Unfit :
   feeds-more a b c r q s k l m d e f lost late x y =
       let xs = x.deeds in
       let ys = y.deeds in
-      let bytes : List Deed → List ℕ = λ ds. flat_map bytes_of ds in
-      let moments : List Deed → List ℕ = λ ds. map moment_of ds in
+      let bytes : List ServedInput → List ℕ = λ ds. flat_map piece_bytes ds in
+      let moments : List ServedInput → List ℕ = λ ds. map clock_reading ds in
       let read : (bytes xs ++ []) ++ (bytes ys ++ lost) ≡ bytes (xs ++ ys) ++ lost =
-      ap (λ z. z ++ (bytes ys ++ lost)) (append-nil (bytes xs)) ∙ sym (append_assoc (bytes xs) (bytes ys) lost) ∙ ap (λ z. z ++ lost) (sym (flat_map-append bytes_of xs ys)) in
+      ap (λ z. z ++ (bytes ys ++ lost)) (append-nil (bytes xs)) ∙ sym (append_assoc (bytes xs) (bytes ys) lost) ∙ ap (λ z. z ++ lost) (sym (flat_map-append piece_bytes xs ys)) in
       let times : (moments xs ++ []) ++ (moments ys ++ late) ≡ moments (xs ++ ys) ++ late =
-      ap (λ z. z ++ (moments ys ++ late)) (append-nil (moments xs)) ∙ sym (append_assoc (moments xs) (moments ys) late) ∙ ap (λ z. z ++ late) (sym (map-append moment_of xs ys)) in
+      ap (λ z. z ++ (moments ys ++ late)) (append-nil (moments xs)) ∙ sym (append_assoc (moments xs) (moments ys) late) ∙ ap (λ z. z ++ late) (sym (map-append clock_reading xs ys)) in
       record {
         deeds = xs ++ ys;
         asks = subst (Asks conn.namespace a c) (sym (flat_map-append (inputs_of conn) xs ys)) (asks-more conn.namespace a b c (flat_map (inputs_of conn) xs) (flat_map (inputs_of conn) ys) x.asks y.asks);
@@ -237,18 +237,18 @@ module _ {K D : Type 0} (WentOut : ℕ → ℕ → List ℕ → Type 0) (Unfit :
             subst (All (IsOfLoad WentOut conn.namespace)) (sym (flat_map-append settlings_of xs ys))
             (All-append (IsOfLoad WentOut conn.namespace) (flat_map settlings_of xs) (flat_map settlings_of ys) x.out y.out);
         fit =
-            subst (All (IsGivenUpFor Unfit conn.namespace)) (sym (flat_map-append settlings_of xs ys))
-            (All-append (IsGivenUpFor Unfit conn.namespace) (flat_map settlings_of xs) (flat_map settlings_of ys) x.fit y.fit);
+            subst (All (MayBeGivenUp Unfit conn.namespace)) (sym (flat_map-append settlings_of xs ys))
+            (All-append (MayBeGivenUp Unfit conn.namespace) (flat_map settlings_of xs) (flat_map settlings_of ys) x.fit y.fit);
       }
 
   pub most-more : (a b c : Lists) (r q s : Option (List ℕ)) (k l m : K) (d e f : D) → Feeds WentOut Unfit reads loads a b r q k l d e conn [] [] → FeedsMost WentOut Unfit reads loads b c q s l m e f conn → FeedsMost WentOut Unfit reads loads a c r s k m d f conn
   most-more a b c r q s k l m d e f x y = record { lost = y.lost; late = y.late; feeds = feeds-more a b c r q s k l m d e f y.lost y.late x y.feeds; few = y.few }
 
   -- opened, fed, and closed or not, with loads behind it
-  pub attends : (n : ℕ) (a b c z o : Lists) (r q : Option (List ℕ)) (k l : K) (d e f : D) (drops : List Settling) → conn.namespace ≡ n → Opens n a b conn → FeedsMost WentOut Unfit reads loads b c r q k l d e conn → AsksOrNot conn.namespace c z (input.Close conn) → Drops n z o WentOut loads e f drops → Attends WentOut Unfit reads loads a o r q k l d f n conn drops
+  pub attends : (n : ℕ) (a b c z o : Lists) (r q : Option (List ℕ)) (k l : K) (d e f : D) (drops : List Settling) → conn.namespace ≡ n → Opens n a b conn → FeedsMost WentOut Unfit reads loads b c r q k l d e conn → AsksOrNot conn.namespace c z (input.Close conn) → Drops n z o WentOut loads e f drops → ServesConnection WentOut Unfit reads loads a o r q k l d f n conn drops
   attends n a b c z o r q k l d e f drops here p x y w = go y
     where
-      whole : (closes : Bool) → Asks conn.namespace c z (closing_inputs conn closes) → Attends WentOut Unfit reads loads a o r q k l d f n conn drops
+      whole : (closes : Bool) → Asks conn.namespace c z (closing_inputs conn closes) → ServesConnection WentOut Unfit reads loads a o r q k l d f n conn drops
       whole closes v =
           let done = flat_map (inputs_of conn) x.feeds.deeds in
           let last = flat_map (settling_inputs n 0) drops in
@@ -268,12 +268,12 @@ module _ {K D : Type 0} (WentOut : ℕ → ℕ → List ℕ → Type 0) (Unfit :
             read = x.feeds.read;
             told = x.feeds.told;
             few = x.few;
-            loaded = askings_more loads d (flat_map asks_of x.feeds.deeds) e (map asking_of drops) f x.feeds.loaded w.loaded;
+            loaded = askings_more loads d (flat_map asks_of x.feeds.deeds) e (map settling_asking drops) f x.feeds.loaded w.loaded;
             out = All-append (IsOfLoad WentOut n) (flat_map settlings_of x.feeds.deeds) drops (subst (λ m. All (IsOfLoad WentOut m) (flat_map settlings_of x.feeds.deeds)) here x.feeds.out) w.out;
-            fit = subst (λ m. All (IsGivenUpFor Unfit m) (flat_map settlings_of x.feeds.deeds)) here x.feeds.fit;
+            fit = subst (λ m. All (MayBeGivenUp Unfit m) (flat_map settlings_of x.feeds.deeds)) here x.feeds.fit;
           }
 
-      go : AsksOrNot conn.namespace c z (input.Close conn) → Attends WentOut Unfit reads loads a o r q k l d f n conn drops
+      go : AsksOrNot conn.namespace c z (input.Close conn) → ServesConnection WentOut Unfit reads loads a o r q k l d f n conn drops
       go (inl none) = whole false none
       go (inr asks) = whole true asks
 

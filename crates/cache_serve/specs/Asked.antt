@@ -27,74 +27,74 @@ pub data Settling : Type 0 where
   Dropped : (number : ℕ) → (asking : Asking) → Settling
 
 -- a piece was fed, or a load was settled when the clock told that moment
-pub data Deed : Type 0 where
-  Fed : (piece : Piece) → Deed
-  Settled : (settling : Settling) → (moment : ℕ) → Deed
+pub data ServedInput : Type 0 where
+  Fed : (piece : Piece) → ServedInput
+  Settled : (settling : Settling) → (moment : ℕ) → ServedInput
 
-abbrev pub feed_of : Conn → Piece → Input
-feed_of conn piece = input.Feed conn piece.bytes (record { nanos = piece.moment })
+abbrev pub feed_input : Conn → Piece → Input
+feed_input conn piece = input.Feed conn piece.bytes (record { nanos = piece.moment })
 
 -- a load of a namespace
-abbrev pub load_in : ℕ → ℕ → LoadId
-load_in namespace number = record { namespace = namespace; number = number }
+abbrev pub load_id : ℕ → ℕ → LoadId
+load_id namespace number = record { namespace = namespace; number = number }
 
-abbrev pub answer_of : ℕ → ℕ → ℕ → Outcome → Input
-answer_of namespace moment number outcome = input.Answer (load_in namespace number) outcome (record { nanos = moment })
+abbrev pub answer_input : ℕ → ℕ → ℕ → Outcome → Input
+answer_input namespace moment number outcome = input.Answer (load_id namespace number) outcome (record { nanos = moment })
 
-abbrev pub give_up_of : ℕ → ℕ → ℕ → Input
-give_up_of namespace moment number = input.GiveUp (load_in namespace number) (record { nanos = moment })
+abbrev pub give_up_input : ℕ → ℕ → ℕ → Input
+give_up_input namespace moment number = input.GiveUp (load_id namespace number) (record { nanos = moment })
 
 -- what the loader was asked, and what it said
-abbrev pub asking_of : Settling → Asking
-asking_of (Answered number key outcome) = record { key = key; answer = Some outcome }
-asking_of (GivenUp number asking) = asking
-asking_of (Dropped number asking) = asking
+abbrev pub settling_asking : Settling → Asking
+settling_asking (Answered number key outcome) = record { key = key; answer = Some outcome }
+settling_asking (GivenUp number asking) = asking
+settling_asking (Dropped number asking) = asking
 
 -- the load for which the loader was asked
-abbrev pub number_of : Settling → ℕ
-number_of (Answered number key outcome) = number
-number_of (GivenUp number asking) = number
-number_of (Dropped number asking) = number
+abbrev pub load_number : Settling → ℕ
+load_number (Answered number key outcome) = number
+load_number (GivenUp number asking) = number
+load_number (Dropped number asking) = number
 
 -- it is of a load of that namespace that had gone out, and the loader was asked by the key of that load
 abbrev pub IsOfLoad : (ℕ → ℕ → List ℕ → Type 0) → ℕ → Settling → Type 0
-IsOfLoad WentOut namespace settling = WentOut namespace (number_of settling) (asking_of settling).key
+IsOfLoad WentOut namespace settling = WentOut namespace (load_number settling) (settling_asking settling).key
 
 -- it is given up only where the loader said nothing, or what it said is refused for its bytes or its time
-abbrev pub IsGivenUpFor : (ℕ → Outcome → Type 0) → ℕ → Settling → Type 0
-IsGivenUpFor Unfit namespace (Answered number key outcome) = Unit {0}
-IsGivenUpFor Unfit namespace (GivenUp number asking) = IfSome asking.answer (Unfit namespace)
-IsGivenUpFor Unfit namespace (Dropped number asking) = Unit {0}
+abbrev pub MayBeGivenUp : (ℕ → Outcome → Type 0) → ℕ → Settling → Type 0
+MayBeGivenUp Unfit namespace (Answered number key outcome) = Unit {0}
+MayBeGivenUp Unfit namespace (GivenUp number asking) = IfSome asking.answer (Unfit namespace)
+MayBeGivenUp Unfit namespace (Dropped number asking) = Unit {0}
 
 -- what is asked of the service at a moment for a load of a namespace
 abbrev pub settling_inputs : ℕ → ℕ → Settling → List Input
-settling_inputs namespace moment (Answered number key outcome) = answer_of namespace moment number outcome ∷ []
-settling_inputs namespace moment (GivenUp number asking) = give_up_of namespace moment number ∷ []
+settling_inputs namespace moment (Answered number key outcome) = answer_input namespace moment number outcome ∷ []
+settling_inputs namespace moment (GivenUp number asking) = give_up_input namespace moment number ∷ []
 settling_inputs namespace moment (Dropped number asking) = []
 
 -- the bytes that were read for it
-abbrev pub bytes_of : Deed → List ℕ
-bytes_of (Fed piece) = piece.bytes
-bytes_of (Settled settling moment) = []
+abbrev pub piece_bytes : ServedInput → List ℕ
+piece_bytes (Fed piece) = piece.bytes
+piece_bytes (Settled settling moment) = []
 
 -- the clock's reading
-abbrev pub moment_of : Deed → ℕ
-moment_of (Fed piece) = piece.moment
-moment_of (Settled settling moment) = moment
+abbrev pub clock_reading : ServedInput → ℕ
+clock_reading (Fed piece) = piece.moment
+clock_reading (Settled settling moment) = moment
 
 -- what the loader was asked
-abbrev pub asks_of : Deed → List Asking
+abbrev pub asks_of : ServedInput → List Asking
 asks_of (Fed piece) = []
-asks_of (Settled settling moment) = asking_of settling ∷ []
+asks_of (Settled settling moment) = settling_asking settling ∷ []
 
 -- the load that was settled
-abbrev pub settlings_of : Deed → List Settling
+abbrev pub settlings_of : ServedInput → List Settling
 settlings_of (Fed piece) = []
 settlings_of (Settled settling moment) = settling ∷ []
 
 -- what was asked of the service
-abbrev pub inputs_of : Conn → Deed → List Input
-inputs_of conn (Fed piece) = feed_of conn piece ∷ []
+abbrev pub inputs_of : Conn → ServedInput → List Input
+inputs_of conn (Fed piece) = feed_input conn piece ∷ []
 inputs_of conn (Settled settling moment) = settling_inputs conn.namespace moment settling
 
 -- a closing, or none
@@ -102,8 +102,8 @@ abbrev pub closing_inputs : Conn → Bool → List Input
 closing_inputs conn closes = if closes then input.Close conn ∷ [] else []
 
 -- a loader was asked for some keys, and its answers may come of them
-abbrev pub HasAsked : {D : Type 0} → (D → List ℕ → Option Outcome → D → Type 0) → D → D → Type 0
-HasAsked loads d e = (asks : List Asking) × Askings loads d asks e
+abbrev pub HasAskedSome : {D : Type 0} → (D → List ℕ → Option Outcome → D → Type 0) → D → D → Type 0
+HasAskedSome loads d e = (asks : List Asking) × Askings loads d asks e
 
 -- no more inputs were counted than it was asked for keys
 pub record HasAskedMost {D : Type 0} (loads : D → List ℕ → Option Outcome → D → Type 0) (d e : D) (inputs later : ℕ) : Type 0 where
@@ -137,32 +137,32 @@ module _ (namespace : ℕ) (before after : List (Vec Receipt Global)) where
   -- by what is asked at that moment for the load of that number, for which the loader was asked so
   pub record Settles (moment number : ℕ) (asking : Asking) : Type 0 where
     pub settling : Settling
-    pub of : asking_of settling ≡ asking
-    pub numbered : number_of settling ≡ number
+    pub of : settling_asking settling ≡ asking
+    pub numbered : load_number settling ≡ number
     pub asks : Asks (settling_inputs namespace moment settling)
 
   -- so it is, and it is given up only where it may be
   abbrev pub SettlesSo : (ℕ → Outcome → Type 0) → ℕ → ℕ → Asking → Type 0
-  SettlesSo Unfit moment number asking = (settles : Settles moment number asking) × IsGivenUpFor Unfit namespace settles.settling
+  SettlesSo Unfit moment number asking = (settles : Settles moment number asking) × MayBeGivenUp Unfit namespace settles.settling
 
   -- A loader was asked for loads that had gone out, one after another, by their keys; they were settled at moment 0, which counts as the
   -- latest.
   pub record Drops {D : Type 0} (WentOut : ℕ → ℕ → List ℕ → Type 0) (loads : D → List ℕ → Option Outcome → D → Type 0) (d e : D) (drops : List Settling) : Type 0 where
     pub asks : Asks (flat_map (settling_inputs namespace 0) drops)
-    pub loaded : Askings loads d (map asking_of drops) e
+    pub loaded : Askings loads d (map settling_asking drops) e
     pub out : All (IsOfLoad WentOut namespace) drops
 
 module _ {K D : Type 0} (WentOut : ℕ → ℕ → List ℕ → Type 0) (Unfit : ℕ → Outcome → Type 0) (reads : K → ℕ → K → Type 0) (loads : D → List ℕ → Option Outcome → D → Type 0) (before after : List (Vec Receipt Global)) (remaining later : Option (List ℕ)) (k l : K) (d e : D) where
   -- A connection was fed, and loads of its namespace that had gone out were settled. The pieces, and then lost, were read, the clock told the
   -- moments, and then late, and the loader was asked by the keys of the loads.
   pub record Feeds (conn : Conn) (lost late : List ℕ) : Type 0 where
-    pub deeds : List Deed
+    pub deeds : List ServedInput
     pub asks : Asks conn.namespace before after (flat_map (inputs_of conn) deeds)
-    pub read : Consumes remaining later (flat_map bytes_of deeds ++ lost)
-    pub told : Readings reads k (map moment_of deeds ++ late) l
+    pub read : Consumes remaining later (flat_map piece_bytes deeds ++ lost)
+    pub told : Readings reads k (map clock_reading deeds ++ late) l
     pub loaded : Askings loads d (flat_map asks_of deeds) e
     pub out : All (IsOfLoad WentOut conn.namespace) (flat_map settlings_of deeds)
-    pub fit : All (IsGivenUpFor Unfit conn.namespace) (flat_map settlings_of deeds)
+    pub fit : All (MayBeGivenUp Unfit conn.namespace) (flat_map settlings_of deeds)
 
   -- so it was, but perhaps for a last piece, which was refused
   pub record FeedsMost (conn : Conn) : Type 0 where
@@ -174,23 +174,23 @@ module _ {K D : Type 0} (WentOut : ℕ → ℕ → List ℕ → Type 0) (Unfit :
   -- A connection of that namespace was opened, fed with what was read but perhaps for a last piece, and closed or not. Between its pieces
   -- loads of the namespace were settled, and those of drops behind the closing. Each of them had gone out, and the loader was asked by its
   -- key. One between the pieces is given up only where it may be. Nothing else was asked.
-  pub record Attends (namespace : ℕ) (conn : Conn) (drops : List Settling) : Type 0 where
+  pub record ServesConnection (namespace : ℕ) (conn : Conn) (drops : List Settling) : Type 0 where
     pub first : Receipt
     pub opening : first.input ≡ input.Open namespace
     pub opened : first.output ≡ Opened conn
     pub rest : List Receipt
     pub grows : Grows namespace before after (first ∷ rest)
-    pub deeds : List Deed
+    pub deeds : List ServedInput
     pub closes : Bool
     pub asked : map (λ receipt. receipt.input) rest ≡ (flat_map (inputs_of conn) deeds ++ closing_inputs conn closes) ++ flat_map (settling_inputs namespace 0) drops
     pub lost : List ℕ
     pub late : List ℕ
-    pub read : Consumes remaining later (flat_map bytes_of deeds ++ lost)
-    pub told : Readings reads k (map moment_of deeds ++ late) l
+    pub read : Consumes remaining later (flat_map piece_bytes deeds ++ lost)
+    pub told : Readings reads k (map clock_reading deeds ++ late) l
     pub few : length late ≤ 1
-    pub loaded : Askings loads d (flat_map asks_of deeds ++ map asking_of drops) e
+    pub loaded : Askings loads d (flat_map asks_of deeds ++ map settling_asking drops) e
     pub out : All (IsOfLoad WentOut namespace) (flat_map settlings_of deeds ++ drops)
-    pub fit : All (IsGivenUpFor Unfit namespace) (flat_map settlings_of deeds)
+    pub fit : All (MayBeGivenUp Unfit namespace) (flat_map settlings_of deeds)
 
   -- nothing was asked, read or told
   pub record Idles : Type 0 where
@@ -200,5 +200,5 @@ module _ {K D : Type 0} (WentOut : ℕ → ℕ → List ℕ → Type 0) (Unfit :
     pub unasked : e ≡ d
 
   -- it was attended, or nothing was done
-  abbrev pub AttendsOrNot : ℕ → Conn → Type 0
-  AttendsOrNot namespace conn = ((drops : List Settling) × Attends namespace conn drops) ⊎ Idles
+  abbrev pub ServesConnectionOrNot : ℕ → Conn → Type 0
+  ServesConnectionOrNot namespace conn = ((drops : List Settling) × ServesConnection namespace conn drops) ⊎ Idles

@@ -12,24 +12,24 @@ AllAre IsTaken [] = Unit {0}
 AllAre IsTaken (text ∷ texts) = IsTaken text × AllAre IsTaken texts
 
 -- so many texts were taken, and written one behind the other, but for the rest
-pub record Writes (IsTaken : List ℕ → Type 0) (count : ℕ) (before after : Option (List ℕ)) (rest : List ℕ) : Type 0 where
+pub record WritesTexts (IsTaken : List ℕ → Type 0) (count : ℕ) (before after : Option (List ℕ)) (rest : List ℕ) : Type 0 where
   pub texts : List (List ℕ)
   pub number : length texts ≡ count
   pub taken : AllAre IsTaken texts
   pub sent : SentBut rest (concat texts) before after
 
 -- for each input that was taken a text was written whole
-pub record Answers (IsTaken : List ℕ → Type 0) (inputs later : ℕ) (before after : Option (List ℕ)) : Type 0 where
+pub record WritesAll (IsTaken : List ℕ → Type 0) (inputs later : ℕ) (before after : Option (List ℕ)) : Type 0 where
   pub count : ℕ
   pub counted : later ≤ inputs + count
-  pub writes : Writes IsTaken count before after []
+  pub writes : WritesTexts IsTaken count before after []
 
 -- so it was for all inputs but the last one; the last text may be cut
-pub record Breaks (IsTaken : List ℕ → Type 0) (inputs later : ℕ) (before after : Option (List ℕ)) : Type 0 where
+pub record WritesThenFails (IsTaken : List ℕ → Type 0) (inputs later : ℕ) (before after : Option (List ℕ)) : Type 0 where
   pub count : ℕ
   pub rest : List ℕ
   pub counted : later ≤ inputs + count + 1
-  pub writes : Writes IsTaken count before after rest
+  pub writes : WritesTexts IsTaken count before after rest
 
 module _ {C : Type 0} (service : C → Service) (events : C → ℕ) (untaken : C → Conn → List ℕ) where
   -- The texts are the replies of one connection of that namespace, each taken from a service to which some journals that obey lead. There is
@@ -40,4 +40,4 @@ module _ {C : Type 0} (service : C → Service) (events : C → ℕ) (untaken : 
     pub asked : Asked conn
     pub count : ℕ
     pub counted : later ≤ inputs + count + spared
-    pub writes : Writes (λ text. ∥ WereUntaken service events untaken conn text ∥₁) count before after rest
+    pub writes : WritesTexts (λ text. ∥ WereUntaken service events untaken conn text ∥₁) count before after rest

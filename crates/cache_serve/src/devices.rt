@@ -4,16 +4,16 @@ use cache_devices::{Clock, Loader};
 use std::alloc::Global;
 use std::sync::Wait;
 
-/// Who is told the notes of a connection's namespace.
+/// Who is told the notes of a connection's namespace, by the thread that serves it.
 pub trait Teller: Drop {
-    /// Whether notes are told. Where they are not, they stay to be taken.
+    /// Whether notes are told to it. Where they are not, they stay to be taken (`SharedService::next_notice`).
     fn is_told(&self) -> bool;
 
-    /// Tells a note.
+    /// Tells it a note, which comes to it alone. What goes wrong is its own to deal with.
     fn tell<R: Wait>(&mut self, rt: &R, note: &Note);
 }
 
-/// Nobody: the notes stay to be taken.
+/// Nobody is told: the notes stay to be taken (`SharedService::next_notice`).
 #[derive(Clone, Copy, Drop)]
 pub struct Untold;
 
@@ -28,7 +28,7 @@ impl Teller for Untold {
     }
 }
 
-/// Makes what a connection needs.
+/// Makes what each connection that `host` serves needs.
 pub trait Devices {
     type Clock: Clock + Drop + Send + 'static;
 
@@ -36,6 +36,6 @@ pub trait Devices {
 
     type Teller: Teller + Send + 'static;
 
-    /// A clock, a loader and a teller for one connection, if they can be had.
+    /// A clock, a loader and a teller for one connection. None closes that connection alone.
     fn make(&self, alloc: Global) -> Option<(Self::Clock, Self::Loader, Self::Teller)>;
 }

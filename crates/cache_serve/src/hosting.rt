@@ -11,10 +11,13 @@ use std::sync::{Arc, Wait};
 use std::thread;
 use std::thread::{JoinHandle, SpawnError, Threads};
 
-/// The seats of the connections that were served, and whether an accept failed.
+/// What `host` leaves: the seats of the connections that were served, and whether an accept failed.
 #[derive(Drop)]
 pub struct Hosted<L: Seating> {
+    /// The seats, in no order; one serves many connections, one after another. One that no memory could keep is missing, so that
+    /// `SharedService::finish` then hands all back.
     pub seats: Vec<Seat<L>>,
+    /// Whether an accept failed, which ended it early.
     pub failed: bool,
 }
 
@@ -70,8 +73,8 @@ impl<L: Seating, C: Takings, K: Clock + Drop, D: Loader + Drop, T: Teller> Work<
     }
 }
 
-/// Serves the connections that a listener accepts, each on a thread of its own with devices and a seat of its own, `limit` of them or
-/// without end, and joins the threads. An accept that fails ends it early.
+/// Serves the connections that a listener accepts as connections of that namespace, by `serve_and_tell`, each on a thread of its own with
+/// devices and a seat of its own; `limit` of them, or without one 2^64 - 1; and joins the threads. An accept that fails ends it early.
 ///
 /// Where devices, seat or memory cannot be had, that connection alone is closed; where no thread can be made, it is served here.
 pub fn host<L, C, D, R>(

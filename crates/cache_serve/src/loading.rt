@@ -4,11 +4,11 @@ ghost use Rattle.audit_model.specs.declared.input.Input.TheVariants as asked;
 ghost use Rattle.cache_devices.specs.Failures.{HasFailed};
 ghost use Rattle.cache_devices.specs.Watched.{device, failures};
 ghost use Rattle.cache_run.specs.Turns.{HasToldLate};
-ghost use Rattle.cache_serve.specs.Asked.{AsksOrNot, Drops, Feeds, FeedsMost, HasAsked, HasAskedMost, SettlesSo, Settling, answer_of, give_up_of};
+ghost use Rattle.cache_serve.specs.Asked.{AsksOrNot, Drops, Feeds, FeedsMost, HasAskedSome, HasAskedMost, SettlesSo, Settling, answer_input, give_up_input};
 ghost use Rattle.cache_serve.specs.Full.{HasUsedUp};
 ghost use Rattle.cache_serve.specs.Out.{AreOut, HadGoneOut};
 ghost use Rattle.cache_serve.specs.Unfit.{IsUnfit};
-ghost use Rattle.cache_serve.specs.Written.{Answers, Breaks};
+ghost use Rattle.cache_serve.specs.Written.{WritesAll, WritesThenFails};
 ghost use Rattle.cache_shared.specs.Seats.{SameReceipts};
 ghost use Rattle.cache_shared.specs.Untaken.{WereUntaken};
 
@@ -37,7 +37,7 @@ fn give_up<L: Seating, C: Takings>(
     ensures moment { IsErrOf result RunError.Moment → 2 ^ 63 ≤ moment }
     ensures used_up { IsErrOf result RunError.UsedUp → HasUsedUp C.events seat.old.count seat.new.count }
     ensures causes { IfErr result (λ e. (e ≢ RunError.Read) × (e ≢ RunError.Write)) }
-    ensures asked { C.KEEPS ≡ true → AsksOrNot load.namespace seat.old.receipts.items seat.new.receipts.items (give_up_of load.namespace moment load.number) }
+    ensures asked { C.KEEPS ≡ true → AsksOrNot load.namespace seat.old.receipts.items seat.new.receipts.items (give_up_input load.namespace moment load.number) }
     ensures kept { OnErr result (seat.new.count ≡ seat.old.count) }
     ensures same { C.KEEPS ≡ true → OnErr result (SameReceipts seat.old.receipts.items seat.new.receipts.items) }
 {
@@ -78,7 +78,7 @@ fn answer<L: Seating, C: Takings>(
     ensures moment { IsErrOf result RunError.Moment → 2 ^ 63 ≤ moment }
     ensures used_up { IsErrOf result RunError.UsedUp → HasUsedUp C.events seat.old.count seat.new.count }
     ensures causes { IfErr result (λ e. (e ≢ RunError.Read) × (e ≢ RunError.Write)) }
-    ensures asked { C.KEEPS ≡ true → AsksOrNot load.namespace seat.old.receipts.items seat.new.receipts.items (answer_of load.namespace moment load.number outcome) }
+    ensures asked { C.KEEPS ≡ true → AsksOrNot load.namespace seat.old.receipts.items seat.new.receipts.items (answer_input load.namespace moment load.number outcome) }
     ensures refused { result ≡ Ok false → SameReceipts seat.old.receipts.items seat.new.receipts.items }
     ensures unfit { result ≡ Ok false → IsUnfit C.service C.events load.namespace outcome }
     ensures kept { OnErr result (seat.new.count ≡ seat.old.count) }
@@ -151,7 +151,7 @@ fn ask<L: Seating, C: Takings, K: Clock, D: Loader>(
     ensures moment { IsErrOf result RunError.Moment → HasToldLate K.reads clock.new }
     ensures used_up { IsErrOf result RunError.UsedUp → HasUsedUp C.events seat.old.count seat.new.count }
     ensures causes { IfErr result (λ e. (e ≢ RunError.Read) × (e ≢ RunError.Write)) }
-    ensures loader { HasAsked D.loads loader.old loader.new }
+    ensures loader { HasAskedSome D.loads loader.old loader.new }
     ensures asked { C.KEEPS ≡ true → (conn : Conn) → conn.namespace ≡ load.namespace → (read : Option (List ℕ)) → Feeds (HadGoneOut C.service C.events) (IsUnfit C.service C.events) K.reads D.loads seat.old.receipts.items seat.new.receipts.items read read clock.old clock.new loader.old loader.new conn [] [] }
 {
     let said = loader.load(key);
@@ -177,7 +177,7 @@ fn settle_last<L: Seating, C: Takings, K: Clock, D: Loader, T: Teller, R: Wait>(
     ensures moment { IsErrOf result RunError.Moment → HasToldLate K.reads clock.new }
     ensures used_up { IsErrOf result RunError.UsedUp → HasUsedUp C.events seat.old.count seat.new.count }
     ensures causes { IfErr result (λ e. (e ≢ RunError.Read) × (e ≢ RunError.Write)) }
-    ensures loader { HasAsked D.loads loader.old loader.new }
+    ensures loader { HasAskedSome D.loads loader.old loader.new }
     ensures asked { C.KEEPS ≡ true → (read : Option (List ℕ)) → Feeds (HadGoneOut C.service C.events) (IsUnfit C.service C.events) K.reads D.loads seat.old.receipts.items seat.new.receipts.items read read clock.old clock.new loader.old loader.new conn [] [] }
 {
     let Some((load, key)) = taken.last() else {
@@ -262,7 +262,7 @@ fn go_on<L: Seating, C: Takings, K: Clock, D: Loader, T: Teller, R: Wait>(
     ensures moment { IsErrOf result RunError.Moment → HasToldLate K.reads clock.new }
     ensures used_up { IsErrOf result RunError.UsedUp → HasUsedUp C.events seat.old.count seat.new.count }
     ensures causes { IfErr result (λ e. (e ≢ RunError.Read) × (e ≢ RunError.Write)) }
-    ensures loader { HasAsked D.loads loader.old loader.new }
+    ensures loader { HasAskedSome D.loads loader.old loader.new }
     ensures asked { C.KEEPS ≡ true → result ≢ Ok Next.Over → OnOk result ((read : Option (List ℕ)) → Feeds (HadGoneOut C.service C.events) (IsUnfit C.service C.events) K.reads D.loads seat.old.receipts.items seat.new.receipts.items read read clock.old clock.new loader.old loader.new conn [] []) }
     ensures left { C.KEEPS ≡ true → (read : Option (List ℕ)) → FeedsMost (HadGoneOut C.service C.events) (IsUnfit C.service C.events) K.reads D.loads seat.old.receipts.items seat.new.receipts.items read read clock.old clock.new loader.old loader.new conn }
 {
@@ -302,17 +302,17 @@ fn settle_next<L: Seating, C: Takings, O: Write, K: Clock, D: Loader, T: Teller,
 ) -> Result<Next, RunError>
     requires out { AreOut C.service C.events conn.namespace taken.old.items }
     ensures out { AreOut C.service C.events conn.namespace taken.new.items }
-    ensures ok { OnOk result (Answers (λ text. ∥ WereUntaken C.service C.events C.untaken conn text ∥₁) seat.old.count seat.new.count (O.contents (device writer.old)) (O.contents (device writer.new))) }
-    ensures nothing { result ≡ Ok Next.Nothing → Answers (λ text. ∥ WereUntaken C.service C.events C.untaken conn text ∥₁) seat.old.count (seat.new.count + 1) (O.contents (device writer.old)) (O.contents (device writer.new)) }
-    ensures over { result ≡ Ok Next.Over → Answers (λ text. ∥ WereUntaken C.service C.events C.untaken conn text ∥₁) seat.old.count (seat.new.count + 1) (O.contents (device writer.old)) (O.contents (device writer.new)) }
-    ensures err { OnErr result (Breaks (λ text. ∥ WereUntaken C.service C.events C.untaken conn text ∥₁) seat.old.count (seat.new.count + 1) (O.contents (device writer.old)) (O.contents (device writer.new))) }
+    ensures ok { OnOk result (WritesAll (λ text. ∥ WereUntaken C.service C.events C.untaken conn text ∥₁) seat.old.count seat.new.count (O.contents (device writer.old)) (O.contents (device writer.new))) }
+    ensures nothing { result ≡ Ok Next.Nothing → WritesAll (λ text. ∥ WereUntaken C.service C.events C.untaken conn text ∥₁) seat.old.count (seat.new.count + 1) (O.contents (device writer.old)) (O.contents (device writer.new)) }
+    ensures over { result ≡ Ok Next.Over → WritesAll (λ text. ∥ WereUntaken C.service C.events C.untaken conn text ∥₁) seat.old.count (seat.new.count + 1) (O.contents (device writer.old)) (O.contents (device writer.new)) }
+    ensures err { OnErr result (WritesThenFails (λ text. ∥ WereUntaken C.service C.events C.untaken conn text ∥₁) seat.old.count (seat.new.count + 1) (O.contents (device writer.old)) (O.contents (device writer.new))) }
     ensures count { seat.old.count ≤ seat.new.count }
     ensures write { IsErrOf result RunError.Write → HasFailed (failures writer.old) (failures writer.new) }
     ensures writes { failures writer.old ≤ failures writer.new }
     ensures used_up { IsErrOf result RunError.UsedUp → HasFailed (failures writer.old) (failures writer.new) ⊎ HasUsedUp C.events seat.old.count seat.new.count }
     ensures moment { IsErrOf result RunError.Moment → HasToldLate K.reads clock.new }
     ensures causes { IfErr result (λ e. e ≢ RunError.Read) }
-    ensures loader { HasAsked D.loads loader.old loader.new }
+    ensures loader { HasAskedSome D.loads loader.old loader.new }
     ensures asked { C.KEEPS ≡ true → result ≢ Ok Next.Over → OnOk result ((read : Option (List ℕ)) → Feeds (HadGoneOut C.service C.events) (IsUnfit C.service C.events) K.reads D.loads seat.old.receipts.items seat.new.receipts.items read read clock.old clock.new loader.old loader.new conn [] []) }
     ensures left { C.KEEPS ≡ true → (read : Option (List ℕ)) → FeedsMost (HadGoneOut C.service C.events) (IsUnfit C.service C.events) K.reads D.loads seat.old.receipts.items seat.new.receipts.items read read clock.old clock.new loader.old loader.new conn }
 {
@@ -347,15 +347,15 @@ pub fn settle_loads<L: Seating, C: Takings, O: Write, K: Clock, D: Loader, T: Te
 ) -> Result<Progress, RunError>
     requires out { AreOut C.service C.events conn.namespace taken.old.items }
     ensures out { AreOut C.service C.events conn.namespace taken.new.items }
-    ensures ok { OnOk result (Answers (λ text. ∥ WereUntaken C.service C.events C.untaken conn text ∥₁) seat.old.count (seat.new.count + 1) (O.contents (device writer.old)) (O.contents (device writer.new))) }
-    ensures err { OnErr result (Breaks (λ text. ∥ WereUntaken C.service C.events C.untaken conn text ∥₁) seat.old.count (seat.new.count + 1) (O.contents (device writer.old)) (O.contents (device writer.new))) }
+    ensures ok { OnOk result (WritesAll (λ text. ∥ WereUntaken C.service C.events C.untaken conn text ∥₁) seat.old.count (seat.new.count + 1) (O.contents (device writer.old)) (O.contents (device writer.new))) }
+    ensures err { OnErr result (WritesThenFails (λ text. ∥ WereUntaken C.service C.events C.untaken conn text ∥₁) seat.old.count (seat.new.count + 1) (O.contents (device writer.old)) (O.contents (device writer.new))) }
     ensures count { seat.old.count ≤ seat.new.count }
     ensures write { IsErrOf result RunError.Write → HasFailed (failures writer.old) (failures writer.new) }
     ensures writes { failures writer.old ≤ failures writer.new }
     ensures used_up { IsErrOf result RunError.UsedUp → HasFailed (failures writer.old) (failures writer.new) ⊎ HasUsedUp C.events seat.old.count seat.new.count }
     ensures moment { IsErrOf result RunError.Moment → HasToldLate K.reads clock.new }
     ensures causes { IfErr result (λ e. e ≢ RunError.Read) }
-    ensures loader { HasAsked D.loads loader.old loader.new }
+    ensures loader { HasAskedSome D.loads loader.old loader.new }
     ensures asked { C.KEEPS ≡ true → result ≡ Ok Progress.More → (read : Option (List ℕ)) → Feeds (HadGoneOut C.service C.events) (IsUnfit C.service C.events) K.reads D.loads seat.old.receipts.items seat.new.receipts.items read read clock.old clock.new loader.old loader.new conn [] [] }
     ensures left { C.KEEPS ≡ true → (read : Option (List ℕ)) → FeedsMost (HadGoneOut C.service C.events) (IsUnfit C.service C.events) K.reads D.loads seat.old.receipts.items seat.new.receipts.items read read clock.old clock.new loader.old loader.new conn }
 {

@@ -6,11 +6,11 @@ ghost use Rattle.cache_devices.specs.Watched.{device, failures};
 ghost use Rattle.cache_run.specs.Carried.{Askings};
 ghost use Rattle.cache_run.specs.Happened.{Asking};
 ghost use Rattle.cache_run.specs.Turns.{HasToldLate};
-ghost use Rattle.cache_serve.specs.Asked.{AsksOrNot, Attends, AttendsOrNot, FeedsMost, HasAsked, Opens};
+ghost use Rattle.cache_serve.specs.Asked.{AsksOrNot, ServesConnection, ServesConnectionOrNot, FeedsMost, HasAskedSome, Opens};
 ghost use Rattle.cache_serve.specs.Full.{HasUsedUp};
 ghost use Rattle.cache_serve.specs.Out.{AreOut, HadGoneOut};
 ghost use Rattle.cache_serve.specs.Unfit.{IsUnfit};
-ghost use Rattle.cache_serve.specs.Written.{Answers, Breaks, Serves};
+ghost use Rattle.cache_serve.specs.Written.{WritesAll, WritesThenFails, Serves};
 ghost use Rattle.cache_shared.specs.Seats.{SameReceipts};
 ghost use Rattle.cache_shared.specs.Untaken.{WereUntaken};
 
@@ -99,14 +99,14 @@ fn converse<L: Seating, C: Takings, I: Read, O: Write, K: Clock, D: Loader, T: T
 ) -> Result<(), RunError>
     requires out { AreOut C.service C.events conn.namespace taken.old.items }
     ensures out { AreOut C.service C.events conn.namespace taken.new.items }
-    ensures ok { OnOk result (Answers (λ text. ∥ WereUntaken C.service C.events C.untaken conn text ∥₁) seat.old.count seat.new.count (O.contents (device writer.old)) (O.contents (device writer.new))) }
-    ensures err { OnErr result (Breaks (λ text. ∥ WereUntaken C.service C.events C.untaken conn text ∥₁) seat.old.count seat.new.count (O.contents (device writer.old)) (O.contents (device writer.new))) }
+    ensures ok { OnOk result (WritesAll (λ text. ∥ WereUntaken C.service C.events C.untaken conn text ∥₁) seat.old.count seat.new.count (O.contents (device writer.old)) (O.contents (device writer.new))) }
+    ensures err { OnErr result (WritesThenFails (λ text. ∥ WereUntaken C.service C.events C.untaken conn text ∥₁) seat.old.count seat.new.count (O.contents (device writer.old)) (O.contents (device writer.new))) }
     ensures count { seat.old.count ≤ seat.new.count }
     ensures read { IsErrOf result RunError.Read → HasFailed (failures reader.old) (failures reader.new) }
     ensures write { IsErrOf result RunError.Write → HasFailed (failures writer.old) (failures writer.new) }
     ensures used_up { IsErrOf result RunError.UsedUp → HasFailed (failures writer.old) (failures writer.new) ⊎ HasUsedUp C.events seat.old.count seat.new.count }
     ensures moment { IsErrOf result RunError.Moment → HasToldLate K.reads clock.new }
-    ensures loader { HasAsked D.loads loader.old loader.new }
+    ensures loader { HasAskedSome D.loads loader.old loader.new }
     ensures asked { C.KEEPS ≡ true → FeedsMost (HadGoneOut C.service C.events) (IsUnfit C.service C.events) K.reads D.loads seat.old.receipts.items seat.new.receipts.items (I.remaining (device reader.old)) (I.remaining (device reader.new)) clock.old clock.new loader.old loader.new conn }
 {
     for _turn in rt.forever() {
@@ -135,6 +135,9 @@ fn converse<L: Seating, C: Takings, I: Read, O: Write, K: Clock, D: Loader, T: T
 /// Where the service keeps journals, so that the seat has a receipt of each event, these are an opening, the pieces read with the clock's
 /// readings, between them answers and give-ups of loads with the clock's readings, a closing, and after an error further answers and
 /// give-ups, in this order. A last piece that was refused has none, and neither has a closing that was. The notes stay to be taken.
+///
+/// Fails with `Read` or `Write` where that device failed, with `Moment` where the clock told more than 2^63 - 1 nanoseconds, with `UsedUp`
+/// where the writer failed or a count of inputs is at 2^64 - 1, and else with `OutOfMemory`, also where there is no such namespace.
 pub fn serve<L: Seating, C: Takings, I: Read, O: Write, K: Clock, D: Loader, R: Wait>(
     rt: &R,
     alloc: Global,
@@ -146,14 +149,14 @@ pub fn serve<L: Seating, C: Takings, I: Read, O: Write, K: Clock, D: Loader, R: 
     clock: &mut K,
     loader: &mut D,
 ) -> Result<(), RunError>
-    ensures wrote { OnOk result (Serves C.service C.events C.untaken namespace (λ conn. C.KEEPS ≡ true → Attends (HadGoneOut C.service C.events) (IsUnfit C.service C.events) K.reads D.loads seat.old.receipts.items seat.new.receipts.items (I.remaining (device reader.old)) (I.remaining (device reader.new)) clock.old clock.new loader.old loader.new namespace conn []) seat.old.count seat.new.count 3 (O.contents (device writer.old)) (O.contents (device writer.new)) []) }
-    ensures broke { OnErr result ((rest : List ℕ) × (asks : List Asking) × Askings D.loads loader.old asks loader.new × Serves C.service C.events C.untaken namespace (λ conn. C.KEEPS ≡ true → AttendsOrNot (HadGoneOut C.service C.events) (IsUnfit C.service C.events) K.reads D.loads seat.old.receipts.items seat.new.receipts.items (I.remaining (device reader.old)) (I.remaining (device reader.new)) clock.old clock.new loader.old loader.new namespace conn) seat.old.count seat.new.count (length asks + 3) (O.contents (device writer.old)) (O.contents (device writer.new)) rest) }
+    ensures wrote { OnOk result (Serves C.service C.events C.untaken namespace (λ conn. C.KEEPS ≡ true → ServesConnection (HadGoneOut C.service C.events) (IsUnfit C.service C.events) K.reads D.loads seat.old.receipts.items seat.new.receipts.items (I.remaining (device reader.old)) (I.remaining (device reader.new)) clock.old clock.new loader.old loader.new namespace conn []) seat.old.count seat.new.count 3 (O.contents (device writer.old)) (O.contents (device writer.new)) []) }
+    ensures broke { OnErr result ((rest : List ℕ) × (asks : List Asking) × Askings D.loads loader.old asks loader.new × Serves C.service C.events C.untaken namespace (λ conn. C.KEEPS ≡ true → ServesConnectionOrNot (HadGoneOut C.service C.events) (IsUnfit C.service C.events) K.reads D.loads seat.old.receipts.items seat.new.receipts.items (I.remaining (device reader.old)) (I.remaining (device reader.new)) clock.old clock.new loader.old loader.new namespace conn) seat.old.count seat.new.count (length asks + 3) (O.contents (device writer.old)) (O.contents (device writer.new)) rest) }
     ensures count { seat.old.count ≤ seat.new.count }
     ensures read { IsErrOf result RunError.Read → HasFailed (failures reader.old) (failures reader.new) }
     ensures write { IsErrOf result RunError.Write → HasFailed (failures writer.old) (failures writer.new) }
     ensures used_up { IsErrOf result RunError.UsedUp → HasFailed (failures writer.old) (failures writer.new) ⊎ HasUsedUp C.events seat.old.count seat.new.count }
     ensures moment { IsErrOf result RunError.Moment → HasToldLate K.reads clock.new }
-    ensures loader { HasAsked D.loads loader.old loader.new }
+    ensures loader { HasAskedSome D.loads loader.old loader.new }
 {
     match serve_and_tell(
         rt,
@@ -172,7 +175,8 @@ pub fn serve<L: Seating, C: Takings, I: Read, O: Write, K: Clock, D: Loader, R: 
     }
 }
 
-/// As `serve`; the notes of the namespace are told as soon as they can be taken.
+/// As `serve`; besides, after each piece that it hands in and each load that it settles, and before the replies of that are written, it
+/// takes the notes of the namespace, also those that other connections' events told, and tells them to the teller.
 pub fn serve_and_tell<
     L: Seating,
     C: Takings,
@@ -194,14 +198,14 @@ pub fn serve_and_tell<
     loader: &mut D,
     teller: &mut T,
 ) -> Result<(), RunError>
-    ensures wrote { OnOk result (Serves C.service C.events C.untaken namespace (λ conn. C.KEEPS ≡ true → Attends (HadGoneOut C.service C.events) (IsUnfit C.service C.events) K.reads D.loads seat.old.receipts.items seat.new.receipts.items (I.remaining (device reader.old)) (I.remaining (device reader.new)) clock.old clock.new loader.old loader.new namespace conn []) seat.old.count seat.new.count 3 (O.contents (device writer.old)) (O.contents (device writer.new)) []) }
-    ensures broke { OnErr result ((rest : List ℕ) × (asks : List Asking) × Askings D.loads loader.old asks loader.new × Serves C.service C.events C.untaken namespace (λ conn. C.KEEPS ≡ true → AttendsOrNot (HadGoneOut C.service C.events) (IsUnfit C.service C.events) K.reads D.loads seat.old.receipts.items seat.new.receipts.items (I.remaining (device reader.old)) (I.remaining (device reader.new)) clock.old clock.new loader.old loader.new namespace conn) seat.old.count seat.new.count (length asks + 3) (O.contents (device writer.old)) (O.contents (device writer.new)) rest) }
+    ensures wrote { OnOk result (Serves C.service C.events C.untaken namespace (λ conn. C.KEEPS ≡ true → ServesConnection (HadGoneOut C.service C.events) (IsUnfit C.service C.events) K.reads D.loads seat.old.receipts.items seat.new.receipts.items (I.remaining (device reader.old)) (I.remaining (device reader.new)) clock.old clock.new loader.old loader.new namespace conn []) seat.old.count seat.new.count 3 (O.contents (device writer.old)) (O.contents (device writer.new)) []) }
+    ensures broke { OnErr result ((rest : List ℕ) × (asks : List Asking) × Askings D.loads loader.old asks loader.new × Serves C.service C.events C.untaken namespace (λ conn. C.KEEPS ≡ true → ServesConnectionOrNot (HadGoneOut C.service C.events) (IsUnfit C.service C.events) K.reads D.loads seat.old.receipts.items seat.new.receipts.items (I.remaining (device reader.old)) (I.remaining (device reader.new)) clock.old clock.new loader.old loader.new namespace conn) seat.old.count seat.new.count (length asks + 3) (O.contents (device writer.old)) (O.contents (device writer.new)) rest) }
     ensures count { seat.old.count ≤ seat.new.count }
     ensures read { IsErrOf result RunError.Read → HasFailed (failures reader.old) (failures reader.new) }
     ensures write { IsErrOf result RunError.Write → HasFailed (failures writer.old) (failures writer.new) }
     ensures used_up { IsErrOf result RunError.UsedUp → HasFailed (failures writer.old) (failures writer.new) ⊎ HasUsedUp C.events seat.old.count seat.new.count }
     ensures moment { IsErrOf result RunError.Moment → HasToldLate K.reads clock.new }
-    ensures loader { HasAsked D.loads loader.old loader.new }
+    ensures loader { HasAskedSome D.loads loader.old loader.new }
 {
     let mut buffer = match vec![in alloc; 0u8; PIECE_BYTES] {
         Ok(buffer) => buffer,

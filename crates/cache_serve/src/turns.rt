@@ -4,11 +4,11 @@ ghost use Rattle.cache_devices.specs.Failures.{HasFailed};
 ghost use Rattle.cache_devices.specs.Sent.{SentBut};
 ghost use Rattle.cache_devices.specs.Watched.{device, failures};
 ghost use Rattle.cache_run.specs.Turns.{HasToldLate};
-ghost use Rattle.cache_serve.specs.Asked.{Asks, AsksOrNot, Feeds, FeedsMost, HasAsked, feed_of};
+ghost use Rattle.cache_serve.specs.Asked.{Asks, AsksOrNot, Feeds, FeedsMost, HasAskedSome, feed_input};
 ghost use Rattle.cache_serve.specs.Full.{HasUsedUp};
 ghost use Rattle.cache_serve.specs.Out.{AreOut, HadGoneOut};
 ghost use Rattle.cache_serve.specs.Unfit.{IsUnfit};
-ghost use Rattle.cache_serve.specs.Written.{Answers, Breaks, Writes};
+ghost use Rattle.cache_serve.specs.Written.{WritesAll, WritesThenFails, WritesTexts};
 ghost use Rattle.cache_shared.specs.Untaken.{WereUntaken};
 
 use crate::devices::Teller;
@@ -49,8 +49,8 @@ fn feed_piece<L: Seating, C: Takings>(
     ensures moment { IsErrOf result RunError.Moment → 2 ^ 63 ≤ moment }
     ensures used_up { IsErrOf result RunError.UsedUp → HasUsedUp C.events seat.old.count seat.new.count }
     ensures causes { IfErr result (λ e. (e ≢ RunError.Read) × (e ≢ RunError.Write)) }
-    ensures asked { C.KEEPS ≡ true → result ≡ Ok Progress.More → Asks conn.namespace seat.old.receipts.items seat.new.receipts.items (feed_of conn (record { bytes = piece.now; moment = moment }) ∷ []) }
-    ensures left { C.KEEPS ≡ true → AsksOrNot conn.namespace seat.old.receipts.items seat.new.receipts.items (feed_of conn (record { bytes = piece.now; moment = moment })) }
+    ensures asked { C.KEEPS ≡ true → result ≡ Ok Progress.More → Asks conn.namespace seat.old.receipts.items seat.new.receipts.items (feed_input conn (record { bytes = piece.now; moment = moment }) ∷ []) }
+    ensures left { C.KEEPS ≡ true → AsksOrNot conn.namespace seat.old.receipts.items seat.new.receipts.items (feed_input conn (record { bytes = piece.now; moment = moment })) }
 {
     let Ok(copy) = Vec::from_slice(alloc, piece) else {
         return Err(RunError::OutOfMemory);
@@ -80,8 +80,8 @@ pub fn deliver<L: Seating, C: Takings, W: Write>(
     conn: Conn,
     writer: &mut Watched<W>,
 ) -> Result<(), RunError>
-    ensures ok { OnOk result (Writes (λ text. ∥ WereUntaken C.service C.events C.untaken conn text ∥₁) 1 (W.contents (device writer.old)) (W.contents (device writer.new)) []) }
-    ensures err { OnErr result ((count : ℕ) × (rest : List ℕ) × Writes (λ text. ∥ WereUntaken C.service C.events C.untaken conn text ∥₁) count (W.contents (device writer.old)) (W.contents (device writer.new)) rest) }
+    ensures ok { OnOk result (WritesTexts (λ text. ∥ WereUntaken C.service C.events C.untaken conn text ∥₁) 1 (W.contents (device writer.old)) (W.contents (device writer.new)) []) }
+    ensures err { OnErr result ((count : ℕ) × (rest : List ℕ) × WritesTexts (λ text. ∥ WereUntaken C.service C.events C.untaken conn text ∥₁) count (W.contents (device writer.old)) (W.contents (device writer.new)) rest) }
     ensures write { IsErrOf result RunError.Write → HasFailed (failures writer.old) (failures writer.new) }
     ensures used_up { IsErrOf result RunError.UsedUp → HasFailed (failures writer.old) (failures writer.new) }
     ensures causes { IfErr result (λ e. (e ≢ RunError.Read) × (e ≢ RunError.Moment)) }
@@ -164,7 +164,7 @@ pub fn hand_in<L: Seating, C: Takings, K: Clock, T: Teller, R: Wait>(
     ensures moment { IsErrOf result RunError.Moment → HasToldLate K.reads clock.new }
     ensures used_up { IsErrOf result RunError.UsedUp → HasUsedUp C.events seat.old.count seat.new.count }
     ensures causes { IfErr result (λ e. (e ≢ RunError.Read) × (e ≢ RunError.Write)) }
-    ensures told { (moment : ℕ) × K.reads clock.old moment clock.new × (C.KEEPS ≡ true → AsksOrNot conn.namespace seat.old.receipts.items seat.new.receipts.items (feed_of conn (record { bytes = piece.now; moment = moment }))) × (C.KEEPS ≡ true → result ≡ Ok Progress.More → Asks conn.namespace seat.old.receipts.items seat.new.receipts.items (feed_of conn (record { bytes = piece.now; moment = moment }) ∷ [])) }
+    ensures told { (moment : ℕ) × K.reads clock.old moment clock.new × (C.KEEPS ≡ true → AsksOrNot conn.namespace seat.old.receipts.items seat.new.receipts.items (feed_input conn (record { bytes = piece.now; moment = moment }))) × (C.KEEPS ≡ true → result ≡ Ok Progress.More → Asks conn.namespace seat.old.receipts.items seat.new.receipts.items (feed_input conn (record { bytes = piece.now; moment = moment }) ∷ [])) }
 {
     let moment = clock.now();
     let outcome = feed_piece(rt, alloc, shared, seat, conn, piece, moment);
@@ -198,8 +198,8 @@ pub fn take_turn<
 ) -> Result<Progress, RunError>
     requires out { AreOut C.service C.events conn.namespace taken.old.items }
     ensures out { AreOut C.service C.events conn.namespace taken.new.items }
-    ensures ok { OnOk result (Answers (λ text. ∥ WereUntaken C.service C.events C.untaken conn text ∥₁) seat.old.count seat.new.count (O.contents (device writer.old)) (O.contents (device writer.new))) }
-    ensures err { OnErr result (Breaks (λ text. ∥ WereUntaken C.service C.events C.untaken conn text ∥₁) seat.old.count seat.new.count (O.contents (device writer.old)) (O.contents (device writer.new))) }
+    ensures ok { OnOk result (WritesAll (λ text. ∥ WereUntaken C.service C.events C.untaken conn text ∥₁) seat.old.count seat.new.count (O.contents (device writer.old)) (O.contents (device writer.new))) }
+    ensures err { OnErr result (WritesThenFails (λ text. ∥ WereUntaken C.service C.events C.untaken conn text ∥₁) seat.old.count seat.new.count (O.contents (device writer.old)) (O.contents (device writer.new))) }
     ensures count { seat.old.count ≤ seat.new.count }
     ensures read { IsErrOf result RunError.Read → HasFailed (failures reader.old) (failures reader.new) }
     ensures write { IsErrOf result RunError.Write → HasFailed (failures writer.old) (failures writer.new) }
@@ -207,7 +207,7 @@ pub fn take_turn<
     ensures moment { IsErrOf result RunError.Moment → HasToldLate K.reads clock.new }
     ensures reads { failures reader.old ≤ failures reader.new }
     ensures writes { failures writer.old ≤ failures writer.new }
-    ensures loader { HasAsked D.loads loader.old loader.new }
+    ensures loader { HasAskedSome D.loads loader.old loader.new }
     ensures asked { C.KEEPS ≡ true → result ≡ Ok Progress.More → Feeds (HadGoneOut C.service C.events) (IsUnfit C.service C.events) K.reads D.loads seat.old.receipts.items seat.new.receipts.items (I.remaining (device reader.old)) (I.remaining (device reader.new)) clock.old clock.new loader.old loader.new conn [] [] }
     ensures left { C.KEEPS ≡ true → FeedsMost (HadGoneOut C.service C.events) (IsUnfit C.service C.events) K.reads D.loads seat.old.receipts.items seat.new.receipts.items (I.remaining (device reader.old)) (I.remaining (device reader.new)) clock.old clock.new loader.old loader.new conn }
 {

@@ -7,7 +7,7 @@ pub use Rattle.cache_spaces.specs.Outputs.{output_after, output_for}
 pub use Rattle.cache_spaces.specs.Played.{Plays, ArePlayed}
 pub use Rattle.cache_spaces.specs.Recent.{AreSynced, KeepsList}
 pub use Rattle.cache_spaces.specs.Recorded.{RecordsAt, RefusedInput}
-pub use Rattle.cache_spaces.specs.Serves.{Serves, Takes, Settles, Settled, RefusedAnswer, known_of, SameSpace, TakesOutput, TakesNotice, TakesLoads}
+pub use Rattle.cache_spaces.specs.Serves.{Serves, ServesEvent, Settles, Settled, RefusedAnswer, known_of, SameSpace, TakesOutput, TakesNotice, TakesLoads}
 pub use Rattle.cache_spaces.specs.Services.{AreNew, Refuses, spaces_of}
-pub use Rattle.cache_spaces.specs.Spaces.{Stands, config_of, connections_of, notices_of, output_of, closing_of}
+pub use Rattle.cache_spaces.specs.Spaces.{StandsFor, config_of, connections_of, notices_of, untaken_output, closing_of}
 pub use Rattle.cache_spaces.specs.Throughout.{HasExactKeys, is_bounded_throughout, is_timely_throughout}

@@ -1,6 +1,8 @@
 //! How `cache_service` is used.
 #![tactic(auto)]
 
+pub mod example;
+
 ghost use Rattle.std.specs.Prelude.{IfOk, IfSome, ◌∷◌, ◌≤◌, []};
 ghost use Rattle.std.specs.List.{slice_get};
 ghost use Rattle.cache_service.specs.Words.{ArePlayed, KeepsList};

@@ -1,4 +1,4 @@
-use crate::{PLAIN, ask_once, load_rows, play_pair, play_plainly};
+use crate::{PLAIN, ask_once, example, load_rows, play_pair, play_plainly};
 use cache_service::Service;
 use moka_audit::{Bytes, Conn, Input, Instant, Record, Seq, ServiceError};
 use rand_core::SeedableRng;
@@ -140,4 +140,17 @@ fn keeps_the_last_two(alloc: Global) -> bool {
 #[test]
 fn the_least_recently_used_leaves(rt: HostRuntime) {
     assert!(rt; keeps_the_last_two(rt.alloc()));
+}
+
+/// Whether the example of the README is replied as the protocol says.
+fn answers_example(alloc: Global) -> bool {
+    match example::replies(alloc) {
+        Ok(text) => text.as_slice() == b"OK\nVAL 1\nNONE\nYES\n".as_slice(),
+        Err(_) => false,
+    }
+}
+
+#[test]
+fn example_of_the_readme(rt: HostRuntime) {
+    assert!(rt; answers_example(rt.alloc()));
 }

@@ -17,9 +17,9 @@ use Rattle.cache_namespace.specs.Shown.{situation}
 use Rattle.cache_namespace.specs.Taken.{SameConnections}
 use Rattle.cache_namespace.specs.Waiting.{UnderWay, no_loads}
 use Rattle.cache_namespace.specs.declared.connection.Connection.{Connection}
-use Rattle.load_laws.specs.Tidy.{Tidy}
-use Rattle.load_laws.proofs.Records.{settled-tidy}
-use Rattle.cache_settling.specs.Answered.{answering, giving_up, knows_loads, waiting_for}
+use Rattle.audit_waiting_laws.specs.Tidy.{Tidy}
+use Rattle.audit_waiting_laws.proofs.Records.{settled-tidy}
+use Rattle.cache_settling.specs.Answered.{answering, giving_up, knows_loads, waiting_on}
 
 or-first : (a b : Option ServiceError) → option_or a b ≡ None → a ≡ None
 or-first None b e = refl
@@ -69,7 +69,7 @@ alone : (a b c : ℕ) → a + b ≤ c → a + 0 ≤ c
 alone a b c le = omega arith
 
 -- those that waited for the load, the other loads aside
-pub waiting-tidy : (load : ℕ) (l : UnderWay) (cs : List Connection) → Tidy [] (situation 0 l cs false []) → Tidy (waiting_for load l) (situation 0 no_loads cs false [])
+pub waiting-tidy : (load : ℕ) (l : UnderWay) (cs : List Connection) → Tidy [] (situation 0 l cs false []) → Tidy (waiting_on load l) (situation 0 no_loads cs false [])
 waiting-tidy load l cs tidy =
     let t = settled-tidy load 0 (situation 0 l cs false []) tidy in
     record { once = λ c. alone _ _ _ (t.once c); keys = λ key. (omega arith) }

@@ -17,7 +17,7 @@ use Rattle.audit_model.specs.declared.event.Outcome.TheVariants as came
 use Rattle.audit_model.specs.declared.transcript.Accepted.{Accepted}
 use Rattle.audit_model.specs.declared.transcript.Note.{Note}
 use Rattle.audit_model.specs.declared.transcript.Step.{Step}
-use Rattle.cache_store.specs.Handing.{Hands}
+use Rattle.cache_store.specs.Handing.{AppendsNotes}
 use Rattle.cache_store.specs.Identifiers.{KeepsIdentifiers}
 use Rattle.cache_steps.proofs.Drawn.{spends-kept}
 use Rattle.cache_steps.specs.Loading.{Stores, step_silent}
@@ -30,16 +30,16 @@ use Rattle.cache_namespace.specs.Shown.{situation}
 use Rattle.cache_namespace.specs.Taken.{SameConnections, closing_at}
 use Rattle.cache_namespace.specs.Waiting.{UnderWay}
 use Rattle.cache_namespace.specs.declared.connection.Connection.{Connection}
-use Rattle.cache_settling.specs.Answered.{AnswersLoad, HandsOut, KeepsRecord, answering, but_for, knows_loads, waiting_for}
+use Rattle.cache_settling.specs.Answered.{AnswersLoad, HandsOut, KeepsRecord, answering, but_for, knows_loads, waiting_on}
 use Rattle.cache_settling.specs.Laws.{record_answered}
-use Rattle.cache_settling.specs.Leads.{Leads, Settles}
+use Rattle.cache_settling.specs.Leads.{TasksLead, SettlingLeads}
 use Rattle.cache_settling.specs.Noted.{Noted}
 use Rattle.cache_settling.specs.Told.{ClosesByLines, replies_to}
 use Rattle.cache_settling.proofs.Leading.{draws-on}
 use Rattle.cache_settling.proofs.Settling.{answer}
 
 -- where identifiers were kept before
-pub kept-first : (config : Config) (making : Making) (s t : Situation) (tasks left : List Task) (steps : List Step) (a b c : Identifiers) → KeepsIdentifiers a.stream b.stream a.registered b.registered → Leads config making s tasks steps t left b c → Leads config making s tasks steps t left a c
+pub kept-first : (config : Config) (making : Making) (s t : Situation) (tasks left : List Task) (steps : List Step) (a b c : Identifiers) → KeepsIdentifiers a.stream b.stream a.registered b.registered → TasksLead config making s tasks steps t left b c → TasksLead config making s tasks steps t left a c
 kept-first config making s t tasks left steps a b c kept l = record {
   after = l.after;
   parted = l.parted;
@@ -49,7 +49,7 @@ kept-first config making s t tasks left steps a b c kept l = record {
 }
 
 -- where some were drawn before, and none was registered
-pub spent-first : (config : Config) (making : Making) (s t : Situation) (tasks left : List Task) (steps : List Step) (a b c : Identifiers) → Spends a b → Leads config making s tasks steps t left b c → Leads config making s tasks steps t left a c
+pub spent-first : (config : Config) (making : Making) (s t : Situation) (tasks left : List Task) (steps : List Step) (a b c : Identifiers) → Spends a b → TasksLead config making s tasks steps t left b c → TasksLead config making s tasks steps t left a c
 spent-first config making s t tasks left steps a b c spends l = record {
   after = l.after;
   parted = l.parted;
@@ -59,7 +59,7 @@ spent-first config making s t tasks left steps a b c spends l = record {
 }
 
 -- where the step itself drew them
-pub drawn-first : (config : Config) (making : Making) (s t : Situation) (tasks left : List Task) (step : Step) (a b : Identifiers) → StepDraws config step a b → Leads config making s tasks (step ∷ []) t left b b → Leads config making s tasks (step ∷ []) t left a b
+pub drawn-first : (config : Config) (making : Making) (s t : Situation) (tasks left : List Task) (step : Step) (a b : Identifiers) → StepDraws config step a b → TasksLead config making s tasks (step ∷ []) t left b b → TasksLead config making s tasks (step ∷ []) t left a b
 drawn-first config making s t tasks left step a b drawn l = record {
   after = l.after;
   parted = l.parted;
@@ -83,9 +83,9 @@ stored-parted config part_of s key (came.Fault text) (Some a) told at = refl
 -- the record of an answer
 pub answered : (config : Config) (making : Making) (load latest moment : ℕ) (key : List ℕ) (outcome : Outcome) (accepted : Option Accepted) (values : List HeldValue) (Stood Stands : List HeldValue → Type 0) (l k : UnderWay) (cs new : List Connection) (dropped dropping : Bool) (a b c : Identifiers) (told mid telling : List Note) (keeping : Option (List Step))
     → refusal_of config (knows_loads l) (answering load outcome moment) ≡ None → key_in load (situation latest l cs dropped values) ≡ Some key → IfSome accepted (λ x. x.part ≡ making.part_of key)
-    → (x : Stores config (situation (max moment latest) (but_for load l) cs dropped values) key outcome accepted Stood (Hands told mid)) → (is_some accepted || is_empty x.told) ≡ true
+    → (x : Stores config (situation (max moment latest) (but_for load l) cs dropped values) key outcome accepted Stood (AppendsNotes told mid)) → (is_some accepted || is_empty x.told) ≡ true
     → KeepsIdentifiers a.stream b.stream a.registered b.registered
-    → HandsOut config making outcome (max moment latest) (held_when_run config (situation (max moment latest) (but_for load l) cs dropped values) (Storing (Some key) outcome) (step_silent 0 [] None accepted x.told)) (waiting_for load l) Stands (but_for load l) k dropped dropping b c cs new (record { kept = None; waiting = mid }) (record { kept = keeping; waiting = telling })
+    → HandsOut config making outcome (max moment latest) (held_when_run config (situation (max moment latest) (but_for load l) cs dropped values) (Storing (Some key) outcome) (step_silent 0 [] None accepted x.told)) (waiting_on load l) Stands (but_for load l) k dropped dropping b c cs new (record { kept = None; waiting = mid }) (record { kept = keeping; waiting = telling })
     → AnswersLoad config making load outcome latest moment accepted values Stands l k dropped dropping a c cs new told telling
 answered config making load latest moment key outcome accepted values Stood Stands l k cs new dropped dropping a b c told mid telling keeping admitted keyed at x owned kept h =
     let s = situation latest l cs dropped values in
@@ -97,7 +97,7 @@ answered config making load latest moment key outcome accepted values Stood Stan
       stands = h.stands;
       settles = answer config making s (situation (max moment latest) k new dropping h.held) load moment key outcome accepted x.told h.steps a c admitted keyed owned x.right (stored-parted config making.part_of u key outcome accepted x.told at)
           (kept-first config making (record u { held = held_when_run config u (Storing (Some key) outcome) (step_silent 0 [] None accepted x.told) }) (situation (max moment latest) k new dropping h.held)
-          (map (λ conn. Deliver conn outcome) (waiting_for load l) ++ map RunLines (waiting_for load l)) [] h.steps a b c kept h.leads);
+          (map (λ conn. Deliver conn outcome) (waiting_on load l) ++ map RunLines (waiting_on load l)) [] h.steps a b c kept h.leads);
       texts = h.texts;
       notes = ap (λ (n : Noted). n.waiting) h.notes ∙ ap (λ ns. ns ++ flat_map (λ (y : Step). y.notices) h.steps) x.handed.added;
     }
@@ -105,9 +105,9 @@ answered config making load latest moment key outcome accepted values Stood Stan
 -- the same, where its steps were kept
 pub answer-kept : (config : Config) (making : Making) (load latest moment : ℕ) (key : List ℕ) (outcome : Outcome) (accepted : Option Accepted) (values : List HeldValue) (Stood Stands : List HeldValue → Type 0) (l k : UnderWay) (cs new : List Connection) (dropped dropping : Bool) (a b c : Identifiers) (told mid own : List Note) (steps : List Step) (keeping : Noted)
     → refusal_of config (knows_loads l) (answering load outcome moment) ≡ None → key_in load (situation latest l cs dropped values) ≡ Some key → IfSome accepted (λ x. x.part ≡ making.part_of key)
-    → (x : Stores config (situation (max moment latest) (but_for load l) cs dropped values) key outcome accepted Stood (Hands told mid)) → (is_some accepted || is_empty x.told) ≡ true
+    → (x : Stores config (situation (max moment latest) (but_for load l) cs dropped values) key outcome accepted Stood (AppendsNotes told mid)) → (is_some accepted || is_empty x.told) ≡ true
     → KeepsIdentifiers a.stream b.stream a.registered b.registered
-    → HandsOut config making outcome (max moment latest) (held_when_run config (situation (max moment latest) (but_for load l) cs dropped values) (Storing (Some key) outcome) (step_silent 0 [] None accepted x.told)) (waiting_for load l) Stands (but_for load l) k dropped dropping b c cs new (record { kept = Some []; waiting = [] }) keeping
+    → HandsOut config making outcome (max moment latest) (held_when_run config (situation (max moment latest) (but_for load l) cs dropped values) (Storing (Some key) outcome) (step_silent 0 [] None accepted x.told)) (waiting_on load l) Stands (but_for load l) k dropped dropping b c cs new (record { kept = Some []; waiting = [] }) keeping
     → own ≡ x.told → steps ≡ unwrap_or keeping.kept []
     → KeepsRecord config making (record_answered load outcome moment accepted own steps) latest moment values Stands l k dropped dropping a c cs new
 answer-kept config making load latest moment key outcome accepted values Stood Stands l k cs new dropped dropping a b c told mid own steps keeping admitted keyed at x owned kept h notes is =
@@ -119,11 +119,11 @@ answer-kept config making load latest moment key outcome accepted values Stood S
       held = h.held;
       stands = h.stands;
       settles =
-          subst (λ ns. Settles config making s (record_answered load outcome moment accepted ns steps) t a c) (sym notes)
-          (subst (λ ss. Settles config making s (record_answered load outcome moment accepted x.told ss) t a c) whole
+          subst (λ ns. SettlingLeads config making s (record_answered load outcome moment accepted ns steps) t a c) (sym notes)
+          (subst (λ ss. SettlingLeads config making s (record_answered load outcome moment accepted x.told ss) t a c) whole
           (answer config making s t load moment key outcome accepted x.told h.steps a c admitted keyed owned x.right (stored-parted config making.part_of u key outcome accepted x.told at)
           (kept-first config making (record u { held = held_when_run config u (Storing (Some key) outcome) (step_silent 0 [] None accepted x.told) }) t
-          (map (λ conn. Deliver conn outcome) (waiting_for load l) ++ map RunLines (waiting_for load l)) [] h.steps a b c kept h.leads)));
+          (map (λ conn. Deliver conn outcome) (waiting_on load l) ++ map RunLines (waiting_on load l)) [] h.steps a b c kept h.leads)));
     }
 
 -- the same, of connections that stand for the same
@@ -134,7 +134,7 @@ answered-same config making load latest moment outcome accepted values Stands l 
   steps = x.steps;
   held = x.held;
   stands = x.stands;
-  settles = subst (λ s. Settles config making s (record_answered load outcome moment accepted x.own x.steps) (situation (max moment latest) k new dropping x.held) a c) (same.situation latest l dropped values) x.settles;
+  settles = subst (λ s. SettlingLeads config making s (record_answered load outcome moment accepted x.own x.steps) (situation (max moment latest) k new dropping x.held) a c) (same.situation latest l dropped values) x.settles;
   texts = record {
     replies = λ place. x.texts.replies place ∙ ap (λ text. text ++ replies_to (suc place) x.steps) (same.texts place);
     closings = λ place. subst (λ o. ClosesByLines o (closing_at new place)) (same.closings place) (x.texts.closings place);

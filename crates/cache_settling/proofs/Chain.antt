@@ -26,11 +26,11 @@ use Rattle.cache_namespace.specs.Whole.{held_line}
 use Rattle.cache_namespace.specs.declared.connection.Connection.{Connection}
 use Rattle.cache_loads.specs.declared.standing.Standing.TheVariants as now
 use Rattle.cache_namespace.proofs.Places.{replaced-is, replaced-others, replaced-seen, text-is}
-use Rattle.load_laws.specs.Tidy.{Tidy, times_in}
-use Rattle.load_laws.proofs.Counts.{one_if}
-use Rattle.load_laws.proofs.Records.{told-delivers}
-use Rattle.load_laws.proofs.Turns.{told-once}
-use Rattle.cache_settling.specs.Leads.{Leads, told_in}
+use Rattle.audit_waiting_laws.specs.Tidy.{Tidy, times_in}
+use Rattle.audit_waiting_laws.proofs.Counts.{one_if}
+use Rattle.audit_waiting_laws.proofs.Records.{told-delivers}
+use Rattle.audit_waiting_laws.proofs.Turns.{told-once}
+use Rattle.cache_settling.specs.Leads.{TasksLead, still_told}
 use Rattle.cache_settling.specs.Told.{TellsThem, WritesTo, line_of, own_steps, replies_to, steps_told, to_tell, when_idle}
 use Rattle.cache_settling.proofs.Leading.{nothing, on}
 use Rattle.cache_settling.proofs.Noting.{closes-both, none-first, own-both}
@@ -71,12 +71,12 @@ tells-more config making outcome writes latest loads dropped values tasks drawn 
     let line = line-untouched old mid n i p.was e p.at same in
     let left = when_idle config latest t.count values in
     let step : Step = step_saying n (line_of old n) (outcome_text outcome) None [] in
-    let one : Leads config making (situation latest loads mid dropped left) (Deliver n outcome ∷ (to_tell outcome rest ++ tasks)) (step ∷ []) (situation latest loads new dropped (when_idle config latest (suc t.count) values)) (to_tell outcome rest ++ tasks) drawn drawn =
-    subst (λ l. Leads config making (situation latest loads mid dropped left) (Deliver n outcome ∷ (to_tell outcome rest ++ tasks)) (step_saying n l (outcome_text outcome) None [] ∷ []) (situation latest loads new dropped (when_idle config latest (suc t.count) values)) (to_tell outcome rest ++ tasks) drawn drawn)
+    let one : TasksLead config making (situation latest loads mid dropped left) (Deliver n outcome ∷ (to_tell outcome rest ++ tasks)) (step ∷ []) (situation latest loads new dropped (when_idle config latest (suc t.count) values)) (to_tell outcome rest ++ tasks) drawn drawn =
+    subst (λ l. TasksLead config making (situation latest loads mid dropped left) (Deliver n outcome ∷ (to_tell outcome rest ++ tasks)) (step_saying n l (outcome_text outcome) None [] ∷ []) (situation latest loads new dropped (when_idle config latest (suc t.count) values)) (to_tell outcome rest ++ tasks) drawn drawn)
     (sym line) (leads-told config making outcome latest loads dropped left (to_tell outcome rest ++ tasks) drawn n i mid new e p told.waited told.opened told.runs told.bytes told.is_open) in
     record {
       count = suc t.count;
-      leads = subst (λ steps. Leads config making (situation latest loads old dropped values) (to_tell outcome conns ++ tasks) steps (situation latest loads new dropped (when_idle config latest (suc t.count) values)) (to_tell outcome rest ++ tasks) drawn drawn)
+      leads = subst (λ steps. TasksLead config making (situation latest loads old dropped values) (to_tell outcome conns ++ tasks) steps (situation latest loads new dropped (when_idle config latest (suc t.count) values)) (to_tell outcome rest ++ tasks) drawn drawn)
           (sym (map-append (λ k. step_saying k (line_of old k) (outcome_text outcome) None []) gone (n ∷ [])))
           (on config making (situation latest loads old dropped values) (situation latest loads mid dropped left) (situation latest loads new dropped (when_idle config latest (suc t.count) values)) (to_tell outcome conns ++ tasks) (to_tell outcome (n ∷ rest) ++ tasks) (to_tell outcome rest ++ tasks) (steps_told outcome old gone) (step ∷ []) drawn drawn drawn t.leads one);
     }
@@ -91,7 +91,7 @@ pub tidy-more : (config : Config) (outcome : Outcome) (writes : Bool) (rest : Li
     → Tidy (n ∷ rest) (situation 0 no_loads mid false []) → Tidy rest (situation 0 no_loads new false [])
 tidy-more config outcome writes rest mid new n i e told tidy =
     let p = told.replaced in
-    let whole : told_in (to_tell outcome rest ++ []) ≡ rest = told-delivers outcome rest [] ∙ append-nil rest in
+    let whole : still_told (to_tell outcome rest ++ []) ≡ rest = told-delivers outcome rest [] ∙ append-nil rest in
     let one = leads-told config (record { part_of = λ key. 0; made = 0 }) outcome 0 no_loads false [] (to_tell outcome rest ++ []) some_identifiers n i mid new e p told.waited told.opened told.runs told.bytes told.is_open in
     let after = one.tidy (subst (λ told. Tidy (n ∷ told) (situation 0 no_loads mid false [])) (sym whole) tidy) in
     let t = subst (λ told. Tidy told (situation 0 no_loads new false (when_idle config 0 1 []))) whole after in

@@ -25,11 +25,11 @@ use Rattle.cache_namespace.specs.Whole.{has_line, held_line}
 use Rattle.cache_namespace.specs.declared.connection.Connection.{Connection}
 use Rattle.cache_namespace.proofs.Following.{listed-open, put-situation}
 use Rattle.cache_namespace.proofs.Receiving.{whole-line}
-use Rattle.load_laws.specs.Tidy.{Tidy, times_in}
-use Rattle.load_laws.proofs.Counts.{one_if}
-use Rattle.cache_settling.specs.Answered.{KeepsRecord, but_for, giving_up, knows_loads, waiting_for}
+use Rattle.audit_waiting_laws.specs.Tidy.{Tidy, times_in}
+use Rattle.audit_waiting_laws.proofs.Counts.{one_if}
+use Rattle.cache_settling.specs.Answered.{KeepsRecord, but_for, giving_up, knows_loads, waiting_on}
 use Rattle.cache_settling.specs.GivenUp.{GivesUp, GivesUpLoad, HaveLoads, IsWaitingLoad, RunsAgain, WaitForLoads}
-use Rattle.cache_settling.specs.Leads.{BeginsUnknown, Leads, Settles}
+use Rattle.cache_settling.specs.Leads.{BeginsUnknown, TasksLead, SettlingLeads}
 use Rattle.cache_settling.specs.Resumed.{RunsThem}
 use Rattle.cache_settling.specs.Laws.{record_given_up}
 use Rattle.cache_settling.specs.Noted.{Noted, is_loose}
@@ -67,7 +67,7 @@ again-resumed config making latest m i l k j cs after new dropped dropping last 
   stands = r.stands;
   leads = λ tasks.
       on config making (situation latest l cs dropped values) (situation latest k after dropping x.held) (situation latest j new last r.held) (RunAgain m ∷ RunLines m ∷ tasks) (RunLines m ∷ tasks) tasks (x.step ∷ []) r.steps a b c
-      (subst (λ t. Leads config making (situation latest l cs dropped values) (RunAgain m ∷ RunLines m ∷ tasks) (x.step ∷ []) t (RunLines m ∷ tasks) a b) (again-target latest m i l k cs after dropped dropping values x.held e p was_open is_open) (x.leads (RunLines m ∷ tasks)))
+      (subst (λ t. TasksLead config making (situation latest l cs dropped values) (RunAgain m ∷ RunLines m ∷ tasks) (x.step ∷ []) t (RunLines m ∷ tasks) a b) (again-target latest m i l k cs after dropped dropping values x.held e p was_open is_open) (x.leads (RunLines m ∷ tasks)))
       (r.leads tasks);
   texts = writes-on told telling (x.step ∷ []) r.steps cs after new (noted-by p.was.output.items p.is.output.items told telling (x.step ∷ []) x.gathered)
       (text-wrote cs after m i (x.step ∷ []) (is_loose told) e p (wrote-by p.was.output.items p.is.output.items told telling (x.step ∷ []) x.gathered)
@@ -179,14 +179,14 @@ have-lines told cs tidy n some k at =
 
 pub given-up : (config : Config) (making : Making) (load latest moment : ℕ) (values : List HeldValue) (Stands : List HeldValue → Type 0) (l k : UnderWay) (dropped dropping : Bool) (a c : Identifiers) (cs new : List Connection) (told telling : List Note) (keeping : Option (List Step))
     → refusal_of config (knows_loads l) (giving_up load moment) ≡ None
-    → GivesUp config making (max moment latest) values (waiting_for load l) [] Stands (but_for load l) k dropped dropping a c cs new (record { kept = None; waiting = told }) (record { kept = keeping; waiting = telling })
+    → GivesUp config making (max moment latest) values (waiting_on load l) [] Stands (but_for load l) k dropped dropping a c cs new (record { kept = None; waiting = told }) (record { kept = keeping; waiting = telling })
     → GivesUpLoad config making load latest moment values Stands l k dropped dropping a c cs new told telling
 given-up config making load latest moment values Stands l k dropped dropping a c cs new told telling keeping admitted g = record {
   steps = g.steps;
   held = g.held;
   stands = g.stands;
   settles = give-up config making (situation latest l cs dropped values) (situation (max moment latest) k new dropping g.held) load moment g.steps a c admitted
-      (subst (λ tasks. Leads config making (situation (max moment latest) (but_for load l) cs dropped values) tasks g.steps (situation (max moment latest) k new dropping g.held) [] a c) (append-nil (tasks_to_give_up (waiting_for load l))) (g.leads []))
+      (subst (λ tasks. TasksLead config making (situation (max moment latest) (but_for load l) cs dropped values) tasks g.steps (situation (max moment latest) k new dropping g.held) [] a c) (append-nil (tasks_to_give_up (waiting_on load l))) (g.leads []))
       g.begins;
   texts = g.texts;
   notes = ap (λ (n : Noted). n.waiting) g.notes;
@@ -195,7 +195,7 @@ given-up config making load latest moment values Stands l k dropped dropping a c
 -- the same, where its steps were kept
 pub give-up-kept : (config : Config) (making : Making) (load latest moment : ℕ) (values : List HeldValue) (Stands : List HeldValue → Type 0) (l k : UnderWay) (dropped dropping : Bool) (a c : Identifiers) (cs new : List Connection) (steps : List Step) (keeping : Noted)
     → refusal_of config (knows_loads l) (giving_up load moment) ≡ None
-    → GivesUp config making (max moment latest) values (waiting_for load l) [] Stands (but_for load l) k dropped dropping a c cs new (record { kept = Some []; waiting = [] }) keeping
+    → GivesUp config making (max moment latest) values (waiting_on load l) [] Stands (but_for load l) k dropped dropping a c cs new (record { kept = Some []; waiting = [] }) keeping
     → steps ≡ unwrap_or keeping.kept []
     → KeepsRecord config making (record_given_up load moment steps) latest moment values Stands l k dropped dropping a c cs new
 give-up-kept config making load latest moment values Stands l k dropped dropping a c cs new steps keeping admitted g is =
@@ -205,8 +205,8 @@ give-up-kept config making load latest moment values Stands l k dropped dropping
     record {
       held = g.held;
       stands = g.stands;
-      settles = subst (λ ss. Settles config making s (record_given_up load moment ss) t a c) whole
+      settles = subst (λ ss. SettlingLeads config making s (record_given_up load moment ss) t a c) whole
           (give-up config making s t load moment g.steps a c admitted
-          (subst (λ tasks. Leads config making (situation (max moment latest) (but_for load l) cs dropped values) tasks g.steps t [] a c) (append-nil (tasks_to_give_up (waiting_for load l))) (g.leads []))
+          (subst (λ tasks. TasksLead config making (situation (max moment latest) (but_for load l) cs dropped values) tasks g.steps t [] a c) (append-nil (tasks_to_give_up (waiting_on load l))) (g.leads []))
           g.begins);
     }

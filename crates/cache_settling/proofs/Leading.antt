@@ -22,17 +22,17 @@ use Rattle.cache_namespace.specs.Lines.{ArePartedIn, are_timely, has_its_part, i
 use Rattle.cache_namespace.specs.Making.{Making}
 use Rattle.cache_namespace.proofs.Drawn.{draws-first, spends-more}
 use Rattle.cache_namespace.proofs.Framing.{frames, same-due, same-due-placed, same-due-timely}
-use Rattle.load_laws.specs.Tidy.{IsFit, Tidy, told_by}
-use Rattle.load_laws.proofs.Records.{has_no_held, fit-due, no-held-due, no-held-left, told-due, told-left}
-use Rattle.load_laws.proofs.Turns.{steps}
-use Rattle.cache_settling.specs.Leads.{Leads, told_in}
+use Rattle.audit_waiting_laws.specs.Tidy.{SuitsTask, Tidy, told_of_load}
+use Rattle.audit_waiting_laws.proofs.Records.{has_no_held, fit-due, no-held-due, no-held-left, told-due, told-left}
+use Rattle.audit_waiting_laws.proofs.Turns.{steps}
+use Rattle.cache_settling.specs.Leads.{TasksLead, still_told}
 
-pub nothing : (config : Config) (making : Making) (s : Situation) (tasks : List Task) (drawn : Identifiers) → Leads config making s tasks [] s tasks drawn drawn
+pub nothing : (config : Config) (making : Making) (s : Situation) (tasks : List Task) (drawn : Identifiers) → TasksLead config making s tasks [] s tasks drawn drawn
 nothing config making s tasks drawn =
     record { after = λ more. refl; parted = λ more h. h; timely = λ more h. h; draws = λ more last h. h; tidy = λ h. h }
 
 pub on : (config : Config) (making : Making) (s t u : Situation) (tasks left last : List Task) (steps more : List Step) (a b c : Identifiers)
-    → Leads config making s tasks steps t left a b → Leads config making t left more u last b c → Leads config making s tasks (steps ++ more) u last a c
+    → TasksLead config making s tasks steps t left a b → TasksLead config making t left more u last b c → TasksLead config making s tasks (steps ++ more) u last a c
 on config making s t u tasks left last steps more a b c first second = record {
   after = λ rest. ap (after_steps config s tasks) (append_assoc steps more rest) ∙ first.after (more ++ rest) ∙ second.after rest;
   parted = λ rest h. subst (ArePartedIn config making.part_of s tasks) (sym (append_assoc steps more rest)) (first.parted (more ++ rest) (second.parted rest h));
@@ -48,10 +48,10 @@ cons-parted part_of (Some v) values one rest = and_from (is_parted part_of v) (l
 
 -- a step of the task that is due leads to the tasks behind it
 pub one : (config : Config) (making : Making) (s t : Situation) (task : Task) (rest : List Task) (step : Step) (a b : Identifiers)
-    → due (may_run_in s) (task ∷ rest) ≡ task ∷ rest → left_after (task ∷ rest) ≡ rest → IsFit task s
+    → due (may_run_in s) (task ∷ rest) ≡ task ∷ rest → left_after (task ∷ rest) ≡ rest → SuitsTask task s
     → is_right config (placed_step_in config s (Some task) step) ≡ true → after_step config s (Some task) step (placed_step_in config s (Some task) step).effect ≡ t
     → has_its_part making.part_of (placed_step_in config s (Some task) step).effect ≡ true → is_timely_after config making.made (placed_step_in config s (Some task) step).effect t ≡ true
-    → StepDraws config step a b → Leads config making s (task ∷ rest) (step ∷ []) t rest a b
+    → StepDraws config step a b → TasksLead config making s (task ∷ rest) (step ∷ []) t rest a b
 one config making s t task rest step a b is_due leaves fit right after in_part in_time drawn = record {
   after = λ more.
       ap (λ ts. let placed = placed_step_in config s (first_due ts) step in if is_right config placed then after_steps config (after_step config s placed.task step placed.effect) (left_after ts) more else None) is_due
@@ -71,7 +71,7 @@ one config making s t task rest step a b is_due leaves fit right after in_part i
       ∙ ap (λ u. is_timely_after config making.made (placed_step_in config s (Some task) step).effect u && are_timely config making.made u rest more) after
       ∙ and_from _ _ in_time h;
   draws = λ more last h. draws-first config step more a b last drawn h;
-  tidy = λ h. subst (Tidy (told_in rest)) after (steps config s task step (told_in rest) fit right h);
+  tidy = λ h. subst (Tidy (still_told rest)) after (steps config s task step (still_told rest) fit right h);
 }
 
 -- ---- lines
@@ -90,7 +90,7 @@ after_one config s now_due step more =
 
 -- those that are told behind these tasks
 abbrev told_behind : List Task → List ℕ → List ℕ
-told_behind tasks told = told_in tasks ++ told
+told_behind tasks told = still_told tasks ++ told
 
 empty-behind : (tasks : List Task) (told : List ℕ) → is_empty tasks ≡ true → told_behind tasks told ≡ told
 empty-behind [] told e = refl
@@ -118,7 +118,7 @@ tidy-behind config s t tasks told (step ∷ more) none tidy e =
             next _ (left_after (task ∷ rest)) (no-held-left task rest h)
             (subst (λ x. Tidy (x ++ told) (after_step config s (Some task) step (placed_step_in config s (Some task) step).effect)) (sym (told-left task rest))
             (steps config s task step (told_behind rest told) (fit-due s tasks task rest is h) r
-            (subst (λ x. Tidy x s) (append_assoc (told_by task) (told_in rest) told) tidies))) m
+            (subst (λ x. Tidy x s) (append_assoc (told_of_load task) (still_told rest) told) tidies))) m
 
 joined-parted : (part_of : List ℕ → ℕ) (ps qs : List PlacedStep) → list_all (is_parted part_of) (accepted_values ps) ≡ true → list_all (is_parted part_of) (accepted_values qs) ≡ true → list_all (is_parted part_of) (accepted_values (ps ++ qs)) ≡ true
 joined-parted part_of [] qs x y = y
@@ -131,7 +131,7 @@ joined-parted part_of (p ∷ ps) qs x y = go (λ z. joined-parted part_of ps qs 
 
 pub lines : (config : Config) (making : Making) (s t : Situation) (n : ℕ) (ran : List Step) (tasks : List Task) (a b : Identifiers)
     → after_steps config s (RunLines n ∷ []) ran ≡ Some t → ArePartedIn config making.part_of s (RunLines n ∷ []) ran → are_timely config making.made s (RunLines n ∷ []) ran ≡ true → StepsDraw config ran a b
-    → Leads config making s (RunLines n ∷ tasks) ran t tasks a b
+    → TasksLead config making s (RunLines n ∷ tasks) ran t tasks a b
 lines config making s t n ran tasks a b e in_parts in_time drawn = record {
   after = λ more. (frames config s t (RunLines n ∷ []) tasks ran more e).after;
   parted = λ more h.
@@ -139,11 +139,11 @@ lines config making s t n ran tasks a b e in_parts in_time drawn = record {
       ∙ joined-parted making.part_of (placed_steps_in config s (RunLines n ∷ []) ran) (placed_steps_in config t tasks more) in_parts h;
   timely = λ more h. (frames config s t (RunLines n ∷ []) tasks ran more e).timely making.made ∙ and_from _ _ in_time h;
   draws = λ more last h. draws-on config ran more a b last drawn h;
-  tidy = λ h. tidy-behind config s t (RunLines n ∷ []) (told_in tasks) ran refl h e;
+  tidy = λ h. tidy-behind config s t (RunLines n ∷ []) (still_told tasks) ran refl h e;
 }
 
 -- a connection's lines of which none may run
-pub no-lines : (config : Config) (making : Making) (s : Situation) (n : ℕ) (tasks : List Task) (drawn : Identifiers) → may_run_in s n ≡ false → Leads config making s (RunLines n ∷ tasks) [] s tasks drawn drawn
+pub no-lines : (config : Config) (making : Making) (s : Situation) (n : ℕ) (tasks : List Task) (drawn : Identifiers) → may_run_in s n ≡ false → TasksLead config making s (RunLines n ∷ tasks) [] s tasks drawn drawn
 no-lines config making s n tasks drawn stops =
     let none : due (may_run_in s) (RunLines n ∷ tasks) ≡ due (may_run_in s) tasks = ap (λ b. if b then RunLines n ∷ tasks else due (may_run_in s) tasks) stops in
     record {

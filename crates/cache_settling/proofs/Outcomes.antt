@@ -15,11 +15,11 @@ use Rattle.cache_namespace.specs.Drawing.{Identifiers}
 use Rattle.cache_namespace.specs.Making.{Making}
 use Rattle.cache_namespace.specs.Shown.{situation}
 use Rattle.cache_namespace.specs.Waiting.{UnderWay}
-use Rattle.cache_namespace.specs.Kept.{steps_of}
+use Rattle.cache_namespace.specs.Kept.{kept_steps}
 use Rattle.cache_namespace.specs.declared.connection.Connection.{Connection}
 use Rattle.cache_namespace.specs.declared.kept.Kept.{Kept}
 use Rattle.cache_settling.specs.Answered.{HandsOut}
-use Rattle.cache_settling.specs.Leads.{Leads}
+use Rattle.cache_settling.specs.Leads.{TasksLead}
 use Rattle.cache_settling.specs.Resumed.{RunsThem}
 use Rattle.cache_settling.specs.Told.{TellsThem, WritesTo, steps_told, to_tell, when_idle}
 use Rattle.cache_settling.specs.Noted.{Noted, is_loose, none_noted, noted_in, with_steps}
@@ -48,14 +48,14 @@ hands-out config making outcome latest values waiting Stands l k dropped droppin
       steps = first ++ r.steps;
       held = r.held;
       stands = r.stands;
-      leads = subst (λ tasks. Leads config making (situation latest l old dropped values) (to_tell outcome waiting ++ tasks) (first ++ r.steps) (situation latest k new dropping r.held) [] drawn drawing) (append-nil (map RunLines waiting))
+      leads = subst (λ tasks. TasksLead config making (situation latest l old dropped values) (to_tell outcome waiting ++ tasks) (first ++ r.steps) (situation latest k new dropping r.held) [] drawn drawing) (append-nil (map RunLines waiting))
           (on config making (situation latest l old dropped values) there (situation latest k new dropping r.held) (to_tell outcome waiting ++ (map RunLines waiting ++ [])) (map RunLines waiting ++ []) [] first r.steps drawn drawn drawing t.leads (r.leads []));
       texts = writes-on told between first r.steps old mid new begun texts r.texts;
       notes = noted-both told between telling first r.steps begun r.notes;
     }
 
 -- the first steps that are kept are those in which the outcome is handed out
-pub begun-told : (outcome : Outcome) (cs : List Connection) (waiting : List ℕ) (kept : Option Kept) (told : List Note) → MatchOption (steps_of kept) (Unit {0}) (λ steps. steps ≡ steps_told outcome cs waiting)
+pub begun-told : (outcome : Outcome) (cs : List Connection) (waiting : List ℕ) (kept : Option Kept) (told : List Note) → MatchOption (kept_steps kept) (Unit {0}) (λ steps. steps ≡ steps_told outcome cs waiting)
     → noted_in kept told ≡ with_steps (steps_told outcome cs waiting) (none_noted kept told)
 begun-told outcome cs waiting None told is = ap (λ w. record { kept = None; waiting = w }) (sym (ap (λ x. told ++ x) (told-none outcome cs waiting) ∙ append-nil told))
 begun-told outcome cs waiting (Some k) told is = ap (λ ss. record { kept = Some ss; waiting = told }) is

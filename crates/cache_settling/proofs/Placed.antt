@@ -15,7 +15,7 @@ use Rattle.audit_model.specs.Stream.{behind_lines}
 use Rattle.audit_model.specs.declared.command.Closing.{Closing}
 use Rattle.audit_model.specs.declared.config.Config.{Config}
 use Rattle.audit_model.specs.declared.event.Outcome.{Outcome}
-use Rattle.cache_lines.proofs.Cuts.{Cut, cut_at-here, cut_at-other}
+use Rattle.audit_lines.proofs.Cuts.{Cut, cut_at-here, cut_at-other}
 use Rattle.cache_steps.proofs.LoadSteps.{delivers}
 use Rattle.cache_steps.specs.Right.{step_saying}
 use Rattle.cache_store.specs.Promises.{no_deed}
@@ -25,14 +25,14 @@ use Rattle.cache_namespace.specs.Making.{Making}
 use Rattle.cache_namespace.specs.Shown.{is_listed, open_from, shown, situation, standing_as, stands_before}
 use Rattle.cache_namespace.specs.Taken.{ReplacedAt}
 use Rattle.cache_namespace.specs.Waiting.{UnderWay, waiting, when_left}
-use Rattle.cache_loads.specs.Standings.{keeps_line, waits}
+use Rattle.cache_loads.specs.Standings.{keeps_line, waits_for_load}
 use Rattle.cache_namespace.specs.Whole.{held_line, is_long_line, is_near}
 use Rattle.cache_namespace.specs.declared.connection.Connection.{Connection}
 use Rattle.cache_loads.specs.declared.standing.Standing.{Standing}
 use Rattle.cache_loads.specs.declared.standing.Standing.TheVariants as now
 use Rattle.cache_namespace.proofs.Following.{found-open, listed-open, put-situation}
-use Rattle.load_laws.specs.Tidy.{Tidy}
-use Rattle.cache_settling.specs.Leads.{Leads}
+use Rattle.audit_waiting_laws.specs.Tidy.{Tidy}
+use Rattle.cache_settling.specs.Leads.{TasksLead}
 use Rattle.cache_settling.proofs.Turns.{delivered, told-waits}
 
 -- ---- the bytes behind a `LOAD`
@@ -52,10 +52,10 @@ not-above n le = go (nat_lt 8192 n) refl
     go false e = refl
 
 -- they hold no line that is too long
-pub short-behind : (closing : Option Closing) (standing : Standing) (bytes left : List ℕ) → closing ≡ None → standing ≡ now.Waiting → IsTrue (is_some closing || not (waits standing) || is_near bytes) → left ≡ behind_lines 1 bytes
+pub short-behind : (closing : Option Closing) (standing : Standing) (bytes left : List ℕ) → closing ≡ None → standing ≡ now.Waiting → IsTrue (is_some closing || not (waits_for_load standing) || is_near bytes) → left ≡ behind_lines 1 bytes
     → (is_some closing || keeps_line now.Ready || not (is_long_line left)) ≡ true
 short-behind closing standing bytes left is_open e near is =
-    let close : is_near bytes ≡ true = subst (λ st. (not (waits st) || is_near bytes) ≡ true) e (subst (λ o. (is_some o || not (waits standing) || is_near bytes) ≡ true) is_open near) in
+    let close : is_near bytes ≡ true = subst (λ st. (not (waits_for_load st) || is_near bytes) ≡ true) e (subst (λ o. (is_some o || not (waits_for_load standing) || is_near bytes) ≡ true) is_open near) in
     let few = leb-true (length (behind_lines 1 bytes)) 8192 close in
     let within = cut-within (behind_lines 1 bytes) in
     ap (λ o. is_some o || false || not (is_long_line left)) is_open ∙ ap (λ b. not (is_long_line b)) is ∙ ap not (not-above (length (cut_at 10 (behind_lines 1 bytes)).0) (omega arith))
@@ -104,7 +104,7 @@ found-back m n k [] e = absurd (no-connection k e)
 found-back m n k (c ∷ cs) e =
     found-first m n k c cs (open_from (suc n) cs) (λ h. found-back m (suc n) k cs h) (is_listed n c) (n == m) refl refl (find-first m n c (open_from (suc n) cs) (is_listed n c) ∙ e)
 
--- a connection that waits, and where it stands
+-- a connection that waits_for_load, and where it stands
 pub record WaitsAt (cs : List Connection) (m : ℕ) : Type 0 where
   pub index : ℕ
   pub place : m ≡ suc index
@@ -122,7 +122,7 @@ pub open-so : (closing : Option Closing) → is_none closing ≡ true → closin
 open-so None e = refl
 open-so (Some by) e = let no : false ≡ true = e in cc
 
--- the first of those that are to be told waits
+-- the first of those that are to be told waits_for_load
 pub waits-at : (latest : ℕ) (loads : UnderWay) (cs : List Connection) (dropped : Bool) (values : List HeldValue) (m : ℕ) (told : List ℕ) → Tidy (m ∷ told) (situation latest loads cs dropped values) → WaitsAt cs m
 waits-at latest loads cs dropped values m told tidy =
     let w = told-waits m told (situation latest loads cs dropped values) tidy in
@@ -140,7 +140,7 @@ waits-at latest loads cs dropped values m told tidy =
 -- what a namespace's situation becomes when one of its connections is handed the outcome
 pub leads-told : (config : Config) (making : Making) (outcome : Outcome) (latest : ℕ) (loads : UnderWay) (dropped : Bool) (values : List HeldValue) (tasks : List Task) (drawn : Identifiers) (m i : ℕ) (cs after : List Connection)
     → m ≡ suc i → (p : ReplacedAt cs after i) → p.was.standing ≡ now.Waiting → p.was.closing ≡ None → p.is.standing ≡ now.Ready → p.is.unread.bytes ≡ behind_lines 1 p.was.unread.bytes → p.is.closing ≡ None
-    → Leads config making (situation latest loads cs dropped values) (Deliver m outcome ∷ tasks) (step_saying m (held_line p.was.unread.bytes) (outcome_text outcome) None [] ∷ [])
+    → TasksLead config making (situation latest loads cs dropped values) (Deliver m outcome ∷ tasks) (step_saying m (held_line p.was.unread.bytes) (outcome_text outcome) None [] ∷ [])
     (situation latest loads after dropped (all_held_after config latest values no_deed [])) tasks drawn drawn
 leads-told config making outcome latest loads dropped values tasks drawn m i cs after e p was_waiting was_open is_ready bytes is_open =
     let s = situation latest loads cs dropped values in
@@ -153,7 +153,7 @@ leads-told config making outcome latest loads dropped values tasks drawn m i cs 
     let behind = behind_lines 1 p.was.unread.bytes in
     let found : connection_in m s ≡ Some (waiting m line behind p.was.waited) =
     found-open m i p.was cs e lt at listed ∙ ap (λ st. Some (standing_as m st p.was.waited p.was.unread.bytes)) was_waiting in
-    subst (λ t. Leads config making s (Deliver m outcome ∷ tasks) (step_saying m line (outcome_text outcome) None [] ∷ []) t tasks drawn drawn)
+    subst (λ t. TasksLead config making s (Deliver m outcome ∷ tasks) (step_saying m line (outcome_text outcome) None [] ∷ []) t tasks drawn drawn)
     (ap (set_in s left) (sym (ap (λ st. standing_as m st p.is.waited p.is.unread.bytes) is_ready ∙ ap (ready m) bytes))
     ∙ sym (ap (λ b. if b then set_in s left (shown m p.is) else without_connection m (record s { held = left })) stays)
     ∙ put-situation latest m i loads p.was p.is cs dropped values left e lt at listed

@@ -24,20 +24,20 @@ use Rattle.cache_steps.specs.Order.{Order, Unknown, order_by}
 use Rattle.cache_steps.specs.Right.{DoesRight, dropped_when_run, held_when_run, step_saying}
 use Rattle.cache_namespace.specs.Drawing.{Identifiers, Spends, StepDraws, Workings, identifiers_in}
 use Rattle.cache_namespace.specs.Gathered.{IsFresh, gather}
-use Rattle.cache_namespace.specs.Kept.{gathered, more_in, steps_of}
+use Rattle.cache_namespace.specs.Kept.{gathered, more_in, kept_steps}
 use Rattle.cache_namespace.specs.declared.kept.Kept.{Kept}
 use Rattle.cache_namespace.specs.Ran.{RanOne}
 use Rattle.cache_namespace.specs.Lines.{held_step, ready, set_in, with_drops}
 use Rattle.cache_namespace.specs.Making.{Making}
-use Rattle.cache_namespace.specs.Ordered.{order_after}
+use Rattle.cache_namespace.specs.Ordered.{order_behind_step}
 use Rattle.cache_namespace.specs.Shown.{put_in, shown, standing_as}
-use Rattle.cache_namespace.specs.Waiting.{UnderWay, holding_load, is_load, loads_in, sent_by, waiting, when_waiting, with_under_way}
+use Rattle.cache_namespace.specs.Waiting.{UnderWay, holding_load, is_load, loads_in, load_sent_for, waiting, when_waiting, with_under_way}
 use Rattle.cache_namespace.specs.Whole.{held_line}
 use Rattle.cache_namespace.specs.declared.connection.Connection.{Connection}
 use Rattle.cache_loads.specs.declared.standing.Standing.TheVariants as now
 use Rattle.cache_namespace.proofs.Following.{listed-open}
 use Rattle.cache_settling.specs.GivenUp.{RunsAgain}
-use Rattle.cache_settling.specs.Leads.{Leads}
+use Rattle.cache_settling.specs.Leads.{TasksLead}
 use Rattle.cache_settling.specs.Noted.{Noted, gathered_with}
 use Rattle.cache_settling.proofs.Answered.{drawn-first, spent-first}
 use Rattle.cache_settling.proofs.Turns.{abandoned, answered, held_back, waits_again}
@@ -78,7 +78,7 @@ shown-waiting n new bytes times e b t =
 -- ---- the order of use
 
 -- nothing is known of it behind a `LOAD`
-pub load-unknown : (config : Config) (step : Step) (key : List ℕ) → step.held ≡ false → reading config step.line ≡ Ok (says.Load key) → (n : ℕ) (order : Order) → order_after config n order step ≡ Unknown
+pub load-unknown : (config : Config) (step : Step) (key : List ℕ) → step.held ≡ false → reading config step.line ≡ Ok (says.Load key) → (n : ℕ) (order : Order) → order_behind_step config n order step ≡ Unknown
 load-unknown config step key stays reads n order = ap (λ b. if b then Unknown else order_by n (reading config step.line) order) stays ∙ ap (λ r. order_by n r order) reads
 
 -- ---- what became of it
@@ -97,7 +97,7 @@ abandoned-again config making s n Stands k dropping a old new told telling key f
       step = step;
       held = all_held_after config s.latest s.held no_deed [];
       stands = stands;
-      leads = λ tasks. subst (λ t. Leads config making s (RunAgain n ∷ tasks) (step ∷ []) t tasks a a)
+      leads = λ tasks. subst (λ t. TasksLead config making s (RunAgain n ∷ tasks) (step ∷ []) t tasks a a)
           (sym (put-alike s (all_held_after config s.latest s.held no_deed []) n new (ready n behind) k dropping is_open (shown-ready n new behind runs bytes) loads drops))
           (abandoned config making s n line behind old.waited tasks a (found-waiting s n old found was_waiting) last x.right);
       own = refl;
@@ -134,7 +134,7 @@ answered-again config making s n quit Stands k dropping drawn drawing old new to
       held = left;
       stands = stands;
       leads = λ tasks. drawn-first config making s _ (RunAgain n ∷ tasks) tasks step a b draws
-          (subst (λ t. Leads config making s (RunAgain n ∷ tasks) (step ∷ []) t tasks b b)
+          (subst (λ t. TasksLead config making s (RunAgain n ∷ tasks) (step ∷ []) t tasks b b)
           (sym (put-alike s left n new (ready n behind) k dropping is_open (shown-ready n new behind runs bytes) loads (drops ∙ or-false s.dropped)))
           (answered config making s n line behind key x.reply old.waited x.told tasks b (found-waiting s n old found was_waiting) few reads right));
       own = refl;
@@ -156,7 +156,7 @@ held-again config making s n Stands k dropping a b old new told telling found wa
       held = left;
       stands = stands;
       leads = λ tasks. spent-first config making s _ (RunAgain n ∷ tasks) tasks (held_step n line ∷ []) a b b spends
-          (subst (λ t. Leads config making s (RunAgain n ∷ tasks) (held_step n line ∷ []) t tasks b b)
+          (subst (λ t. TasksLead config making s (RunAgain n ∷ tasks) (held_step n line ∷ []) t tasks b b)
           (sym (put-alike s left n new (holding_load n line behind old.waited) k dropping is_open (shown-held n new old.unread.bytes old.waited holds bytes times) loads drops))
           (held_back config making s n line behind old.waited tasks b (found-waiting s n old found was_waiting) few));
       own = refl;
@@ -167,7 +167,7 @@ held-again config making s n Stands k dropping a b old new told telling found wa
 pub waits-again : (config : Config) (making : Making) (s : Situation) (n : ℕ) (Stands : List HeldValue → Type 0) (k : UnderWay) (dropping : Bool) (a b : Identifiers) (old new : Connection) (told telling : Noted) (key : List ℕ)
     → connection_in n s ≡ Some (shown n old) → old.standing ≡ now.Waiting → reading config (held_line old.unread.bytes) ≡ Ok (says.Load key) → nat_le 200 old.waited ≡ false
     → new.closing ≡ None → new.standing ≡ now.Waiting → new.unread.bytes ≡ old.unread.bytes → new.waited ≡ suc old.waited
-    → gathered_with new.output.items telling ≡ gather (gathered_with old.output.items told) (step_silent n (held_line old.unread.bytes) (sent_by key (loads_in s)) None [] ∷ [])
+    → gathered_with new.output.items telling ≡ gather (gathered_with old.output.items told) (step_silent n (held_line old.unread.bytes) (load_sent_for key (loads_in s)) None [] ∷ [])
     → k ≡ when_waiting n key (loads_in s) → dropping ≡ s.dropped → live_at config s.latest s.held key ≡ None → Spends a b
     → Stands (all_held_after config s.latest s.held no_deed []) → RunsAgain config making s n Stands k dropping a b old new told telling
 waits-again config making s n Stands k dropping a b old new told telling key found was_waiting reads few is_open still bytes times gathers loads drops none spends stands =
@@ -182,7 +182,7 @@ waits-again config making s n Stands k dropping a b old new told telling key fou
       held = left;
       stands = x.left;
       leads = λ tasks. spent-first config making s _ (RunAgain n ∷ tasks) tasks (step ∷ []) a b b spends
-          (subst (λ t. Leads config making s (RunAgain n ∷ tasks) (step ∷ []) t tasks b b)
+          (subst (λ t. TasksLead config making s (RunAgain n ∷ tasks) (step ∷ []) t tasks b b)
           (sym (put-is (with_under_way k (with_drops dropping s)) left n new (waiting n line behind (suc old.waited)) is_open (shown-waiting n new old.unread.bytes (suc old.waited) still bytes times)
           ∙ ap (λ (u : UnderWay). set_in (with_under_way u (with_drops dropping s)) left (waiting n line behind (suc old.waited))) loads
           ∙ ap (λ d. set_in (with_under_way (when_waiting n key (loads_in s)) (with_drops d s)) left (waiting n line behind (suc old.waited))) drops))
@@ -197,7 +197,7 @@ waits-again config making s n Stands k dropping a b old new told telling key fou
 -- a reply that was written, and of which a step was kept where a record is made
 pub said-again : {V : Type 0} (items : V → List ℕ) (old_kept kept : Option Kept) (text after : V) (before reply line : List ℕ) (n : ℕ) (told : List Note)
     → IsFresh (gathered before old_kept told) → items text ≡ before ++ reply
-    → MatchOption old_kept (after ≡ text) (λ k. (items after ≡ []) × (steps_of kept ≡ Some (k.steps.items ++ step_saying n line (items text) None [] ∷ [])))
+    → MatchOption old_kept (after ≡ text) (λ k. (items after ≡ []) × (kept_steps kept ≡ Some (k.steps.items ++ step_saying n line (items text) None [] ∷ [])))
     → more_in kept ≡ more_in old_kept
     → gathered (items after) kept told ≡ gather (gathered before old_kept told) (step_saying n line reply None [] ∷ [])
 said-again items None None text after before reply line n told fresh wrote is more =
@@ -205,7 +205,7 @@ said-again items None None text after before reply line n told fresh wrote is mo
     ∙ ap (λ w. record { text = before ++ (reply ++ []); kept = None; waiting = w }) (sym (append-nil told))
 said-again items None (Some k) text after before reply line n told fresh wrote is more = let no : Some (vec_len k.more) ≡ None = more in cc
 said-again items (Some j) kept text after before reply line n told fresh wrote is more =
-    ap (λ t. record { text = t; kept = steps_of kept; waiting = told }) (is.0 ∙ sym fresh.0)
+    ap (λ t. record { text = t; kept = kept_steps kept; waiting = told }) (is.0 ∙ sym fresh.0)
     ∙ ap (λ ss. record { text = before; kept = ss; waiting = told }) (is.1 ∙ ap (λ t. Some (j.steps.items ++ step_saying n line t None [] ∷ [])) (wrote ∙ ap (λ b. b ++ reply) fresh.0))
 
 -- a line that is a `LOAD` says its key

@@ -27,7 +27,7 @@ use Rattle.cache_namespace.specs.Ran.{RanFeed, RanReady, with_piece}
 use Rattle.cache_namespace.specs.Shown.{put_in, shown, situation, standing_as}
 use Rattle.cache_namespace.specs.Taken.{FeedsConnection, IsOpenOrEnded, ReplacedAt, closing_at, is_quit, text_at}
 use Rattle.cache_namespace.specs.Waiting.{UnderWay, when_left, with_under_way}
-use Rattle.cache_loads.specs.Standings.{holds, waits}
+use Rattle.cache_loads.specs.Standings.{holds_line, waits_for_load}
 use Rattle.cache_namespace.specs.declared.connection.Connection.{Connection}
 use Rattle.cache_namespace.specs.declared.kept.Kept.{Kept}
 use Rattle.cache_loads.specs.declared.standing.Standing.{Standing}
@@ -131,8 +131,8 @@ pub ready-feeds : (config : Config) (base : Situation) (number : ℕ) (making : 
     → ((left : List HeldValue) → target left ≡ put_in (with_under_way loads (with_drops dropped base)) left number new) → quit ≡ is_quit new.closing
     → FeedsConnection config base number making values old [] new is_held Stands dropped loads drawn drawing was is
 ready-feeds config base number making values old new quit is_held target Stands dropped loads drawn drawing was is e r puts ends =
-    feeds-to config base number making values old new [] quit is_held target Stands dropped loads drawn drawing was is (ap waits e)
-    (subst (λ h. RanFeed config base number making values h old.waited old.unread.bytes [] quit is_held target Stands drawn drawing was is) (sym (ap holds e))
+    feeds-to config base number making values old new [] quit is_held target Stands dropped loads drawn drawing was is (ap waits_for_load e)
+    (subst (λ h. RanFeed config base number making values h old.waited old.unread.bytes [] quit is_held target Stands drawn drawing was is) (sym (ap holds_line e))
     (record { steps = r.steps; left = r.left; stands = r.stands; after = r.after; parted = r.parted; timely = r.timely; ends = r.ends; quits = r.quits; draws = r.draws; ordered = r.ordered; gathered = r.gathered })) puts ends
 
 -- lines of a connection that is ready
@@ -240,15 +240,15 @@ runs-placed config making latest m i l j cs after dropped dropping is_held value
     let listed = listed-open m p.was ∙ ap is_none was_open in
     let same : set_in s values (with_piece [] (shown m p.was)) ≡ s =
     ap (λ b. set_in s values (record (shown m p.was) { unread = b })) (append-nil (shown m p.was).unread) ∙ put-same latest m i l cs dropped values p.was e p.at was_open in
-    let tasks : tasks_to_feed m (holds p.was.standing) ≡ RunLines m ∷ [] = ap (λ st. tasks_to_feed m (holds st)) was_ready in
+    let tasks : tasks_to_feed m (holds_line p.was.standing) ≡ RunLines m ∷ [] = ap (λ st. tasks_to_feed m (holds_line st)) was_ready in
     let target : put_in (with_under_way j (with_drops dropping s)) f.left m p.is ≡ t =
     put-situation latest m i j p.was p.is cs dropping values f.left e lt place listed
     ∙ ap (λ b. situation latest (when_left b m j) (slice_set cs i p.is) dropping f.left) (listed-open m p.is)
     ∙ ap (λ ks. situation latest (when_left (is_none p.is.closing) m j) ks dropping f.left) (sym p.set) in
     let ran : after_steps config s (RunLines m ∷ []) f.steps ≡ Some t =
-    sym (ap (λ u. after_steps config u (tasks_to_feed m (holds p.was.standing)) f.steps) same ∙ ap (λ ts. after_steps config s ts f.steps) tasks) ∙ f.after ∙ ap Some target in
-    let parted = subst (λ ts. ArePartedIn config making.part_of s ts f.steps) tasks (subst (λ u. ArePartedIn config making.part_of u (tasks_to_feed m (holds p.was.standing)) f.steps) same f.parted) in
-    let timely = subst (λ ts. are_timely config making.made s ts f.steps ≡ true) tasks (subst (λ u. are_timely config making.made u (tasks_to_feed m (holds p.was.standing)) f.steps ≡ true) same f.timely) in
+    sym (ap (λ u. after_steps config u (tasks_to_feed m (holds_line p.was.standing)) f.steps) same ∙ ap (λ ts. after_steps config s ts f.steps) tasks) ∙ f.after ∙ ap Some target in
+    let parted = subst (λ ts. ArePartedIn config making.part_of s ts f.steps) tasks (subst (λ u. ArePartedIn config making.part_of u (tasks_to_feed m (holds_line p.was.standing)) f.steps) same f.parted) in
+    let timely = subst (λ ts. are_timely config making.made s ts f.steps ≡ true) tasks (subst (λ u. are_timely config making.made u (tasks_to_feed m (holds_line p.was.standing)) f.steps ≡ true) same f.timely) in
     record {
       steps = f.steps;
       held = f.left;

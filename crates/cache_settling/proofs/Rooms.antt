@@ -5,9 +5,9 @@ use Rattle.std.specs.List.{slice_get}
 use Rattle.std.proofs.lemmas.Bool.{eqb-true, eq-eqb}
 use Rattle.cache_namespace.specs.Taken.{SameConnections}
 use Rattle.cache_namespace.specs.declared.connection.Connection.{Connection}
-use Rattle.load_laws.specs.Tidy.{times_in}
-use Rattle.load_laws.proofs.Counts.{one_if}
-use Rattle.cache_settling.specs.Told.{HaveRoom}
+use Rattle.audit_waiting_laws.specs.Tidy.{times_in}
+use Rattle.audit_waiting_laws.proofs.Counts.{one_if}
+use Rattle.cache_settling.specs.Told.{HaveReplyRoom}
 
 -- connections that stand for the same as others that do
 pub same-on : (old mid new : List Connection) → SameConnections old mid → SameConnections mid new → SameConnections old new
@@ -35,8 +35,8 @@ left-among m n gone some away true e = let same = eqb-true n m e in absurd (away
 left-among m n gone some away false e = let t = times-more m n gone in let none : one_if (n == m) ≡ 0 = ap one_if e in omega arith
 
 -- one more has room
-pub room-more : (mid new : List Connection) (size n : ℕ) (gone : List ℕ) → HaveRoom mid size gone → ((place : ℕ) → place ≢ n - 1 → slice_get new place ≡ slice_get mid place)
-    → ((c : Connection) → slice_get new (n - 1) ≡ Some c → vec_len c.output + size ≤ vec_capacity c.output) → HaveRoom new size (gone ++ n ∷ [])
+pub room-more : (mid new : List Connection) (size n : ℕ) (gone : List ℕ) → HaveReplyRoom mid size gone → ((place : ℕ) → place ≢ n - 1 → slice_get new place ≡ slice_get mid place)
+    → ((c : Connection) → slice_get new (n - 1) ≡ Some c → vec_len c.output + size ≤ vec_capacity c.output) → HaveReplyRoom new size (gone ++ n ∷ [])
 room-more mid new size n gone before others room m some c at = go (m - 1 == n - 1) refl
   where
     go : (b : Bool) → (m - 1 == n - 1) ≡ b → vec_len c.output + size ≤ vec_capacity c.output

@@ -23,7 +23,7 @@ use Rattle.audit_model.specs.declared.transcript.Record.{Record}
 use Rattle.audit_model.specs.declared.transcript.Step.{Step}
 use Rattle.cache_steps.specs.Loading.{step_silent}
 use Rattle.cache_steps.specs.Order.{Order}
-use Rattle.cache_steps.specs.Right.{DoesRight, placed_by, held_when_run}
+use Rattle.cache_steps.specs.Right.{DoesRight, placed_doing, held_when_run}
 use Rattle.cache_namespace.specs.Drawing.{Identifiers, StepsDraw}
 use Rattle.cache_namespace.specs.Lines.{are_timely, has_its_part}
 use Rattle.cache_namespace.specs.Making.{Making}
@@ -32,7 +32,7 @@ use Rattle.cache_namespace.proofs.Drawn.{spends-same}
 use Rattle.cache_namespace.proofs.Knowing.{unknown-behind, unknown-keys}
 use Rattle.cache_namespace.proofs.LoadTurns.{right-turn}
 use Rattle.cache_settling.specs.Laws.{record_answered, record_given_up, when_stored}
-use Rattle.cache_settling.specs.Leads.{BeginsUnknown, Leads, LeavesUnknown, Settles}
+use Rattle.cache_settling.specs.Leads.{BeginsUnknown, TasksLead, LeavesUnknown, SettlingLeads}
 use Rattle.cache_settling.proofs.Leading.{on, one}
 use Rattle.cache_settling.proofs.Turns.{draws-no}
 
@@ -40,13 +40,13 @@ use Rattle.cache_settling.proofs.Turns.{draws-no}
 
 -- its place depends on no connection
 own-placed : (config : Config) (s : Situation) (key : List ℕ) (outcome : Outcome) (accepted : Option Accepted) (told : List Note)
-    → placed_step_in config s (Some (Store (Some key) outcome)) (step_silent 0 [] None accepted told) ≡ placed_by config s (Some (Store (Some key) outcome)) (Some []) (Storing (Some key) outcome) (step_silent 0 [] None accepted told)
+    → placed_step_in config s (Some (Store (Some key) outcome)) (step_silent 0 [] None accepted told) ≡ placed_doing config s (Some (Store (Some key) outcome)) (Some []) (Storing (Some key) outcome) (step_silent 0 [] None accepted told)
 own-placed config s key outcome accepted told = refl
 
 pub stored : (config : Config) (making : Making) (s : Situation) (key : List ℕ) (outcome : Outcome) (accepted : Option Accepted) (told : List Note) (tasks : List Task) (drawn : Identifiers)
     → DoesRight config s (Storing (Some key) outcome) (step_silent 0 [] None accepted told)
     → has_its_part making.part_of (effect_in config (view_in config s) (Storing (Some key) outcome) (step_silent 0 [] None accepted told)) ≡ true
-    → Leads config making s (Store (Some key) outcome ∷ tasks) (step_silent 0 [] None accepted told ∷ []) (when_stored config s key outcome accepted told) tasks drawn drawn
+    → TasksLead config making s (Store (Some key) outcome ∷ tasks) (step_silent 0 [] None accepted told ∷ []) (when_stored config s key outcome accepted told) tasks drawn drawn
 stored config making s key outcome accepted told tasks drawn right parted =
     one config making s (when_stored config s key outcome accepted told) (Store (Some key) outcome) tasks (step_silent 0 [] None accepted told) drawn drawn refl refl tt
     (right-turn config s (Store (Some key) outcome) 0 [] (Storing (Some key) outcome) (step_silent 0 [] None accepted told) right refl)
@@ -72,7 +72,7 @@ leaves config s tasks (step ∷ steps) begins = λ n order.
 settled : (config : Config) (making : Making) (s u t : Situation) (entry : Record) (tasks : List Task) (steps : List Step) (drawn drawing : Identifiers)
     → after_event entry.event s ≡ u → tasks_in s entry.event ≡ tasks → steps_of entry ≡ steps
     → refusal_of config (known_in s) entry.event ≡ None → is_numbered s.opened entry.event ≡ true → has_right_own_value entry ≡ true
-    → Leads config making u tasks steps t [] drawn drawing → StepsDraw config entry.steps drawn drawing → BeginsUnknown config steps → Settles config making s entry t drawn drawing
+    → TasksLead config making u tasks steps t [] drawn drawing → StepsDraw config entry.steps drawn drawing → BeginsUnknown config steps → SettlingLeads config making s entry t drawn drawing
 settled config making s u t entry tasks steps drawn drawing happened due_is steps_are admitted numbered owned leads draws begins =
     let whole : steps ++ [] ≡ steps = append-nil steps in record {
       follows =
@@ -105,7 +105,7 @@ own-unknown : (config : Config) (accepted : Option Accepted) (told : List Note) 
 own-unknown config accepted told steps = λ n order. refl
 
 -- what steps draw that lead to the end
-draws-all : (config : Config) (making : Making) (s t : Situation) (tasks : List Task) (steps : List Step) (drawn drawing : Identifiers) → Leads config making s tasks steps t [] drawn drawing → StepsDraw config steps drawn drawing
+draws-all : (config : Config) (making : Making) (s t : Situation) (tasks : List Task) (steps : List Step) (drawn drawing : Identifiers) → TasksLead config making s tasks steps t [] drawn drawing → StepsDraw config steps drawn drawing
 draws-all config making s t tasks steps drawn drawing leads = subst (λ x. StepsDraw config x drawn drawing) (append-nil steps) (leads.draws [] drawing (spends-same drawing))
 
 pub answer : (config : Config) (making : Making) (s t : Situation) (load moment : ℕ) (key : List ℕ) (outcome : Outcome) (accepted : Option Accepted) (told : List Note) (steps : List Step) (drawn drawing : Identifiers)
@@ -113,8 +113,8 @@ pub answer : (config : Config) (making : Making) (s t : Situation) (load moment 
     → has_right_own_value (record_answered load outcome moment accepted told steps) ≡ true
     → DoesRight config (without_load load moment s) (Storing (Some key) outcome) (step_silent 0 [] None accepted told)
     → has_its_part making.part_of (effect_in config (view_in config (without_load load moment s)) (Storing (Some key) outcome) (step_silent 0 [] None accepted told)) ≡ true
-    → Leads config making (when_stored config (without_load load moment s) key outcome accepted told) (map (λ conn. Deliver conn outcome) (waiting_in load s) ++ map RunLines (waiting_in load s)) steps t [] drawn drawing
-    → Settles config making s (record_answered load outcome moment accepted told steps) t drawn drawing
+    → TasksLead config making (when_stored config (without_load load moment s) key outcome accepted told) (map (λ conn. Deliver conn outcome) (waiting_in load s) ++ map RunLines (waiting_in load s)) steps t [] drawn drawing
+    → SettlingLeads config making s (record_answered load outcome moment accepted told steps) t drawn drawing
 answer config making s t load moment key outcome accepted told steps drawn drawing admitted keyed owned right parted leads =
     let own = step_silent 0 [] None accepted told in
     let tasks = map (λ conn. Deliver conn outcome) (waiting_in load s) ++ map RunLines (waiting_in load s) in
@@ -127,8 +127,8 @@ answer config making s t load moment key outcome accepted told steps drawn drawi
 
 pub give-up : (config : Config) (making : Making) (s t : Situation) (load moment : ℕ) (steps : List Step) (drawn drawing : Identifiers)
     → refusal_of config (known_in s) (event.GiveUp load (record { nanos = moment })) ≡ None
-    → Leads config making (without_load load moment s) (tasks_to_give_up (waiting_in load s)) steps t [] drawn drawing → BeginsUnknown config steps
-    → Settles config making s (record_given_up load moment steps) t drawn drawing
+    → TasksLead config making (without_load load moment s) (tasks_to_give_up (waiting_in load s)) steps t [] drawn drawing → BeginsUnknown config steps
+    → SettlingLeads config making s (record_given_up load moment steps) t drawn drawing
 give-up config making s t load moment steps drawn drawing admitted leads begins =
     settled config making s (without_load load moment s) t (record_given_up load moment steps) (tasks_to_give_up (waiting_in load s)) steps drawn drawing refl refl refl admitted refl refl leads
     (draws-all config making (without_load load moment s) t (tasks_to_give_up (waiting_in load s)) steps drawn drawing leads) begins

@@ -13,13 +13,13 @@ use Rattle.audit_model.specs.declared.event.Outcome.{Outcome}
 use Rattle.audit_model.specs.declared.transcript.Note.{Note}
 use Rattle.cache_steps.proofs.Answering.{none_succeeded}
 use Rattle.cache_steps.specs.Loading.{Stores}
-use Rattle.cache_store.specs.Handing.{Hands}
+use Rattle.cache_store.specs.Handing.{AppendsNotes}
 use Rattle.cache_store.specs.Promises.{no_deed}
 
 -- nothing is stored, and nothing told
 pub stores-nothing : (config : Config) (s : Situation) (key : List ℕ) (outcome : Outcome) (untaken : List Note) (Stands : List HeldValue → Type 0)
     → taken_where (accepts_values config.capacity) (offered (view_in config s) (Storing (Some key) outcome)) ≡ None → Stands (all_held_after config s.latest s.held no_deed [])
-    → (x : Stores config s key outcome None Stands (Hands untaken untaken)) × ((false || is_empty x.told) ≡ true)
+    → (x : Stores config s key outcome None Stands (AppendsNotes untaken untaken)) × ((false || is_empty x.told) ≡ true)
 stores-nothing config s key outcome untaken Stands none stands = (
   record {
     told = [];

@@ -24,19 +24,19 @@ use Rattle.cache_loads.specs.Pending.{number_to_send, when_joined, when_sent}
 use Rattle.cache_steps.proofs.Drawn.{draws-none}
 use Rattle.cache_steps.proofs.Answering.{none_succeeded, same-refl}
 use Rattle.cache_steps.specs.Loading.{step_silent, step_waiting}
-use Rattle.cache_steps.specs.Right.{DoesRight, held_when_run, placed_by, step_saying}
+use Rattle.cache_steps.specs.Right.{DoesRight, held_when_run, placed_doing, step_saying}
 use Rattle.cache_namespace.specs.Drawing.{Identifiers, StepDraws, refuses_id, says_drop}
 use Rattle.cache_namespace.specs.Lines.{has_its_part, held_step, is_timely_after, ready, set_in}
 use Rattle.cache_namespace.specs.Making.{Making}
 use Rattle.cache_namespace.specs.Waiting.{holding_load, waiting, with_loads}
 use Rattle.cache_namespace.proofs.Drawn.{held-draws}
 use Rattle.cache_namespace.proofs.LoadTurns.{joins, placed-is, right-turn, sends}
-use Rattle.load_laws.specs.Tidy.{IsFit, Tidy}
-use Rattle.load_laws.proofs.Counts.{one_if}
-use Rattle.load_laws.proofs.Records.{settled-tidy, told-again, told-delivers, told-lines}
-use Rattle.load_laws.proofs.Standing.{wait_of}
-use Rattle.load_laws.proofs.Turns.{found-number}
-use Rattle.cache_settling.specs.Leads.{Leads, told_in}
+use Rattle.audit_waiting_laws.specs.Tidy.{SuitsTask, Tidy}
+use Rattle.audit_waiting_laws.proofs.Counts.{one_if}
+use Rattle.audit_waiting_laws.proofs.Records.{settled-tidy, told-again, told-delivers, told-lines}
+use Rattle.audit_waiting_laws.proofs.Standing.{wait_of}
+use Rattle.audit_waiting_laws.proofs.Turns.{found-number}
+use Rattle.cache_settling.specs.Leads.{TasksLead, still_told}
 use Rattle.cache_settling.proofs.Leading.{one}
 
 -- ---- whose turn it is
@@ -58,12 +58,12 @@ told-waits n told s tidy =
     let c = counted (connection_in n s) waits in
     (c.0, c.1, found-number n s.connections c.0 c.1, c.2)
 
-pub answer-tidy : (load moment : ℕ) (outcome : Outcome) (s : Situation) → Tidy [] s → Tidy (told_in (tasks_to_answer (key_in load s) outcome (waiting_in load s))) (without_load load moment s)
+pub answer-tidy : (load moment : ℕ) (outcome : Outcome) (s : Situation) → Tidy [] s → Tidy (still_told (tasks_to_answer (key_in load s) outcome (waiting_in load s))) (without_load load moment s)
 answer-tidy load moment outcome s tidy =
     let conns = waiting_in load s in
     subst (λ told. Tidy told (without_load load moment s)) (sym (told-delivers outcome conns (map RunLines conns) ∙ ap (λ ds. conns ++ ds) (told-lines conns) ∙ append-nil conns)) (settled-tidy load moment s tidy)
 
-pub give-up-tidy : (load moment : ℕ) (s : Situation) → Tidy [] s → Tidy (told_in (tasks_to_give_up (waiting_in load s))) (without_load load moment s)
+pub give-up-tidy : (load moment : ℕ) (s : Situation) → Tidy [] s → Tidy (still_told (tasks_to_give_up (waiting_in load s))) (without_load load moment s)
 give-up-tidy load moment s tidy = subst (λ told. Tidy told (without_load load moment s)) (sym (told-again (waiting_in load s))) (settled-tidy load moment s tidy)
 
 -- ---- the step's place
@@ -71,12 +71,12 @@ give-up-tidy load moment s tidy = subst (λ told. Tidy told (without_load load m
 -- a step of a connection that waits, in all that it leads to
 waiter : (config : Config) (making : Making) (s t : Situation) (n : ℕ) (line bytes : List ℕ) (times : ℕ) (task : Task) (rest : List Task) (action : Action) (step : Step) (drawn : Identifiers)
     → connection_in step.conn s ≡ Some (waiting n line bytes times)
-    → due (may_run_in s) (task ∷ rest) ≡ task ∷ rest → left_after (task ∷ rest) ≡ rest → IsFit task s → line_in (Some task) (Some (waiting n line bytes times)) ≡ Some line → action_in config times (Some task) step ≡ action
-    → is_right config (placed_by config s (Some task) (Some line) action step) ≡ true
-    → after_step config s (Some task) step (placed_by config s (Some task) (Some line) action step).effect ≡ t
-    → has_its_part making.part_of (placed_by config s (Some task) (Some line) action step).effect ≡ true
-    → is_timely_after config making.made (placed_by config s (Some task) (Some line) action step).effect t ≡ true
-    → StepDraws config step drawn drawn → Leads config making s (task ∷ rest) (step ∷ []) t rest drawn drawn
+    → due (may_run_in s) (task ∷ rest) ≡ task ∷ rest → left_after (task ∷ rest) ≡ rest → SuitsTask task s → line_in (Some task) (Some (waiting n line bytes times)) ≡ Some line → action_in config times (Some task) step ≡ action
+    → is_right config (placed_doing config s (Some task) (Some line) action step) ≡ true
+    → after_step config s (Some task) step (placed_doing config s (Some task) (Some line) action step).effect ≡ t
+    → has_its_part making.part_of (placed_doing config s (Some task) (Some line) action step).effect ≡ true
+    → is_timely_after config making.made (placed_doing config s (Some task) (Some line) action step).effect t ≡ true
+    → StepDraws config step drawn drawn → TasksLead config making s (task ∷ rest) (step ∷ []) t rest drawn drawn
 waiter config making s t n line bytes times task rest action step drawn found is_due leaves fit due_line does right after in_part in_time draws =
     let placed = placed-is config s task step (waiting n line bytes times) line action found due_line does in
     one config making s t task rest step drawn drawn is_due leaves fit (ap (is_right config) placed ∙ right)
@@ -114,7 +114,7 @@ put-after s n c d left more f found is none =
 
 pub delivered : (config : Config) (making : Making) (s : Situation) (n : ℕ) (line bytes : List ℕ) (times : ℕ) (outcome : Outcome) (tasks : List Task) (drawn : Identifiers)
     → connection_in n s ≡ Some (waiting n line bytes times) → DoesRight config s (Delivering outcome) (step_saying 0 [] (outcome_text outcome) None [])
-    → Leads config making s (Deliver n outcome ∷ tasks) (step_saying n line (outcome_text outcome) None [] ∷ [])
+    → TasksLead config making s (Deliver n outcome ∷ tasks) (step_saying n line (outcome_text outcome) None [] ∷ [])
     (set_in s (held_when_run config s (Delivering outcome) (step_saying 0 [] (outcome_text outcome) None [])) (ready n bytes)) tasks drawn drawn
 delivered config making s n line bytes times outcome tasks drawn found right =
     let step = step_saying n line (outcome_text outcome) None [] in
@@ -126,7 +126,7 @@ delivered config making s n line bytes times outcome tasks drawn found right =
 
 pub abandoned : (config : Config) (making : Making) (s : Situation) (n : ℕ) (line bytes : List ℕ) (times : ℕ) (tasks : List Task) (drawn : Identifiers)
     → connection_in n s ≡ Some (waiting n line bytes times) → nat_le 200 times ≡ true → DoesRight config s Abandoning (step_saying 0 [] (codes "ERR abandoned\n") None [])
-    → Leads config making s (RunAgain n ∷ tasks) (step_saying n line (codes "ERR abandoned\n") None [] ∷ [])
+    → TasksLead config making s (RunAgain n ∷ tasks) (step_saying n line (codes "ERR abandoned\n") None [] ∷ [])
     (set_in s (held_when_run config s Abandoning (step_saying 0 [] (codes "ERR abandoned\n") None [])) (ready n bytes)) tasks drawn drawn
 abandoned config making s n line bytes times tasks drawn found last right =
     let step = step_saying n line (codes "ERR abandoned\n") None [] in
@@ -146,7 +146,7 @@ runs-load config line key times step stays is few reads =
 pub answered : (config : Config) (making : Making) (s : Situation) (n : ℕ) (line bytes key reply : List ℕ) (times : ℕ) (told : List Note) (tasks : List Task) (drawn : Identifiers)
     → connection_in n s ≡ Some (waiting n line bytes times) → nat_le 200 times ≡ false → reading config line ≡ Ok (says.Load key)
     → DoesRight config s (Running (says.Load key)) (step_saying 0 [] reply None told)
-    → Leads config making s (RunAgain n ∷ tasks) (step_saying n line reply None told ∷ [])
+    → TasksLead config making s (RunAgain n ∷ tasks) (step_saying n line reply None told ∷ [])
     (set_in s (held_when_run config s (Running (says.Load key)) (step_saying 0 [] reply None told)) (ready n bytes)) tasks drawn drawn
 answered config making s n line bytes key reply times told tasks drawn found few reads right =
     let step = step_saying n line reply None told in
@@ -158,15 +158,15 @@ answered config making s n line bytes key reply times told tasks drawn found few
 
 -- ---- held back
 
-right-held : (config : Config) (s : Situation) (n : ℕ) (line : List ℕ) → is_right config (placed_by config s (Some (RunAgain n)) (Some line) Holding (held_step n line)) ≡ true
+right-held : (config : Config) (s : Situation) (n : ℕ) (line : List ℕ) → is_right config (placed_doing config s (Some (RunAgain n)) (Some line) Holding (held_step n line)) ≡ true
 right-held config s n line =
-    let placed = placed_by config s (Some (RunAgain n)) (Some line) Holding (held_step n line) in
+    let placed = placed_doing config s (Some (RunAgain n)) (Some line) Holding (held_step n line) in
     and_from _ true (and_from _ true (and_from _ _ (and_from _ true (and_from _ true (and_from _ true (and_from _ _ (and_from (is_in_turn placed) true (eq-eqb n n refl) refl) (same-refl line)) refl) refl) refl)
     (none_succeeded (map (candidate_at config s.latest) s.held ++ []))) refl) refl
 
 pub held_back : (config : Config) (making : Making) (s : Situation) (n : ℕ) (line bytes : List ℕ) (times : ℕ) (tasks : List Task) (drawn : Identifiers)
     → connection_in n s ≡ Some (waiting n line bytes times) → nat_le 200 times ≡ false
-    → Leads config making s (RunAgain n ∷ tasks) (held_step n line ∷ [])
+    → TasksLead config making s (RunAgain n ∷ tasks) (held_step n line ∷ [])
     (set_in s (held_when_run config s Holding (held_step n line)) (holding_load n line bytes times)) tasks drawn drawn
 held_back config making s n line bytes times tasks drawn found few =
     let step = held_step n line in
@@ -193,14 +193,14 @@ pub waits_again : (config : Config) (making : Making) (s : Situation) (n : ℕ) 
     → connection_in n s ≡ Some (waiting n line bytes times) → nat_le 200 times ≡ false → reading config line ≡ Ok (says.Load key) → live_at config s.latest s.held key ≡ None
     → DoesRight config s (Running (says.Load key)) (step_waiting config s key 0 [])
     → (let number = number_to_send key s.sent s.pending in
-    Leads config making s (RunAgain n ∷ tasks) (step_silent n line number None [] ∷ [])
+    TasksLead config making s (RunAgain n ∷ tasks) (step_silent n line number None [] ∷ [])
     (set_in (with_loads (when_sent number s.sent) (when_joined n key number s.pending) s) (held_when_run config s (Running (says.Load key)) (step_waiting config s key 0 [])) (waiting n line bytes (suc times))) tasks drawn drawn)
 waits_again config making s n line bytes key times tasks drawn found few reads none right =
     let number = load_sent_by (view_in config s) (Running (says.Load key)) in
     let step = step_silent n line number None [] in
     let effect = effect_in config (view_in config s) (Running (says.Load key)) step in
     let left = held_when_run config s (Running (says.Load key)) (step_waiting config s key 0 []) in
-    subst (λ k. Leads config making s (RunAgain n ∷ tasks) (step_silent n line k None [] ∷ []) (set_in (with_loads (when_sent k s.sent) (when_joined n key k s.pending) s) left (waiting n line bytes (suc times))) tasks drawn drawn)
+    subst (λ k. TasksLead config making s (RunAgain n ∷ tasks) (step_silent n line k None [] ∷ []) (set_in (with_loads (when_sent k s.sent) (when_joined n key k s.pending) s) left (waiting n line bytes (suc times))) tasks drawn drawn)
     (sends config s key none)
     (waiter config making s _ n line bytes times (RunAgain n) tasks (Running (says.Load key)) step drawn found refl refl tt refl (runs-load config line key times step refl refl few reads)
     (right-turn config s (RunAgain n) n line (Running (says.Load key)) step right (eq-eqb n n refl))

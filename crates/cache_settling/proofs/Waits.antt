@@ -28,7 +28,7 @@ use Rattle.audit_model.specs.declared.transcript.Record.{Record}
 use Rattle.audit_model.specs.declared.transcript.Step.{Step}
 use Rattle.cache_namespace.specs.Waiting.{is_load}
 use Rattle.cache_settling.specs.GivenUp.{WaitForLoads}
-use Rattle.load_laws.proofs.Standing.{found-left}
+use Rattle.audit_waiting_laws.proofs.Standing.{found-left}
 
 -- ---- a step that leaves its connection waiting runs a `LOAD`
 

@@ -21,7 +21,7 @@ use Rattle.cache_namespace.specs.Shown.{situation}
 use Rattle.cache_namespace.specs.Waiting.{UnderWay}
 use Rattle.cache_namespace.specs.declared.connection.Connection.{Connection}
 use Rattle.cache_settling.specs.Laws.{record_answered}
-use Rattle.cache_settling.specs.Leads.{Leads, Settles}
+use Rattle.cache_settling.specs.Leads.{TasksLead, SettlingLeads}
 use Rattle.cache_settling.specs.Noted.{Noted, is_loose, with_steps}
 use Rattle.cache_settling.specs.Told.{WritesTo}
 
@@ -30,7 +30,7 @@ pub record HandsOut (config : Config) (making : Making) (outcome : Outcome) (lat
   pub steps : List Step
   pub held : List HeldValue
   pub stands : Stands held
-  pub leads : Leads config making (situation latest was_under old dropped values) (map (λ conn. Deliver conn outcome) waiting ++ map RunLines waiting) steps (situation latest is_under new dropping held) [] drawn drawing
+  pub leads : TasksLead config making (situation latest was_under old dropped values) (map (λ conn. Deliver conn outcome) waiting ++ map RunLines waiting) steps (situation latest is_under new dropping held) [] drawn drawing
   pub texts : WritesTo (is_loose told) steps old new
   pub notes : telling ≡ with_steps steps told
 
@@ -46,8 +46,8 @@ abbrev pub knows_loads : UnderWay → Known
 knows_loads loads = known_in (situation 0 loads [] false [])
 
 -- those that wait for that load
-abbrev pub waiting_for : ℕ → UnderWay → List ℕ
-waiting_for number loads = option_map_or (λ load. load.waiting) (load_numbered number loads.pending) []
+abbrev pub waiting_on : ℕ → UnderWay → List ℕ
+waiting_on number loads = option_map_or (λ load. load.waiting) (load_numbered number loads.pending) []
 
 -- the loads under way, but for that one
 abbrev pub but_for : ℕ → UnderWay → UnderWay
@@ -59,7 +59,7 @@ pub record AnswersLoad (config : Config) (making : Making) (load : ℕ) (outcome
   pub steps : List Step
   pub held : List HeldValue
   pub stands : Stands held
-  pub settles : Settles config making (situation latest was_under old dropped values) (record_answered load outcome moment accepted own steps) (situation (max moment latest) is_under new dropping held) drawn drawing
+  pub settles : SettlingLeads config making (situation latest was_under old dropped values) (record_answered load outcome moment accepted own steps) (situation (max moment latest) is_under new dropping held) drawn drawing
   pub texts : WritesTo true steps old new
   pub notes : telling ≡ (told ++ own) ++ flat_map (λ step. step.notices) steps
 
@@ -67,4 +67,4 @@ pub record AnswersLoad (config : Config) (making : Making) (load : ℕ) (outcome
 pub record KeepsRecord (config : Config) (making : Making) (entry : Record) (latest moment : ℕ) (values : List HeldValue) (Stands : List HeldValue → Type 0) (was_under is_under : UnderWay) (dropped dropping : Bool) (drawn drawing : Identifiers) (old new : List Connection) : Type 0 where
   pub held : List HeldValue
   pub stands : Stands held
-  pub settles : Settles config making (situation latest was_under old dropped values) entry (situation (max moment latest) is_under new dropping held) drawn drawing
+  pub settles : SettlingLeads config making (situation latest was_under old dropped values) entry (situation (max moment latest) is_under new dropping held) drawn drawing

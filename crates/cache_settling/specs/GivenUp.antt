@@ -16,15 +16,15 @@ use Rattle.cache_namespace.specs.Drawing.{Identifiers}
 use Rattle.cache_namespace.specs.Gathered.{gather}
 use Rattle.cache_namespace.specs.Lines.{with_drops}
 use Rattle.cache_namespace.specs.Making.{Making}
-use Rattle.cache_namespace.specs.Ordered.{order_after}
+use Rattle.cache_namespace.specs.Ordered.{order_behind_step}
 use Rattle.cache_namespace.specs.Shown.{put_in, situation}
 use Rattle.cache_namespace.specs.Waiting.{UnderWay, is_load, with_under_way}
 use Rattle.cache_namespace.specs.Whole.{held_line}
 use Rattle.cache_namespace.specs.declared.connection.Connection.{Connection}
 use Rattle.cache_loads.specs.declared.standing.Standing.TheVariants as now
-use Rattle.load_laws.specs.Tidy.{times_in}
+use Rattle.audit_waiting_laws.specs.Tidy.{times_in}
 use Rattle.cache_settling.specs.Laws.{record_given_up}
-use Rattle.cache_settling.specs.Leads.{BeginsUnknown, Leads, Settles}
+use Rattle.cache_settling.specs.Leads.{BeginsUnknown, TasksLead, SettlingLeads}
 use Rattle.cache_settling.specs.Noted.{Noted, gathered_with, is_loose, with_steps}
 use Rattle.cache_settling.specs.Told.{WritesTo}
 
@@ -34,17 +34,17 @@ pub record RunsAgain (config : Config) (making : Making) (s : Situation) (number
   pub step : Step
   pub held : List HeldValue
   pub stands : Stands held
-  pub leads : (tasks : List Task) → Leads config making s (RunAgain number ∷ tasks) (step ∷ []) (put_in (with_under_way is_under (with_drops dropping s)) held number new) tasks drawn drawing
+  pub leads : (tasks : List Task) → TasksLead config making s (RunAgain number ∷ tasks) (step ∷ []) (put_in (with_under_way is_under (with_drops dropping s)) held number new) tasks drawn drawing
   pub own : step.conn ≡ number
   pub gathered : gathered_with new.output.items telling ≡ gather (gathered_with old.output.items told) (step ∷ [])
-  pub unknown : (n : ℕ) (order : Order) → order_after config n order step ≡ Unknown
+  pub unknown : (n : ℕ) (order : Order) → order_behind_step config n order step ≡ Unknown
 
 -- Some of the `LOAD`s that waited ran again, each followed by its connection's lines; those of the others are left.
 pub record GivesUp (config : Config) (making : Making) (latest : ℕ) (values : List HeldValue) (conns left : List ℕ) (Stands : List HeldValue → Type 0) (was_under is_under : UnderWay) (dropped dropping : Bool) (drawn drawing : Identifiers) (old new : List Connection) (told telling : Noted) : Type 0 where
   pub steps : List Step
   pub held : List HeldValue
   pub stands : Stands held
-  pub leads : (tasks : List Task) → Leads config making (situation latest was_under old dropped values) (tasks_to_give_up conns ++ tasks) steps (situation latest is_under new dropping held) (tasks_to_give_up left ++ tasks) drawn drawing
+  pub leads : (tasks : List Task) → TasksLead config making (situation latest was_under old dropped values) (tasks_to_give_up conns ++ tasks) steps (situation latest is_under new dropping held) (tasks_to_give_up left ++ tasks) drawn drawing
   pub texts : WritesTo (is_loose told) steps old new
   pub notes : telling ≡ with_steps steps told
   pub begins : BeginsUnknown config steps
@@ -70,6 +70,6 @@ pub record GivesUpLoad (config : Config) (making : Making) (load latest moment :
   pub steps : List Step
   pub held : List HeldValue
   pub stands : Stands held
-  pub settles : Settles config making (situation latest was_under old dropped values) (record_given_up load moment steps) (situation (max moment latest) is_under new dropping held) drawn drawing
+  pub settles : SettlingLeads config making (situation latest was_under old dropped values) (record_given_up load moment steps) (situation (max moment latest) is_under new dropping held) drawn drawing
   pub texts : WritesTo true steps old new
   pub notes : telling ≡ told ++ flat_map (λ step. step.notices) steps

@@ -4,7 +4,7 @@ use Rattle.std.specs.List.{flat_map}
 use Rattle.audit_model.specs.declared.transcript.Note.{Note}
 use Rattle.audit_model.specs.declared.transcript.Step.{Step}
 use Rattle.cache_namespace.specs.Gathered.{Gathered}
-use Rattle.cache_namespace.specs.Kept.{steps_of}
+use Rattle.cache_namespace.specs.Kept.{kept_steps}
 use Rattle.cache_namespace.specs.Taken.{text_at}
 use Rattle.cache_namespace.specs.declared.connection.Connection.{Connection}
 use Rattle.cache_namespace.specs.declared.kept.Kept.{Kept}
@@ -15,7 +15,7 @@ pub record Noted : Type 0 where
   pub waiting : List Note
 
 abbrev pub noted_in : Option Kept → List Note → Noted
-noted_in kept waiting = record { kept = steps_of kept; waiting = waiting }
+noted_in kept waiting = record { kept = kept_steps kept; waiting = waiting }
 
 -- the same before a first step is kept
 abbrev pub none_noted : Option Kept → List Note → Noted

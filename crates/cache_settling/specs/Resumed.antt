@@ -12,7 +12,7 @@ use Rattle.cache_namespace.specs.Waiting.{UnderWay}
 use Rattle.cache_namespace.specs.declared.connection.Connection.{Connection}
 use Rattle.cache_loads.specs.declared.standing.Standing.{Standing}
 use Rattle.cache_loads.specs.declared.standing.Standing.TheVariants as now
-use Rattle.cache_settling.specs.Leads.{Leads}
+use Rattle.cache_settling.specs.Leads.{TasksLead}
 use Rattle.cache_settling.specs.Noted.{Noted, is_loose, with_steps}
 use Rattle.cache_settling.specs.Told.{WritesTo}
 
@@ -21,7 +21,7 @@ pub record RunsThem (config : Config) (making : Making) (latest : ℕ) (values :
   pub steps : List Step
   pub held : List HeldValue
   pub stands : Stands held
-  pub leads : (tasks : List Task) → Leads config making (situation latest was_under old dropped values) (map RunLines conns ++ tasks) steps (situation latest is_under new dropping held) (map RunLines left ++ tasks) drawn drawing
+  pub leads : (tasks : List Task) → TasksLead config making (situation latest was_under old dropped values) (map RunLines conns ++ tasks) steps (situation latest is_under new dropping held) (map RunLines left ++ tasks) drawn drawing
   pub texts : WritesTo (is_loose told) steps old new
   pub notes : telling ≡ with_steps steps told
 

@@ -21,8 +21,8 @@ use Rattle.cache_namespace.specs.Taken.{closing_at, text_at}
 use Rattle.cache_namespace.specs.Waiting.{UnderWay}
 use Rattle.cache_namespace.specs.Whole.{has_line, held_line}
 use Rattle.cache_namespace.specs.declared.connection.Connection.{Connection}
-use Rattle.load_laws.specs.Tidy.{times_in}
-use Rattle.cache_settling.specs.Leads.{Leads}
+use Rattle.audit_waiting_laws.specs.Tidy.{times_in}
+use Rattle.cache_settling.specs.Leads.{TasksLead}
 
 -- the values held after so many steps that do nothing to values
 abbrev pub when_idle : Config → ℕ → ℕ → List HeldValue → List HeldValue
@@ -52,11 +52,11 @@ to_tell outcome conns = map (λ conn. Deliver conn outcome) conns
 -- Some of the connections that wait were handed the outcome, by these steps.
 pub record TellsThem (config : Config) (making : Making) (outcome : Outcome) (latest : ℕ) (loads : UnderWay) (dropped : Bool) (values : List HeldValue) (tasks : List Task) (drawn : Identifiers) (conns left : List ℕ) (old new : List Connection) (steps : List Step) : Type 0 where
   pub count : ℕ
-  pub leads : Leads config making (situation latest loads old dropped values) (to_tell outcome conns ++ tasks) steps (situation latest loads new dropped (when_idle config latest count values)) (to_tell outcome left ++ tasks) drawn drawn
+  pub leads : TasksLead config making (situation latest loads old dropped values) (to_tell outcome conns ++ tasks) steps (situation latest loads new dropped (when_idle config latest count values)) (to_tell outcome left ++ tasks) drawn drawn
 
 -- each of those connections has room for so many bytes more of replies
-abbrev pub HaveRoom : List Connection → ℕ → List ℕ → Type 0
-HaveRoom connections size conns =
+abbrev pub HaveReplyRoom : List Connection → ℕ → List ℕ → Type 0
+HaveReplyRoom connections size conns =
     (n : ℕ) → 1 ≤ times_in n conns → (c : Connection) → slice_get connections (n - 1) ≡ Some c → vec_len c.output + size ≤ vec_capacity c.output
 
 -- closed by its own lines: by one that is too long, by a `QUIT`, or by too many bytes behind a `LOAD` that waits

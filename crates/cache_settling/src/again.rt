@@ -15,15 +15,15 @@ ghost use Rattle.cache_namespace.specs.Lines.{held_step};
 ghost use Rattle.cache_namespace.specs.Making.{making_of};
 ghost use Rattle.cache_namespace.specs.Ran.{Misses, RanOne};
 ghost use Rattle.cache_namespace.specs.Shown.{shown};
-ghost use Rattle.cache_namespace.specs.Waiting.{is_load, loads_in, sent_by, under_way, when_waiting};
+ghost use Rattle.cache_namespace.specs.Waiting.{is_load, loads_in, load_sent_for, under_way, when_waiting};
 ghost use Rattle.cache_namespace.specs.Whole.{has_line, has_room, held_line};
 ghost use Rattle.cache_loads.specs.declared.standing.Standing.TheVariants as stands;
 ghost use Rattle.cache_settling.specs.GivenUp.{RunsAgain};
 ghost use Rattle.cache_settling.specs.Noted.{noted_in};
 
 use crate::telling::pass_line;
+use audit_lines::Buffer;
 use audit_model::Config;
-use cache_lines::Buffer;
 use cache_loads::Loads;
 use cache_namespace::{
     Connection, Done, Kept, Standing, hold_first, join_first, release, say_first,
@@ -70,7 +70,7 @@ fn load_first<S: Store>(
     ensures answered { result ≡ Again.Answered → (s : Situation) → s.latest ≡ now → s.dropped ≡ (S.frame store.old).dropped → S.stands store.old s.held → (quit : Bool) × RanOne config.now s number (making_of (S.frame store.old)) (held_line unread.old.bytes) quit (S.stands store.new) (S.frame store.new).dropped (workings (S.stream store.old) (S.registered store.old) (S.recency store.old)) (workings (S.stream store.new) (S.registered store.new) (S.recency store.new)) (gathered output.old.items kept.old (S.untaken store.old)) (gathered output.new.items kept.new (S.untaken store.new)) }
     ensures passed { result ≡ Again.Answered → unread.new.bytes ≡ behind_lines 1 unread.old.bytes }
     ensures alone { result ≡ Again.Answered → under_way loads.new ≡ under_way loads.old }
-    ensures waits { result ≡ Again.Waits → (store.new ≡ store.old) × ((x : Misses config.now now (held_line unread.old.bytes) (S.stands store.old)) × (under_way loads.new ≡ when_waiting number x.key (under_way loads.old)) × (gathered output.new.items kept.new (S.untaken store.new) ≡ gather (gathered output.old.items kept.old (S.untaken store.old)) (step_silent number (held_line unread.old.bytes) (sent_by x.key (under_way loads.old)) None [] ∷ []))) }
+    ensures waits { result ≡ Again.Waits → (store.new ≡ store.old) × ((x : Misses config.now now (held_line unread.old.bytes) (S.stands store.old)) × (under_way loads.new ≡ when_waiting number x.key (under_way loads.old)) × (gathered output.new.items kept.new (S.untaken store.new) ≡ gather (gathered output.old.items kept.old (S.untaken store.old)) (step_silent number (held_line unread.old.bytes) (load_sent_for x.key (under_way loads.old)) None [] ∷ []))) }
     ensures stays { result ≡ Again.Waits → unread.new.bytes ≡ unread.old.bytes }
     ensures room { result ≡ Again.Waits → IsTrue (has_room (vec_len output.new) (vec_capacity output.new) (vec_len spare.new) (vec_capacity spare.new)) }
     ensures held { result ≡ Again.Held → gathered output.new.items kept.new (S.untaken store.new) ≡ gather (gathered output.old.items kept.old (S.untaken store.old)) (held_step number (held_line unread.old.bytes) ∷ []) }

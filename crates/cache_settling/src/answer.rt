@@ -4,8 +4,8 @@ ghost use Rattle.std.specs.Option.{option_map};
 ghost use Rattle.audit_model.specs.Belongs.{refusal_of_outcome};
 ghost use Rattle.audit_model.specs.Bytewise.{is_empty};
 ghost use Rattle.audit_model.specs.Situation.{Situation};
-ghost use Rattle.cache_loads.specs.Pending.{load_numbered, pending_of};
-ghost use Rattle.cache_store.specs.Handing.{Hands};
+ghost use Rattle.cache_loads.specs.Pending.{load_numbered, loads_pending};
+ghost use Rattle.cache_store.specs.Handing.{AppendsNotes};
 ghost use Rattle.cache_store.specs.Identifiers.{KeepsIdentifiers};
 ghost use Rattle.cache_store.specs.Promises.{IsUnchanged};
 ghost use Rattle.cache_store.specs.Recency.{KeepsRecency};
@@ -13,8 +13,8 @@ ghost use Rattle.cache_steps.specs.Loading.{Stores};
 ghost use Rattle.cache_steps.specs.Right.{KeepsFrame};
 ghost use Rattle.cache_namespace.specs.Taken.{SameConnections};
 ghost use Rattle.cache_namespace.specs.Waiting.{under_way};
-ghost use Rattle.cache_settling.specs.Answered.{waiting_for};
-ghost use Rattle.cache_settling.specs.Told.{HaveRoom};
+ghost use Rattle.cache_settling.specs.Answered.{waiting_on};
+ghost use Rattle.cache_settling.specs.Told.{HaveReplyRoom};
 
 use crate::reserving::reserve_all;
 use crate::storing::store_answer;
@@ -32,7 +32,7 @@ pub fn reserve_for(
     size: usize,
 ) -> Result<(), AllocError>
     ensures same { SameConnections connections.old.items connections.new.items }
-    ensures room { OnOk result (HaveRoom connections.new.items size (waiting_for load (under_way loads.now))) }
+    ensures room { OnOk result (HaveReplyRoom connections.new.items size (waiting_on load (under_way loads.now))) }
 {
     match loads.get(load) {
         None => Ok(()),
@@ -54,8 +54,8 @@ pub fn store_for<S: Store>(
     requires capacity { (S.frame store.old).config.capacity ≡ capacity }
     requires moment { now < 2 ^ 63 }
     requires fit { refusal_of_outcome (S.frame store.old).config outcome.now ≡ None }
-    requires under { is_some (load_numbered load (pending_of loads.now)) ≡ true }
-    ensures ok { IfOk result (λ accepted. (key : List ℕ) × (option_map (λ l. l.key) (load_numbered load (pending_of loads.now)) ≡ Some key) × IfSome accepted (λ a. a.part ≡ (S.frame store.old).part_of key) × ((s : Situation) → s.latest ≡ now → S.stands store.old s.held → (x : Stores (S.frame store.old).config s key outcome.now accepted (S.stands store.new) (Hands (S.untaken store.old) (S.untaken store.new))) × ((is_some accepted || is_empty x.told) ≡ true))) }
+    requires under { is_some (load_numbered load (loads_pending loads.now)) ≡ true }
+    ensures ok { IfOk result (λ accepted. (key : List ℕ) × (option_map (λ l. l.key) (load_numbered load (loads_pending loads.now)) ≡ Some key) × IfSome accepted (λ a. a.part ≡ (S.frame store.old).part_of key) × ((s : Situation) → s.latest ≡ now → S.stands store.old s.held → (x : Stores (S.frame store.old).config s key outcome.now accepted (S.stands store.new) (AppendsNotes (S.untaken store.old) (S.untaken store.new))) × ((is_some accepted || is_empty x.told) ≡ true))) }
     ensures few { length (S.untaken store.new) ≤ length (S.untaken store.old) + S.count store.old + 1 }
     ensures frame { OnOk result (KeepsFrame (S.frame store.old) (S.frame store.new) now) }
     ensures dropped { (S.frame store.new).dropped ≡ (S.frame store.old).dropped }

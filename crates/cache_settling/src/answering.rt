@@ -4,15 +4,15 @@ ghost use Rattle.audit_model.specs.Replies.{outcome_text};
 ghost use Rattle.audit_model.specs.Situation.{HeldValue};
 ghost use Rattle.cache_steps.specs.Right.{KeepsFrame};
 ghost use Rattle.cache_namespace.specs.Drawing.{identifiers};
-ghost use Rattle.cache_namespace.specs.Kept.{HasMore, steps_of};
+ghost use Rattle.cache_namespace.specs.Kept.{HasMore, kept_steps};
 ghost use Rattle.cache_namespace.specs.Making.{making_of};
 ghost use Rattle.cache_namespace.specs.Shown.{situation};
 ghost use Rattle.cache_namespace.specs.Waiting.{no_loads, under_way};
-ghost use Rattle.load_laws.specs.Tidy.{Tidy};
-ghost use Rattle.cache_loads.specs.Pending.{load_numbered, pending_of, SameTaken};
-ghost use Rattle.cache_settling.specs.Answered.{HandsOut, but_for, waiting_for};
+ghost use Rattle.audit_waiting_laws.specs.Tidy.{Tidy};
+ghost use Rattle.cache_loads.specs.Pending.{load_numbered, loads_pending, SameTaken};
+ghost use Rattle.cache_settling.specs.Answered.{HandsOut, but_for, waiting_on};
 ghost use Rattle.cache_settling.specs.Noted.{NothingWaits, none_noted, noted_in};
-ghost use Rattle.cache_settling.specs.Told.{HaveRoom, steps_told};
+ghost use Rattle.cache_settling.specs.Told.{HaveReplyRoom, steps_told};
 
 use crate::resuming::resume_all;
 use crate::telling::tell_all;
@@ -45,9 +45,9 @@ pub fn hand_out<S: Store>(
     requires in_time { (S.frame store.old).latest ≤ now }
     requires moment { now < 2 ^ 63 }
     requires tidy { Tidy waiting.now (situation 0 no_loads connections.old.items false []) }
-    requires room { IsTrue (is_none kept.old) → HaveRoom connections.old.items (length (outcome_text outcome.now)) waiting.now }
+    requires room { IsTrue (is_none kept.old) → HaveReplyRoom connections.old.items (length (outcome_text outcome.now)) waiting.now }
     // where a record is made, its first steps are those in which the outcome is handed out
-    requires begun { MatchOption (steps_of kept.old) (Unit {0}) (λ steps. steps ≡ steps_told outcome.now connections.old.items waiting.now) }
+    requires begun { MatchOption (kept_steps kept.old) (Unit {0}) (λ steps. steps ≡ steps_told outcome.now connections.old.items waiting.now) }
     requires fresh { NothingWaits (noted_in kept.old (S.untaken store.old)) connections.old.items }
     requires stocked { HasMore (length waiting.now) kept.old }
     ensures out { (values : List HeldValue) → S.stands store.old values → HandsOut config.now (making_of (S.frame store.old)) outcome.now now values waiting.now (S.stands store.new) (under_way loads.old) (under_way loads.new) (S.frame store.old).dropped (S.frame store.new).dropped (identifiers (S.stream store.old) (S.registered store.old)) (identifiers (S.stream store.new) (S.registered store.new)) connections.old.items connections.new.items (none_noted kept.old (S.untaken store.old)) (noted_in kept.new (S.untaken store.new)) }
@@ -77,13 +77,13 @@ pub fn settle_answer<S: Store>(
     requires config { (S.frame store.old).config ≡ config.now }
     requires in_time { (S.frame store.old).latest ≤ now }
     requires moment { now < 2 ^ 63 }
-    requires under { is_some (load_numbered load (pending_of loads.old)) ≡ true }
-    requires tidy { Tidy (waiting_for load (under_way loads.old)) (situation 0 no_loads connections.old.items false []) }
-    requires room { IsTrue (is_none kept.old) → HaveRoom connections.old.items (length (outcome_text outcome.now)) (waiting_for load (under_way loads.old)) }
-    requires begun { MatchOption (steps_of kept.old) (Unit {0}) (λ steps. steps ≡ steps_told outcome.now connections.old.items (waiting_for load (under_way loads.old))) }
+    requires under { is_some (load_numbered load (loads_pending loads.old)) ≡ true }
+    requires tidy { Tidy (waiting_on load (under_way loads.old)) (situation 0 no_loads connections.old.items false []) }
+    requires room { IsTrue (is_none kept.old) → HaveReplyRoom connections.old.items (length (outcome_text outcome.now)) (waiting_on load (under_way loads.old)) }
+    requires begun { MatchOption (kept_steps kept.old) (Unit {0}) (λ steps. steps ≡ steps_told outcome.now connections.old.items (waiting_on load (under_way loads.old))) }
     requires fresh { NothingWaits (noted_in kept.old (S.untaken store.old)) connections.old.items }
-    requires stocked { HasMore (length (waiting_for load (under_way loads.old))) kept.old }
-    ensures out { (values : List HeldValue) → S.stands store.old values → HandsOut config.now (making_of (S.frame store.old)) outcome.now now values (waiting_for load (under_way loads.old)) (S.stands store.new) (but_for load (under_way loads.old)) (under_way loads.new) (S.frame store.old).dropped (S.frame store.new).dropped (identifiers (S.stream store.old) (S.registered store.old)) (identifiers (S.stream store.new) (S.registered store.new)) connections.old.items connections.new.items (none_noted kept.old (S.untaken store.old)) (noted_in kept.new (S.untaken store.new)) }
+    requires stocked { HasMore (length (waiting_on load (under_way loads.old))) kept.old }
+    ensures out { (values : List HeldValue) → S.stands store.old values → HandsOut config.now (making_of (S.frame store.old)) outcome.now now values (waiting_on load (under_way loads.old)) (S.stands store.new) (but_for load (under_way loads.old)) (under_way loads.new) (S.frame store.old).dropped (S.frame store.new).dropped (identifiers (S.stream store.old) (S.registered store.old)) (identifiers (S.stream store.new) (S.registered store.new)) connections.old.items connections.new.items (none_noted kept.old (S.untaken store.old)) (noted_in kept.new (S.untaken store.new)) }
     ensures frame { KeepsFrame (S.frame store.old) (S.frame store.new) now }
     ensures count { length connections.new.items ≡ length connections.old.items }
     ensures fresh { NothingWaits (noted_in kept.new (S.untaken store.new)) connections.new.items }

@@ -10,9 +10,9 @@ ghost use Rattle.cache_steps.specs.Right.{KeepsFrame};
 ghost use Rattle.cache_namespace.specs.Drawing.{identifiers};
 ghost use Rattle.cache_namespace.specs.Making.{making_of};
 ghost use Rattle.cache_namespace.specs.Shown.{situation};
-ghost use Rattle.cache_namespace.specs.Taken.{IsSound, SameConnections};
+ghost use Rattle.cache_namespace.specs.Taken.{KnowsStore, SameConnections};
 ghost use Rattle.cache_namespace.specs.Waiting.{under_way};
-ghost use Rattle.load_laws.specs.Tidy.{Tidy};
+ghost use Rattle.audit_waiting_laws.specs.Tidy.{Tidy};
 ghost use Rattle.cache_settling.specs.Answered.{AnswersLoad, answering, giving_up, knows_loads};
 ghost use Rattle.cache_settling.specs.GivenUp.{GivesUpLoad, WaitForLoads};
 
@@ -33,13 +33,13 @@ pub fn answer_in<S: Store>(
     outcome: Outcome,
     moment: u64,
 ) -> Result<Option<Accepted>, (ServiceError, Outcome)>
-    requires sound { IsSound namespace.old.config (S.frame namespace.old.store) namespace.old.latest }
+    requires sound { KnowsStore namespace.old.config (S.frame namespace.old.store) namespace.old.latest }
     requires tidy { Tidy [] (situation 0 (under_way namespace.old.loads) namespace.old.connections.items false []) }
     ensures ran { IfOk result (λ accepted. (values : List HeldValue) → S.stands namespace.old.store values → AnswersLoad namespace.old.config (making_of (S.frame namespace.old.store)) load outcome namespace.old.latest moment accepted values (S.stands namespace.new.store) (under_way namespace.old.loads) (under_way namespace.new.loads) (S.frame namespace.old.store).dropped (S.frame namespace.new.store).dropped (identifiers (S.stream namespace.old.store) (S.registered namespace.old.store)) (identifiers (S.stream namespace.new.store) (S.registered namespace.new.store)) namespace.old.connections.items namespace.new.connections.items (S.untaken namespace.old.store) (S.untaken namespace.new.store)) }
     ensures latest { OnOk result (namespace.new.latest ≡ max moment namespace.old.latest) }
     ensures tidy { OnOk result ((values : List HeldValue) → S.stands namespace.old.store values → Tidy [] (situation 0 (under_way namespace.new.loads) namespace.new.connections.items false [])) }
     ensures count { OnOk result (length namespace.new.connections.items ≡ length namespace.old.connections.items) }
-    ensures sound { IsSound namespace.new.config (S.frame namespace.new.store) namespace.new.latest }
+    ensures sound { KnowsStore namespace.new.config (S.frame namespace.new.store) namespace.new.latest }
     ensures config { namespace.new.config ≡ namespace.old.config }
     ensures made { OnOk result (KeepsFrame (S.frame namespace.old.store) (S.frame namespace.new.store) namespace.new.latest) }
     ensures refused { IfErr result (λ e. MatchOption (refusal_of namespace.old.config (knows_loads (under_way namespace.old.loads)) (answering load outcome moment)) (e.0 ≡ ServiceError.OutOfMemory) (λ refusal. e.0 ≡ refusal)) }
@@ -84,14 +84,14 @@ pub fn give_up_in<S: Store>(
     load: u64,
     moment: u64,
 ) -> Result<(), ServiceError>
-    requires sound { IsSound namespace.old.config (S.frame namespace.old.store) namespace.old.latest }
+    requires sound { KnowsStore namespace.old.config (S.frame namespace.old.store) namespace.old.latest }
     requires tidy { Tidy [] (situation 0 (under_way namespace.old.loads) namespace.old.connections.items false []) }
     requires reads { WaitForLoads namespace.old.config (situation 0 (under_way namespace.old.loads) namespace.old.connections.items false []) }
     ensures ran { OnOk result ((values : List HeldValue) → S.stands namespace.old.store values → GivesUpLoad namespace.old.config (making_of (S.frame namespace.old.store)) load namespace.old.latest moment values (S.stands namespace.new.store) (under_way namespace.old.loads) (under_way namespace.new.loads) (S.frame namespace.old.store).dropped (S.frame namespace.new.store).dropped (identifiers (S.stream namespace.old.store) (S.registered namespace.old.store)) (identifiers (S.stream namespace.new.store) (S.registered namespace.new.store)) namespace.old.connections.items namespace.new.connections.items (S.untaken namespace.old.store) (S.untaken namespace.new.store)) }
     ensures latest { OnOk result (namespace.new.latest ≡ max moment namespace.old.latest) }
     ensures tidy { OnOk result ((values : List HeldValue) → S.stands namespace.old.store values → Tidy [] (situation 0 (under_way namespace.new.loads) namespace.new.connections.items false [])) }
     ensures count { length namespace.new.connections.items ≡ length namespace.old.connections.items }
-    ensures sound { IsSound namespace.new.config (S.frame namespace.new.store) namespace.new.latest }
+    ensures sound { KnowsStore namespace.new.config (S.frame namespace.new.store) namespace.new.latest }
     ensures config { namespace.new.config ≡ namespace.old.config }
     ensures made { OnOk result (KeepsFrame (S.frame namespace.old.store) (S.frame namespace.new.store) namespace.new.latest) }
     // it succeeds wherever it is not refused

@@ -7,11 +7,11 @@ ghost use Rattle.cache_namespace.specs.Kept.{HasMore};
 ghost use Rattle.cache_namespace.specs.Waiting.{under_way};
 ghost use Rattle.cache_namespace.specs.Whole.{has_line, held_line};
 ghost use Rattle.cache_namespace.specs.declared.connection.Connection.{Connection as Waiter};
-ghost use Rattle.cache_settling.specs.Answered.{waiting_for};
+ghost use Rattle.cache_settling.specs.Answered.{waiting_on};
 ghost use Rattle.cache_settling.specs.Told.{HaveLines, line_of, steps_told};
 
+use audit_lines::{Buffer, Next};
 use audit_model::{Outcome, Seq, Step};
-use cache_lines::{Buffer, Next};
 use cache_loads::Loads;
 use cache_namespace::{Connection, Kept};
 use cache_steps::write_outcome;
@@ -105,10 +105,10 @@ pub fn draft_answer(
     outcome: &Outcome,
     size: usize,
 ) -> Result<Kept, AllocError>
-    requires lines { HaveLines connections.now (waiting_for load (under_way loads.now)) }
+    requires lines { HaveLines connections.now (waiting_on load (under_way loads.now)) }
     requires size { size ≡ length (outcome_text outcome.now) }
-    ensures steps { IfOk result (λ kept. kept.steps.items ≡ steps_told outcome.now connections.now (waiting_for load (under_way loads.now))) }
-    ensures stocked { IfOk result (λ kept. HasMore (length (waiting_for load (under_way loads.now))) (Some kept)) }
+    ensures steps { IfOk result (λ kept. kept.steps.items ≡ steps_told outcome.now connections.now (waiting_on load (under_way loads.now))) }
+    ensures stocked { IfOk result (λ kept. HasMore (length (waiting_on load (under_way loads.now))) (Some kept)) }
 {
     match loads.get(load) {
         None => Kept::with_spares(alloc, Vec::new(alloc), 0),
@@ -124,7 +124,7 @@ pub fn draft_answer(
 /// hold back a line.
 pub fn draft_give_up(alloc: Global, loads: &Loads, load: u64) -> Result<Kept, AllocError>
     ensures steps { IfOk result (λ kept. kept.steps.items ≡ []) }
-    ensures stocked { IfOk result (λ kept. HasMore (length (waiting_for load (under_way loads.now)) + length (waiting_for load (under_way loads.now))) (Some kept)) }
+    ensures stocked { IfOk result (λ kept. HasMore (length (waiting_on load (under_way loads.now)) + length (waiting_on load (under_way loads.now))) (Some kept)) }
 {
     match loads.get(load) {
         None => Kept::with_spares(alloc, Vec::new(alloc), 0),

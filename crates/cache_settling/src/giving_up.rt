@@ -2,7 +2,7 @@
 ghost use Rattle.std.specs.Prelude.{◌≡◌, ◌≢◌, ◌-◌, ◌<◌, ◌≤◌, ◌^◌, ◌∷◌, ◌+◌, [], None, Some, List, ℕ, suc, false, is_some, length, max, true};
 ghost use Rattle.std.specs.List.{slice_get};
 ghost use Rattle.audit_model.specs.Belongs.{refusal_of};
-ghost use Rattle.cache_loads.specs.Pending.{load_numbered, pending_of, SameTaken};
+ghost use Rattle.cache_loads.specs.Pending.{load_numbered, loads_pending, SameTaken};
 ghost use Rattle.audit_model.specs.Situation.{Situation, HeldValue, connection_in};
 ghost use Rattle.cache_steps.specs.Right.{KeepsFrame};
 ghost use Rattle.cache_namespace.specs.Drawing.{identifiers};
@@ -10,11 +10,11 @@ ghost use Rattle.cache_namespace.specs.Gathered.{IsFresh};
 ghost use Rattle.cache_namespace.specs.Kept.{HasMore, IsReadyToHold, KeepsRoom, gathered, more_in};
 ghost use Rattle.cache_namespace.specs.Making.{making_of};
 ghost use Rattle.cache_namespace.specs.Shown.{shown, situation};
-ghost use Rattle.cache_namespace.specs.Taken.{IsSound, ReplacedAt, text_at};
+ghost use Rattle.cache_namespace.specs.Taken.{KnowsStore, ReplacedAt, text_at};
 ghost use Rattle.cache_namespace.specs.Waiting.{loads_in, under_way};
 ghost use Rattle.cache_namespace.specs.declared.connection.Connection.{Connection as Waiter};
-ghost use Rattle.load_laws.specs.Tidy.{Tidy, times_in};
-ghost use Rattle.cache_settling.specs.Answered.{but_for, giving_up, knows_loads, waiting_for};
+ghost use Rattle.audit_waiting_laws.specs.Tidy.{Tidy, times_in};
+ghost use Rattle.cache_settling.specs.Answered.{but_for, giving_up, knows_loads, waiting_on};
 ghost use Rattle.cache_settling.specs.Noted.{NothingWaits, noted_in};
 ghost use Rattle.cache_settling.specs.GivenUp.{GivesUp, GivesUpLoad, HaveLoads, IsWaitingLoad, RunsAgain, WaitForLoads};
 
@@ -143,12 +143,12 @@ pub fn settle_give_up<S: Store>(
     requires config { (S.frame store.old).config ≡ config.now }
     requires in_time { (S.frame store.old).latest ≤ now }
     requires moment { now < 2 ^ 63 }
-    requires under { is_some (load_numbered load (pending_of loads.old)) ≡ true }
-    requires once { (n : ℕ) → times_in n (waiting_for load (under_way loads.old)) ≤ 1 }
-    requires waits { HaveLoads config.now connections.old.items (waiting_for load (under_way loads.old)) }
+    requires under { is_some (load_numbered load (loads_pending loads.old)) ≡ true }
+    requires once { (n : ℕ) → times_in n (waiting_on load (under_way loads.old)) ≤ 1 }
+    requires waits { HaveLoads config.now connections.old.items (waiting_on load (under_way loads.old)) }
     requires fresh { NothingWaits (noted_in kept.old (S.untaken store.old)) connections.old.items }
-    requires stocked { HasMore (length (waiting_for load (under_way loads.old)) + length (waiting_for load (under_way loads.old))) kept.old }
-    ensures ran { (values : List HeldValue) → S.stands store.old values → GivesUp config.now (making_of (S.frame store.old)) now values (waiting_for load (under_way loads.old)) [] (S.stands store.new) (but_for load (under_way loads.old)) (under_way loads.new) (S.frame store.old).dropped (S.frame store.new).dropped (identifiers (S.stream store.old) (S.registered store.old)) (identifiers (S.stream store.new) (S.registered store.new)) connections.old.items connections.new.items (noted_in kept.old (S.untaken store.old)) (noted_in kept.new (S.untaken store.new)) }
+    requires stocked { HasMore (length (waiting_on load (under_way loads.old)) + length (waiting_on load (under_way loads.old))) kept.old }
+    ensures ran { (values : List HeldValue) → S.stands store.old values → GivesUp config.now (making_of (S.frame store.old)) now values (waiting_on load (under_way loads.old)) [] (S.stands store.new) (but_for load (under_way loads.old)) (under_way loads.new) (S.frame store.old).dropped (S.frame store.new).dropped (identifiers (S.stream store.old) (S.registered store.old)) (identifiers (S.stream store.new) (S.registered store.new)) connections.old.items connections.new.items (noted_in kept.old (S.untaken store.old)) (noted_in kept.new (S.untaken store.new)) }
     ensures frame { KeepsFrame (S.frame store.old) (S.frame store.new) now }
     ensures count { length connections.new.items ≡ length connections.old.items }
     ensures fresh { NothingWaits (noted_in kept.new (S.untaken store.new)) connections.new.items }
@@ -174,7 +174,7 @@ pub fn give_up_load<S: Store>(
     load: u64,
     moment: u64,
 )
-    requires sound { IsSound config.now (S.frame store.old) latest }
+    requires sound { KnowsStore config.now (S.frame store.old) latest }
     requires admitted { refusal_of config.now (knows_loads (under_way loads.old)) (giving_up load moment) ≡ None }
     requires tidy { Tidy [] (situation 0 (under_way loads.old) connections.old.items false []) }
     requires reads { WaitForLoads config.now (situation 0 (under_way loads.old) connections.old.items false []) }

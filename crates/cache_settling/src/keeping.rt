@@ -10,9 +10,9 @@ ghost use Rattle.cache_steps.specs.Right.{KeepsFrame};
 ghost use Rattle.cache_namespace.specs.Drawing.{identifiers};
 ghost use Rattle.cache_namespace.specs.Making.{making_of};
 ghost use Rattle.cache_namespace.specs.Shown.{situation};
-ghost use Rattle.cache_namespace.specs.Taken.{IsSound, text_at};
+ghost use Rattle.cache_namespace.specs.Taken.{KnowsStore, text_at};
 ghost use Rattle.cache_namespace.specs.Waiting.{under_way};
-ghost use Rattle.load_laws.specs.Tidy.{Tidy};
+ghost use Rattle.audit_waiting_laws.specs.Tidy.{Tidy};
 ghost use Rattle.cache_settling.specs.Answered.{KeepsRecord, answering, giving_up, knows_loads};
 ghost use Rattle.cache_settling.specs.GivenUp.{WaitForLoads};
 
@@ -32,7 +32,7 @@ pub fn answer_kept<S: Store>(
     outcome: Outcome,
     moment: u64,
 ) -> Result<Record, (ServiceError, Outcome)>
-    requires sound { IsSound namespace.old.config (S.frame namespace.old.store) namespace.old.latest }
+    requires sound { KnowsStore namespace.old.config (S.frame namespace.old.store) namespace.old.latest }
     requires tidy { Tidy [] (situation 0 (under_way namespace.old.loads) namespace.old.connections.items false []) }
     requires untold { (place : ℕ) → text_at namespace.old.connections.items place ≡ [] }
     requires untaken { S.untaken namespace.old.store ≡ [] }
@@ -43,7 +43,7 @@ pub fn answer_kept<S: Store>(
     ensures latest { OnOk result (namespace.new.latest ≡ max moment namespace.old.latest) }
     ensures tidy { OnOk result ((values : List HeldValue) → S.stands namespace.old.store values → Tidy [] (situation 0 (under_way namespace.new.loads) namespace.new.connections.items false [])) }
     ensures count { OnOk result (length namespace.new.connections.items ≡ length namespace.old.connections.items) }
-    ensures sound { IsSound namespace.new.config (S.frame namespace.new.store) namespace.new.latest }
+    ensures sound { KnowsStore namespace.new.config (S.frame namespace.new.store) namespace.new.latest }
     ensures config { namespace.new.config ≡ namespace.old.config }
     ensures made { OnOk result (KeepsFrame (S.frame namespace.old.store) (S.frame namespace.new.store) namespace.new.latest) }
     ensures admitted { OnOk result (refusal_of namespace.old.config (knows_loads (under_way namespace.old.loads)) (answering load outcome moment) ≡ None) }
@@ -97,7 +97,7 @@ pub fn give_up_kept<S: Store>(
     load: u64,
     moment: u64,
 ) -> Result<Record, ServiceError>
-    requires sound { IsSound namespace.old.config (S.frame namespace.old.store) namespace.old.latest }
+    requires sound { KnowsStore namespace.old.config (S.frame namespace.old.store) namespace.old.latest }
     requires tidy { Tidy [] (situation 0 (under_way namespace.old.loads) namespace.old.connections.items false []) }
     requires reads { WaitForLoads namespace.old.config (situation 0 (under_way namespace.old.loads) namespace.old.connections.items false []) }
     requires untold { (place : ℕ) → text_at namespace.old.connections.items place ≡ [] }
@@ -109,7 +109,7 @@ pub fn give_up_kept<S: Store>(
     ensures latest { OnOk result (namespace.new.latest ≡ max moment namespace.old.latest) }
     ensures tidy { OnOk result ((values : List HeldValue) → S.stands namespace.old.store values → Tidy [] (situation 0 (under_way namespace.new.loads) namespace.new.connections.items false [])) }
     ensures count { length namespace.new.connections.items ≡ length namespace.old.connections.items }
-    ensures sound { IsSound namespace.new.config (S.frame namespace.new.store) namespace.new.latest }
+    ensures sound { KnowsStore namespace.new.config (S.frame namespace.new.store) namespace.new.latest }
     ensures config { namespace.new.config ≡ namespace.old.config }
     ensures made { OnOk result (KeepsFrame (S.frame namespace.old.store) (S.frame namespace.new.store) namespace.new.latest) }
     ensures admitted { OnOk result (refusal_of namespace.old.config (knows_loads (under_way namespace.old.loads)) (giving_up load moment) ≡ None) }

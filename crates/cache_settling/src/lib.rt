@@ -17,7 +17,7 @@ mod storing;
 mod telling;
 
 ghost use Rattle.cache_settling.specs.GivenUp.{RecordsWaitForLoads};
-ghost use Rattle.cache_settling.specs.Laws.{AbandonedLeads, AnswerSettles, AnswerTidy, AnsweredLeads, DeliveredLeads, GiveUpSettles, GiveUpTidy, HeldBackLeads, LeadsOn, LinesLead, NoLinesLead, NothingLeads, ToldWaits, WaitsAgainLeads};
+ghost use Rattle.cache_settling.specs.Laws.{AbandonedLeads, AnswerSettles, AnswerTidy, AnsweredLeads, DeliveredLeads, GiveUpSettles, GiveUpTidy, HeldBackLeads, StepsLeadOn, LinesLead, NoLinesLead, NothingLeads, ToldWaits, WaitsAgainLeads};
 
 pub use answer::{reserve_for, store_for};
 pub use answering::{hand_out, settle_answer};
@@ -35,7 +35,7 @@ pub use telling::tell_all;
 /// No step leads nowhere else, and steps lead on from where others led.
 pub fn steps_lead_on()
     ensures nothing { NothingLeads }
-    ensures on { LeadsOn }
+    ensures on { StepsLeadOn }
 {}
 
 /// Each connection that waited for a load that is settled is still to be told, once, and waits when its turn comes.

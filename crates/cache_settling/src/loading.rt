@@ -11,9 +11,9 @@ ghost use Rattle.cache_store.specs.Recency.{KeepsRecency};
 ghost use Rattle.cache_namespace.specs.Drawing.{identifiers};
 ghost use Rattle.cache_namespace.specs.Making.{making_of};
 ghost use Rattle.cache_namespace.specs.Shown.{situation};
-ghost use Rattle.cache_namespace.specs.Taken.{IsSound, SameConnections};
+ghost use Rattle.cache_namespace.specs.Taken.{KnowsStore, SameConnections};
 ghost use Rattle.cache_namespace.specs.Waiting.{under_way};
-ghost use Rattle.load_laws.specs.Tidy.{Tidy};
+ghost use Rattle.audit_waiting_laws.specs.Tidy.{Tidy};
 ghost use Rattle.cache_settling.specs.Answered.{AnswersLoad, answering, knows_loads};
 
 use crate::answer::{reserve_for, store_for};
@@ -49,7 +49,7 @@ pub fn answer_load<S: Store>(
     outcome: &Outcome,
     moment: u64,
 ) -> Result<Option<Accepted>, AllocError>
-    requires sound { IsSound config.now (S.frame store.old) latest }
+    requires sound { KnowsStore config.now (S.frame store.old) latest }
     requires admitted { refusal_of config.now (knows_loads (under_way loads.old)) (answering load outcome.now moment) ≡ None }
     requires tidy { Tidy [] (situation 0 (under_way loads.old) connections.old.items false []) }
     ensures ran { IfOk result (λ accepted. (values : List HeldValue) → S.stands store.old values → AnswersLoad config.now (making_of (S.frame store.old)) load outcome.now latest moment accepted values (S.stands store.new) (under_way loads.old) (under_way loads.new) (S.frame store.old).dropped (S.frame store.new).dropped (identifiers (S.stream store.old) (S.registered store.old)) (identifiers (S.stream store.new) (S.registered store.new)) connections.old.items connections.new.items (S.untaken store.old) (S.untaken store.new)) }

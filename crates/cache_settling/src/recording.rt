@@ -8,12 +8,12 @@ ghost use Rattle.cache_store.specs.Identifiers.{KeepsIdentifiers};
 ghost use Rattle.cache_store.specs.Promises.{IsUnchanged};
 ghost use Rattle.cache_store.specs.Recency.{KeepsRecency};
 ghost use Rattle.cache_namespace.specs.Drawing.{identifiers};
-ghost use Rattle.cache_namespace.specs.Kept.{steps_of};
+ghost use Rattle.cache_namespace.specs.Kept.{kept_steps};
 ghost use Rattle.cache_namespace.specs.Making.{making_of};
 ghost use Rattle.cache_namespace.specs.Shown.{situation};
-ghost use Rattle.cache_namespace.specs.Taken.{IsSound, text_at};
+ghost use Rattle.cache_namespace.specs.Taken.{KnowsStore, text_at};
 ghost use Rattle.cache_namespace.specs.Waiting.{under_way};
-ghost use Rattle.load_laws.specs.Tidy.{Tidy};
+ghost use Rattle.audit_waiting_laws.specs.Tidy.{Tidy};
 ghost use Rattle.cache_settling.specs.Answered.{KeepsRecord, answering, giving_up, knows_loads};
 ghost use Rattle.cache_settling.specs.GivenUp.{WaitForLoads};
 ghost use Rattle.cache_settling.specs.Laws.{record_answered, record_given_up};
@@ -42,7 +42,7 @@ pub struct Settled {
 
 /// The steps that were kept, if any were.
 fn steps_kept(alloc: Global, kept: Option<Kept>) -> Seq<Step>
-    ensures { result ≡ unwrap_or (steps_of kept) [] }
+    ensures { result ≡ unwrap_or (kept_steps kept) [] }
 {
     match kept {
         Some(Kept { steps, .. }) => Seq::from_vec(steps),
@@ -63,7 +63,7 @@ pub fn record_answer<S: Store>(
     outcome: &Outcome,
     moment: u64,
 ) -> Result<Settled, AllocError>
-    requires sound { IsSound config.now (S.frame store.old) latest }
+    requires sound { KnowsStore config.now (S.frame store.old) latest }
     requires admitted { refusal_of config.now (knows_loads (under_way loads.old)) (answering load outcome.now moment) ≡ None }
     requires tidy { Tidy [] (situation 0 (under_way loads.old) connections.old.items false []) }
     requires untold { (place : ℕ) → text_at connections.old.items place ≡ [] }
@@ -117,7 +117,7 @@ pub fn record_give_up<S: Store>(
     load: u64,
     moment: u64,
 ) -> Result<Seq<Step>, AllocError>
-    requires sound { IsSound config.now (S.frame store.old) latest }
+    requires sound { KnowsStore config.now (S.frame store.old) latest }
     requires admitted { refusal_of config.now (knows_loads (under_way loads.old)) (giving_up load moment) ≡ None }
     requires tidy { Tidy [] (situation 0 (under_way loads.old) connections.old.items false []) }
     requires reads { WaitForLoads config.now (situation 0 (under_way loads.old) connections.old.items false []) }

@@ -3,7 +3,7 @@ ghost use Rattle.std.specs.Prelude.{◌≡◌, ◌≢◌, ◌≤◌, ◌<◌, �
 ghost use Rattle.std.specs.List.{slice_get};
 ghost use Rattle.cache_namespace.specs.Taken.{LooksSame, ReplacedAt, SameConnections};
 ghost use Rattle.cache_namespace.specs.declared.connection.Connection.{Connection as Waiter};
-ghost use Rattle.cache_settling.specs.Told.{HaveRoom};
+ghost use Rattle.cache_settling.specs.Told.{HaveReplyRoom};
 
 use cache_namespace::Connection;
 use std::alloc::AllocError;
@@ -50,7 +50,7 @@ pub fn reserve_all(
     size: usize,
 ) -> Result<(), AllocError>
     ensures same { SameConnections connections.old.items connections.new.items }
-    ensures room { OnOk result (HaveRoom connections.new.items size waiting.now) }
+    ensures room { OnOk result (HaveReplyRoom connections.new.items size waiting.now) }
 {
     for number in waiting {
         reserve_at(connections, *number, size)?;

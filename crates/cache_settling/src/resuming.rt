@@ -5,7 +5,7 @@ ghost use Rattle.std.specs.List.{slice_get};
 ghost use Rattle.audit_model.specs.Situation.{Situation, HeldValue};
 ghost use Rattle.cache_steps.specs.Right.{KeepsFrame};
 ghost use Rattle.cache_namespace.specs.Drawing.{identifiers, workings};
-ghost use Rattle.cache_namespace.specs.Kept.{HasMore, IsReadyToHold, KeepsRoom, gathered, more_in, steps_of};
+ghost use Rattle.cache_namespace.specs.Kept.{HasMore, IsReadyToHold, KeepsRoom, gathered, more_in, kept_steps};
 ghost use Rattle.cache_namespace.specs.Gathered.{IsFresh};
 ghost use Rattle.cache_namespace.specs.Lines.{IsThere};
 ghost use Rattle.cache_namespace.specs.Making.{making_of};
@@ -164,7 +164,7 @@ fn leave_where(loads: &mut Loads, number: u64, closed: bool)
 /// Makes ready to hold one more line back, where a record is made.
 pub fn restock_where(kept: &mut Option<Kept>)
     requires stocked { HasMore 1 kept.old }
-    ensures steps { steps_of kept.new ≡ steps_of kept.old }
+    ensures steps { kept_steps kept.new ≡ kept_steps kept.old }
     ensures ready { IsReadyToHold kept.new }
     ensures made { is_some kept.new ≡ is_some kept.old }
     ensures more { (count : ℕ) → HasMore (suc count) kept.old → HasMore count kept.new }

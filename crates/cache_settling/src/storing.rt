@@ -4,7 +4,7 @@ ghost use Rattle.audit_model.specs.Belongs.{refusal_of_outcome};
 ghost use Rattle.audit_model.specs.Bytewise.{is_empty};
 ghost use Rattle.audit_model.specs.History.{accepts_values};
 ghost use Rattle.audit_model.specs.Situation.{Situation};
-ghost use Rattle.cache_store.specs.Handing.{Hands};
+ghost use Rattle.cache_store.specs.Handing.{AppendsNotes};
 ghost use Rattle.cache_store.specs.Identifiers.{KeepsIdentifiers};
 ghost use Rattle.cache_store.specs.Promises.{IsUnchanged};
 ghost use Rattle.cache_store.specs.Recency.{KeepsRecency};
@@ -38,7 +38,7 @@ pub fn store_answer<S: Store>(
     requires capacity { (S.frame store.old).config.capacity ≡ capacity }
     requires moment { now < 2 ^ 63 }
     requires fit { refusal_of_outcome (S.frame store.old).config outcome.now ≡ None }
-    ensures ok { IfOk result (λ accepted. (s : Situation) → s.latest ≡ now → S.stands store.old s.held → (x : Stores (S.frame store.old).config s key.now outcome.now accepted (S.stands store.new) (Hands (S.untaken store.old) (S.untaken store.new))) × ((is_some accepted || is_empty x.told) ≡ true)) }
+    ensures ok { IfOk result (λ accepted. (s : Situation) → s.latest ≡ now → S.stands store.old s.held → (x : Stores (S.frame store.old).config s key.now outcome.now accepted (S.stands store.new) (AppendsNotes (S.untaken store.old) (S.untaken store.new))) × ((is_some accepted || is_empty x.told) ≡ true)) }
     ensures part { IfOk result (λ accepted. IfSome accepted (λ a. a.part ≡ (S.frame store.old).part_of key.now)) }
     ensures few { length (S.untaken store.new) ≤ length (S.untaken store.old) + S.count store.old + 1 }
     ensures frame { OnOk result (KeepsFrame (S.frame store.old) (S.frame store.new) now) }

@@ -13,11 +13,11 @@ ghost use Rattle.cache_namespace.specs.Waiting.{UnderWay, no_loads};
 ghost use Rattle.cache_namespace.specs.Whole.{has_line};
 ghost use Rattle.cache_namespace.specs.declared.connection.Connection.{Connection as Waiter};
 ghost use Rattle.cache_loads.specs.declared.standing.Standing.TheVariants as now;
-ghost use Rattle.load_laws.specs.Tidy.{Tidy};
-ghost use Rattle.cache_settling.specs.Told.{HaveRoom, TellsThem, WritesTo, steps_told};
+ghost use Rattle.audit_waiting_laws.specs.Tidy.{Tidy};
+ghost use Rattle.cache_settling.specs.Told.{HaveReplyRoom, TellsThem, WritesTo, steps_told};
 
+use audit_lines::{Buffer, Next};
 use audit_model::{Config, Outcome};
-use cache_lines::{Buffer, Next};
 use cache_namespace::{Connection, Standing};
 use cache_steps::write_outcome;
 
@@ -80,7 +80,7 @@ pub fn tell_all(
     writes: bool,
 )
     requires tidy { Tidy waiting.now (situation 0 no_loads connections.old.items false []) }
-    requires room { IsTrue writes → HaveRoom connections.old.items (length (outcome_text outcome.now)) waiting.now }
+    requires room { IsTrue writes → HaveReplyRoom connections.old.items (length (outcome_text outcome.now)) waiting.now }
     ensures told { (making : Making) (latest : ℕ) (loads : UnderWay) (dropped : Bool) (values : List HeldValue) (tasks : List Task) (drawn : Identifiers) → TellsThem config.now making outcome.now latest loads dropped values tasks drawn waiting.now [] connections.old.items connections.new.items (steps_told outcome.now connections.old.items waiting.now) }
     ensures texts { WritesTo writes (steps_told outcome.now connections.old.items waiting.now) connections.old.items connections.new.items }
     ensures count { length connections.new.items ≡ length connections.old.items }

@@ -10,7 +10,7 @@ use Rattle.audit_model.specs.declared.input.ServiceError.TheVariants as error
 use Rattle.cache_namespace.specs.Taken.{is_waiting_in}
 use Rattle.cache_spaces.proofs.Journaling.{got}
 use Rattle.cache_spaces.specs.Services.{InSpace, Refuses, RefusesLook}
-use Rattle.cache_spaces.specs.Spaces.{Stands, closing_of}
+use Rattle.cache_spaces.specs.Spaces.{StandsFor, closing_of}
 use Rattle.cache_spaces.specs.declared.space.Space.{Space}
 
 -- what is true of whatever is the namespace of a number that there is
@@ -36,9 +36,9 @@ closing-in spaces conn (Err e) says found = tt
 
 -- whether a connection of a namespace that there is waits
 pub waits-in : (spaces : List Space) (conn : Conn) (r : Result Bool ServiceError)
-    → IfOk r (λ waits. (space : Space) (s : Situation) → slice_get spaces conn.namespace ≡ Some space → Stands space s → waits ≡ is_waiting_in s conn.number) → OnOk r (conn.namespace < length spaces)
-    → IfOk r (λ waits. InSpace spaces conn.namespace (λ space. (s : Situation) → Stands space s → waits ≡ is_waiting_in s conn.number))
-waits-in spaces conn (Ok waits) says found = in-space (λ space. (s : Situation) → Stands space s → waits ≡ is_waiting_in s conn.number) spaces conn.namespace found (λ space at s. says space s at)
+    → IfOk r (λ waits. (space : Space) (s : Situation) → slice_get spaces conn.namespace ≡ Some space → StandsFor space s → waits ≡ is_waiting_in s conn.number) → OnOk r (conn.namespace < length spaces)
+    → IfOk r (λ waits. InSpace spaces conn.namespace (λ space. (s : Situation) → StandsFor space s → waits ≡ is_waiting_in s conn.number))
+waits-in spaces conn (Ok waits) says found = in-space (λ space. (s : Situation) → StandsFor space s → waits ≡ is_waiting_in s conn.number) spaces conn.namespace found (λ space at s. says space s at)
 waits-in spaces conn (Err e) says found = tt
 
 -- connections of one namespace and number are one

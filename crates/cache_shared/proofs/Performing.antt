@@ -14,7 +14,7 @@ use Rattle.cache_spaces.specs.Recorded.{RecordsAt, RefusedInput, namespace_of}
 use Rattle.cache_spaces.specs.Services.{Refuses}
 use Rattle.cache_spaces.specs.declared.journals.Refusal.{Refusal}
 use Rattle.cache_spaces.specs.declared.space.Space.{Space}
-use Rattle.cache_shared.specs.Events.{Performs, Reached, RecordedAs, RefusesEvent, record_count}
+use Rattle.cache_shared.specs.Events.{Performs, IsReached, RecordedAs, RefusesEvent, record_count}
 use Rattle.cache_shared.proofs.Counting.{count-more}
 
 -- what was put at a place stands there
@@ -93,7 +93,7 @@ pub refused-result : {A : Type 0} (i : Input) (r : Result A Refusal) (events : �
 refused-result i (Ok x) events old new refused = tt
 refused-result i (Err refusal) events old new refused = inr refused
 
-pub reached : (spaces : List Space) (journals : List Transcript) → WerePlayed spaces journals → Reached spaces (record_count journals)
+pub reached : (spaces : List Space) (journals : List Transcript) → WerePlayed spaces journals → IsReached spaces (record_count journals)
 reached spaces journals w = record {
   journals = journals;
   are = record {

@@ -21,7 +21,7 @@ use Rattle.cache_spaces.specs.Moves.{At, are_timely_in}
 use Rattle.cache_spaces.specs.Outputs.{output_after}
 use Rattle.cache_spaces.specs.Recorded.{RecordsAt, RefusedInput, namespace_of}
 use Rattle.cache_spaces.specs.Services.{Refuses, spaces_of}
-use Rattle.cache_spaces.specs.Spaces.{Stands, config_of, connections_of, made_of, recency_of}
+use Rattle.cache_spaces.specs.Spaces.{StandsFor, config_of, connections_of, made_of, recency_of}
 use Rattle.cache_spaces.specs.declared.service.Service.{Service}
 use Rattle.cache_spaces.specs.declared.space.Space.{Space}
 use Rattle.cache_store.specs.Running.{is_bounded}
@@ -43,16 +43,16 @@ pub record AreJournals (spaces : List Space) (journals : List Transcript) : Type
       → slice_get spaces namespace ≡ Some space → slice_get journals namespace ≡ Some journal → IsJournal space journal
 
 -- some journals of so many records lead here
-pub record Reached (spaces : List Space) (events : ℕ) : Type 0 where
+pub record IsReached (spaces : List Space) (events : ℕ) : Type 0 where
   pub journals : List Transcript
   pub are : AreJournals spaces journals
   pub count : record_count journals ≡ events
 
 -- The record leads on from that situation. Each of its `SYNC`s leaves timely values, each part weighs at most its share and 64 values of
 -- 8192 bytes where a capacity is set, and the order of last use goes on as its steps say.
-pub record Leads (was is : Space) (s : Situation) (entry : Record) : Type 0 where
+pub record RecordLeads (was is : Space) (s : Situation) (entry : Record) : Type 0 where
   pub next : Situation
-  pub stands : Stands is next
+  pub stands : StandsFor is next
   pub follows : Follows (config_of was) s entry next
   pub timely : IsTrue (are_timely_in (config_of was) (made_of was) s entry)
   pub bounded : IsTrue (is_bounded (config_of was) next.held)
@@ -63,11 +63,11 @@ pub record HappensFrom (i : Input) (output : Output) (was is : Space) (s : Situa
   pub entry : Record
   pub event : event_in (namespace_of i) (length (connections_of was)) i ≡ Some entry.event
   pub answers : output ≡ output_of (namespace_of i) entry
-  pub leads : Leads was is s entry
+  pub leads : RecordLeads was is s entry
 
 -- so it is from each situation that the namespace stood for
 pub record Happens (i : Input) (output : Output) (was is : Space) : Type 0 where
-  pub from : (s : Situation) → Stands was s → HappensFrom i output was is s
+  pub from : (s : Situation) → StandsFor was s → HappensFrom i output was is s
   pub config : config_of is ≡ config_of was
 
 -- it happened in the input's namespace
@@ -92,7 +92,7 @@ RefusesStep i e count events old new =
 pub record WasRefused {C : Type 0} (service : C → Service) (events : C → ℕ) (i : Input) (e : ServiceError) (count : ℕ) : Type 0 where
   pub core : C
   pub later : C
-  pub reached : ∥ Reached (spaces_of (service core)) (events core) ∥₁
+  pub reached : ∥ IsReached (spaces_of (service core)) (events core) ∥₁
   pub refuses : RefusesStep i e count (events core) (spaces_of (service core)) (spaces_of (service later))
 
 -- it comes with a moment of 2 ^ 63 nanoseconds or more

@@ -4,19 +4,19 @@ ghost use Rattle.std.specs.List.{slice_get};
 ghost use Rattle.audit_model.specs.Situation.{Situation};
 ghost use Rattle.audit_model.specs.declared.transcript.Transcript.{Transcript};
 ghost use Rattle.cache_namespace.specs.Taken.{is_waiting_in};
-ghost use Rattle.cache_shared.specs.Events.{IsLate, IsUsedUp, Performs, Reached, RefusesStep, is_output_for};
-ghost use Rattle.cache_shared.specs.Looked.{WasNext, WasSo};
+ghost use Rattle.cache_shared.specs.Events.{IsLate, IsUsedUp, Performs, IsReached, RefusesStep, is_output_for};
+ghost use Rattle.cache_shared.specs.Looked.{WasOldestNote, HeldAtSomeMoment};
 ghost use Rattle.cache_shared.specs.Seats.{AgreeAll, Gains, SameReceipts, receipt_for};
 ghost use Rattle.cache_spaces.specs.Recorded.{namespace_of};
 ghost use Rattle.cache_spaces.specs.Serves.{IsUnknown};
 ghost use Rattle.cache_spaces.specs.Services.{InSpace, RefusesLook, spaces_of};
-ghost use Rattle.cache_spaces.specs.Spaces.{Stands, closing_of};
+ghost use Rattle.cache_spaces.specs.Spaces.{StandsFor, closing_of};
 
 use crate::judging::agree;
-use crate::loads::{Loads, take_loads};
+use crate::loads::{TakenLoads, take_loads};
 use crate::replies::{Replies, take_replies};
 use crate::seat::{Seat, Seating, make_lists, namespace_of};
-use crate::under::{Core, Takings};
+use crate::service_core::{Core, Takings};
 use audit_model::{Closing, Conn, Input, Note, ServiceError};
 use audit_receipts::{Receipt, copy_input};
 use cache_spaces::{Output, Refusal};
@@ -38,11 +38,12 @@ pub struct Desk<L: Seating, C: Core> {
     ghost fewer: { left ≤ parts },
 }
 
-/// What a shared service leaves.
+/// What `SharedService::finish` gives: the service, and what its seats can show by its journals.
 #[derive(Drop)]
 pub struct Finished<C: Core> {
+    /// The service, which took as many inputs as the seats count together.
     pub service: C,
-    /// For each seat, in the order in which they were handed in, a list of receipts for each namespace that it used and those before it.
+    /// For each seat, in the order in which they were handed in, a list of receipts for each namespace up to the last one that it used.
     pub receipts: Vec<Vec<Vec<Receipt>>>,
 }
 
@@ -313,7 +314,7 @@ impl<L: Seating, C: Core> Desk<L, C> {
         ensures service { result.service ≡ self.core }
         ensures count { C.events result.service ≡ sum_by (λ seat. seat.count) seats.items }
         ensures receipts { result.receipts.items ≡ map (λ seat. seat.receipts) seats.items }
-        ensures reached { ∥ Reached (spaces_of (C.service result.service)) (C.events result.service) ∥₁ }
+        ensures reached { ∥ IsReached (spaces_of (C.service result.service)) (C.events result.service) ∥₁ }
     {
         let Desk {
             core,
@@ -343,7 +344,7 @@ impl<L: Seating, C: Takings> Desk<L, C> {
     /// The reply bytes of a connection since the last taking, moved out.
     pub fn take_output(&mut self, conn: Conn) -> Result<Replies<C>, ServiceError>
         ensures conn { IfOk result (λ replies. replies.conn ≡ conn) }
-        ensures refused { IfErr result (λ e. (e ≡ ServiceError.OutOfMemory) ⊎ WasSo C.service C.events (λ spaces. RefusesLook spaces conn.namespace e (λ space. IsUnknown space conn.number e))) }
+        ensures refused { IfErr result (λ e. (e ≡ ServiceError.OutOfMemory) ⊎ HeldAtSomeMoment C.service C.events (λ spaces. RefusesLook spaces conn.namespace e (λ space. IsUnknown space conn.number e))) }
         ensures events { C.events self.new.core ≡ C.events self.old.core }
     {
         let Desk { core, .. } = self;
@@ -351,9 +352,9 @@ impl<L: Seating, C: Takings> Desk<L, C> {
     }
 
     /// The loads of a namespace that went out and were not taken, moved out.
-    pub fn take_loads(&mut self, namespace: u64) -> Result<Loads<C>, ServiceError>
+    pub fn take_loads(&mut self, namespace: u64) -> Result<TakenLoads<C>, ServiceError>
         ensures namespace { IfOk result (λ loads. loads.namespace ≡ namespace) }
-        ensures refused { IfErr result (λ e. WasSo C.service C.events (λ spaces. (e ≡ ServiceError.NoNamespace) × (length spaces ≤ namespace))) }
+        ensures refused { IfErr result (λ e. HeldAtSomeMoment C.service C.events (λ spaces. (e ≡ ServiceError.NoNamespace) × (length spaces ≤ namespace))) }
         ensures events { C.events self.new.core ≡ C.events self.old.core }
     {
         let Desk { core, .. } = self;
@@ -362,8 +363,8 @@ impl<L: Seating, C: Takings> Desk<L, C> {
 
     /// The oldest note of a namespace that was told and not taken.
     pub fn next_notice(&mut self, namespace: u64) -> Result<Option<Note>, ServiceError>
-        ensures note { IfOk result (λ note. WasNext C.service C.events C.untold namespace note) }
-        ensures refused { IfErr result (λ e. (e ≡ ServiceError.OutOfMemory) ⊎ WasSo C.service C.events (λ spaces. (e ≡ ServiceError.NoNamespace) × (length spaces ≤ namespace))) }
+        ensures note { IfOk result (λ note. WasOldestNote C.service C.events C.untold namespace note) }
+        ensures refused { IfErr result (λ e. (e ≡ ServiceError.OutOfMemory) ⊎ HeldAtSomeMoment C.service C.events (λ spaces. (e ≡ ServiceError.NoNamespace) × (length spaces ≤ namespace))) }
         ensures events { C.events self.new.core ≡ C.events self.old.core }
     {
         let Desk { core, .. } = self;
@@ -373,8 +374,8 @@ impl<L: Seating, C: Takings> Desk<L, C> {
 
     /// Why a connection is closed, if it is.
     pub fn closed(&self, conn: Conn) -> Result<Option<Closing>, ServiceError>
-        ensures closing { IfOk result (λ closing. WasSo C.service C.events (λ spaces. InSpace spaces conn.namespace (λ space. closing ≡ closing_of space conn.number))) }
-        ensures refused { IfErr result (λ e. WasSo C.service C.events (λ spaces. RefusesLook spaces conn.namespace e (λ space. IsUnknown space conn.number e))) }
+        ensures closing { IfOk result (λ closing. HeldAtSomeMoment C.service C.events (λ spaces. InSpace spaces conn.namespace (λ space. closing ≡ closing_of space conn.number))) }
+        ensures refused { IfErr result (λ e. HeldAtSomeMoment C.service C.events (λ spaces. RefusesLook spaces conn.namespace e (λ space. IsUnknown space conn.number e))) }
     {
         self.core.stands();
         self.core.closed(conn)
@@ -382,8 +383,8 @@ impl<L: Seating, C: Takings> Desk<L, C> {
 
     /// Whether a `LOAD` of a connection waits for its load.
     pub fn waiting(&self, conn: Conn) -> Result<bool, ServiceError>
-        ensures waits { IfOk result (λ waits. WasSo C.service C.events (λ spaces. InSpace spaces conn.namespace (λ space. (s : Situation) → Stands space s → waits ≡ is_waiting_in s conn.number))) }
-        ensures refused { IfErr result (λ e. WasSo C.service C.events (λ spaces. RefusesLook spaces conn.namespace e (λ space. IsUnknown space conn.number e))) }
+        ensures waits { IfOk result (λ waits. HeldAtSomeMoment C.service C.events (λ spaces. InSpace spaces conn.namespace (λ space. (s : Situation) → StandsFor space s → waits ≡ is_waiting_in s conn.number))) }
+        ensures refused { IfErr result (λ e. HeldAtSomeMoment C.service C.events (λ spaces. RefusesLook spaces conn.namespace e (λ space. IsUnknown space conn.number e))) }
     {
         self.core.stands();
         self.core.waiting(conn)

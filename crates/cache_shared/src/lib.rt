@@ -7,12 +7,12 @@ mod loads;
 mod recorded;
 mod replies;
 mod seat;
+mod service_core;
 mod shared;
-mod under;
 
 pub use desk::{Desk, Finished};
-pub use loads::Loads;
+pub use loads::TakenLoads;
 pub use replies::Replies;
 pub use seat::{Seat, Seating};
+pub use service_core::{Core, Takings};
 pub use shared::SharedService;
-pub use under::{Core, Takings};

@@ -1,41 +1,41 @@
 //! Loads that were taken.
 ghost use Rattle.std.specs.Prelude.{◌≡◌, ◌≤◌, IfErr, IfOk, length};
-ghost use Rattle.cache_shared.specs.Looked.{WasSo};
+ghost use Rattle.cache_shared.specs.Looked.{HeldAtSomeMoment};
 ghost use Rattle.cache_shared.specs.Untaken.{WereOut};
 
-use crate::under::Takings;
+use crate::service_core::Takings;
 use audit_model::{Bytes, LoadId, ServiceError};
 use std::marker::PhantomData;
 
 /// The loads of a namespace that had gone out and were not taken, with their keys, at the moment when they were: in a service to which some
 /// journals that obey lead.
 #[derive(Drop)]
-pub struct Loads<C: Takings> {
+pub struct TakenLoads<C: Takings> {
     namespace: u64,
     loads: Vec<(LoadId, Bytes)>,
     core: PhantomData<C>,
     ghost taken: { ∥ WereOut C.service C.events namespace loads.items ∥₁ },
 }
 
-impl<C: Takings> Loads<C> {
+impl<C: Takings> TakenLoads<C> {
     /// The loads with their keys, in the order in which they were sent, moved out.
     pub fn into_loads(self) -> Vec<(LoadId, Bytes)>
         ensures { result ≡ self.loads }
     {
-        let Loads { loads, .. } = self;
+        let TakenLoads { loads, .. } = self;
         loads
     }
 }
 
 /// Takes the loads of a namespace. Refused with `NoNamespace` where there is no such namespace.
-pub fn take_loads<C: Takings>(core: &mut C, namespace: u64) -> Result<Loads<C>, ServiceError>
+pub fn take_loads<C: Takings>(core: &mut C, namespace: u64) -> Result<TakenLoads<C>, ServiceError>
     ensures namespace { IfOk result (λ loads. loads.namespace ≡ namespace) }
-    ensures refused { IfErr result (λ e. WasSo C.service C.events (λ spaces. (e ≡ ServiceError.NoNamespace) × (length spaces ≤ namespace))) }
+    ensures refused { IfErr result (λ e. HeldAtSomeMoment C.service C.events (λ spaces. (e ≡ ServiceError.NoNamespace) × (length spaces ≤ namespace))) }
     ensures events { C.events core.new ≡ C.events core.old }
 {
     core.stands();
     match core.take_loads(namespace) {
-        Ok(loads) => Ok(Loads {
+        Ok(loads) => Ok(TakenLoads {
             namespace,
             loads,
             core: PhantomData,

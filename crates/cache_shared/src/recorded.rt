@@ -1,5 +1,5 @@
 //! The core that keeps its journals.
-use crate::under::Core;
+use crate::service_core::Core;
 use audit_model::{Input, ServiceError, Transcript};
 use cache_spaces::{Output, RecordedService, Refusal};
 

@@ -1,11 +1,11 @@
 //! Replies that were taken.
 ghost use Rattle.std.specs.Prelude.{◌≡◌, ◌⊎◌, IfErr, IfOk};
-ghost use Rattle.cache_shared.specs.Looked.{WasSo};
+ghost use Rattle.cache_shared.specs.Looked.{HeldAtSomeMoment};
 ghost use Rattle.cache_shared.specs.Untaken.{WereUntaken};
 ghost use Rattle.cache_spaces.specs.Serves.{IsUnknown};
 ghost use Rattle.cache_spaces.specs.Services.{RefusesLook};
 
-use crate::under::Takings;
+use crate::service_core::Takings;
 use audit_model::{Conn, ServiceError};
 use std::marker::PhantomData;
 
@@ -19,14 +19,14 @@ pub struct Replies<C: Takings> {
 }
 
 impl<C: Takings> Replies<C> {
-    /// Their bytes.
+    /// The reply bytes, with their line ends.
     pub fn as_slice(&self) -> &[u8]
         ensures { result.now ≡ self.now.text.items }
     {
         &self.text
     }
 
-    /// The bytes, moved out.
+    /// The reply bytes, with their line ends, moved out.
     pub fn into_text(self) -> Vec<u8>
         ensures { result ≡ self.text }
     {
@@ -38,7 +38,7 @@ impl<C: Takings> Replies<C> {
 /// Takes the replies of a connection.
 pub fn take_replies<C: Takings>(core: &mut C, conn: Conn) -> Result<Replies<C>, ServiceError>
     ensures conn { IfOk result (λ replies. replies.conn ≡ conn) }
-    ensures refused { IfErr result (λ e. (e ≡ ServiceError.OutOfMemory) ⊎ WasSo C.service C.events (λ spaces. RefusesLook spaces conn.namespace e (λ space. IsUnknown space conn.number e))) }
+    ensures refused { IfErr result (λ e. (e ≡ ServiceError.OutOfMemory) ⊎ HeldAtSomeMoment C.service C.events (λ spaces. RefusesLook spaces conn.namespace e (λ space. IsUnknown space conn.number e))) }
     ensures events { C.events core.new ≡ C.events core.old }
 {
     core.stands();

@@ -9,7 +9,7 @@ use std::alloc::{AllocError, Global};
 use std::marker::Brand;
 use std::sync::ledger::{Ledger, Share};
 
-/// The ledger of one shared service's seats.
+/// The ledger of one shared service's seats: one part a seat.
 pub trait Seating: Ledger {
     /// All its parts.
     ghost all: { ℕ };
@@ -19,7 +19,8 @@ impl Seating for Brand {
     ghost all = { 0 };
 }
 
-/// What one thread handed in: a count of its inputs that were taken, and a receipt of each.
+/// What one thread, or one connection, hands its inputs in with: a count of those that were taken, and, where the service keeps journals, a
+/// receipt of each. `SharedService::seat` makes one, and `SharedService::finish` wants all of them back.
 #[derive(Drop)]
 pub struct Seat<L: Seating> {
     pub(crate) share: Share<L>,
@@ -30,14 +31,15 @@ pub struct Seat<L: Seating> {
 }
 
 impl<L: Seating> Seat<L> {
-    /// How many of its inputs were taken.
+    /// How many of its inputs were taken, at most 2^64 - 1.
     pub fn count(&self) -> u64
         ensures { result ≡ self.now.count }
     {
         self.count
     }
 
-    /// Its receipts of a namespace, in the order in which the inputs were taken.
+    /// Its receipts of a namespace, counted from 0, in the order in which the inputs were taken; none where the service keeps no journals,
+    /// or where there is no such namespace.
     pub fn receipts(&self, namespace: u64) -> &[Receipt]
         ensures { result.now ≡ receipts_at self.now.receipts.items namespace }
     {

@@ -3,19 +3,19 @@ ghost use Rattle.std.specs.Prelude.{◌≡◌, ℕ, ◌+◌, ◌≤◌, ◌⊎�
 ghost use Rattle.std.specs.Arc.{arc_value};
 ghost use Rattle.audit_model.specs.Situation.{Situation};
 ghost use Rattle.cache_namespace.specs.Taken.{is_waiting_in};
-ghost use Rattle.cache_shared.specs.Events.{IsLate, Reached, WasRefused, WasUsedUp, is_output_for};
-ghost use Rattle.cache_shared.specs.Looked.{WasNext, WasSo};
+ghost use Rattle.cache_shared.specs.Events.{IsLate, IsReached, WasRefused, WasUsedUp, is_output_for};
+ghost use Rattle.cache_shared.specs.Looked.{WasOldestNote, HeldAtSomeMoment};
 ghost use Rattle.cache_shared.specs.Seats.{AgreeAll, Gains, SameReceipts, receipt_for};
 ghost use Rattle.cache_spaces.specs.Recorded.{namespace_of};
 ghost use Rattle.cache_spaces.specs.Serves.{IsUnknown};
 ghost use Rattle.cache_spaces.specs.Services.{InSpace, RefusesLook, spaces_of};
-ghost use Rattle.cache_spaces.specs.Spaces.{Stands, closing_of};
+ghost use Rattle.cache_spaces.specs.Spaces.{StandsFor, closing_of};
 
 use crate::desk::{Desk, Finished};
-use crate::loads::Loads;
+use crate::loads::TakenLoads;
 use crate::replies::Replies;
 use crate::seat::{Seat, Seating};
-use crate::under::{Core, Takings};
+use crate::service_core::{Core, Takings};
 use audit_model::{Closing, Conn, Input, Note, ServiceError};
 use audit_receipts::Receipt;
 use cache_spaces::{Output, RecordedService, Refusal};
@@ -30,7 +30,7 @@ struct Inner<L: Seating, C: Core> {
     changed: Condvar,
 }
 
-/// A service that threads share. Each input is taken in one hold of its one lock.
+/// A service that threads share; a clone is another handle of the same one. Each input is taken in one hold of its one lock.
 ///
 /// Whenever the lock is taken, there are journals that obey and lead to where the service stands, of as many records as inputs were
 /// taken. `L` is the ledger of its seats.
@@ -51,8 +51,8 @@ impl<L: Seating, C: Core> Clone for SharedService<L, C> {
 }
 
 impl<L: Seating, C: Core> SharedService<L, C> {
-    /// A shared form of a service of no events, over a new ledger of so many parts, one for each seat. Without memory both are handed
-    /// back.
+    /// A shared form of a service that took no input, over a new ledger of so many parts, one for each seat that there may be. Without
+    /// memory service and ledger are handed back.
     pub fn new(
         alloc: Global,
         core: C,
@@ -95,10 +95,12 @@ impl<L: Seating, C: Core> SharedService<L, C> {
         desk.seat(self.alloc)
     }
 
-    /// Takes one input for a seat, in one hold of the lock. Where it is taken, the seat counts one more, and has one receipt more, of
-    /// this input and its output, if the service keeps journals.
+    /// Takes one input for a seat, in one hold of the lock. Where it is taken, the seat counts one more, and has one receipt more, of this
+    /// input and its output, if the service keeps journals.
     ///
-    /// An input that is refused is handed back, and leaves no receipt and no count; then nothing has changed.
+    /// An input that is refused is handed back, and leaves no receipt and no count; then nothing has changed. Refused as the service under
+    /// the lock refuses it, with `OutOfMemory` also where there is none for the receipt, and with `UsedUp` where the seat's count or that
+    /// of all inputs is at 2^64 - 1.
     pub fn step(&self, rt: &impl Wait, seat: &mut Seat<L>, input: Input) -> Result<Output, Refusal>
         ensures count { OnOk result (seat.new.count ≡ seat.old.count + 1) }
         ensures receipt { C.KEEPS ≡ true → IfOk result (λ output. (number : ℕ) × Gains seat.old.receipts.items seat.new.receipts.items (namespace_of input) (receipt_for input output number)) }
@@ -121,8 +123,8 @@ impl<L: Seating, C: Core> SharedService<L, C> {
         taken
     }
 
-    /// The service with each seat's receipts, where this is the last clone, all seats are there, and there is memory. Else both are handed
-    /// back.
+    /// The service with each seat's receipts, where this is the last clone, all seats that were made are there, and there is memory: one
+    /// byte for each record of a namespace. Else this clone and the seats are handed back.
     ///
     /// Then the service has taken as many inputs as these seats count together, each seat's receipts of a namespace are in their order a
     /// part of its journal, and over all seats each record has one receipt.
@@ -134,7 +136,7 @@ impl<L: Seating, C: Core> SharedService<L, C> {
         ensures count { IfOk result (λ finished. C.events finished.service ≡ sum_by (λ seat. seat.count) seats.items) }
         ensures receipts { IfOk result (λ finished. finished.receipts.items ≡ map (λ seat. seat.receipts) seats.items) }
         ensures agree { IfOk result (λ finished. AgreeAll (C.journals finished.service) (λ seat. seat.receipts.items) seats.items) }
-        ensures reached { IfOk result (λ finished. ∥ Reached (spaces_of (C.service finished.service)) (C.events finished.service) ∥₁) }
+        ensures reached { IfOk result (λ finished. ∥ IsReached (spaces_of (C.service finished.service)) (C.events finished.service) ∥₁) }
         ensures back { IfErr result (λ both. both.1 ≡ seats) }
     {
         let SharedService { mut inner, alloc } = self;
@@ -155,49 +157,52 @@ impl<L: Seating, C: Core> SharedService<L, C> {
 
 impl<L: Seating, C: Takings> SharedService<L, C> {
     /// The reply bytes of a connection since the last taking, moved out, in one hold of the lock. It is no event, and leaves no receipt.
+    /// Refused with `NoNamespace`, then with `NoConnection`, and with `OutOfMemory` where the core copies replies; then they come with the
+    /// next taking.
     pub fn take_output(&self, rt: &impl Wait, conn: Conn) -> Result<Replies<C>, ServiceError>
         ensures conn { IfOk result (λ replies. replies.conn ≡ conn) }
-        ensures refused { IfErr result (λ e. (e ≡ ServiceError.OutOfMemory) ⊎ WasSo C.service C.events (λ spaces. RefusesLook spaces conn.namespace e (λ space. IsUnknown space conn.number e))) }
+        ensures refused { IfErr result (λ e. (e ≡ ServiceError.OutOfMemory) ⊎ HeldAtSomeMoment C.service C.events (λ spaces. RefusesLook spaces conn.namespace e (λ space. IsUnknown space conn.number e))) }
     {
         let mut guard = self.inner().desk.lock(rt);
         let desk = &mut *guard;
         desk.take_output(conn)
     }
 
-    /// The loads of a namespace that went out and were not taken, moved out, in one hold of the lock. It is no event, and leaves no
-    /// receipt.
-    pub fn take_loads(&self, rt: &impl Wait, namespace: u64) -> Result<Loads<C>, ServiceError>
+    /// The loads of a namespace that went out and were not taken, with their keys, in the order in which they were sent; moved out, in one
+    /// hold of the lock. It is no event, and leaves no receipt. Refused with `NoNamespace`.
+    pub fn take_loads(&self, rt: &impl Wait, namespace: u64) -> Result<TakenLoads<C>, ServiceError>
         ensures namespace { IfOk result (λ loads. loads.namespace ≡ namespace) }
-        ensures refused { IfErr result (λ e. WasSo C.service C.events (λ spaces. (e ≡ ServiceError.NoNamespace) × (length spaces ≤ namespace))) }
+        ensures refused { IfErr result (λ e. HeldAtSomeMoment C.service C.events (λ spaces. (e ≡ ServiceError.NoNamespace) × (length spaces ≤ namespace))) }
     {
         let mut guard = self.inner().desk.lock(rt);
         let desk = &mut *guard;
         desk.take_loads(namespace)
     }
 
-    /// The oldest note of a namespace that was told and not taken, in one hold of the lock. It is no event, and leaves no receipt.
+    /// The oldest note of a namespace that was told and not taken, or none, in one hold of the lock. It is no event, and leaves no receipt.
+    /// Refused with `NoNamespace`, and with `OutOfMemory` where the core copies notes; then it comes with the next taking.
     pub fn next_notice(&self, rt: &impl Wait, namespace: u64) -> Result<Option<Note>, ServiceError>
-        ensures note { IfOk result (λ note. WasNext C.service C.events C.untold namespace note) }
-        ensures refused { IfErr result (λ e. (e ≡ ServiceError.OutOfMemory) ⊎ WasSo C.service C.events (λ spaces. (e ≡ ServiceError.NoNamespace) × (length spaces ≤ namespace))) }
+        ensures note { IfOk result (λ note. WasOldestNote C.service C.events C.untold namespace note) }
+        ensures refused { IfErr result (λ e. (e ≡ ServiceError.OutOfMemory) ⊎ HeldAtSomeMoment C.service C.events (λ spaces. (e ≡ ServiceError.NoNamespace) × (length spaces ≤ namespace))) }
     {
         let mut guard = self.inner().desk.lock(rt);
         let desk = &mut *guard;
         desk.next_notice(namespace)
     }
 
-    /// Why a connection is closed, if it is, in one hold of the lock.
+    /// Why a connection is closed, or none while it is open, in one hold of the lock. Refused with `NoNamespace`, then with `NoConnection`.
     pub fn closed(&self, rt: &impl Wait, conn: Conn) -> Result<Option<Closing>, ServiceError>
-        ensures closing { IfOk result (λ closing. WasSo C.service C.events (λ spaces. InSpace spaces conn.namespace (λ space. closing ≡ closing_of space conn.number))) }
-        ensures refused { IfErr result (λ e. WasSo C.service C.events (λ spaces. RefusesLook spaces conn.namespace e (λ space. IsUnknown space conn.number e))) }
+        ensures closing { IfOk result (λ closing. HeldAtSomeMoment C.service C.events (λ spaces. InSpace spaces conn.namespace (λ space. closing ≡ closing_of space conn.number))) }
+        ensures refused { IfErr result (λ e. HeldAtSomeMoment C.service C.events (λ spaces. RefusesLook spaces conn.namespace e (λ space. IsUnknown space conn.number e))) }
     {
         let guard = self.inner().desk.lock(rt);
         guard.closed(conn)
     }
 
-    /// Whether a `LOAD` of a connection waits for its load, in one hold of the lock.
+    /// Whether a `LOAD` of a connection waits for its load, in one hold of the lock. Refused with `NoNamespace`, then with `NoConnection`.
     pub fn waiting(&self, rt: &impl Wait, conn: Conn) -> Result<bool, ServiceError>
-        ensures waits { IfOk result (λ waits. WasSo C.service C.events (λ spaces. InSpace spaces conn.namespace (λ space. (s : Situation) → Stands space s → waits ≡ is_waiting_in s conn.number))) }
-        ensures refused { IfErr result (λ e. WasSo C.service C.events (λ spaces. RefusesLook spaces conn.namespace e (λ space. IsUnknown space conn.number e))) }
+        ensures waits { IfOk result (λ waits. HeldAtSomeMoment C.service C.events (λ spaces. InSpace spaces conn.namespace (λ space. (s : Situation) → StandsFor space s → waits ≡ is_waiting_in s conn.number))) }
+        ensures refused { IfErr result (λ e. HeldAtSomeMoment C.service C.events (λ spaces. RefusesLook spaces conn.namespace e (λ space. IsUnknown space conn.number e))) }
     {
         let guard = self.inner().desk.lock(rt);
         guard.waiting(conn)
@@ -232,7 +237,7 @@ fn close_if_all<L: Seating, C: Core>(
     ensures count { IfOk result (λ finished. C.events finished.service ≡ sum_by (λ seat. seat.count) seats.items) }
     ensures receipts { IfOk result (λ finished. finished.receipts.items ≡ map (λ seat. seat.receipts) seats.items) }
     ensures agree { IfOk result (λ finished. AgreeAll (C.journals finished.service) (λ seat. seat.receipts.items) seats.items) }
-    ensures reached { IfOk result (λ finished. ∥ Reached (spaces_of (C.service finished.service)) (C.events finished.service) ∥₁) }
+    ensures reached { IfOk result (λ finished. ∥ IsReached (spaces_of (C.service finished.service)) (C.events finished.service) ∥₁) }
     ensures back { IfErr result (λ back. back ≡ seats) }
     ensures full { OnErr result (IsSome slot.new) }
 {

@@ -10,13 +10,13 @@ use Rattle.cache_namespace.specs.Drawing.{Workings}
 use Rattle.cache_namespace.specs.Gathered.{Gathered}
 use Rattle.cache_namespace.specs.Making.{Making}
 use Rattle.cache_namespace.specs.Shown.{situation}
-use Rattle.cache_namespace.specs.Taken.{Takes, record_of}
+use Rattle.cache_namespace.specs.Taken.{FollowsEvent, record_of}
 use Rattle.cache_namespace.specs.Waiting.{UnderWay}
 use Rattle.cache_namespace.specs.declared.connection.Connection.{Connection}
 use Rattle.cache_settling.proofs.Waits.{records-wait}
 use Rattle.cache_settling.specs.GivenUp.{WaitForLoads}
-use Rattle.load_laws.proofs.Records.{records}
-use Rattle.load_laws.specs.Tidy.{Tidy}
+use Rattle.audit_waiting_laws.proofs.Records.{records}
+use Rattle.audit_waiting_laws.specs.Tidy.{Tidy}
 use Rattle.cache_spaces.specs.Knowing.{KnowsWaiting}
 
 -- a record that leads on from a situation, to one in which values that may be held are held
@@ -54,7 +54,7 @@ known-same config next Held Left l left old new is_config k holds same =
 
 -- an event that was taken
 pub by-taking : (config : Config) (making : Making) (s : Situation) (happened : Event) (is_held quit : Bool) (Left : List HeldValue → Type 0) (situated : List HeldValue → Situation) (drawn drawing : Workings) (was is : Gathered)
-    → Takes config making s happened is_held quit Left situated drawn drawing was is → LeadsOnBy config s Left situated
+    → FollowsEvent config making s happened is_held quit Left situated drawn drawing was is → LeadsOnBy config s Left situated
 by-taking config making s happened is_held quit Left situated drawn drawing was is t = record { entry = record_of happened t.steps; left = t.left; stands = t.stands; follows = t.follows }
 
 -- what follows from either answer of a call

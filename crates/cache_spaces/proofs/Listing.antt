@@ -21,14 +21,14 @@ use Rattle.audit_model.specs.declared.event.Event.TheVariants as event
 use Rattle.audit_model.specs.declared.transcript.Record.{Record}
 use Rattle.audit_model.specs.declared.transcript.Step.{Step}
 use Rattle.audit_model.specs.declared.transcript.Transcript.{Transcript}
-use Rattle.cache_namespace.specs.Ordered.{HasKeys, HaveKeys, order_after, order_behind}
+use Rattle.cache_namespace.specs.Ordered.{HasKeys, HaveKeys, order_behind_step, order_behind}
 use Rattle.cache_steps.specs.Order.{Order, Settled, Used, Unknown, order_by}
-use Rattle.cache_spaces.specs.Recent.{AreSynced, KeepsList, Says, is_of_list}
+use Rattle.cache_spaces.specs.Recent.{AreSynced, KeepsList, IsCommand, is_of_list}
 use Rattle.cache_spaces.specs.Throughout.{HasExactKeys, HaveKeysFrom, order_at_end}
 
 -- ---- what is known behind such steps
 
-said : (config : Config) (n : ℕ) (order : Order) (step : Step) (command : Command) → Says config step command → order_after config n order step ≡ order_by n (Ok command) order
+said : (config : Config) (n : ℕ) (order : Order) (step : Step) (command : Command) → IsCommand config step command → order_behind_step config n order step ≡ order_by n (Ok command) order
 said config n order step command h =
     ap (λ b. if b then Unknown else order_by n (reading config step.line) order) h.runs ∙ ap (λ (r : Reading). order_by n r order) h.says
 
@@ -52,13 +52,13 @@ synced-order config n [] (step ∷ steps) keys h = absurd h
 synced-order config n (command ∷ commands) [] keys h = absurd h
 synced-order config n (command ∷ commands) (step ∷ []) keys h = absurd h
 synced-order config n (command ∷ commands) (step ∷ next ∷ steps) keys h =
-    ap (λ (o : Order). order_behind config n (order_after config n o next) steps) (said config n (Settled keys) step command h.0 ∙ listed n keys command h.1)
+    ap (λ (o : Order). order_behind config n (order_behind_step config n o next) steps) (said config n (Settled keys) step command h.0 ∙ listed n keys command h.1)
     ∙ ap (λ (o : Order). order_behind config n o steps) (said config n (Used (recency_after n keys command)) next says.Sync h.2)
     ∙ synced-order config n commands steps (recency_after n keys command) h.3
 
 order-joined : (config : Config) (n : ℕ) (order : Order) (xs ys : List Step) → order_behind config n order (xs ++ ys) ≡ order_behind config n (order_behind config n order xs) ys
 order-joined config n order [] ys = refl
-order-joined config n order (x ∷ xs) ys = order-joined config n (order_after config n order x) xs ys
+order-joined config n order (x ∷ xs) ys = order-joined config n (order_behind_step config n order x) xs ys
 
 order-of-steps : (config : Config) (n : ℕ) (order : Order) (entries : List Record) → order_behind config n order (flat_map steps_of entries) ≡ order_at_end config n order entries
 order-of-steps config n order [] = refl
@@ -90,7 +90,7 @@ keys-behind-steps config n order s t tasks [] keys has after =
 keys-behind-steps config n order s t tasks (step ∷ steps) keys has after =
     let now_due = due (may_run_in s) tasks in
     let placed = placed_step_in config s (first_due now_due) step in
-    keys-behind-steps config n (order_after config n order step) (after_step config s placed.task step placed.effect) t (left_after now_due) steps keys.1 keys.0
+    keys-behind-steps config n (order_behind_step config n order step) (after_step config s placed.task step placed.effect) t (left_after now_due) steps keys.1 keys.0
     (if-some (is_right config placed) _ t after)
 
 keys-behind-record : (config : Config) (n : ℕ) (order : Order) (s t : Situation) (entry : Record)

@@ -8,8 +8,8 @@ use Rattle.audit_model.specs.declared.config.Config.{Config}
 use Rattle.audit_model.specs.declared.event.Event.{Event}
 use Rattle.cache_namespace.specs.Gathered.{Gathered}
 use Rattle.cache_namespace.specs.Shown.{situation}
-use Rattle.cache_namespace.specs.Taken.{Takes, is_quit, record_of}
-use Rattle.cache_loads.specs.Pending.{namespace_of, taken_of}
+use Rattle.cache_namespace.specs.Taken.{FollowsEvent, is_quit, record_of}
+use Rattle.cache_loads.specs.Pending.{namespace_of_loads, loads_taken}
 use Rattle.cache_namespace.specs.Waiting.{UnderWay, under_way}
 use Rattle.plain_store.specs.Standing as plain
 use Rattle.cache_namespace.specs.declared.connection.Connection.{Connection}
@@ -26,17 +26,17 @@ use Rattle.audit_laws.specs.Placing.{accepted_in}
 use Rattle.std.specs.Option.{option_map_or}
 use Rattle.cache_namespace.specs.Taken.{text_at, closing_at}
 use Rattle.cache_namespace.specs.declared.kept.Kept.{Kept}
-use Rattle.cache_spaces.specs.Moves.{Moves, are_parted_in, are_timely_in, part_in}
+use Rattle.cache_spaces.specs.Moves.{MovesOn, are_parted_in, are_timely_in, hashed_part}
 use Rattle.cache_spaces.specs.Serves.{SameSpace, Serves}
 use Rattle.cache_spaces.specs.declared.space.Space.{Space}
-use Rattle.cache_spaces.specs.Spaces.{StandsWith, Stands, closing_of, config_of, connections_of, gathered_in, workings_of, made_of, output_of, notices_of}
+use Rattle.cache_spaces.specs.Spaces.{StandsWith, StandsFor, closing_of, config_of, connections_of, gathered_in, workings_of, made_of, untaken_output, notices_of}
 
 -- an event that is taken, whatever values are held
 pub moves-from : (config : Config) (making : Making) (Holds Left : List HeldValue → Type 0) (dropped drops : Bool) (latest now : ℕ) (l left : UnderWay) (old new : List Connection) (happened : Event) (is_held quit : Bool) (drawn drawing : Workings) (was is : Gathered) (s : Situation)
-    → making.part_of ≡ part_in config → StandsWith Holds dropped latest l old s
-    → ((values : List HeldValue) → Holds values → Takes config making (situation latest l old dropped values) happened is_held quit Left (situation now left new drops) drawn drawing was is)
+    → making.part_of ≡ hashed_part config → StandsWith Holds dropped latest l old s
+    → ((values : List HeldValue) → Holds values → FollowsEvent config making (situation latest l old dropped values) happened is_held quit Left (situation now left new drops) drawn drawing was is)
     → ((values : List HeldValue) → Left values → IsTrue (is_bounded config values))
-    → Moves config making.made s happened is_held quit (StandsWith Left drops now left new) drawn drawing was is
+    → MovesOn config making.made s happened is_held quit (StandsWith Left drops now left new) drawn drawing was is
 moves-from config making Holds Left dropped drops latest now l left old new happened is_held quit drawn drawing was is s same_parts stands takes bounded =
     let t = takes stands.values stands.held in
     record {
@@ -64,7 +64,7 @@ stands-on Holds Left dropped drops latest now l left old new s stands holds same
 
 -- a feed of which no record is made
 pub serves-from : (was is : Space) (number : ℕ) (s : Situation) (happened : Event) (is_held : Bool) (kept : Option Kept)
-    → Moves (config_of was) (made_of was) s happened is_held (is_quit (closing_of is number)) (Stands is) (workings_of was) (workings_of is) (gathered_in was number None) (gathered_in is number kept)
+    → MovesOn (config_of was) (made_of was) s happened is_held (is_quit (closing_of is number)) (StandsFor is) (workings_of was) (workings_of is) (gathered_in was number None) (gathered_in is number kept)
     → Serves was is number s happened is_held
 serves-from was is number s happened is_held kept m = record {
   steps = m.steps;
@@ -84,8 +84,8 @@ serves-from was is number s happened is_held kept m = record {
 
 -- an event whose record has no replies and notes, and which no `QUIT` closes
 pub serves-still : (was is : Space) (number : ℕ) (s : Situation) (happened : Event) (is_held : Bool)
-    → Moves (config_of was) (made_of was) s happened is_held false (Stands is) (workings_of was) (workings_of is) (gathered_in was number None) (gathered_in was number None)
-    → is_quit (closing_of is number) ≡ false → output_of is number ≡ output_of was number → notices_of is ≡ notices_of was
+    → MovesOn (config_of was) (made_of was) s happened is_held false (StandsFor is) (workings_of was) (workings_of is) (gathered_in was number None) (gathered_in was number None)
+    → is_quit (closing_of is number) ≡ false → untaken_output is number ≡ untaken_output was number → notices_of is ≡ notices_of was
     → Serves was is number s happened is_held
 serves-still was is number s happened is_held m none output notices = record {
   steps = m.steps;
@@ -134,7 +134,7 @@ opened-text cs is c place e added =
     ap (λ ks. text_at ks place) added ∙ ap (text_at (cs ++ c ∷ [])) e ∙ ap (λ o. option_map_or (λ (k : Connection). k.output.items) o []) (opened-at cs c)
 
 -- the parts of a namespace's store
-pub same-parts : (parts : ℕ) (stored config : Config) → parts ≡ part_count stored → stored ≡ config → part_by parts (hashed 0) ≡ part_in config
+pub same-parts : (parts : ℕ) (stored config : Config) → parts ≡ part_count stored → stored ≡ config → part_by parts (hashed 0) ≡ hashed_part config
 same-parts parts stored config counted same = ap (λ n. part_by n (hashed 0)) (counted ∙ ap part_count same)
 
 -- a new connection leaves what others were told
@@ -161,5 +161,5 @@ same-connected was is rest same = record {
   closings = λ number. ap (λ cs. closing_at cs (number - 1)) same;
   notices = ap (λ n. n.store.notes.items) rest;
   count = ap length same;
-  goes = record { taken = ap (λ n. taken_of n.loads) rest; namespace = ap (λ n. namespace_of n.loads) rest };
+  goes = record { taken = ap (λ n. loads_taken n.loads) rest; namespace = ap (λ n. namespace_of_loads n.loads) rest };
 }

@@ -9,7 +9,7 @@ use Rattle.rand_core.specs.Steps.{stream_of, steps_u64_high}
 use Rattle.rand_core.specs.Stream.{Stream, fill_bytes}
 use Rattle.rand_xoshiro.specs.Xoshiro256.{plus_plus}
 use Rattle.audit_model.specs.declared.config.Config.{Config}
-use Rattle.cache_spaces.specs.Services.{IsNew, AreNew, fork_after, stream_after}
+use Rattle.cache_spaces.specs.Services.{IsNewNamespace, AreNew, fork_after, stream_after_forks}
 use Rattle.cache_spaces.specs.declared.space.Space.{Space}
 
 absent : {X A : Type 0} {x : X} → None ≡ Some x → A
@@ -45,13 +45,13 @@ new-none spaces generator made none = record { count = ap length none; each = λ
 
 -- one namespace more
 pub new-more : (spaces more : List Space) (configs : List Config) (generator : List ℕ) (made i : ℕ) (space : Space) (d : Config) → i < length configs → length spaces ≡ i
-    → AreNew spaces (take i configs) generator made → IsNew space i (get_or configs i d) (fork_after i generator) made → more ≡ spaces ++ space ∷ [] → AreNew more (take (i + 1) configs) generator made
+    → AreNew spaces (take i configs) generator made → IsNewNamespace space i (get_or configs i d) (fork_after i generator) made → more ≡ spaces ++ space ∷ [] → AreNew more (take (i + 1) configs) generator made
 new-more spaces more configs generator made i space d lt number new added last =
     subst (λ l. AreNew l (take (i + 1) configs) generator made) (sym last) (subst (λ l. AreNew (spaces ++ space ∷ []) l generator made) (sym one-more) (record {
       count = length-append spaces (space ∷ []) ∙ ap (λ n. n + 1) new.count ∙ sym (length-append (take i configs) (get_or configs i d ∷ []));
       each = λ k c s at_c at_s.
-          each-more (λ k s c. IsNew s k c (fork_after k generator) made) spaces (take i configs) space (get_or configs i d) new.count (λ j s c at_s at_c. new.each j c s at_c at_s)
-          (subst (λ n. IsNew space n (get_or configs i d) (fork_after n generator) made) (sym number) added) k s c at_s at_c;
+          each-more (λ k s c. IsNewNamespace s k c (fork_after k generator) made) spaces (take i configs) space (get_or configs i d) new.count (λ j s c at_s at_c. new.each j c s at_c at_s)
+          (subst (λ n. IsNewNamespace space n (get_or configs i d) (fork_after n generator) made) (sym number) added) k s c at_s at_c;
     }))
   where
     one-more : take (i + 1) configs ≡ take i configs ++ get_or configs i d ∷ []
@@ -60,8 +60,8 @@ new-more spaces more configs generator made i space d lt number new added last =
         ap (λ k. take k configs) e ∙ take-suc configs i d lt
 
 -- one fork more
-pub forked-more : (before generator after : List ℕ) (i : ℕ) → stream_from generator ≡ stream_after i (stream_from before) → stream_from after ≡ (fill_bytes 32 (stream_from generator)).1
-    → stream_from after ≡ stream_after (i + 1) (stream_from before)
+pub forked-more : (before generator after : List ℕ) (i : ℕ) → stream_from generator ≡ stream_after_forks i (stream_from before) → stream_from after ≡ (fill_bytes 32 (stream_from generator)).1
+    → stream_from after ≡ stream_after_forks (i + 1) (stream_from before)
 forked-more before generator after i was is =
     let e : suc i ≡ i + 1 = omega arith in
-    is ∙ ap (λ s. (fill_bytes 32 s).1) was ∙ ap (λ n. stream_after n (stream_from before)) e
+    is ∙ ap (λ s. (fill_bytes 32 s).1) was ∙ ap (λ n. stream_after_forks n (stream_from before)) e

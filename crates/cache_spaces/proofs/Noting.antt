@@ -15,14 +15,14 @@ use Rattle.audit_model.specs.declared.event.Event.{Event}
 use Rattle.audit_model.specs.declared.transcript.Record.{Record}
 use Rattle.audit_model.specs.declared.transcript.Step.{Step}
 use Rattle.cache_namespace.specs.Gathered.{Gathered, IsFresh, gather}
-use Rattle.cache_namespace.specs.Kept.{steps_of}
+use Rattle.cache_namespace.specs.Kept.{kept_steps}
 use Rattle.cache_namespace.specs.Ordered.{OrdersSteps}
 use Rattle.cache_namespace.specs.Taken.{record_of}
 use Rattle.cache_namespace.specs.declared.connection.Connection.{Connection}
 use Rattle.cache_namespace.specs.declared.kept.Kept.{Kept}
-use Rattle.cache_spaces.specs.Moves.{Moves, are_parted_in, are_timely_in}
+use Rattle.cache_spaces.specs.Moves.{MovesOn, are_parted_in, are_timely_in}
 use Rattle.cache_spaces.specs.Recorded.{IsQuiet, LeadsOnIn, Records, RecordsInput, Refused, RefusedInput, namespace_of}
-use Rattle.cache_spaces.specs.Spaces.{Stands, config_of, connections_of, workings_of, made_of, notices_of, output_of, recency_of, gathered_in}
+use Rattle.cache_spaces.specs.Spaces.{StandsFor, config_of, connections_of, workings_of, made_of, notices_of, untaken_output, recency_of, gathered_in}
 use Rattle.cache_spaces.specs.declared.space.Space.{Space}
 
 -- two numbers are the same or not
@@ -44,8 +44,8 @@ unwrapped g steps e = go g.kept e
 
 -- an event without steps
 pub recorded-still : (was is : Space) (happened : Event) (before after : List Record)
-    → IsQuiet was → ((n : ℕ) → output_of is n ≡ output_of was n) → notices_of is ≡ notices_of was → config_of is ≡ config_of was → made_of is ≡ made_of was
-    → ((s : Situation) (g : Gathered) → Stands was s → Moves (config_of was) (made_of was) s happened false false (Stands is) (workings_of was) (workings_of is) g g)
+    → IsQuiet was → ((n : ℕ) → untaken_output is n ≡ untaken_output was n) → notices_of is ≡ notices_of was → config_of is ≡ config_of was → made_of is ≡ made_of was
+    → ((s : Situation) (g : Gathered) → StandsFor was s → MovesOn (config_of was) (made_of was) s happened false false (StandsFor is) (workings_of was) (workings_of is) g g)
     → after ≡ before ++ record_of happened [] ∷ [] → Records happened before after was is
 recorded-still was is happened before after quiet outputs notices config made moves added = record {
   entry = record_of happened [];
@@ -74,18 +74,18 @@ fresh-when g steps e f = subst (λ o. IsFresh (record { text = g.text; kept = o;
 
 -- a feed, with the steps that were kept
 pub recorded-fed : (was is : Space) (conn : ℕ) (happened : Event) (is_held quit : Bool) (before after : List Record) (old new : Option Kept)
-    → IsQuiet was → steps_of old ≡ Some [] → IsFresh (gathered_in is conn new)
+    → IsQuiet was → kept_steps old ≡ Some [] → IsFresh (gathered_in is conn new)
     → ((place : ℕ) → place ≢ conn - 1 → slice_get (connections_of is) place ≡ slice_get (connections_of was) place) → config_of is ≡ config_of was → made_of is ≡ made_of was
-    → ((s : Situation) → Stands was s → Moves (config_of was) (made_of was) s happened is_held quit (Stands is) (workings_of was) (workings_of is) (gathered_in was conn old) (gathered_in is conn new))
-    → after ≡ before ++ record_of happened (unwrap_or (steps_of new) []) ∷ [] → Records happened before after was is
+    → ((s : Situation) → StandsFor was s → MovesOn (config_of was) (made_of was) s happened is_held quit (StandsFor is) (workings_of was) (workings_of is) (gathered_in was conn old) (gathered_in is conn new))
+    → after ≡ before ++ record_of happened (unwrap_or (kept_steps new) []) ∷ [] → Records happened before after was is
 recorded-fed was is conn happened is_held quit before after old new quiet started fresh others config made moves added = record {
-  entry = record_of happened (unwrap_or (steps_of new) []);
+  entry = record_of happened (unwrap_or (kept_steps new) []);
   event = refl;
   added = added;
   leads = λ s stands.
       let m = moves s stands in
       let g = gathered_in was conn old in
-      let kept : steps_of new ≡ Some m.steps = ap (λ (x : Gathered). x.kept) m.gathered ∙ ap (λ o. (gather (record { text = g.text; kept = o; waiting = g.waiting }) m.steps).kept) started in
+      let kept : kept_steps new ≡ Some m.steps = ap (λ (x : Gathered). x.kept) m.gathered ∙ ap (λ o. (gather (record { text = g.text; kept = o; waiting = g.waiting }) m.steps).kept) started in
       let none = fresh-when (gathered_in is conn new) m.steps kept fresh in
       record {
         next = m.next;
@@ -101,12 +101,12 @@ recorded-fed was is conn happened is_held quit before after old new quiet starte
   made = made;
 }
   where
-    output-at : (n : ℕ) → (n - 1 ≡ conn - 1) ⊎ (n - 1 ≢ conn - 1) → output_of is conn ≡ [] → output_of is n ≡ []
+    output-at : (n : ℕ) → (n - 1 ≡ conn - 1) ⊎ (n - 1 ≢ conn - 1) → untaken_output is conn ≡ [] → untaken_output is n ≡ []
     output-at n (inl e) none = ap (λ k. option_map_or (λ (c : Connection). c.output.items) (slice_get (connections_of is) k) []) e ∙ none
     output-at n (inr ne) none = ap (λ o. option_map_or (λ (c : Connection). c.output.items) o []) (others (n - 1) ne) ∙ quiet.outputs n
 
 -- a load that was settled, with the record that was handed out
-pub recorded-settled : (was is : Space) (happened : Event) (before after : List Record) (entry : Record) → entry.event ≡ happened → ((s : Situation) → Stands was s → LeadsOnIn was is s entry) → config_of is ≡ config_of was → made_of is ≡ made_of was
+pub recorded-settled : (was is : Space) (happened : Event) (before after : List Record) (entry : Record) → entry.event ≡ happened → ((s : Situation) → StandsFor was s → LeadsOnIn was is s entry) → config_of is ≡ config_of was → made_of is ≡ made_of was
     → after ≡ before ++ entry ∷ [] → Records happened before after was is
 recorded-settled was is happened before after entry event leads config made added = record { entry = entry; event = event; added = added; leads = leads; config = config; made = made }
 

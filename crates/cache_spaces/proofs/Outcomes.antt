@@ -27,16 +27,16 @@ use Rattle.cache_namespace.specs.Waiting.{UnderWay}
 use Rattle.cache_namespace.specs.declared.connection.Connection.{Connection}
 use Rattle.cache_settling.proofs.Leading.{nothing}
 use Rattle.cache_settling.proofs.Settling.{give-up}
-use Rattle.cache_settling.specs.Answered.{answering, but_for, giving_up, knows_loads, waiting_for}
+use Rattle.cache_settling.specs.Answered.{answering, but_for, giving_up, knows_loads, waiting_on}
 use Rattle.cache_settling.specs.Laws.{record_given_up}
 use Rattle.cache_settling.specs.Leads as settling
-use Rattle.cache_settling.specs.Leads.{Leads, LeavesUnknown}
+use Rattle.cache_settling.specs.Leads.{TasksLead, LeavesUnknown}
 use Rattle.cache_settling.specs.Told.{ClosesByLines, WritesTo, own_steps, replies_to}
 use Rattle.cache_steps.proofs.Ordering.{agrees-kept}
 use Rattle.cache_steps.specs.Order.{AgreesWith}
 use Rattle.cache_store.specs.Recency.{KeepsRecency}
 use Rattle.cache_store.specs.Running.{is_bounded}
-use Rattle.cache_spaces.specs.Moves.{are_parted_in, are_timely_in, part_in}
+use Rattle.cache_spaces.specs.Moves.{are_parted_in, are_timely_in, hashed_part}
 use Rattle.plain_store.specs.Drawing.{is_registered}
 use Rattle.plain_store.specs.Hashing.{hashed}
 use Rattle.plain_store.specs.Parting.{part_by}
@@ -45,7 +45,7 @@ use Rattle.rand_core.specs.Steps.{stream_of, steps_u64_high}
 use Rattle.rand_xoshiro.specs.Xoshiro256.{plus_plus}
 use Rattle.cache_spaces.specs.Recorded.{IsQuiet, LeadsOnIn}
 use Rattle.cache_spaces.specs.Serves.{Settles, known_of}
-use Rattle.cache_spaces.specs.Spaces.{Holds, Stands, closing_of, config_of, connections_of, identifiers_of, loads_of, made_of, notices_of, output_of, recency_of}
+use Rattle.cache_spaces.specs.Spaces.{Holds, StandsFor, closing_of, config_of, connections_of, identifiers_of, loads_of, made_of, notices_of, untaken_output, recency_of}
 use Rattle.cache_spaces.specs.declared.space.Space.{Space}
 
 -- nothing is known of the order of use behind steps of a settled load
@@ -62,7 +62,7 @@ abbrev pub with_values : Space → List HeldValue → Situation
 with_values space values = situation space.inner.latest (loads_of space) (connections_of space) space.inner.store.dropped values
 
 -- the replies of each connection's steps
-pub outputs-by : (was is : Space) (steps : List Step) → WritesTo true steps (connections_of was) (connections_of is) → (place : ℕ) → output_of is (suc place) ≡ output_of was (suc place) ++ replies_to (suc place) steps
+pub outputs-by : (was is : Space) (steps : List Step) → WritesTo true steps (connections_of was) (connections_of is) → (place : ℕ) → untaken_output is (suc place) ≡ untaken_output was (suc place) ++ replies_to (suc place) steps
 outputs-by was is steps texts place =
     let e : suc place - 1 ≡ place = omega arith in
     ap (text_at (connections_of is)) e ∙ texts.replies place ∙ ap (λ k. text_at (connections_of was) k ++ replies_to (suc place) steps) (sym e)
@@ -82,7 +82,7 @@ idle-by was is steps texts place none =
 -- that record of a settled load leads on from a situation for which the namespace stood
 pub record SettlesBy (was is : Space) (entry : Record) (s : Situation) : Type 0 where
   pub next : Situation
-  pub stands : Stands is next
+  pub stands : StandsFor is next
   pub follows : Follows (config_of was) s entry next
   pub parted : IsTrue (are_parted_in (config_of was) s entry)
   pub timely : IsTrue (are_timely_in (config_of was) (made_of was) s entry)
@@ -91,8 +91,8 @@ pub record SettlesBy (was is : Space) (entry : Record) (s : Situation) : Type 0 
   pub ordered : OrdersSteps (config_of was) (recency_of was) (recency_of is) (after_event entry.event s) (tasks_in s entry.event) (steps_of entry)
 
 pub settles-by : (was is : Space) (making : Making) (entry : Record) (now : ℕ) (values left : List HeldValue) (s : Situation)
-    → making.part_of ≡ part_in (config_of was) → making.made ≡ made_of was → is.inner.latest ≡ now → s ≡ with_values was values → Holds is left
-    → settling.Settles (config_of was) making (with_values was values) entry (situation now (loads_of is) (connections_of is) is.inner.store.dropped left) (identifiers_of was) (identifiers_of is)
+    → making.part_of ≡ hashed_part (config_of was) → making.made ≡ made_of was → is.inner.latest ≡ now → s ≡ with_values was values → Holds is left
+    → settling.SettlingLeads (config_of was) making (with_values was values) entry (situation now (loads_of is) (connections_of is) is.inner.store.dropped left) (identifiers_of was) (identifiers_of is)
     → IsTrue (is_bounded (config_of was) left)
     → OrdersSteps (config_of was) (recency_of was) (recency_of is) (after_event entry.event (with_values was values)) (tasks_in (with_values was values) entry.event) (steps_of entry)
     → SettlesBy was is entry s
@@ -153,7 +153,7 @@ given-up-orders config old new s t load moment own told [] some follows unknown 
 given-up-orders config old new s t load moment own told (step ∷ steps) some follows unknown = orders-unknown config old new (without_load load moment s) (tasks_to_give_up (waiting_in load s)) step steps unknown
 
 pub orders-given-up : (config : Config) (making : Making) (old new : Bool → List (List ℕ) → Type 0) (s t : Situation) (load moment : ℕ) (entry : Record) (drawn drawing : Identifiers) → waiting_in load s ≢ [] → entry.event ≡ giving_up load moment
-    → settling.Settles config making s entry t drawn drawing → OrdersSteps config old new (after_event entry.event s) (tasks_in s entry.event) (steps_of entry)
+    → settling.SettlingLeads config making s entry t drawn drawing → OrdersSteps config old new (after_event entry.event s) (tasks_in s entry.event) (steps_of entry)
 orders-given-up config making old new s t load moment entry drawn drawing some e x =
     subst (λ h. Follows config s (record entry { event = h }) t → LeavesUnknown config (after_event h s) (tasks_in s h) (steps_of (record entry { event = h })) → OrdersSteps config old new (after_event h s) (tasks_in s h) (steps_of (record entry { event = h }))) (sym e)
     (λ follows unknown. given-up-orders config old new s t load moment entry.own entry.notices entry.steps some follows unknown) x.follows x.ordered
@@ -164,18 +164,18 @@ loads-left l k load sent pending = ap (λ n. record { sent = n; pending = k.pend
 
 -- the give-up of a load for which nobody waits has no step
 pub unwaited : (config : Config) (making : Making) (latest : ℕ) (l : UnderWay) (cs : List Connection) (dropped : Bool) (values : List HeldValue) (load moment : ℕ) (drawn : Identifiers)
-    → refusal_of config (knows_loads l) (giving_up load moment) ≡ None → waiting_for load l ≡ []
-    → settling.Settles config making (situation latest l cs dropped values) (record_given_up load moment []) (situation (max moment latest) (but_for load l) cs dropped values) drawn drawn
+    → refusal_of config (knows_loads l) (giving_up load moment) ≡ None → waiting_on load l ≡ []
+    → settling.SettlingLeads config making (situation latest l cs dropped values) (record_given_up load moment []) (situation (max moment latest) (but_for load l) cs dropped values) drawn drawn
 unwaited config making latest l cs dropped values load moment drawn admitted none =
     let s = situation latest l cs dropped values in
     let t = without_load load moment s in
-    give-up config making s t load moment [] drawn drawn admitted (subst (λ conns. Leads config making t (tasks_to_give_up conns) [] t [] drawn drawn) (sym none) (nothing config making t [] drawn)) tt
+    give-up config making s t load moment [] drawn drawn admitted (subst (λ conns. TasksLead config making t (tasks_to_give_up conns) [] t [] drawn drawn) (sym none) (nothing config making t [] drawn)) tt
 
 -- a load is dropped for which nobody waits
-pub drops-load : (was is : Space) (load moment : ℕ) → refusal_of (config_of was) (known_of was) (giving_up load moment) ≡ None → waiting_for load (loads_of was) ≡ []
+pub drops-load : (was is : Space) (load moment : ℕ) → refusal_of (config_of was) (known_of was) (giving_up load moment) ≡ None → waiting_on load (loads_of was) ≡ []
     → is.inner ≡ record was.inner { latest = max moment was.inner.latest; loads = is.inner.loads } → loads_of is ≡ but_for load (loads_of was)
-    → ((values : List HeldValue) → Holds was values → IsTrue (is_bounded (config_of was) values)) → part_by was.inner.store.parts (hashed 0) ≡ part_in (config_of was)
-    → (s : Situation) → Stands was s → SettlesBy was is (record_given_up load moment []) s
+    → ((values : List HeldValue) → Holds was values → IsTrue (is_bounded (config_of was) values)) → part_by was.inner.store.parts (hashed 0) ≡ hashed_part (config_of was)
+    → (s : Situation) → StandsFor was s → SettlesBy was is (record_given_up load moment []) s
 drops-load was is load moment admitted none same left bounded parts s stands =
     let making : Making = record { part_of = part_by was.inner.store.parts (hashed 0); made = made_of was } in
     let config = config_of was in
@@ -188,9 +188,9 @@ drops-load was is load moment admitted none same left bounded parts s stands =
     let connections = ap (λ n. n.connections.items) same in
     settles-by was is making entry now stands.values stands.values s parts refl (ap (λ n. n.latest) same) stands.same
     (subst (λ st. plain.Stands st.config st.table stands.values) (sym store) stands.held)
-    (subst (λ st. settling.Settles config making here entry (situation now (loads_of is) (connections_of is) st.dropped stands.values) drawn (identifiers (stream_of (steps_u64_high plus_plus) st.generator) (is_registered st.register.items))) (sym store)
-    (subst (λ cs. settling.Settles config making here entry (situation now (loads_of is) cs was.inner.store.dropped stands.values) drawn drawn) (sym connections)
-    (subst (λ l. settling.Settles config making here entry (situation now l (connections_of was) was.inner.store.dropped stands.values) drawn drawn) (sym left) x)))
+    (subst (λ st. settling.SettlingLeads config making here entry (situation now (loads_of is) (connections_of is) st.dropped stands.values) drawn (identifiers (stream_of (steps_u64_high plus_plus) st.generator) (is_registered st.register.items))) (sym store)
+    (subst (λ cs. settling.SettlingLeads config making here entry (situation now (loads_of is) cs was.inner.store.dropped stands.values) drawn drawn) (sym connections)
+    (subst (λ l. settling.SettlingLeads config making here entry (situation now l (connections_of was) was.inner.store.dropped stands.values) drawn drawn) (sym left) x)))
     (bounded stands.values stands.held)
     (subst (λ conns. OrdersSteps config (recency_of was) (recency_of is) (without_load load moment here) (tasks_to_give_up conns) []) (sym none)
     (orders-kept config (recency_of was) (recency_of is) (without_load load moment here) [] (subst (λ st. KeepsRecency (recency_of was) (plain.AreInOrder st.config st.table)) (sym store) (λ b keys r. r))))
@@ -205,7 +205,7 @@ writes-none old new same = record {
 
 -- nothing is known of the order of use behind an answer
 pub orders-answered : (config : Config) (making : Making) (old new : Bool → List (List ℕ) → Type 0) (s t : Situation) (load moment : ℕ) (outcome : Outcome) (entry : Record) (drawn drawing : Identifiers) → entry.event ≡ answering load outcome moment
-    → settling.Settles config making s entry t drawn drawing → OrdersSteps config old new (after_event entry.event s) (tasks_in s entry.event) (steps_of entry)
+    → settling.SettlingLeads config making s entry t drawn drawing → OrdersSteps config old new (after_event entry.event s) (tasks_in s entry.event) (steps_of entry)
 orders-answered config making old new s t load moment outcome entry drawn drawing e x =
     subst (λ h. LeavesUnknown config (after_event h s) (tasks_in s h) (steps_of (record entry { event = h })) → OrdersSteps config old new (after_event h s) (tasks_in s h) (steps_of (record entry { event = h }))) (sym e)
     (λ unknown places order plain agrees. let u = unknown (suc places) order in (subst (AgreesWith new places) (sym u.0) tt, u.1)) x.ordered

@@ -5,7 +5,7 @@ use Rattle.audit_laws.specs.Leading.{LeadsTo}
 use Rattle.audit_model.specs.Situation.{Situation}
 use Rattle.audit_model.specs.declared.transcript.Transcript.{Transcript}
 use Rattle.cache_spaces.specs.Services.{spaces_of}
-use Rattle.cache_spaces.specs.Spaces.{Stands, config_of}
+use Rattle.cache_spaces.specs.Spaces.{StandsFor, config_of}
 use Rattle.cache_spaces.specs.declared.journals.RecordedService.{RecordedService}
 use Rattle.cache_spaces.specs.declared.service.Service.{Service}
 use Rattle.cache_spaces.specs.declared.space.Space.{Space}
@@ -19,7 +19,7 @@ service_of recorded = recorded.service
 -- the journal leads to a situation for which the namespace stands
 pub record LeadsSo (space : Space) (journal : Transcript) : Type 0 where
   pub last : Situation
-  pub stands : Stands space last
+  pub stands : StandsFor space last
   pub leads : LeadsTo (config_of space) journal last
 
 -- so of each namespace and its journal

@@ -6,7 +6,7 @@ use Rattle.cache_namespace.specs.Shown.{situation}
 use Rattle.cache_namespace.specs.Waiting.{UnderWay}
 use Rattle.cache_namespace.specs.declared.connection.Connection.{Connection}
 use Rattle.cache_settling.specs.GivenUp.{WaitForLoads}
-use Rattle.load_laws.specs.Tidy.{Tidy}
+use Rattle.audit_waiting_laws.specs.Tidy.{Tidy}
 
 -- Some values are held; each connection that waits for a load is open, and waits once; and what waits are `LOAD`s.
 pub record KnowsWaiting (config : Config) (Held : List HeldValue → Type 0) (loads : UnderWay) (connections : List Connection) : Type 0 where

@@ -26,16 +26,16 @@ abbrev pub are_timely_in : Config → ℕ → Situation → Record → Bool
 are_timely_in config made s entry = are_timely config made (after_event entry.event s) (tasks_in s entry.event) (steps_of entry)
 
 -- the part of a key in a namespace of that configuration: by one hasher, which no call changes
-abbrev pub part_in : Config → List ℕ → ℕ
-part_in config = part_by (part_count config) (hashed 0)
+abbrev pub hashed_part : Config → List ℕ → ℕ
+hashed_part config = part_by (part_count config) (hashed 0)
 
 -- each value that the record accepts stands in its key's part
 abbrev pub are_parted_in : Config → Situation → Record → Bool
-are_parted_in config s entry = list_all (is_parted (part_in config)) (accepted_in config s entry)
+are_parted_in config s entry = list_all (is_parted (hashed_part config)) (accepted_in config s entry)
 
 -- The event's record follows, with these steps, of which the last one may be held or a `QUIT`; each value that they accept stands in its key's part;
 -- each `SYNC` left timely values; each part is within its bound; identifiers were drawn as the steps say; their replies, steps and notes were gathered.
-pub record Moves (config : Config) (made : ℕ) (s : Situation) (happened : Event) (is_held quit : Bool) (Stands : Situation → Type 0) (drawn drawing : Workings) (old new : Gathered) : Type 0 where
+pub record MovesOn (config : Config) (made : ℕ) (s : Situation) (happened : Event) (is_held quit : Bool) (Stands : Situation → Type 0) (drawn drawing : Workings) (old new : Gathered) : Type 0 where
   pub steps : List Step
   pub next : Situation
   pub stands : Stands next

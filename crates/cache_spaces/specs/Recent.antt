@@ -15,7 +15,7 @@ use Rattle.audit_model.specs.declared.transcript.Transcript.{Transcript}
 use Rattle.cache_store.specs.Recency.{AreKeysOf}
 
 -- the step is that command, and is not held back
-pub record Says (config : Config) (step : Step) (command : Command) : Type 0 where
+pub record IsCommand (config : Config) (step : Step) (command : Command) : Type 0 where
   pub runs : step.held ≡ false
   pub says : reading config step.line ≡ Ok command
 
@@ -35,7 +35,7 @@ AreSynced config [] (step ∷ steps) = ⊥
 AreSynced config (command ∷ commands) [] = ⊥
 AreSynced config (command ∷ commands) (step ∷ []) = ⊥
 AreSynced config (command ∷ commands) (step ∷ next ∷ steps) =
-    Says config step command × IsTrue (is_of_list command) × Says config next says.Sync × AreSynced config commands steps
+    IsCommand config step command × IsTrue (is_of_list command) × IsCommand config next says.Sync × AreSynced config commands steps
 
 -- Each front of the transcript's records whose steps are commands of a recency list, each followed at once by a `SYNC`, leads to a situation in
 -- which exactly the keys of that list, cut at `suc number`, are held.

@@ -17,19 +17,19 @@ use Rattle.cache_spaces.specs.Moves.{At, are_parted_in, are_timely_in}
 use Rattle.cache_namespace.specs.Ordered.{OrdersSteps}
 use Rattle.cache_store.specs.Running.{is_bounded}
 use Rattle.cache_spaces.specs.Serves.{SameSpace, known_of}
-use Rattle.cache_spaces.specs.Spaces.{Stands, config_of, connections_of, made_of, notices_of, output_of, recency_of}
+use Rattle.cache_spaces.specs.Spaces.{StandsFor, config_of, connections_of, made_of, notices_of, untaken_output, recency_of}
 use Rattle.cache_spaces.specs.declared.space.Space.{Space}
 
 -- no reply and no note waits to be taken: the records hold them
 pub record IsQuiet (space : Space) : Type 0 where
-  pub outputs : (number : ℕ) → output_of space number ≡ []
+  pub outputs : (number : ℕ) → untaken_output space number ≡ []
   pub notices : notices_of space ≡ []
 
 -- The record leads on from that situation, and holds its replies and notes. Each value that it accepts stands in its key's part. Each of its `SYNC`s leaves timely values, and each part weighs
 -- at most its share and 64 values of 8192 bytes where a capacity is set.
 pub record LeadsOnIn (was is : Space) (s : Situation) (entry : Record) : Type 0 where
   pub next : Situation
-  pub stands : Stands is next
+  pub stands : StandsFor is next
   pub follows : Follows (config_of was) s entry next
   pub parted : IsTrue (are_parted_in (config_of was) s entry)
   pub timely : IsTrue (are_timely_in (config_of was) (made_of was) s entry)
@@ -43,7 +43,7 @@ pub record Records (happened : Event) (before after : List Record) (was is : Spa
   pub entry : Record
   pub event : entry.event ≡ happened
   pub added : after ≡ before ++ entry ∷ []
-  pub leads : (s : Situation) → Stands was s → LeadsOnIn was is s entry
+  pub leads : (s : Situation) → StandsFor was s → LeadsOnIn was is s entry
   pub config : config_of is ≡ config_of was
   pub made : made_of is ≡ made_of was
 
@@ -73,8 +73,8 @@ pub record RefusedInput (i : Input) (e : ServiceError) (was : Space) : Type 0 wh
   pub refused : Refused happened e was
 
 -- nothing was recorded, and the space is the same
-abbrev pub Stays : List Record → List Record → Space → Space → Type 0
-Stays before after was is = (after ≡ before) × SameSpace was is
+abbrev pub RecordsNothing : List Record → List Record → Space → Space → Type 0
+RecordsNothing before after was is = (after ≡ before) × SameSpace was is
 
 -- the input's record was added to its namespace's transcript
 abbrev pub RecordsAt : Input → List Transcript → List Transcript → List Space → List Space → Type 0

@@ -13,7 +13,7 @@ use Rattle.rand_xoshiro.specs.Xoshiro256.{of_seed, plus_plus}
 use Rattle.audit_model.specs.Situation.{empty_situation}
 use Rattle.audit_model.specs.declared.config.Config.{Config}
 use Rattle.cache_spaces.specs.Served.{is_served}
-use Rattle.cache_spaces.specs.Spaces.{Stands, config_of, connections_of, generator_of, made_of, notices_of, recency_of, place_of, taken_of}
+use Rattle.cache_spaces.specs.Spaces.{StandsFor, config_of, connections_of, generator_of, made_of, notices_of, recency_of, place_of, taken_of}
 use Rattle.cache_spaces.specs.declared.service.Service.{Service}
 use Rattle.cache_spaces.specs.declared.space.Space.{Space}
 
@@ -26,8 +26,8 @@ abbrev pub are_taken : List Config → Bool
 are_taken configs = nat_le 1 (length configs) && nat_le (length configs) 16 && list_all is_served configs
 
 -- a namespace just made, at that place
-pub record IsNew (space : Space) (namespace : ℕ) (config : Config) (generator : List ℕ) (made : ℕ) : Type 0 where
-  pub stands : Stands space (empty_situation made)
+pub record IsNewNamespace (space : Space) (namespace : ℕ) (config : Config) (generator : List ℕ) (made : ℕ) : Type 0 where
+  pub stands : StandsFor space (empty_situation made)
   pub configured : config_of space ≡ config
   pub made_is : made_of space ≡ made
   pub recency : recency_of space true []
@@ -39,23 +39,23 @@ pub record IsNew (space : Space) (namespace : ℕ) (config : Config) (generator 
   pub untaken : taken_of space ≡ 0
 
 -- what a generator still gives after so many forks
-abbrev pub stream_after : ℕ → Stream → Stream
-stream_after zero stream = stream
-stream_after (suc n) stream = (fill_bytes 32 (stream_after n stream)).1
+abbrev pub stream_after_forks : ℕ → Stream → Stream
+stream_after_forks zero stream = stream
+stream_after_forks (suc n) stream = (fill_bytes 32 (stream_after_forks n stream)).1
 
 -- the fork that a generator gives after so many
 abbrev pub fork_after : ℕ → List ℕ → List ℕ
-fork_after n generator = of_seed (fill_bytes 32 (stream_after n (stream_of (steps_u64_high plus_plus) generator))).0
+fork_after n generator = of_seed (fill_bytes 32 (stream_after_forks n (stream_of (steps_u64_high plus_plus) generator))).0
 
 -- each namespace is new, of its configuration, with the next fork of the generator
 pub record AreNew (spaces : List Space) (configs : List Config) (generator : List ℕ) (made : ℕ) : Type 0 where
   pub count : length spaces ≡ length configs
   pub each : (namespace : ℕ) (config : Config) (space : Space)
-      → slice_get configs namespace ≡ Some config → slice_get spaces namespace ≡ Some space → IsNew space namespace config (fork_after namespace generator) made
+      → slice_get configs namespace ≡ Some config → slice_get spaces namespace ≡ Some space → IsNewNamespace space namespace config (fork_after namespace generator) made
 
-abbrev pub is_held : Fed → Bool
-is_held All = false
-is_held Held = true
+abbrev pub feed_is_held : Fed → Bool
+feed_is_held All = false
+feed_is_held Held = true
 
 -- A call of a namespace was refused: there is no such namespace; or nothing has changed, and the cause is true.
 abbrev pub Refuses : List Space → List Space → ℕ → ServiceError → (Space → Type 0) → Type 0

@@ -41,15 +41,15 @@ loads_of space = under_way space.inner.loads
 
 -- the loads that went out and were not taken, with their keys, in the order in which they were sent
 abbrev pub outgoing_of : Space → List (LoadId × List ℕ)
-outgoing_of space = table.outgoing_of space.inner.loads
+outgoing_of space = table.outgoing_loads space.inner.loads
 
 -- how many loads were taken
 abbrev pub taken_of : Space → ℕ
-taken_of space = table.taken_of space.inner.loads
+taken_of space = table.loads_taken space.inner.loads
 
 -- the place of the namespace whose loads they are
 abbrev pub place_of : Space → ℕ
-place_of space = table.namespace_of space.inner.loads
+place_of space = table.namespace_of_loads space.inner.loads
 
 -- no load was taken meanwhile, and its place is the same
 abbrev pub TakesNoLoads : Space → Space → Type 0
@@ -60,15 +60,15 @@ abbrev pub notices_of : Space → List Note
 notices_of space = space.inner.store.notes.items
 
 -- the reply bytes of a connection that were not taken
-abbrev pub output_of : Space → ℕ → List ℕ
-output_of space number = taken.text_at (connections_of space) (number - 1)
+abbrev pub untaken_output : Space → ℕ → List ℕ
+untaken_output space number = taken.text_at (connections_of space) (number - 1)
 
 -- why a connection is closed, if it is
 abbrev pub closing_of : Space → ℕ → Option Closing
 closing_of space number = taken.closing_at (connections_of space) (number - 1)
 
 abbrev pub gathered_in : Space → ℕ → Option Kept → Gathered
-gathered_in space number kept = gathered (output_of space number) kept (notices_of space)
+gathered_in space number kept = gathered (untaken_output space number) kept (notices_of space)
 
 -- what its generator will give for identifiers, and which are registered
 abbrev pub identifiers_of : Space → Identifiers
@@ -93,5 +93,5 @@ pub record StandsWith (Held : List HeldValue → Type 0) (dropped : Bool) (lates
   pub same : s ≡ situation latest loads connections dropped values
 
 -- the namespace stands for that situation
-abbrev pub Stands : Space → Situation → Type 0
-Stands space s = StandsWith (Holds space) space.inner.store.dropped space.inner.latest (loads_of space) (connections_of space) s
+abbrev pub StandsFor : Space → Situation → Type 0
+StandsFor space s = StandsWith (Holds space) space.inner.store.dropped space.inner.latest (loads_of space) (connections_of space) s

@@ -12,12 +12,25 @@ use audit_model::{Bytes, Config, Input, Instant, LoadId, ServiceError, Transcrip
 use audit_receipts::Output;
 use rand_xoshiro::Xoshiro256PlusPlus;
 use std::alloc::Global;
+use thiserror::Error;
 
-/// An input that was refused, handed back.
-#[derive(Drop)]
+/// An input that was refused, handed back with the reason. By `?` it turns into its `ServiceError`.
+#[derive(Debug, Drop, Error)]
+#[error("{error}")]
 pub struct Refusal {
+    /// Why it was refused.
     pub error: ServiceError,
+    /// The input, as it was handed in.
     pub input: Input,
+}
+
+impl From<Refusal> for ServiceError {
+    ghost from_gives = { λ refused error. error ≡ refused.error };
+
+    /// Why it was refused; what was handed back is dropped.
+    fn from(refused: Refusal) -> ServiceError {
+        refused.error
+    }
 }
 
 /// A service that keeps the transcript of each namespace, its journal. Replies and notes stand in the journals.
@@ -44,7 +57,10 @@ impl RecordedService {
     ghost use Rattle.cache_spaces.specs.Throughout.{HasExactKeys, is_bounded_throughout, is_timely_throughout};
     ghost use Rattle.cache_spaces.specs.declared.space.Space.{Space as Seen};
 
-    /// A service of these configurations, made at that moment, with empty journals. Refused as `Service::new` is.
+    /// A service of one namespace for each configuration, in their order, made at that moment, with an empty journal each.
+    ///
+    /// Refused with `Moment` above 2^63 - 1 nanoseconds, then with `Config` where there are not 1 to 16 configurations or one is out of
+    /// range, then with `OutOfMemory`.
     pub fn new(
         alloc: Global,
         configs: &[Config],
@@ -67,9 +83,10 @@ impl RecordedService {
         }
     }
 
-    /// Takes an input, and adds its record to its namespace's journal.
+    /// Takes an input, adds its record to its namespace's journal, and answers what the record says. Replies and notes are read there.
     ///
-    /// An input that is refused is handed back; then nothing has changed.
+    /// An input that is refused is handed back, with the cause that `Service` has for it, or with `OutOfMemory` for its record: a give-up
+    /// too. Then nothing has changed, and no record is added.
     pub fn step(&mut self, input: Input) -> Result<Output, Refusal>
         ensures taken { OnOk result (RecordsAt input (journals_of self.old) (journals_of self.new) (spaces_of (service_of self.old)) (spaces_of (service_of self.new))) }
         ensures output { IfOk result (λ output. (journal : Transcript) → slice_get (journals_of self.new) (namespace_of input) ≡ Some journal → output ≡ output_after (namespace_of input) journal.records) }
@@ -89,9 +106,9 @@ impl RecordedService {
         }
     }
 
-    /// Takes an input that the caller keeps, and adds its record to its namespace's journal, as `step` does.
+    /// Takes an input that the caller keeps, adds its record to its namespace's journal, and answers what the record says, as `step` does.
     ///
-    /// An input that is refused changes nothing.
+    /// An input that is refused, for the same causes, changes nothing and adds no record.
     pub fn record(&mut self, input: &Input) -> Result<Output, ServiceError>
         ensures taken { OnOk result (RecordsAt input.now (journals_of self.old) (journals_of self.new) (spaces_of (service_of self.old)) (spaces_of (service_of self.new))) }
         ensures output { IfOk result (λ output. (journal : Transcript) → slice_get (journals_of self.new) (namespace_of input.now) ≡ Some journal → output ≡ output_after (namespace_of input.now) journal.records) }
@@ -114,7 +131,8 @@ impl RecordedService {
         }
     }
 
-    /// The journal of a namespace. Refused with `NoNamespace`.
+    /// The journal of a namespace: a record for each input that it took, in order. It obeys, and leads to where the namespace stands. Takes
+    /// no memory. Refused with `NoNamespace`.
     pub fn journal(&self, namespace: u64) -> Result<&Transcript, ServiceError>
         ensures journal { IfOk result (λ journal. slice_get (journals_of self.now) namespace ≡ Some journal.now) }
         ensures obeys { IfOk result (λ journal. (space : Seen) → IsSpace (spaces_of (service_of self.now)) namespace space → Obeys (config_of space) journal.now × IsAdmitted (config_of space) journal.now) }
@@ -142,15 +160,15 @@ impl RecordedService {
         self.journals.get(namespace as usize)
     }
 
-    /// The service.
+    /// The service under the journals, to be looked at: closings, waiting connections, loads under way. Its output and notes are empty.
     pub fn service(&self) -> &Service
         ensures { result.now ≡ service_of self.now }
     {
         &self.service
     }
 
-    /// The loads of a namespace that went out and were not taken, with their keys, in the order in which they were sent; moved out. It is
-    /// no event, and adds no record. Takes no memory. Refused with `NoNamespace`.
+    /// The loads of a namespace that went out and were not taken, with their keys, in the order in which they were sent; moved out, so that
+    /// each comes once. It is no event, and adds no record. Takes no memory. Refused with `NoNamespace`.
     pub fn take_loads(&mut self, namespace: u64) -> Result<Vec<(LoadId, Bytes)>, ServiceError>
         ensures taken { IfOk result (λ loads. At (spaces_of (service_of self.old)) (spaces_of (service_of self.new)) namespace (λ was is. TakesLoads was is loads.items)) }
         ensures refused { IfErr result (λ e. Refuses (spaces_of (service_of self.old)) (spaces_of (service_of self.new)) namespace e (λ was. ⊥)) }
@@ -162,7 +180,7 @@ impl RecordedService {
         }
     }
 
-    /// The journals, in the order of the namespaces.
+    /// The journals, in the order of the namespaces, moved out; the service ends.
     pub fn into_journals(self) -> Vec<Transcript>
         ensures { result.items ≡ journals_of self }
     {

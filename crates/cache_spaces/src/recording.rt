@@ -1,9 +1,9 @@
 //! The records of what a namespace takes.
 ghost use Rattle.std.specs.Prelude.{◌≡◌, ◌<◌, ◌+◌, ◌++◌, ◌∷◌, [], IfErr, IfOk, OnOk, OnErr, unwrap_or, length, vec_len, vec_capacity};
 ghost use Rattle.audit_model.specs.declared.event.Event.TheVariants as event;
-ghost use Rattle.cache_namespace.specs.Kept.{IsReady, steps_of};
-ghost use Rattle.cache_namespace.specs.Taken.{fed, record_of};
-ghost use Rattle.cache_spaces.specs.Recorded.{IsQuiet, Records, RecordsInput, Refused, RefusedInput, Stays};
+ghost use Rattle.cache_namespace.specs.Kept.{HasRoomForStep, kept_steps};
+ghost use Rattle.cache_namespace.specs.Taken.{feed_event, record_of};
+ghost use Rattle.cache_spaces.specs.Recorded.{IsQuiet, Records, RecordsInput, Refused, RefusedInput, RecordsNothing};
 ghost use Rattle.cache_spaces.specs.Spaces.{connections_of};
 
 use crate::space::Space;
@@ -25,7 +25,7 @@ pub fn record_input(
     requires quiet { IsQuiet space.old }
     ensures made { transcript.new.made ≡ transcript.old.made }
     ensures ok { OnOk result (RecordsInput input.now transcript.old.records transcript.new.records space.old space.new) }
-    ensures err { OnErr result (Stays transcript.old.records transcript.new.records space.old space.new) }
+    ensures err { OnErr result (RecordsNothing transcript.old.records transcript.new.records space.old space.new) }
     ensures refused { IfErr result (λ e. RefusedInput input.now e space.old) }
 {
     let mut records = mem::replace(&mut transcript.records, Seq::new(alloc)).into_vec();
@@ -43,7 +43,7 @@ fn record_in(
 ) -> Result<(), ServiceError>
     requires quiet { IsQuiet space.old }
     ensures ok { OnOk result (RecordsInput input.now records.old.items records.new.items space.old space.new) }
-    ensures err { OnErr result (Stays records.old.items records.new.items space.old space.new) }
+    ensures err { OnErr result (RecordsNothing records.old.items records.new.items space.old space.new) }
     ensures refused { IfErr result (λ e. RefusedInput input.now e space.old) }
 {
     match input {
@@ -73,7 +73,7 @@ fn record_open(
 ) -> Result<(), ServiceError>
     requires quiet { IsQuiet space.old }
     ensures ok { OnOk result (Records (event.Open (length (connections_of space.old) + 1)) records.old.items records.new.items space.old space.new) }
-    ensures err { OnErr result (Stays records.old.items records.new.items space.old space.new) }
+    ensures err { OnErr result (RecordsNothing records.old.items records.new.items space.old space.new) }
     ensures refused { IfErr result (λ e. e ≡ ServiceError.OutOfMemory) }
 {
     match records.try_reserve(1) {
@@ -98,7 +98,7 @@ fn record_close(
 ) -> Result<(), ServiceError>
     requires quiet { IsQuiet space.old }
     ensures ok { OnOk result (Records (event.Close conn) records.old.items records.new.items space.old space.new) }
-    ensures err { OnErr result (Stays records.old.items records.new.items space.old space.new) }
+    ensures err { OnErr result (RecordsNothing records.old.items records.new.items space.old space.new) }
     ensures refused { IfErr result (λ e. Refused (event.Close conn) e space.old) }
 {
     match records.try_reserve(1) {
@@ -124,9 +124,9 @@ fn record_feed(
     moment: Instant,
 ) -> Result<(), ServiceError>
     requires quiet { IsQuiet space.old }
-    ensures ok { OnOk result (Records (fed conn piece.now moment.nanos) records.old.items records.new.items space.old space.new) }
-    ensures err { OnErr result (Stays records.old.items records.new.items space.old space.new) }
-    ensures refused { IfErr result (λ e. Refused (fed conn piece.now moment.nanos) e space.old) }
+    ensures ok { OnOk result (Records (feed_event conn piece.now moment.nanos) records.old.items records.new.items space.old space.new) }
+    ensures err { OnErr result (RecordsNothing records.old.items records.new.items space.old space.new) }
+    ensures refused { IfErr result (λ e. Refused (feed_event conn piece.now moment.nanos) e space.old) }
 {
     let Ok((copy, kept)) = room_to_feed(alloc, records, piece) else {
         return Err(ServiceError::OutOfMemory);
@@ -157,7 +157,7 @@ fn record_answer(
 ) -> Result<(), ServiceError>
     requires quiet { IsQuiet space.old }
     ensures ok { OnOk result (Records (event.Answer load outcome.now moment) records.old.items records.new.items space.old space.new) }
-    ensures err { OnErr result (Stays records.old.items records.new.items space.old space.new) }
+    ensures err { OnErr result (RecordsNothing records.old.items records.new.items space.old space.new) }
     ensures refused { IfErr result (λ e. Refused (event.Answer load outcome.now moment) e space.old) }
 {
     let Ok(copy) = room_to_answer(alloc, records, outcome) else {
@@ -182,7 +182,7 @@ fn record_give_up(
 ) -> Result<(), ServiceError>
     requires quiet { IsQuiet space.old }
     ensures ok { OnOk result (Records (event.GiveUp load moment) records.old.items records.new.items space.old space.new) }
-    ensures err { OnErr result (Stays records.old.items records.new.items space.old space.new) }
+    ensures err { OnErr result (RecordsNothing records.old.items records.new.items space.old space.new) }
     ensures refused { IfErr result (λ e. Refused (event.GiveUp load moment) e space.old) }
 {
     match records.try_reserve(1) {
@@ -221,7 +221,7 @@ fn room_to_feed(
     ensures records { records.new.items ≡ records.old.items }
     ensures room { OnOk result (vec_len records.new < vec_capacity records.new) }
     ensures copy { IfOk result (λ made. made.0 ≡ piece.now) }
-    ensures kept { IfOk result (λ made. IsReady made.1 × (made.1.steps.items ≡ [])) }
+    ensures kept { IfOk result (λ made. HasRoomForStep made.1 × (made.1.steps.items ≡ [])) }
 {
     records.try_reserve(1)?;
     let copy = copy_bytes(alloc, piece)?;
@@ -231,7 +231,7 @@ fn room_to_feed(
 
 /// The steps that were kept, if any were.
 fn steps_kept(alloc: Global, kept: Option<Kept>) -> Seq<Step>
-    ensures { result ≡ unwrap_or (steps_of kept) [] }
+    ensures { result ≡ unwrap_or (kept_steps kept) [] }
 {
     match kept {
         Some(Kept { steps, .. }) => Seq::from_vec(steps),

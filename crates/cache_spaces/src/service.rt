@@ -2,10 +2,10 @@
 ghost use Rattle.std.specs.Prelude.{◌-◌, ◌≡◌, ◌≢◌, ◌≤◌, ◌<◌, ◌^◌, ◌+◌, ◌++◌, ◌∷◌, ◌⊎◌, [], None, Some, ℕ, Bool, true, false, IfOk, IfErr, OnOk, OnErr, IsErr, IsErrOf, IsErrAnd, IfNone, IfSome, IsTrue, MatchOption, length, ◌↔◌};
 ghost use Rattle.audit_model.specs.Belongs.{refusal_of};
 ghost use Rattle.audit_model.specs.declared.event.Event.TheVariants as event;
-ghost use Rattle.cache_namespace.specs.Taken.{RefusedFor, fed, holds_at, known};
+ghost use Rattle.cache_namespace.specs.Taken.{RefusedFor, feed_event, holds_at, known};
 ghost use Rattle.cache_spaces.specs.Moves.{At};
 ghost use Rattle.cache_settling.specs.Answered.{answering, giving_up};
-ghost use Rattle.cache_spaces.specs.Serves.{Takes, Settled, SameSpace, RefusedAnswer, TakesOutput, TakesLoads, TakesNotice, IsUnknown, known_of};
+ghost use Rattle.cache_spaces.specs.Serves.{ServesEvent, Settled, SameSpace, RefusedAnswer, TakesOutput, TakesLoads, TakesNotice, IsUnknown, known_of};
 ghost use Rattle.cache_spaces.specs.Services.{are_taken, AreNew, spaces_of};
 ghost use Rattle.cache_spaces.specs.Spaces.{config_of, connections_of, closing_of};
 
@@ -14,11 +14,12 @@ use crate::space::Space;
 use audit_model::{Bytes, Closing, Config, Conn, Instant, LoadId, Note, Outcome, ServiceError};
 use rand_xoshiro::Xoshiro256PlusPlus;
 use std::alloc::{AllocError, Global};
+use thiserror::Error;
 
 /// Namespaces, each with its connections and values.
 ///
-/// Connection numbers count from 1 within each namespace. There are 1 to 16 namespaces, each with a generator and a latest moment
-/// of its own.
+/// There are 1 to 16 namespaces, counted from 0, each with a generator and a latest moment of its own. Connections and loads are numbered
+/// from 1 within each. Replies, notes and loads stay until they are taken; no journal is kept (`RecordedService` keeps one).
 #[derive(Drop)]
 pub struct Service {
     pub(crate) alloc: Global,
@@ -28,17 +29,29 @@ pub struct Service {
 /// What a feed did.
 #[derive(Clone, Copy, Debug, PartialEq, Eq, Drop)]
 pub enum Fed {
-    /// The lines that could run have run.
+    /// The lines that could run have run, and none is held back.
     All,
-    /// A command was refused for memory, and stays first.
+    /// A command was refused for memory, and stays the connection's first line; the next feed, also of no bytes, runs it again.
     Held,
 }
 
-/// An outcome that was not taken, handed back.
-#[derive(Drop)]
+/// An outcome that `Service::answer` did not take, handed back with the reason. By `?` it turns into its `ServiceError`.
+#[derive(Debug, Drop, Error)]
+#[error("{error}")]
 pub struct AnswerError {
+    /// Why it was refused.
     pub error: ServiceError,
+    /// The outcome, as it was handed in.
     pub outcome: Outcome,
+}
+
+impl From<AnswerError> for ServiceError {
+    ghost from_gives = { λ refused error. error ≡ refused.error };
+
+    /// Why it was refused; what was handed back is dropped.
+    fn from(refused: AnswerError) -> ServiceError {
+        refused.error
+    }
 }
 
 impl Service {
@@ -46,17 +59,18 @@ impl Service {
     ghost use Rattle.audit_model.specs.Belongs.{refusal_of};
     ghost use Rattle.audit_model.specs.declared.event.Event.TheVariants as event;
     ghost use Rattle.audit_model.specs.Situation.{Situation};
-    ghost use Rattle.cache_namespace.specs.Taken.{RefusedFor, fed, holds_at, is_waiting_in, known};
+    ghost use Rattle.cache_namespace.specs.Taken.{RefusedFor, feed_event, holds_at, is_waiting_in, known};
     ghost use Rattle.cache_spaces.specs.Moves.{At};
-    ghost use Rattle.cache_spaces.specs.Serves.{Takes, Settled, SameSpace, RefusedAnswer, TakesOutput, TakesLoads, TakesNotice, IsUnknown, known_of};
+    ghost use Rattle.cache_spaces.specs.Serves.{ServesEvent, Settled, SameSpace, RefusedAnswer, TakesOutput, TakesLoads, TakesNotice, IsUnknown, known_of};
     ghost use Rattle.cache_spaces.specs.declared.space.Space.{Space as Seen};
-    ghost use Rattle.cache_spaces.specs.Services.{AreNew, Refuses, RefusesLook, IsSpace, spaces_of, is_held};
-    ghost use Rattle.cache_spaces.specs.Spaces.{config_of, connections_of, notices_of, output_of, closing_of, Stands};
+    ghost use Rattle.cache_spaces.specs.Services.{AreNew, Refuses, RefusesLook, IsSpace, spaces_of, feed_is_held};
+    ghost use Rattle.cache_spaces.specs.Spaces.{config_of, connections_of, notices_of, untaken_output, closing_of, StandsFor};
 
-    /// A service of these configurations, made at that moment. Each namespace has a generator of its own, a fork of the one given.
+    /// A service of one namespace for each configuration, in their order, made at that moment, without connections and values. Each
+    /// namespace has a generator of its own, a fork of the one given, from which the identifiers of its `DROPIF`s are drawn.
     ///
-    /// Refused with `Moment` above 2^63 - 1 nanoseconds, then with `Config` where there are not 1 to 16 of them or one is not
-    /// served, then with `OutOfMemory`.
+    /// Refused with `Moment` above 2^63 - 1 nanoseconds, then with `Config` where there are not 1 to 16 configurations or one is out of
+    /// range, then with `OutOfMemory`.
     pub fn new(
         alloc: Global,
         configs: &[Config],
@@ -80,9 +94,11 @@ impl Service {
         }
     }
 
-    /// Opens a connection in a namespace. Refused with `NoNamespace`, then with `OutOfMemory`.
+    /// Opens a connection in a namespace, and answers it: its number is the next one there, from 1 on.
+    ///
+    /// Refused with `NoNamespace`, then with `OutOfMemory`. Then nothing has changed.
     pub fn open(&mut self, namespace: u64) -> Result<Conn, ServiceError>
-        ensures taken { IfOk result (λ conn. (conn.namespace ≡ namespace) × At (spaces_of self.old) (spaces_of self.new) namespace (λ was is. Takes was is conn.number (event.Open conn.number) false × (conn.number ≡ length (connections_of was) + 1))) }
+        ensures taken { IfOk result (λ conn. (conn.namespace ≡ namespace) × At (spaces_of self.old) (spaces_of self.new) namespace (λ was is. ServesEvent was is conn.number (event.Open conn.number) false × (conn.number ≡ length (connections_of was) + 1))) }
         ensures refused { IfErr result (λ e. Refuses (spaces_of self.old) (spaces_of self.new) namespace e (λ was. e ≡ ServiceError.OutOfMemory)) }
     {
         let index = match self.index_of(namespace) {
@@ -95,10 +111,12 @@ impl Service {
         }
     }
 
-    /// Closes a connection: its unread bytes and its held command are dropped. Refused with `NoNamespace`, `NoConnection`,
-    /// `Closed`.
+    /// Closes a connection: its unread bytes and its held command are dropped, its replies can still be taken, and a load for which it
+    /// waits stays under way.
+    ///
+    /// Refused with `NoNamespace`, `NoConnection`, `Closed`, in this order. Then nothing has changed.
     pub fn close(&mut self, conn: Conn) -> Result<(), ServiceError>
-        ensures taken { OnOk result (At (spaces_of self.old) (spaces_of self.new) conn.namespace (λ was is. Takes was is conn.number (event.Close conn.number) false × (closing_of is conn.number ≡ Some Closing.Asked))) }
+        ensures taken { OnOk result (At (spaces_of self.old) (spaces_of self.new) conn.namespace (λ was is. ServesEvent was is conn.number (event.Close conn.number) false × (closing_of is conn.number ≡ Some Closing.Asked))) }
         ensures refused { IfErr result (λ e. Refuses (spaces_of self.old) (spaces_of self.new) conn.namespace e (λ was. refusal_of (config_of was) (known (connections_of was)) (event.Close conn.number) ≡ Some e)) }
     {
         let index = match self.index_of(conn.namespace) {
@@ -111,14 +129,16 @@ impl Service {
         }
     }
 
-    /// Takes a piece of a connection's bytes at a moment, and runs its complete lines: a command that is held back runs first.
-    /// An earlier moment counts as the namespace's latest.
+    /// Takes a piece of a connection's bytes at a moment, and runs its complete lines: a command that is held back runs first. An earlier
+    /// moment counts as the namespace's latest. The piece may end anywhere in a line, and may be empty. Replies are taken by `take_output`,
+    /// and a connection closes in it where a `QUIT` runs, a line is longer than 8192 bytes, or more than that stand behind a `LOAD` that
+    /// waits.
     ///
-    /// Refused with `NoNamespace`, `NoConnection`, `Closed`, `Moment` above 2^63 - 1 nanoseconds, `OutOfMemory`, and with
-    /// `HeldAgain` where the held command is refused for memory again. Then nothing has changed.
+    /// Refused with `NoNamespace`, `NoConnection`, `Closed`, `Moment` above 2^63 - 1 nanoseconds, in this order; else with `OutOfMemory`,
+    /// or with `HeldAgain` where the held command is refused for memory again. Then nothing has changed.
     pub fn feed(&mut self, conn: Conn, piece: &[u8], moment: Instant) -> Result<Fed, ServiceError>
-        ensures taken { IfOk result (λ done. At (spaces_of self.old) (spaces_of self.new) conn.namespace (λ was is. Takes was is conn.number (fed conn.number piece.now moment.nanos) (is_held done))) }
-        ensures refused { IfErr result (λ e. Refuses (spaces_of self.old) (spaces_of self.new) conn.namespace e (λ was. RefusedFor (config_of was) (connections_of was) (fed conn.number piece.now moment.nanos) (holds_at (connections_of was) conn.number) e)) }
+        ensures taken { IfOk result (λ done. At (spaces_of self.old) (spaces_of self.new) conn.namespace (λ was is. ServesEvent was is conn.number (feed_event conn.number piece.now moment.nanos) (feed_is_held done))) }
+        ensures refused { IfErr result (λ e. Refuses (spaces_of self.old) (spaces_of self.new) conn.namespace e (λ was. RefusedFor (config_of was) (connections_of was) (feed_event conn.number piece.now moment.nanos) (holds_at (connections_of was) conn.number) e)) }
     {
         let index = match self.index_of(conn.namespace) {
             Ok(index) => index,
@@ -138,8 +158,8 @@ impl Service {
         }
     }
 
-    /// The reply bytes of a connection since the last taking, moved out; also after it closed. Takes no memory. Refused with
-    /// `NoNamespace`, `NoConnection`.
+    /// The reply bytes of a connection since the last taking, with their line ends, moved out; also after it closed. Takes no memory.
+    /// Refused with `NoNamespace`, then with `NoConnection`.
     pub fn take_output(&mut self, conn: Conn) -> Result<Vec<u8>, ServiceError>
         ensures taken { IfOk result (λ text. At (spaces_of self.old) (spaces_of self.new) conn.namespace (λ was is. TakesOutput was is conn.number text.items)) }
         ensures refused { IfErr result (λ e. Refuses (spaces_of self.old) (spaces_of self.new) conn.namespace e (λ was. IsUnknown was conn.number e)) }
@@ -154,7 +174,8 @@ impl Service {
         }
     }
 
-    /// The oldest note of a namespace that was told and not taken. Takes no memory. Refused with `NoNamespace`.
+    /// The oldest note of a namespace that was told and not taken, of a value that left; none where there is none. It does not come again.
+    /// Takes no memory. Refused with `NoNamespace`.
     pub fn next_notice(&mut self, namespace: u64) -> Result<Option<Note>, ServiceError>
         ensures taken { IfOk result (λ note. At (spaces_of self.old) (spaces_of self.new) namespace (λ was is. TakesNotice was is note)) }
         ensures refused { IfErr result (λ e. Refuses (spaces_of self.old) (spaces_of self.new) namespace e (λ was. ⊥)) }
@@ -166,7 +187,7 @@ impl Service {
         Ok(next_notice_in(&mut self.spaces, index))
     }
 
-    /// Why a connection is closed, if it is. Takes no memory. Refused with `NoNamespace`, `NoConnection`.
+    /// Why a connection is closed; none while it is open. Takes no memory. Refused with `NoNamespace`, then with `NoConnection`.
     pub fn closed(&self, conn: Conn) -> Result<Option<Closing>, ServiceError>
         ensures closing { IfOk result (λ closing. (space : Seen) → IsSpace (spaces_of self.now) conn.namespace space → closing ≡ closing_of space conn.number) }
         ensures refused { IfErr result (λ e. RefusesLook (spaces_of self.now) conn.namespace e (λ space. IsUnknown space conn.number e)) }
@@ -184,9 +205,10 @@ impl Service {
         }
     }
 
-    /// Whether a `LOAD` of a connection waits for its load. Takes no memory. Refused with `NoNamespace`, `NoConnection`.
+    /// Whether a connection is open and its first line is a `LOAD` that waits for its load, so that no line behind it runs. Takes no
+    /// memory. Refused with `NoNamespace`, then with `NoConnection`.
     pub fn waiting(&self, conn: Conn) -> Result<bool, ServiceError>
-        ensures waits { IfOk result (λ waits. (space : Seen) (s : Situation) → IsSpace (spaces_of self.now) conn.namespace space → Stands space s → waits ≡ is_waiting_in s conn.number) }
+        ensures waits { IfOk result (λ waits. (space : Seen) (s : Situation) → IsSpace (spaces_of self.now) conn.namespace space → StandsFor space s → waits ≡ is_waiting_in s conn.number) }
         ensures known { OnOk result ((space : Seen) → IsSpace (spaces_of self.now) conn.namespace space → (known (connections_of space)).was_opened conn.number ≡ true) }
         ensures found { OnOk result (conn.namespace < length (spaces_of self.now)) }
         ensures refused { IfErr result (λ e. RefusesLook (spaces_of self.now) conn.namespace e (λ space. IsUnknown space conn.number e)) }
@@ -202,9 +224,10 @@ impl Service {
         }
     }
 
-    /// How many loads of a namespace are under way. Takes no memory. Refused with `NoNamespace`.
+    /// How many loads of a namespace are under way: sent, and neither answered nor given up, whether they were taken or not. Takes no
+    /// memory. Refused with `NoNamespace`.
     pub fn loads_open(&self, namespace: u64) -> Result<u64, ServiceError>
-        ensures count { IfOk result (λ count. (space : Seen) (s : Situation) → IsSpace (spaces_of self.now) namespace space → Stands space s → count ≡ length s.pending) }
+        ensures count { IfOk result (λ count. (space : Seen) (s : Situation) → IsSpace (spaces_of self.now) namespace space → StandsFor space s → count ≡ length s.pending) }
         ensures known { OnOk result (namespace < length (spaces_of self.now)) }
         ensures refused { IfErr result (λ e. (e ≡ ServiceError.NoNamespace) × (length (spaces_of self.now) ≤ namespace)) }
     {
@@ -216,8 +239,8 @@ impl Service {
         Ok(space.loads_open())
     }
 
-    /// The loads of a namespace that went out and were not taken, with their keys, in the order in which they were sent; moved out.
-    /// Takes no memory. Refused with `NoNamespace`.
+    /// The loads of a namespace that went out and were not taken, with their keys, in the order in which they were sent; moved out, so that
+    /// each comes once. Whoever takes one owes an `answer` or a `give_up`. Takes no memory. Refused with `NoNamespace`.
     pub fn take_loads(&mut self, namespace: u64) -> Result<Vec<(LoadId, Bytes)>, ServiceError>
         ensures taken { IfOk result (λ loads. At (spaces_of self.old) (spaces_of self.new) namespace (λ was is. TakesLoads was is loads.items)) }
         ensures refused { IfErr result (λ e. Refuses (spaces_of self.old) (spaces_of self.new) namespace e (λ was. ⊥)) }
@@ -229,11 +252,11 @@ impl Service {
         Ok(take_loads_in(&mut self.spaces, self.alloc, index))
     }
 
-    /// Answers a load under way at a moment: its value is stored, those that wait are handed the outcome in order, and then their lines
-    /// run in the same order. An earlier moment counts as the namespace's latest.
+    /// Answers a load under way at a moment: its value is stored, those that wait are handed the outcome in order, and then their lines run
+    /// in the same order. An earlier moment counts as the namespace's latest.
     ///
-    /// Refused with `NoNamespace`, `NoLoad`, `Moment` above 2^63 - 1 nanoseconds, `LineEnd`, `TooLong`, `Deadline`, then with
-    /// `OutOfMemory`. Then nothing has changed: the load is still under way, and the outcome is handed back.
+    /// Refused with `NoNamespace`, `NoLoad`, `Moment` above 2^63 - 1 nanoseconds, `LineEnd`, `TooLong` above 8192 bytes, `Deadline`, in
+    /// this order, else with `OutOfMemory`. Then nothing has changed: the load is still under way, and the outcome is handed back.
     pub fn answer(
         &mut self,
         load: LoadId,
@@ -262,9 +285,11 @@ impl Service {
     }
 
     /// Gives a load under way up at a moment: each `LOAD` that waits for it runs again, in order, as a whole command, followed by its
-    /// connection's lines. An earlier moment counts as the namespace's latest. It always succeeds on a load under way.
+    /// connection's lines. It waits again, for a new load, where its key has no live value; at its 200th give-up it is answered
+    /// `ERR abandoned`. An earlier moment counts as the namespace's latest.
     ///
-    /// Refused with `NoNamespace`, `NoLoad`, `Moment` above 2^63 - 1 nanoseconds. Then nothing has changed.
+    /// Refused with `NoNamespace`, `NoLoad`, `Moment` above 2^63 - 1 nanoseconds, in this order, and for nothing else: want of memory holds
+    /// lines back. After a refusal nothing has changed.
     pub fn give_up(&mut self, load: LoadId, moment: Instant) -> Result<(), ServiceError>
         ensures taken { OnOk result (At (spaces_of self.old) (spaces_of self.new) load.namespace (λ was is. Settled was is (event.GiveUp load.number moment))) }
         ensures refused { IfErr result (λ e. Refuses (spaces_of self.old) (spaces_of self.new) load.namespace e (λ was. refusal_of (config_of was) (known_of was) (event.GiveUp load.number moment) ≡ Some e)) }
@@ -300,7 +325,7 @@ impl Service {
 /// Opens a connection of the namespace at a place.
 fn open_in(spaces: &mut Vec<Space>, alloc: Global, index: usize) -> Result<u64, AllocError>
     requires { index < length spaces.old.items }
-    ensures ok { IfOk result (λ number. At spaces.old.items spaces.new.items index (λ was is. Takes was is number (event.Open number) false × (number ≡ length (connections_of was) + 1))) }
+    ensures ok { IfOk result (λ number. At spaces.old.items spaces.new.items index (λ was is. ServesEvent was is number (event.Open number) false × (number ≡ length (connections_of was) + 1))) }
     ensures err { OnErr result (At spaces.old.items spaces.new.items index SameSpace) }
 {
     let space = &mut spaces[index];
@@ -313,7 +338,7 @@ fn open_in(spaces: &mut Vec<Space>, alloc: Global, index: usize) -> Result<u64, 
 /// Closes a connection of the namespace at a place.
 fn close_in(spaces: &mut Vec<Space>, index: usize, number: u64) -> Result<(), ServiceError>
     requires { index < length spaces.old.items }
-    ensures ok { OnOk result (At spaces.old.items spaces.new.items index (λ was is. Takes was is number (event.Close number) false × (closing_of is number ≡ Some Closing.Asked))) }
+    ensures ok { OnOk result (At spaces.old.items spaces.new.items index (λ was is. ServesEvent was is number (event.Close number) false × (closing_of is number ≡ Some Closing.Asked))) }
     ensures err { IfErr result (λ e. At spaces.old.items spaces.new.items index (λ was is. SameSpace was is × (refusal_of (config_of was) (known (connections_of was)) (event.Close number) ≡ Some e))) }
 {
     let space = &mut spaces[index];
@@ -372,8 +397,8 @@ fn feed_in(
     moment: u64,
 ) -> Result<bool, ServiceError>
     requires { index < length spaces.old.items }
-    ensures ok { IfOk result (λ is_held. At spaces.old.items spaces.new.items index (λ was is. Takes was is number (fed number piece.now moment) is_held)) }
-    ensures err { IfErr result (λ e. At spaces.old.items spaces.new.items index (λ was is. SameSpace was is × RefusedFor (config_of was) (connections_of was) (fed number piece.now moment) (holds_at (connections_of was) number) e)) }
+    ensures ok { IfOk result (λ is_held. At spaces.old.items spaces.new.items index (λ was is. ServesEvent was is number (feed_event number piece.now moment) is_held)) }
+    ensures err { IfErr result (λ e. At spaces.old.items spaces.new.items index (λ was is. SameSpace was is × RefusedFor (config_of was) (connections_of was) (feed_event number piece.now moment) (holds_at (connections_of was) number) e)) }
 {
     let space = &mut spaces[index];
     match space.serve(alloc, number, piece, moment) {

@@ -5,7 +5,7 @@ ghost use Rattle.plain_store.specs.Parting.{part_by};
 ghost use Rattle.plain_store.specs.Standing.{frame_of, Stands as AreHeld};
 ghost use Rattle.cache_spaces.specs.Knowing.{KnowsWaiting};
 ghost use Rattle.cache_spaces.specs.Served.{is_served};
-ghost use Rattle.cache_namespace.specs.Taken.{IsSound};
+ghost use Rattle.cache_namespace.specs.Taken.{KnowsStore};
 ghost use Rattle.cache_namespace.specs.Waiting.{under_way};
 
 use crate::settling::{given_up, is_waited_for};
@@ -22,7 +22,7 @@ use std::alloc::{AllocError, Global};
 #[derive(Drop)]
 pub struct Space {
     inner: Namespace<PlainStore<Xoshiro256PlusPlus, FixedHasher>>,
-    ghost sound: { IsSound inner.config (frame_of inner.store.config (part_by inner.store.parts (hashed 0)) inner.store.made inner.store.dropped inner.store.latest) inner.latest },
+    ghost sound: { KnowsStore inner.config (frame_of inner.store.config (part_by inner.store.parts (hashed 0)) inner.store.made inner.store.dropped inner.store.latest) inner.latest },
     ghost waiting: { ∥ KnowsWaiting inner.config (AreHeld inner.store.config inner.store.table) (under_way inner.loads) inner.connections.items ∥₁ },
 }
 
@@ -33,16 +33,16 @@ impl Space {
     ghost use Rattle.audit_model.specs.declared.event.Event.TheVariants as event;
     ghost use Rattle.cache_loads.specs.Keys.{are_in_turn, have_their_keys};
     ghost use Rattle.cache_namespace.specs.Gathered.{Gathered, IsFresh};
-    ghost use Rattle.cache_namespace.specs.Kept.{IsReadyToHold, steps_of};
-    ghost use Rattle.cache_namespace.specs.Taken.{IsOpenOrEnded, RefusedFor, fed, holds_at, is_quit, is_waiting_in, known};
+    ghost use Rattle.cache_namespace.specs.Kept.{IsReadyToHold, kept_steps};
+    ghost use Rattle.cache_namespace.specs.Taken.{IsOpenOrEnded, RefusedFor, feed_event, holds_at, is_quit, is_waiting_in, known};
     ghost use Rattle.cache_namespace.specs.declared.connection.Connection.{Connection};
     ghost use Rattle.cache_store.specs.Recency.{KeepsRecency};
-    ghost use Rattle.cache_spaces.specs.Moves.{Moves};
-    ghost use Rattle.cache_settling.specs.Answered.{answering, giving_up, waiting_for};
+    ghost use Rattle.cache_spaces.specs.Moves.{MovesOn};
+    ghost use Rattle.cache_settling.specs.Answered.{answering, giving_up, waiting_on};
     ghost use Rattle.cache_settling.specs.Laws.{record_given_up};
     ghost use Rattle.cache_spaces.specs.Recorded.{IsQuiet, LeadsOnIn};
-    ghost use Rattle.cache_spaces.specs.Serves.{Serves, Settled, Takes, RefusedAnswer, SameSpace, known_of};
-    ghost use Rattle.cache_spaces.specs.Spaces.{Stands, TakesNoLoads, config_of, connections_of, generator_of, loads_of, notices_of, outgoing_of, output_of, closing_of, gathered_in, made_of, place_of, recency_of, taken_of, workings_of};
+    ghost use Rattle.cache_spaces.specs.Serves.{Serves, Settled, ServesEvent, RefusedAnswer, SameSpace, known_of};
+    ghost use Rattle.cache_spaces.specs.Spaces.{StandsFor, TakesNoLoads, config_of, connections_of, generator_of, loads_of, notices_of, outgoing_of, untaken_output, closing_of, gathered_in, made_of, place_of, recency_of, taken_of, workings_of};
 
     /// A namespace without connections, loads and values, with a generator of its own; its place in the service.
     pub fn new(
@@ -54,7 +54,7 @@ impl Space {
     ) -> Result<Space, AllocError>
         requires config { IsTrue (is_served config) }
         requires moment { made < 2 ^ 63 }
-        ensures stands { IfOk result (λ space. Stands space (empty_situation made)) }
+        ensures stands { IfOk result (λ space. StandsFor space (empty_situation made)) }
         ensures config { IfOk result (λ space. config_of space ≡ config) }
         ensures notices { IfOk result (λ space. notices_of space ≡ []) }
         ensures connections { IfOk result (λ space. connections_of space ≡ []) }
@@ -86,18 +86,18 @@ impl Space {
     ) -> Result<bool, ServiceError>
         requires fresh { IsFresh (gathered_in self.old number kept.old) }
         requires ready { IsReadyToHold kept.old }
-        ensures moves { IfOk result (λ is_held. (s : Situation) → Stands self.old s → Moves (config_of self.old) (made_of self.old) s (fed number piece.now moment) is_held (is_quit (closing_of self.new number)) (Stands self.new) (workings_of self.old) (workings_of self.new) (gathered_in self.old number kept.old) (gathered_in self.new number kept.new)) }
+        ensures moves { IfOk result (λ is_held. (s : Situation) → StandsFor self.old s → MovesOn (config_of self.old) (made_of self.old) s (feed_event number piece.now moment) is_held (is_quit (closing_of self.new number)) (StandsFor self.new) (workings_of self.old) (workings_of self.new) (gathered_in self.old number kept.old) (gathered_in self.new number kept.new)) }
         ensures others { OnOk result ((place : ℕ) → place ≢ number - 1 → slice_get (connections_of self.new) place ≡ slice_get (connections_of self.old) place) }
         ensures config { config_of self.new ≡ config_of self.old }
         ensures made { made_of self.new ≡ made_of self.old }
         ensures fresh { IsFresh (gathered_in self.new number kept.new) }
-        ensures refused { IfErr result (RefusedFor (config_of self.old) (connections_of self.old) (fed number piece.now moment) (holds_at (connections_of self.old) number)) }
+        ensures refused { IfErr result (RefusedFor (config_of self.old) (connections_of self.old) (feed_event number piece.now moment) (holds_at (connections_of self.old) number)) }
         ensures unmoved { OnErr result (KeepsRecency (recency_of self.old) (recency_of self.new)) }
-        ensures stands { OnErr result ((s : Situation) → Stands self.old s → Stands self.new s) }
-        ensures outputs { OnErr result ((n : ℕ) → output_of self.new n ≡ output_of self.old n) }
+        ensures stands { OnErr result ((s : Situation) → StandsFor self.old s → StandsFor self.new s) }
+        ensures outputs { OnErr result ((n : ℕ) → untaken_output self.new n ≡ untaken_output self.old n) }
         ensures closings { OnErr result ((n : ℕ) → closing_of self.new n ≡ closing_of self.old n) }
         ensures notices { OnErr result (notices_of self.new ≡ notices_of self.old) }
-        ensures kept { OnErr result (steps_of kept.new ≡ steps_of kept.old) }
+        ensures kept { OnErr result (kept_steps kept.new ≡ kept_steps kept.old) }
         ensures closing { OnOk result (IsOpenOrEnded (closing_of self.new number)) }
         ensures count { length (connections_of self.new) ≡ length (connections_of self.old) }
         ensures goes { TakesNoLoads self.old self.new }
@@ -111,9 +111,9 @@ impl Space {
     /// Opens a connection, and answers its number.
     pub fn open(&mut self, alloc: Global) -> Result<u64, AllocError>
         ensures number { IfOk result (λ number. number ≡ length (connections_of self.old) + 1) }
-        ensures takes { IfOk result (λ number. Takes self.old self.new number (event.Open number) false) }
-        ensures moves { IfOk result (λ number. (s : Situation) (was : Gathered) → Stands self.old s → Moves (config_of self.old) (made_of self.old) s (event.Open number) false false (Stands self.new) (workings_of self.old) (workings_of self.new) was was) }
-        ensures outputs { OnOk result ((n : ℕ) → output_of self.new n ≡ output_of self.old n) }
+        ensures takes { IfOk result (λ number. ServesEvent self.old self.new number (event.Open number) false) }
+        ensures moves { IfOk result (λ number. (s : Situation) (was : Gathered) → StandsFor self.old s → MovesOn (config_of self.old) (made_of self.old) s (event.Open number) false false (StandsFor self.new) (workings_of self.old) (workings_of self.new) was was) }
+        ensures outputs { OnOk result ((n : ℕ) → untaken_output self.new n ≡ untaken_output self.old n) }
         ensures notices { notices_of self.new ≡ notices_of self.old }
         ensures same { OnErr result (SameSpace self.old self.new) }
     {
@@ -125,10 +125,10 @@ impl Space {
 
     /// Closes a connection.
     pub fn close(&mut self, number: u64) -> Result<(), ServiceError>
-        ensures takes { OnOk result (Takes self.old self.new number (event.Close number) false) }
-        ensures moves { OnOk result ((s : Situation) (was : Gathered) → Stands self.old s → Moves (config_of self.old) (made_of self.old) s (event.Close number) false false (Stands self.new) (workings_of self.old) (workings_of self.new) was was) }
+        ensures takes { OnOk result (ServesEvent self.old self.new number (event.Close number) false) }
+        ensures moves { OnOk result ((s : Situation) (was : Gathered) → StandsFor self.old s → MovesOn (config_of self.old) (made_of self.old) s (event.Close number) false false (StandsFor self.new) (workings_of self.old) (workings_of self.new) was was) }
         ensures closed { OnOk result (closing_of self.new number ≡ Some Closing.Asked) }
-        ensures outputs { OnOk result ((n : ℕ) → output_of self.new n ≡ output_of self.old n) }
+        ensures outputs { OnOk result ((n : ℕ) → untaken_output self.new n ≡ untaken_output self.old n) }
         ensures open { OnOk result (closing_of self.old number ≡ None) }
         ensures notices { notices_of self.new ≡ notices_of self.old }
         ensures refused { IfErr result (λ e. refusal_of (config_of self.old) (known (connections_of self.old)) (event.Close number) ≡ Some e) }
@@ -142,12 +142,12 @@ impl Space {
 
     /// The reply bytes of a connection since the last taking, moved out.
     pub fn take_output(&mut self, alloc: Global, number: u64) -> Result<Vec<u8>, ServiceError>
-        ensures text { IfOk result (λ text. text.items ≡ output_of self.old number) }
-        ensures taken { OnOk result (output_of self.new number ≡ []) }
+        ensures text { IfOk result (λ text. text.items ≡ untaken_output self.old number) }
+        ensures taken { OnOk result (untaken_output self.new number ≡ []) }
         ensures others { (place : ℕ) → place ≢ number - 1 → slice_get (connections_of self.new) place ≡ slice_get (connections_of self.old) place }
         ensures closings { (n : ℕ) → closing_of self.new n ≡ closing_of self.old n }
         ensures count { length (connections_of self.new) ≡ length (connections_of self.old) }
-        ensures stands { (s : Situation) → Stands self.old s → Stands self.new s }
+        ensures stands { (s : Situation) → StandsFor self.old s → StandsFor self.new s }
         ensures recency { KeepsRecency (recency_of self.old) (recency_of self.new) }
         ensures config { config_of self.new ≡ config_of self.old }
         ensures made { made_of self.new ≡ made_of self.old }
@@ -171,7 +171,7 @@ impl Space {
 
     /// Whether a `LOAD` of a connection waits.
     pub fn waiting(&self, number: u64) -> Result<bool, ServiceError>
-        ensures waits { IfOk result (λ is_waiting. (s : Situation) → Stands self.now s → is_waiting ≡ is_waiting_in s number) }
+        ensures waits { IfOk result (λ is_waiting. (s : Situation) → StandsFor self.now s → is_waiting ≡ is_waiting_in s number) }
         ensures refused { IsErr result ↔ ((known (connections_of self.now)).was_opened number ≡ false) }
         ensures error { IfErr result (λ e. e ≡ ServiceError.NoConnection) }
     {
@@ -183,7 +183,7 @@ impl Space {
 
     /// How many loads are under way.
     pub fn loads_open(&self) -> u64
-        ensures { (s : Situation) → Stands self.now s → result ≡ length s.pending }
+        ensures { (s : Situation) → StandsFor self.now s → result ≡ length s.pending }
     {
         self.inner.loads.count() as u64
     }
@@ -192,16 +192,16 @@ impl Space {
     pub fn take_loads(&mut self, alloc: Global) -> Vec<(LoadId, Bytes)>
         ensures taken { result.items ≡ outgoing_of self.old }
         ensures none { outgoing_of self.new ≡ [] }
-        ensures stands { (s : Situation) → Stands self.old s → Stands self.new s }
+        ensures stands { (s : Situation) → StandsFor self.old s → StandsFor self.new s }
         ensures recency { KeepsRecency (recency_of self.old) (recency_of self.new) }
         ensures connections { connections_of self.new ≡ connections_of self.old }
         ensures config { config_of self.new ≡ config_of self.old }
         ensures made { made_of self.new ≡ made_of self.old }
         ensures notices { notices_of self.new ≡ notices_of self.old }
         ensures in_turn { IsTrue (are_in_turn (place_of self.old) (taken_of self.old) result.items) }
-        ensures count { (s : Situation) → Stands self.old s → taken_of self.old + length result.items ≡ s.sent }
-        ensures all { (s : Situation) → Stands self.old s → taken_of self.new ≡ s.sent }
-        ensures keys { (s : Situation) → Stands self.old s → IsTrue (have_their_keys s.pending result.items) }
+        ensures count { (s : Situation) → StandsFor self.old s → taken_of self.old + length result.items ≡ s.sent }
+        ensures all { (s : Situation) → StandsFor self.old s → taken_of self.new ≡ s.sent }
+        ensures keys { (s : Situation) → StandsFor self.old s → IsTrue (have_their_keys s.pending result.items) }
         ensures place { place_of self.new ≡ place_of self.old }
     {
         self.inner.loads.take(alloc)
@@ -212,7 +212,7 @@ impl Space {
         ensures none { IfNone result (notices_of self.old ≡ []) }
         ensures first { IfSome result (λ note. notices_of self.old ≡ note ∷ notices_of self.new) }
         ensures unchanged { IfNone result (notices_of self.new ≡ []) }
-        ensures stands { (s : Situation) → Stands self.old s → Stands self.new s }
+        ensures stands { (s : Situation) → StandsFor self.old s → StandsFor self.new s }
         ensures recency { KeepsRecency (recency_of self.old) (recency_of self.new) }
         ensures connections { connections_of self.new ≡ connections_of self.old }
         ensures config { config_of self.new ≡ config_of self.old }
@@ -230,8 +230,8 @@ impl Space {
         piece: &[u8],
         moment: u64,
     ) -> Result<bool, ServiceError>
-        ensures takes { IfOk result (λ is_held. Takes self.old self.new number (fed number piece.now moment) is_held) }
-        ensures refused { IfErr result (RefusedFor (config_of self.old) (connections_of self.old) (fed number piece.now moment) (holds_at (connections_of self.old) number)) }
+        ensures takes { IfOk result (λ is_held. ServesEvent self.old self.new number (feed_event number piece.now moment) is_held) }
+        ensures refused { IfErr result (RefusedFor (config_of self.old) (connections_of self.old) (feed_event number piece.now moment) (holds_at (connections_of self.old) number)) }
         ensures same { OnErr result (SameSpace self.old self.new) }
     {
         let mut kept = None;
@@ -277,9 +277,9 @@ impl Space {
 
     /// Gives a load up for which nobody waits.
     fn drop_load(&mut self, load: u64, moment: u64) -> Result<(), ServiceError>
-        requires unwaited { waiting_for load (loads_of self.old) ≡ [] }
+        requires unwaited { waiting_on load (loads_of self.old) ≡ [] }
         ensures settled { OnOk result (Settled self.old self.new (giving_up load moment)) }
-        ensures kept { OnOk result (IsQuiet self.old → (s : Situation) → Stands self.old s → LeadsOnIn self.old self.new s (record_given_up load moment [])) }
+        ensures kept { OnOk result (IsQuiet self.old → (s : Situation) → StandsFor self.old s → LeadsOnIn self.old self.new s (record_given_up load moment [])) }
         ensures config { config_of self.new ≡ config_of self.old }
         ensures made { made_of self.new ≡ made_of self.old }
         ensures refused { IfErr result (λ e. refusal_of (config_of self.old) (known_of self.old) (giving_up load moment) ≡ Some e) }
@@ -303,7 +303,7 @@ impl Space {
         moment: u64,
     ) -> Result<Record, (ServiceError, Outcome)>
         requires quiet { IsQuiet self.old }
-        ensures leads { IfOk result (λ entry. (s : Situation) → Stands self.old s → LeadsOnIn self.old self.new s entry) }
+        ensures leads { IfOk result (λ entry. (s : Situation) → StandsFor self.old s → LeadsOnIn self.old self.new s entry) }
         ensures happened { IfOk result (λ entry. entry.event ≡ answering load outcome moment) }
         ensures config { config_of self.new ≡ config_of self.old }
         ensures made { OnOk result (made_of self.new ≡ made_of self.old) }
@@ -324,7 +324,7 @@ impl Space {
         moment: u64,
     ) -> Result<Record, ServiceError>
         requires quiet { IsQuiet self.old }
-        ensures leads { IfOk result (λ entry. (s : Situation) → Stands self.old s → LeadsOnIn self.old self.new s entry) }
+        ensures leads { IfOk result (λ entry. (s : Situation) → StandsFor self.old s → LeadsOnIn self.old self.new s entry) }
         ensures happened { IfOk result (λ entry. entry.event ≡ giving_up load moment) }
         ensures config { config_of self.new ≡ config_of self.old }
         ensures made { OnOk result (made_of self.new ≡ made_of self.old) }

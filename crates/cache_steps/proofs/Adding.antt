@@ -12,8 +12,8 @@ use Rattle.audit_model.specs.Situation.{Situation, HeldValue, live_at, candidate
 use Rattle.audit_model.specs.declared.command.Command.TheVariants as says
 use Rattle.audit_model.specs.declared.config.Config.{Config}
 use Rattle.audit_model.specs.declared.transcript.Note.{Note}
-use Rattle.cache_store.specs.Promises.{Frame, Done, no_deed, using, accepting, value_of}
-use Rattle.cache_steps.specs.Right.{Answers, KeepsFrame}
+use Rattle.cache_store.specs.Promises.{Frame, Done, no_deed, using, accepting, value_for}
+use Rattle.cache_steps.specs.Right.{RepliesRightly, KeepsFrame}
 use Rattle.cache_steps.specs.Sums.{sum_of_bytes}
 use Rattle.cache_steps.proofs.Answering.{said, undropped}
 
@@ -70,7 +70,7 @@ taken-nowhere (Some offer) = refl
 -- at capacity 0: the look-up is a use all the same
 pub answers-add-off : (config : Config) (s : Situation) (now : ℕ) (key : List ℕ) (ms : Option ℕ) (number : ℕ) (old new : List ℕ) (Stands : List HeldValue → Type 0) (dropped : Bool) (Handed : List Note → Type 0)
     → s.latest ≡ now → accepts_values config.capacity ≡ false → new ≡ old ++ codes "OFF\n" → Done config now (using key) s.held Stands Handed → dropped ≡ s.dropped
-    → Answers config s (Running (says.Add key ms number)) None Stands dropped Handed old new
+    → RepliesRightly config s (Running (says.Add key ms number)) None Stands dropped Handed old new
 answers-add-off config s now key ms number old new Stands dropped Handed at a w d0 kept =
     let d = subst (λ n. Done config n (using key) s.held Stands Handed) (sym at) d0 in
     let sum = sum_with (live_at config s.latest s.held key) number in
@@ -94,7 +94,7 @@ answers-add-off config s now key ms number old new Stands dropped Handed at a w 
 -- where there is no sum
 pub answers-add-error : (config : Config) (s : Situation) (now : ℕ) (key : List ℕ) (ms : Option ℕ) (number : ℕ) (old new : List ℕ) (Stands : List HeldValue → Type 0) (dropped : Bool) (Handed : List Note → Type 0)
     → s.latest ≡ now → accepts_values config.capacity ≡ true → sum_with (live_at config s.latest s.held key) number ≡ None → new ≡ old ++ codes "ERR number\n" → Done config now (using key) s.held Stands Handed → dropped ≡ s.dropped
-    → Answers config s (Running (says.Add key ms number)) None Stands dropped Handed old new
+    → RepliesRightly config s (Running (says.Add key ms number)) None Stands dropped Handed old new
 answers-add-error config s now key ms number old new Stands dropped Handed at a none w d0 kept =
     let d = subst (λ n. Done config n (using key) s.held Stands Handed) (sym at) d0 in
     let sum = sum_with (live_at config s.latest s.held key) number in
@@ -124,21 +124,21 @@ abbrev value_added : Config → Situation → List ℕ → Option ℕ → ℕ �
 value_added config s key ms number part = value_from config s.latest (offer_of config (view_in config s) (Running (says.Add key ms number))) part
 
 value_added-some : (frame : Frame) (s : Situation) (key : List ℕ) (ms : Option ℕ) (number sum part : ℕ) → accepts_values frame.config.capacity ≡ true → sum_with (live_at frame.config s.latest s.held key) number ≡ Some sum → part ≡ frame.part_of key
-    → value_added frame.config s key ms number (Some part) ≡ Some (value_of frame s.latest key (decimal sum) ms)
+    → value_added frame.config s key ms number (Some part) ≡ Some (value_for frame s.latest key (decimal sum) ms)
 value_added-some frame s key ms number sum part a is p =
     ap (λ b. value_from frame.config s.latest (taken_where b (option_map (offer_sum key ms) (sum_with (live_at frame.config s.latest s.held key) number))) (Some part)) a
     ∙ ap (λ o. value_from frame.config s.latest (taken_where true (option_map (offer_sum key ms) o)) (Some part)) is
-    ∙ ap (λ n. Some (record (value_of frame s.latest key (decimal sum) ms) { part = n })) p
+    ∙ ap (λ n. Some (record (value_for frame s.latest key (decimal sum) ms) { part = n })) p
 
 -- a sum that is accepted
 pub answers-add : (frame : Frame) (s : Situation) (now : ℕ) (key : List ℕ) (ms : Option ℕ) (number sum part : ℕ) (old new : List ℕ) (Stands : List HeldValue → Type 0) (dropped : Bool) (Handed : List Note → Type 0)
     → s.latest ≡ now → accepts_values frame.config.capacity ≡ true → sum_with (live_at frame.config s.latest s.held key) number ≡ Some sum → part ≡ frame.part_of key → frame.part_of key < part_count frame.config
-    → new ≡ old ++ (codes "VAL " ++ decimal sum ++ codes "\n") → Done frame.config now (accepting (Some key) (value_of frame now key (decimal sum) ms)) s.held Stands Handed → dropped ≡ s.dropped
-    → Answers frame.config s (Running (says.Add key ms number)) (Some (record { part = part })) Stands dropped Handed old new
+    → new ≡ old ++ (codes "VAL " ++ decimal sum ++ codes "\n") → Done frame.config now (accepting (Some key) (value_for frame now key (decimal sum) ms)) s.held Stands Handed → dropped ≡ s.dropped
+    → RepliesRightly frame.config s (Running (says.Add key ms number)) (Some (record { part = part })) Stands dropped Handed old new
 answers-add frame s now key ms number sum part old new Stands dropped Handed at a is p in_range w d0 kept =
     let config = frame.config in
-    let d : Done config s.latest (accepting (Some key) (value_of frame s.latest key (decimal sum) ms)) s.held Stands Handed =
-    subst (λ n. Done config n (accepting (Some key) (value_of frame n key (decimal sum) ms)) s.held Stands Handed) (sym at) d0 in
+    let d : Done config s.latest (accepting (Some key) (value_for frame s.latest key (decimal sum) ms)) s.held Stands Handed =
+    subst (λ n. Done config n (accepting (Some key) (value_for frame n key (decimal sum) ms)) s.held Stands Handed) (sym at) d0 in
     let value = value_added-some frame s key ms number sum part a is p in
     let cs = map (candidate_at config s.latest) s.held in
     let found = sum_with (live_at config s.latest s.held key) number in

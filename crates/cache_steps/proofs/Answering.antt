@@ -17,17 +17,17 @@ use Rattle.audit_model.specs.Commands.{Deed}
 use Rattle.audit_model.specs.Changes.{held_after, left_held}
 use Rattle.audit_model.specs.History.{Faulting, accepts_values, part_count}
 use Rattle.audit_model.specs.Notes.{is_within, is_succeeded, are_true_notes, candidates_of}
-use Rattle.audit_model.specs.Replies.{value_or_none, yes_or_no, keys_listed, ok_or_off, fault_text, counts_of, offer_of, taken_where, value_from}
+use Rattle.audit_model.specs.Replies.{value_or_none, yes_or_no, keys_listed, ok_or_off, fault_text, count_and_weight, offer_of, taken_where, value_from}
 use Rattle.audit_model.specs.declared.command.LineError.{LineError}
-use Rattle.cache_store.specs.Handing.{Hands}
-use Rattle.cache_store.specs.Promises.{Frame, no_deed, accepting, syncing, value_of}
+use Rattle.cache_store.specs.Handing.{AppendsNotes}
+use Rattle.cache_store.specs.Promises.{Frame, no_deed, accepting, syncing, value_for}
 use Rattle.audit_model.specs.Situation.{Situation, HeldValue, live_at, live_keys_at, candidate_at, view_in}
 use Rattle.audit_model.specs.View.{Candidate}
 use Rattle.audit_model.specs.declared.command.Command.TheVariants as says
 use Rattle.audit_model.specs.declared.config.Config.{Config}
 use Rattle.audit_model.specs.declared.transcript.Note.{Note}
 use Rattle.cache_store.specs.Promises.{Done, Finds, using}
-use Rattle.cache_steps.specs.Right.{Answers}
+use Rattle.cache_steps.specs.Right.{RepliesRightly}
 
 pub same-refl : (a : List ℕ) → same a a ≡ true
 same-refl [] = refl
@@ -59,7 +59,7 @@ none_succeeded (c ∷ cs) = ap (λ b. not (b || false) && list_all (λ d. not (i
 
 pub answers-get : (config : Config) (s : Situation) (key reply old new : List ℕ) (Stands : List HeldValue → Type 0) (dropped : Bool) (Handed : List Note → Type 0)
     → new ≡ old ++ reply → reply ≡ value_or_none (live_at config s.latest s.held key) → Done config s.latest (using key) s.held Stands Handed → dropped ≡ s.dropped
-    → Answers config s (Running (says.Get key)) None Stands dropped Handed old new
+    → RepliesRightly config s (Running (says.Get key)) None Stands dropped Handed old new
 answers-get config s key reply old new Stands dropped Handed w r d kept = record {
   told = d.told;
   reply = reply;
@@ -73,10 +73,10 @@ answers-get config s key reply old new Stands dropped Handed w r d kept = record
 -- a `GET` that finds a value
 pub answers-found : (config : Config) (s : Situation) (now : ℕ) (key old before middle new : List ℕ) (found : Bool) (Stands : List HeldValue → Type 0) (dropped : Bool) (Handed : List Note → Type 0)
     → s.latest ≡ now → found ≡ true → before ≡ old ++ codes "VAL " → Finds (live_at config now s.held key) found before middle → new ≡ middle ++ 10 ∷ []
-    → Done config now (using key) s.held Stands Handed → dropped ≡ s.dropped → Answers config s (Running (says.Get key)) None Stands dropped Handed old new
+    → Done config now (using key) s.held Stands Handed → dropped ≡ s.dropped → RepliesRightly config s (Running (says.Get key)) None Stands dropped Handed old new
 answers-found config s now key old before middle new found Stands dropped Handed at is_found b f w d kept = go (live_at config now s.held key) refl f
   where
-    go : (v : Option Value) → live_at config now s.held key ≡ v → Finds v found before middle → Answers config s (Running (says.Get key)) None Stands dropped Handed old new
+    go : (v : Option Value) → live_at config now s.held key ≡ v → Finds v found before middle → RepliesRightly config s (Running (says.Get key)) None Stands dropped Handed old new
     go None e g = let h : true ≡ false = sym is_found ∙ g.0 in cc
     go (Some v) e g =
         answers-get config s key (codes "VAL " ++ v.bytes ++ 10 ∷ []) old new Stands dropped Handed
@@ -86,10 +86,10 @@ answers-found config s now key old before middle new found Stands dropped Handed
 -- a `GET` that finds none
 pub answers-none : (config : Config) (s : Situation) (now : ℕ) (key old before after new : List ℕ) (found : Bool) (Stands : List HeldValue → Type 0) (dropped : Bool) (Handed : List Note → Type 0)
     → s.latest ≡ now → found ≡ false → before ≡ old ++ codes "VAL " → Finds (live_at config now s.held key) found before after → new ≡ take (length old) after ++ codes "NONE\n"
-    → Done config now (using key) s.held Stands Handed → dropped ≡ s.dropped → Answers config s (Running (says.Get key)) None Stands dropped Handed old new
+    → Done config now (using key) s.held Stands Handed → dropped ≡ s.dropped → RepliesRightly config s (Running (says.Get key)) None Stands dropped Handed old new
 answers-none config s now key old before after new found Stands dropped Handed at is_found b f w d kept = go (live_at config now s.held key) refl f
   where
-    go : (v : Option Value) → live_at config now s.held key ≡ v → Finds v found before after → Answers config s (Running (says.Get key)) None Stands dropped Handed old new
+    go : (v : Option Value) → live_at config now s.held key ≡ v → Finds v found before after → RepliesRightly config s (Running (says.Get key)) None Stands dropped Handed old new
     go None e g =
         answers-get config s key (codes "NONE\n") old new Stands dropped Handed (w ∙ ap (λ k. take (length old) k ++ codes "NONE\n") (g.1 ∙ b) ∙ ap (λ k. k ++ codes "NONE\n") (take-append_seam old (codes "VAL ")))
         (ap value_or_none (sym e ∙ ap (λ n. live_at config n s.held key) (sym at))) (subst (λ n. Done config n (using key) s.held Stands Handed) (sym at) d) kept
@@ -109,20 +109,20 @@ abbrev value_set : Config → Situation → List ℕ → Option ℕ → List ℕ
 value_set config s key ms bytes part = value_from config s.latest (offer_of config (view_in config s) (Running (says.Set key ms bytes))) part
 
 value_set-some : (frame : Frame) (s : Situation) (key bytes : List ℕ) (ms : Option ℕ) (part : ℕ) → accepts_values frame.config.capacity ≡ true → part ≡ frame.part_of key
-    → value_set frame.config s key ms bytes (Some part) ≡ Some (value_of frame s.latest key bytes ms)
+    → value_set frame.config s key ms bytes (Some part) ≡ Some (value_for frame s.latest key bytes ms)
 value_set-some frame s key bytes ms part a p =
     ap (λ b. value_from frame.config s.latest (taken_where b (Some (record { key = key; bytes = bytes; ms = ms }))) (Some part)) a
-    ∙ ap (λ n. Some (record (value_of frame s.latest key bytes ms) { part = n })) p
+    ∙ ap (λ n. Some (record (value_for frame s.latest key bytes ms) { part = n })) p
 
 -- a `SET` whose value is accepted
 pub answers-set : (frame : Frame) (s : Situation) (now : ℕ) (key bytes : List ℕ) (ms : Option ℕ) (part : ℕ) (old new : List ℕ) (Stands : List HeldValue → Type 0) (dropped : Bool) (Handed : List Note → Type 0)
     → s.latest ≡ now → accepts_values frame.config.capacity ≡ true → part ≡ frame.part_of key → frame.part_of key < part_count frame.config → new ≡ old ++ codes "OK\n"
-    → Done frame.config now (accepting None (value_of frame now key bytes ms)) s.held Stands Handed → dropped ≡ s.dropped
-    → Answers frame.config s (Running (says.Set key ms bytes)) (Some (record { part = part })) Stands dropped Handed old new
+    → Done frame.config now (accepting None (value_for frame now key bytes ms)) s.held Stands Handed → dropped ≡ s.dropped
+    → RepliesRightly frame.config s (Running (says.Set key ms bytes)) (Some (record { part = part })) Stands dropped Handed old new
 answers-set frame s now key bytes ms part old new Stands dropped Handed at a p in_range w d kept =
     let config = frame.config in
-    let done : Done config s.latest (accepting None (value_of frame s.latest key bytes ms)) s.held Stands Handed =
-    subst (λ n. Done config n (accepting None (value_of frame n key bytes ms)) s.held Stands Handed) (sym at) d in
+    let done : Done config s.latest (accepting None (value_for frame s.latest key bytes ms)) s.held Stands Handed =
+    subst (λ n. Done config n (accepting None (value_for frame n key bytes ms)) s.held Stands Handed) (sym at) d in
     let is = value_set-some frame s key bytes ms part a p in
     let cs = map (candidate_at config s.latest) s.held in
     record {
@@ -145,7 +145,7 @@ answers-set frame s now key bytes ms part old new Stands dropped Handed at a p i
 -- a `SET` at capacity 0
 pub answers-off : (config : Config) (s : Situation) (key bytes : List ℕ) (ms : Option ℕ) (old new : List ℕ) (untaken : List Note) (Stands : List HeldValue → Type 0) (dropped : Bool)
     → accepts_values config.capacity ≡ false → new ≡ old ++ codes "OFF\n" → Stands (all_held_after config s.latest s.held no_deed []) → dropped ≡ s.dropped
-    → Answers config s (Running (says.Set key ms bytes)) None Stands dropped (Hands untaken untaken) old new
+    → RepliesRightly config s (Running (says.Set key ms bytes)) None Stands dropped (AppendsNotes untaken untaken) old new
 answers-off config s key bytes ms old new untaken Stands dropped a w m kept =
     record {
       told = [];
@@ -187,7 +187,7 @@ counts_text number weight = codes "SYNC " ++ decimal number ++ codes " " ++ deci
 pub answers-sync : (config : Config) (s : Situation) (now number weight : ℕ) (old new : List ℕ) (Stands : List HeldValue → Type 0) (dropped : Bool) (Handed : List Note → Type 0)
     → s.latest ≡ now → new ≡ old ++ counts_text number weight
     → Done config now syncing s.held (λ left. Stands left × IsTrue (is_within config (map (λ (h : HeldValue). h.value) left)) × (number ≡ length left) × (weight ≡ sum_by (λ (h : HeldValue). h.value.weight) left)) Handed → dropped ≡ s.dropped
-    → Answers config s (Running says.Sync) None Stands dropped Handed old new
+    → RepliesRightly config s (Running says.Sync) None Stands dropped Handed old new
 answers-sync config s now number weight old new Stands dropped Handed at w d0 kept =
     let d = subst (λ n. Done config n syncing s.held (λ left. Stands left × IsTrue (is_within config (map (λ (h : HeldValue). h.value) left)) × (number ≡ length left) × (weight ≡ sum_by (λ (h : HeldValue). h.value.weight) left)) Handed) (sym at) d0 in
     let left = left_held s.held syncing d.told in
@@ -195,13 +195,13 @@ answers-sync config s now number weight old new Stands dropped Handed at w d0 ke
     let values = values-after config s.latest s.held syncing d.told (map (λ (h : HeldValue). h.value) left) left in
     let number_is : number ≡ length (map (λ (h : HeldValue). h.value) left) = d.left.2 ∙ sym (length-values after) ∙ ap length values in
     let weight_is : weight ≡ sum_by (λ (v : Value). v.weight) (map (λ (h : HeldValue). h.value) left) = d.left.3 ∙ sym (weigh-values after) ∙ ap (sum_by (λ (v : Value). v.weight)) values in
-    let text : counts_text number weight ≡ counts_of (map (λ (h : HeldValue). h.value) left) = ap (λ n. counts_text n weight) number_is ∙ ap (counts_text (length (map (λ (h : HeldValue). h.value) left))) weight_is in
+    let text : counts_text number weight ≡ count_and_weight (map (λ (h : HeldValue). h.value) left) = ap (λ n. counts_text n weight) number_is ∙ ap (counts_text (length (map (λ (h : HeldValue). h.value) left))) weight_is in
     record {
       told = d.told;
       reply = counts_text number weight;
       written = w;
       right = record {
-        replies = said (counts_text number weight) (counts_of (map (λ (h : HeldValue). h.value) left)) _ text;
+        replies = said (counts_text number weight) (count_and_weight (map (λ (h : HeldValue). h.value) left)) _ text;
         loads = refl;
         accepts = refl;
         tells = d.right;
@@ -218,7 +218,7 @@ answers-sync config s now number weight old new Stands dropped Handed at w d0 ke
 -- a step that does nothing to values
 pub answers-fault : (config : Config) (s : Situation) (error : LineError) (old new : List ℕ) (untaken : List Note) (Stands : List HeldValue → Type 0) (dropped : Bool)
     → new ≡ old ++ fault_text error → Stands (all_held_after config s.latest s.held no_deed []) → dropped ≡ s.dropped
-    → Answers config s (Faulting error) None Stands dropped (Hands untaken untaken) old new
+    → RepliesRightly config s (Faulting error) None Stands dropped (AppendsNotes untaken untaken) old new
 answers-fault config s error old new untaken Stands dropped w m kept =
     record {
       told = [];
@@ -235,7 +235,7 @@ answers-fault config s error old new untaken Stands dropped w m kept =
 -- a `HAS`
 pub answers-has : (config : Config) (s : Situation) (key reply : List ℕ) (old new : List ℕ) (untaken : List Note) (Stands : List HeldValue → Type 0) (dropped : Bool)
     → new ≡ old ++ reply → reply ≡ yes_or_no (live_at config s.latest s.held key) → Stands (all_held_after config s.latest s.held no_deed []) → dropped ≡ s.dropped
-    → Answers config s (Running (says.Has key)) None Stands dropped (Hands untaken untaken) old new
+    → RepliesRightly config s (Running (says.Has key)) None Stands dropped (AppendsNotes untaken untaken) old new
 answers-has config s key reply old new untaken Stands dropped w r m kept =
     record {
       told = [];
@@ -250,7 +250,7 @@ answers-has config s key reply old new untaken Stands dropped w r m kept =
 -- a `KEYS`
 pub answers-keys : (config : Config) (s : Situation) (reply : List ℕ) (old new : List ℕ) (untaken : List Note) (Stands : List HeldValue → Type 0) (dropped : Bool)
     → new ≡ old ++ reply → reply ≡ keys_listed (live_keys_at config s.latest s.held) → Stands (all_held_after config s.latest s.held no_deed []) → dropped ≡ s.dropped
-    → Answers config s (Running says.Keys) None Stands dropped (Hands untaken untaken) old new
+    → RepliesRightly config s (Running says.Keys) None Stands dropped (AppendsNotes untaken untaken) old new
 answers-keys config s reply old new untaken Stands dropped w r m kept =
     record {
       told = [];
@@ -265,7 +265,7 @@ answers-keys config s reply old new untaken Stands dropped w r m kept =
 -- a `QUIT`
 pub answers-quit : (config : Config) (s : Situation) (old new : List ℕ) (untaken : List Note) (Stands : List HeldValue → Type 0) (dropped : Bool)
     → new ≡ old ++ codes "OK\n" → Stands (all_held_after config s.latest s.held no_deed []) → dropped ≡ s.dropped
-    → Answers config s (Running says.Quit) None Stands dropped (Hands untaken untaken) old new
+    → RepliesRightly config s (Running says.Quit) None Stands dropped (AppendsNotes untaken untaken) old new
 answers-quit config s old new untaken Stands dropped w m kept =
     record {
       told = [];
@@ -305,7 +305,7 @@ keys-written keys number old before new n b w =
 -- where one was accepted before, it covers nothing
 pub answers-refused : (config : Config) (s : Situation) (prefix old new : List ℕ) (waited untaken : List Note) (Stands : List HeldValue → Type 0) (dropped : Bool)
     → s.dropped ≡ true → new ≡ old ++ codes "ERR id\n" → Stands (all_held_after config s.latest s.held no_deed []) → dropped ≡ s.dropped → untaken ≡ waited
-    → Answers config s (Running (says.DropIf prefix)) None Stands dropped (Hands waited untaken) old new
+    → RepliesRightly config s (Running (says.DropIf prefix)) None Stands dropped (AppendsNotes waited untaken) old new
 answers-refused config s prefix old new waited untaken Stands dropped before w m kept same =
     record {
       told = [];

@@ -17,17 +17,17 @@ use Rattle.audit_model.specs.declared.config.Config.{Config}
 use Rattle.audit_model.specs.declared.event.Outcome.{Outcome}
 use Rattle.audit_model.specs.declared.event.Outcome.TheVariants as came
 use Rattle.audit_model.specs.declared.transcript.Note.{Note}
-use Rattle.cache_store.specs.Handing.{Hands}
-use Rattle.cache_store.specs.Promises.{Done, Frame, accepting, no_deed, using, value_of}
-use Rattle.cache_steps.specs.Loading.{Says, Stores, Waits}
-use Rattle.cache_steps.specs.Right.{Answers}
+use Rattle.cache_store.specs.Handing.{AppendsNotes}
+use Rattle.cache_store.specs.Promises.{Done, Frame, accepting, no_deed, using, value_for}
+use Rattle.cache_steps.specs.Loading.{SaysRightly, Stores, Waits}
+use Rattle.cache_steps.specs.Right.{RepliesRightly}
 use Rattle.cache_steps.proofs.Answering.{none_succeeded, said, or-false}
 
 -- ---- a `LOAD` that finds a value
 
 -- a `GET` that finds a value answers as a `LOAD` does
 pub load-as-get : (config : Config) (s : Situation) (key : List ℕ) (v : Value) (old new : List ℕ) (Stands : List HeldValue → Type 0) (dropped : Bool) (Handed : List Note → Type 0)
-    → live_at config s.latest s.held key ≡ Some v → Answers config s (Running (says.Get key)) None Stands dropped Handed old new → Answers config s (Running (says.Load key)) None Stands dropped Handed old new
+    → live_at config s.latest s.held key ≡ Some v → RepliesRightly config s (Running (says.Get key)) None Stands dropped Handed old new → RepliesRightly config s (Running (says.Load key)) None Stands dropped Handed old new
 load-as-get config s key v old new Stands dropped Handed live a = record {
   told = a.told;
   reply = a.reply;
@@ -54,10 +54,10 @@ found-live bytes (Some v) e = refl
 
 pub found-load : (config : Config) (s : Situation) (now : ℕ) (key bytes : List ℕ) (old new : List ℕ) (Stands : List HeldValue → Type 0) (dropped : Bool) (Handed : List Note → Type 0)
     → s.latest ≡ now → Some bytes ≡ option_map (λ (value : Value). value.bytes) (live_at config now s.held key)
-    → Answers config s (Running (says.Get key)) None Stands dropped Handed old new → Answers config s (Running (says.Load key)) None Stands dropped Handed old new
+    → RepliesRightly config s (Running (says.Get key)) None Stands dropped Handed old new → RepliesRightly config s (Running (says.Load key)) None Stands dropped Handed old new
 found-load config s now key bytes old new Stands dropped Handed at found a = go (live_at config s.latest s.held key) refl (found-live bytes (live_at config s.latest s.held key) (found ∙ ap (λ n. option_map (λ (value : Value). value.bytes) (live_at config n s.held key)) (sym at)))
   where
-    go : (o : Option Value) → live_at config s.latest s.held key ≡ o → is_some o ≡ true → Answers config s (Running (says.Load key)) None Stands dropped Handed old new
+    go : (o : Option Value) → live_at config s.latest s.held key ≡ o → is_some o ≡ true → RepliesRightly config s (Running (says.Load key)) None Stands dropped Handed old new
     go None e some = let no : false ≡ true = some in cc
     go (Some v) e some = load-as-get config s key v old new Stands dropped Handed e a
 
@@ -115,14 +115,14 @@ waits config s key Stands none stands = record {
 
 -- ---- what is said to a waiting `LOAD`
 
-pub delivers : (config : Config) (s : Situation) (outcome : Outcome) (Stands : List HeldValue → Type 0) → Stands (all_held_after config s.latest s.held no_deed []) → Says config s (Delivering outcome) (outcome_text outcome) Stands
+pub delivers : (config : Config) (s : Situation) (outcome : Outcome) (Stands : List HeldValue → Type 0) → Stands (all_held_after config s.latest s.held no_deed []) → SaysRightly config s (Delivering outcome) (outcome_text outcome) Stands
 delivers config s outcome Stands stands = record {
   right = record { replies = said (outcome_text outcome) (outcome_text outcome) _ refl; loads = refl; accepts = refl; tells = none_succeeded (map (candidate_at config s.latest) s.held ++ []); silent = refl; within = refl };
   left = stands;
   undropped = or-false s.dropped;
 }
 
-pub abandons : (config : Config) (s : Situation) (Stands : List HeldValue → Type 0) → Stands (all_held_after config s.latest s.held no_deed []) → Says config s Abandoning (codes "ERR abandoned\n") Stands
+pub abandons : (config : Config) (s : Situation) (Stands : List HeldValue → Type 0) → Stands (all_held_after config s.latest s.held no_deed []) → SaysRightly config s Abandoning (codes "ERR abandoned\n") Stands
 abandons config s Stands stands = record {
   right = record { replies = refl; loads = refl; accepts = refl; tells = none_succeeded (map (candidate_at config s.latest) s.held ++ []); silent = refl; within = refl };
   left = stands;
@@ -134,7 +134,7 @@ abandons config s Stands stands = record {
 -- nothing is stored
 pub stores-none : (config : Config) (s : Situation) (key : List ℕ) (outcome : Outcome) (untaken : List Note) (Stands : List HeldValue → Type 0)
     → taken_where (accepts_values config.capacity) (offered (view_in config s) (Storing (Some key) outcome)) ≡ None → Stands (all_held_after config s.latest s.held no_deed [])
-    → Stores config s key outcome None Stands (Hands untaken untaken)
+    → Stores config s key outcome None Stands (AppendsNotes untaken untaken)
 stores-none config s key outcome untaken Stands none stands = record {
   told = [];
   right = record { replies = refl; loads = refl; accepts = ap (λ o. not (is_some o)) none; tells = none_succeeded (map (candidate_at config s.latest) s.held ++ []); silent = refl; within = refl };
@@ -158,15 +158,15 @@ writing value = record no_deed { value = value }
 -- a value is stored
 pub stores-value : (frame : Frame) (s : Situation) (now : ℕ) (key bytes : List ℕ) (ms : Option ℕ) (part : ℕ) (Stands : List HeldValue → Type 0) (Handed : List Note → Type 0)
     → s.latest ≡ now → accepts_values frame.config.capacity ≡ true → part ≡ frame.part_of key → frame.part_of key < part_count frame.config
-    → Done frame.config now (accepting None (value_of frame now key bytes ms)) s.held Stands Handed
+    → Done frame.config now (accepting None (value_for frame now key bytes ms)) s.held Stands Handed
     → Stores frame.config s key (came.Value bytes ms) (Some (record { part = part })) Stands Handed
 stores-value frame s now key bytes ms part Stands Handed at a p in_range d =
     let config = frame.config in
-    let done : Done config s.latest (accepting None (value_of frame s.latest key bytes ms)) s.held Stands Handed =
-    subst (λ n. Done config n (accepting None (value_of frame n key bytes ms)) s.held Stands Handed) (sym at) d in
-    let is : value_from config s.latest (offer_of config (view_in config s) (Storing (Some key) (came.Value bytes ms))) (Some part) ≡ Some (value_of frame s.latest key bytes ms) =
+    let done : Done config s.latest (accepting None (value_for frame s.latest key bytes ms)) s.held Stands Handed =
+    subst (λ n. Done config n (accepting None (value_for frame n key bytes ms)) s.held Stands Handed) (sym at) d in
+    let is : value_from config s.latest (offer_of config (view_in config s) (Storing (Some key) (came.Value bytes ms))) (Some part) ≡ Some (value_for frame s.latest key bytes ms) =
     ap (λ b. value_from config s.latest (taken_where b (Some (record { key = key; bytes = bytes; ms = ms }))) (Some part)) a
-    ∙ ap (λ n. Some (record (value_of frame s.latest key bytes ms) { part = n })) p in
+    ∙ ap (λ n. Some (record (value_for frame s.latest key bytes ms) { part = n })) p in
     let cs = map (candidate_at config s.latest) s.held in
     record {
       told = done.told;

@@ -6,7 +6,7 @@ use Rattle.std.proofs.lemmas.List.{take_all}
 use Rattle.audit_model.specs.Bytewise.{same}
 use Rattle.audit_model.specs.Grammar.{Reading}
 use Rattle.audit_model.specs.History.{accepts_values}
-use Rattle.audit_model.specs.Recency.{recency_after, without}
+use Rattle.audit_model.specs.Recency.{recency_after, keys_without}
 use Rattle.audit_model.specs.declared.command.Command.{Command}
 use Rattle.audit_model.specs.declared.command.Command.TheVariants as says
 use Rattle.audit_model.specs.declared.command.LineError.{LineError}
@@ -19,24 +19,24 @@ Recency = Bool → List (List ℕ) → Type 0
 
 -- ---- how long lists are
 
-pub without-shorter : (key : List ℕ) (keys : List (List ℕ)) → length (without key keys) ≤ length keys
+pub without-shorter : (key : List ℕ) (keys : List (List ℕ)) → length (keys_without key keys) ≤ length keys
 without-shorter key [] = omega arith
 without-shorter key (k ∷ keys) = go (same k key) (without-shorter key keys)
   where
-    go : (b : Bool) → length (without key keys) ≤ length keys → length (cond (not b) (k ∷ without key keys) (without key keys)) ≤ suc (length keys)
+    go : (b : Bool) → length (keys_without key keys) ≤ length keys → length (cond (not b) (k ∷ keys_without key keys) (keys_without key keys)) ≤ suc (length keys)
     go true h = omega arith
     go false h = omega arith
 
-pub without-one : (key : List ℕ) (keys : List (List ℕ)) → list_any (λ k. same k key) keys ≡ true → suc (length (without key keys)) ≤ length keys
+pub without-one : (key : List ℕ) (keys : List (List ℕ)) → list_any (λ k. same k key) keys ≡ true → suc (length (keys_without key keys)) ≤ length keys
 without-one key [] h = let e : false ≡ true = h in cc
 without-one key (k ∷ keys) h = go (same k key) refl (without-shorter key keys) (without-one key keys) h
   where
-    go : (b : Bool) → same k key ≡ b → length (without key keys) ≤ length keys → (list_any (λ x. same x key) keys ≡ true → suc (length (without key keys)) ≤ length keys)
-        → list_any (λ x. same x key) (k ∷ keys) ≡ true → suc (length (without key (k ∷ keys))) ≤ suc (length keys)
-    go true e shorter next any = subst (λ b. suc (length (cond (not b) (k ∷ without key keys) (without key keys))) ≤ suc (length keys)) (sym e) (omega arith)
+    go : (b : Bool) → same k key ≡ b → length (keys_without key keys) ≤ length keys → (list_any (λ x. same x key) keys ≡ true → suc (length (keys_without key keys)) ≤ length keys)
+        → list_any (λ x. same x key) (k ∷ keys) ≡ true → suc (length (keys_without key (k ∷ keys))) ≤ suc (length keys)
+    go true e shorter next any = subst (λ b. suc (length (cond (not b) (k ∷ keys_without key keys) (keys_without key keys))) ≤ suc (length keys)) (sym e) (omega arith)
     go false e shorter next any =
         let h = next (subst (λ b. (b || list_any (λ x. same x key) keys) ≡ true) e any) in
-        subst (λ b. suc (length (cond (not b) (k ∷ without key keys) (without key keys))) ≤ suc (length keys)) (sym e) (omega arith)
+        subst (λ b. suc (length (cond (not b) (k ∷ keys_without key keys) (keys_without key keys))) ≤ suc (length keys)) (sym e) (omega arith)
 
 pub used-shorter : (key : List ℕ) (keys : List (List ℕ)) → length (used_first key keys) ≤ length keys
 used-shorter key keys = go (list_any (λ k. same k key) keys) refl
@@ -96,11 +96,11 @@ moves-get config Old New key moves = record {
 }
 
 pub moves-del : (config : Config) (Old New : Recency) (key : List ℕ)
-    → ((n : ℕ) (keys : List (List ℕ)) → IsPlainLru config n → Old true keys → New false (without key keys)) → MovesOrder config Old New (Ok (says.Del key))
+    → ((n : ℕ) (keys : List (List ℕ)) → IsPlainLru config n → Old true keys → New false (keys_without key keys)) → MovesOrder config Old New (Ok (says.Del key))
 moves-del config Old New key moves = record {
   moves = λ n order plain agrees.
-      moves-used Old New n (says.Del key) (without key) false (λ keys r. moves n keys plain r)
-      (λ keys l. sym (take_all (suc n) (without key keys) (let h = without-shorter key keys in omega arith))) order agrees;
+      moves-used Old New n (says.Del key) (keys_without key) false (λ keys r. moves n keys plain r)
+      (λ keys l. sym (take_all (suc n) (keys_without key keys) (let h = without-shorter key keys in omega arith))) order agrees;
 }
 
 -- a command that asks

@@ -27,7 +27,7 @@ pub record Waits (config : Config) (s : Situation) (key : List ℕ) (Stands : Li
   pub undropped : dropped_when_run config s (Running (says.Load key)) (step_waiting config s key 0 []) ≡ s.dropped
 
 -- a step that says that, and does nothing to values, is right, and its values stand
-pub record Says (config : Config) (s : Situation) (action : Action) (reply : List ℕ) (Stands : List HeldValue → Type 0) : Type 0 where
+pub record SaysRightly (config : Config) (s : Situation) (action : Action) (reply : List ℕ) (Stands : List HeldValue → Type 0) : Type 0 where
   pub right : DoesRight config s action (step_saying 0 [] reply None [])
   pub left : Stands (held_when_run config s action (step_saying 0 [] reply None []))
   pub undropped : dropped_when_run config s action (step_saying 0 [] reply None []) ≡ s.dropped

@@ -17,8 +17,8 @@ step_saying conn line reply accepted told =
     record { conn = conn; line = line; held = false; reply = Some reply; load = None; accepted = accepted; notices = told }
 
 -- the step in its place, doing that
-abbrev pub placed_by : Config → Situation → Option Task → Option (List ℕ) → Action → Step → PlacedStep
-placed_by config s task line action step =
+abbrev pub placed_doing : Config → Situation → Option Task → Option (List ℕ) → Action → Step → PlacedStep
+placed_doing config s task line action step =
     let effect = effect_in config (view_in config s) action step in
     record { task = task; line = line; seen = view_in config s; step = step; effect = effect; held = map (λ h. h.value) (left_held s.held (deed_of effect) effect.notes) }
 
@@ -32,15 +32,15 @@ dropped_when_run config s action step = s.dropped || drops (effect_in config (vi
 
 -- the step is right but for its turn and its line
 pub record DoesRight (config : Config) (s : Situation) (action : Action) (step : Step) : Type 0 where
-  pub replies : IsTrue (has_right_reply config (placed_by config s None None action step))
-  pub loads : IsTrue (has_right_load (placed_by config s None None action step))
-  pub accepts : IsTrue (has_right_acceptance config (placed_by config s None None action step))
-  pub tells : IsTrue (has_right_notes config (placed_by config s None None action step))
-  pub silent : IsTrue (is_quiet_where_silent (placed_by config s None None action step))
-  pub within : IsTrue (keeps_shares config (placed_by config s None None action step))
+  pub replies : IsTrue (has_right_reply config (placed_doing config s None None action step))
+  pub loads : IsTrue (has_right_load (placed_doing config s None None action step))
+  pub accepts : IsTrue (has_right_acceptance config (placed_doing config s None None action step))
+  pub tells : IsTrue (has_right_notes config (placed_doing config s None None action step))
+  pub silent : IsTrue (is_quiet_where_silent (placed_doing config s None None action step))
+  pub within : IsTrue (keeps_shares config (placed_doing config s None None action step))
 
 -- the reply stands behind what was written, and its step, with such notes, is right
-pub record Answers (config : Config) (s : Situation) (action : Action) (accepted : Option Accepted) (Stands : List HeldValue → Type 0) (dropped : Bool) (Handed : List Note → Type 0) (old new : List ℕ) : Type 0 where
+pub record RepliesRightly (config : Config) (s : Situation) (action : Action) (accepted : Option Accepted) (Stands : List HeldValue → Type 0) (dropped : Bool) (Handed : List Note → Type 0) (old new : List ℕ) : Type 0 where
   pub told : List Note
   pub reply : List ℕ
   pub written : new ≡ old ++ reply

@@ -3,9 +3,9 @@ ghost use Rattle.std.specs.Prelude.{◌≡◌, ◌≤◌, ◌+◌, ◌++◌, OnO
 ghost use Rattle.audit_model.specs.History.{Running};
 ghost use Rattle.audit_model.specs.Situation.{Situation};
 ghost use Rattle.audit_model.specs.declared.command.Command.TheVariants as says;
-ghost use Rattle.cache_store.specs.Handing.{Hands};
+ghost use Rattle.cache_store.specs.Handing.{AppendsNotes};
 ghost use Rattle.cache_steps.specs.Order.{MovesOrder};
-ghost use Rattle.cache_steps.specs.Right.{Answers};
+ghost use Rattle.cache_steps.specs.Right.{RepliesRightly};
 
 use crate::commands::SHORT;
 use crate::writing::{take_back, write};
@@ -21,7 +21,7 @@ pub fn has<S: Store>(
     output: &mut Vec<u8>,
 ) -> Result<(), AllocError>
     requires { (S.frame store.now).latest ≤ now }
-    ensures ok { OnOk result ((s : Situation) → s.latest ≡ now → s.dropped ≡ (S.frame store.now).dropped → S.stands store.now s.held → Answers (S.frame store.now).config s (Running (says.Has key.now)) None (S.stands store.now) (S.frame store.now).dropped (Hands (S.untaken store.now) (S.untaken store.now)) output.old.items output.new.items) }
+    ensures ok { OnOk result ((s : Situation) → s.latest ≡ now → s.dropped ≡ (S.frame store.now).dropped → S.stands store.now s.held → RepliesRightly (S.frame store.now).config s (Running (says.Has key.now)) None (S.stands store.now) (S.frame store.now).dropped (AppendsNotes (S.untaken store.now) (S.untaken store.now)) output.old.items output.new.items) }
     ensures order { OnOk result (MovesOrder (S.frame store.now).config (S.recency store.now) (S.recency store.now) (Ok (says.Has key.now))) }
     ensures unwritten { OnErr result (output.new.items ≡ output.old.items) }
 {
@@ -36,7 +36,7 @@ pub fn has<S: Store>(
 /// Answers a `KEYS`.
 pub fn keys<S: Store>(store: &S, now: u64, output: &mut Vec<u8>) -> Result<(), AllocError>
     requires { (S.frame store.now).latest ≤ now }
-    ensures ok { OnOk result ((s : Situation) → s.latest ≡ now → s.dropped ≡ (S.frame store.now).dropped → S.stands store.now s.held → Answers (S.frame store.now).config s (Running says.Keys) None (S.stands store.now) (S.frame store.now).dropped (Hands (S.untaken store.now) (S.untaken store.now)) output.old.items output.new.items) }
+    ensures ok { OnOk result ((s : Situation) → s.latest ≡ now → s.dropped ≡ (S.frame store.now).dropped → S.stands store.now s.held → RepliesRightly (S.frame store.now).config s (Running says.Keys) None (S.stands store.now) (S.frame store.now).dropped (AppendsNotes (S.untaken store.now) (S.untaken store.now)) output.old.items output.new.items) }
     ensures order { OnOk result (MovesOrder (S.frame store.now).config (S.recency store.now) (S.recency store.now) (Ok says.Keys)) }
     ensures unwritten { OnErr result (output.new.items ≡ output.old.items) }
 {
@@ -65,7 +65,7 @@ fn write_number_of_keys(output: &mut Vec<u8>, number: usize)
 
 /// Answers a `QUIT`.
 pub fn quit<S: Store>(store: &S, output: &mut Vec<u8>) -> Result<(), AllocError>
-    ensures ok { OnOk result ((s : Situation) → s.dropped ≡ (S.frame store.now).dropped → S.stands store.now s.held → Answers (S.frame store.now).config s (Running says.Quit) None (S.stands store.now) (S.frame store.now).dropped (Hands (S.untaken store.now) (S.untaken store.now)) output.old.items output.new.items) }
+    ensures ok { OnOk result ((s : Situation) → s.dropped ≡ (S.frame store.now).dropped → S.stands store.now s.held → RepliesRightly (S.frame store.now).config s (Running says.Quit) None (S.stands store.now) (S.frame store.now).dropped (AppendsNotes (S.untaken store.now) (S.untaken store.now)) output.old.items output.new.items) }
     ensures order { OnOk result (MovesOrder (S.frame store.now).config (S.recency store.now) (S.recency store.now) (Ok says.Quit)) }
     ensures unwritten { OnErr result (output.new.items ≡ output.old.items) }
 {

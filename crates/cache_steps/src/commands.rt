@@ -5,13 +5,13 @@ ghost use Rattle.audit_model.specs.History.{Running, Faulting, accepts_values};
 ghost use Rattle.audit_model.specs.Replies.{fault_text};
 ghost use Rattle.audit_model.specs.Situation.{Situation, HeldValue};
 ghost use Rattle.audit_model.specs.declared.command.Command.TheVariants as says;
-ghost use Rattle.cache_store.specs.Handing.{Hands};
+ghost use Rattle.cache_store.specs.Handing.{AppendsNotes};
 ghost use Rattle.cache_store.specs.Identifiers.{KeepsIdentifiers};
 ghost use Rattle.cache_store.specs.Running.{is_timely};
 ghost use Rattle.cache_store.specs.Promises.{IsUnchanged};
 ghost use Rattle.cache_store.specs.Recency.{KeepsRecency};
 ghost use Rattle.cache_steps.specs.Order.{MovesOrder};
-ghost use Rattle.cache_steps.specs.Right.{Answers, KeepsFrame};
+ghost use Rattle.cache_steps.specs.Right.{RepliesRightly, KeepsFrame};
 
 use crate::writing::{take_back, write};
 use audit_model::{Accepted, LineError};
@@ -30,7 +30,7 @@ pub fn get<S: Store>(
     output: &mut Vec<u8>,
 ) -> Result<(), AllocError>
     requires { (S.frame store.old).latest ≤ now }
-    ensures ok { OnOk result ((s : Situation) → s.latest ≡ now → s.dropped ≡ (S.frame store.old).dropped → S.stands store.old s.held → Answers (S.frame store.old).config s (Running (says.Get key.now)) None (S.stands store.new) (S.frame store.new).dropped (Hands (S.untaken store.old) (S.untaken store.new)) output.old.items output.new.items) }
+    ensures ok { OnOk result ((s : Situation) → s.latest ≡ now → s.dropped ≡ (S.frame store.old).dropped → S.stands store.old s.held → RepliesRightly (S.frame store.old).config s (Running (says.Get key.now)) None (S.stands store.new) (S.frame store.new).dropped (AppendsNotes (S.untaken store.old) (S.untaken store.new)) output.old.items output.new.items) }
     ensures frame { OnOk result (KeepsFrame (S.frame store.old) (S.frame store.new) now) }
     ensures few { length (S.untaken store.new) ≤ length (S.untaken store.old) + S.count store.old + 1 }
     ensures identifiers { KeepsIdentifiers (S.stream store.old) (S.stream store.new) (S.registered store.old) (S.registered store.new) }
@@ -75,7 +75,7 @@ pub fn set<S: Store>(
     requires short { length value.now ≤ 8192 }
     requires brief { IfSome milliseconds (λ m. m ≤ 999999999999) }
     requires timed { IsSome milliseconds → IsTrue (S.frame store.old).config.own_deadlines }
-    ensures ok { IfOk result (λ accepted. (s : Situation) → s.latest ≡ now → s.dropped ≡ (S.frame store.old).dropped → S.stands store.old s.held → Answers (S.frame store.old).config s (Running (says.Set key.now milliseconds value.now)) accepted (S.stands store.new) (S.frame store.new).dropped (Hands (S.untaken store.old) (S.untaken store.new)) output.old.items output.new.items) }
+    ensures ok { IfOk result (λ accepted. (s : Situation) → s.latest ≡ now → s.dropped ≡ (S.frame store.old).dropped → S.stands store.old s.held → RepliesRightly (S.frame store.old).config s (Running (says.Set key.now milliseconds value.now)) accepted (S.stands store.new) (S.frame store.new).dropped (AppendsNotes (S.untaken store.old) (S.untaken store.new)) output.old.items output.new.items) }
     ensures part { IfOk result (λ accepted. IfSome accepted (λ a. a.part ≡ (S.frame store.old).part_of key.now)) }
     ensures frame { OnOk result (KeepsFrame (S.frame store.old) (S.frame store.new) now) }
     ensures few { length (S.untaken store.new) ≤ length (S.untaken store.old) + S.count store.old + 1 }
@@ -113,7 +113,7 @@ pub fn del<S: Store>(
     output: &mut Vec<u8>,
 ) -> Result<(), AllocError>
     requires { (S.frame store.old).latest ≤ now }
-    ensures ok { OnOk result ((s : Situation) → s.latest ≡ now → s.dropped ≡ (S.frame store.old).dropped → S.stands store.old s.held → Answers (S.frame store.old).config s (Running (says.Del key.now)) None (S.stands store.new) (S.frame store.new).dropped (Hands (S.untaken store.old) (S.untaken store.new)) output.old.items output.new.items) }
+    ensures ok { OnOk result ((s : Situation) → s.latest ≡ now → s.dropped ≡ (S.frame store.old).dropped → S.stands store.old s.held → RepliesRightly (S.frame store.old).config s (Running (says.Del key.now)) None (S.stands store.new) (S.frame store.new).dropped (AppendsNotes (S.untaken store.old) (S.untaken store.new)) output.old.items output.new.items) }
     ensures frame { OnOk result (KeepsFrame (S.frame store.old) (S.frame store.new) now) }
     ensures few { length (S.untaken store.new) ≤ length (S.untaken store.old) + S.count store.old + 1 }
     ensures identifiers { KeepsIdentifiers (S.stream store.old) (S.stream store.new) (S.registered store.old) (S.registered store.new) }
@@ -131,7 +131,7 @@ pub fn del<S: Store>(
 /// Answers a `SYNC`.
 pub fn sync<S: Store>(store: &mut S, now: u64, output: &mut Vec<u8>) -> Result<(), AllocError>
     requires { (S.frame store.old).latest ≤ now }
-    ensures ok { OnOk result ((s : Situation) → s.latest ≡ now → s.dropped ≡ (S.frame store.old).dropped → S.stands store.old s.held → Answers (S.frame store.old).config s (Running says.Sync) None (S.stands store.new) (S.frame store.new).dropped (Hands (S.untaken store.old) (S.untaken store.new)) output.old.items output.new.items) }
+    ensures ok { OnOk result ((s : Situation) → s.latest ≡ now → s.dropped ≡ (S.frame store.old).dropped → S.stands store.old s.held → RepliesRightly (S.frame store.old).config s (Running says.Sync) None (S.stands store.new) (S.frame store.new).dropped (AppendsNotes (S.untaken store.old) (S.untaken store.new)) output.old.items output.new.items) }
     ensures timely { OnOk result ((held : List HeldValue) → S.stands store.new held → IsTrue (list_all (is_timely (S.frame store.old).config (S.frame store.old).made now) held)) }
     ensures frame { OnOk result (KeepsFrame (S.frame store.old) (S.frame store.new) now) }
     ensures few { length (S.untaken store.new) ≤ length (S.untaken store.old) + S.count store.old + 1 }
@@ -163,7 +163,7 @@ fn write_counts(output: &mut Vec<u8>, counts: Counts)
 
 /// Answers a line that cannot be read.
 pub fn fault<S: Store>(store: &S, error: LineError, output: &mut Vec<u8>) -> Result<(), AllocError>
-    ensures ok { OnOk result ((s : Situation) → s.dropped ≡ (S.frame store.now).dropped → S.stands store.now s.held → Answers (S.frame store.now).config s (Faulting error) None (S.stands store.now) (S.frame store.now).dropped (Hands (S.untaken store.now) (S.untaken store.now)) output.old.items output.new.items) }
+    ensures ok { OnOk result ((s : Situation) → s.dropped ≡ (S.frame store.now).dropped → S.stands store.now s.held → RepliesRightly (S.frame store.now).config s (Faulting error) None (S.stands store.now) (S.frame store.now).dropped (AppendsNotes (S.untaken store.now) (S.untaken store.now)) output.old.items output.new.items) }
     ensures order { OnOk result (MovesOrder (S.frame store.now).config (S.recency store.now) (S.recency store.now) (Err error)) }
     ensures unwritten { OnErr result (output.new.items ≡ output.old.items) }
 {

@@ -5,13 +5,13 @@ ghost use Rattle.audit_model.specs.History.{Running};
 ghost use Rattle.audit_model.specs.Replies.{outcome_text};
 ghost use Rattle.audit_model.specs.Situation.{Situation, HeldValue, live_at};
 ghost use Rattle.audit_model.specs.declared.command.Command.TheVariants as says;
-ghost use Rattle.cache_store.specs.Handing.{Hands};
+ghost use Rattle.cache_store.specs.Handing.{AppendsNotes};
 ghost use Rattle.cache_store.specs.Identifiers.{KeepsIdentifiers};
 ghost use Rattle.cache_store.specs.Promises.{IsUnchanged};
 ghost use Rattle.cache_store.specs.Recency.{KeepsRecency};
 ghost use Rattle.cache_steps.specs.Order.{MovesOrder};
 ghost use Rattle.cache_steps.specs.Loading.{Stores};
-ghost use Rattle.cache_steps.specs.Right.{Answers, KeepsFrame};
+ghost use Rattle.cache_steps.specs.Right.{RepliesRightly, KeepsFrame};
 
 use crate::commands::{accepts, get};
 use crate::writing::write;
@@ -28,7 +28,7 @@ pub fn load<S: Store>(
     output: &mut Vec<u8>,
 ) -> Result<bool, AllocError>
     requires { (S.frame store.old).latest ≤ now }
-    ensures found { IfOk result (λ found. found ≡ true → (s : Situation) → s.latest ≡ now → s.dropped ≡ (S.frame store.old).dropped → S.stands store.old s.held → Answers (S.frame store.old).config s (Running (says.Load key.now)) None (S.stands store.new) (S.frame store.new).dropped (Hands (S.untaken store.old) (S.untaken store.new)) output.old.items output.new.items) }
+    ensures found { IfOk result (λ found. found ≡ true → (s : Situation) → s.latest ≡ now → s.dropped ≡ (S.frame store.old).dropped → S.stands store.old s.held → RepliesRightly (S.frame store.old).config s (Running (says.Load key.now)) None (S.stands store.new) (S.frame store.new).dropped (AppendsNotes (S.untaken store.old) (S.untaken store.new)) output.old.items output.new.items) }
     ensures missed { IfOk result (λ found. found ≡ false → (held : List HeldValue) → S.stands store.old held → live_at (S.frame store.old).config now held key.now ≡ None) }
     ensures frame { OnOk result (KeepsFrame (S.frame store.old) (S.frame store.new) now) }
     ensures few { length (S.untaken store.new) ≤ length (S.untaken store.old) + S.count store.old + 1 }
@@ -60,7 +60,7 @@ pub fn store_outcome<S: Store>(
     requires capacity { (S.frame store.old).config.capacity ≡ capacity }
     requires moment { now < 2 ^ 63 }
     requires fit { refusal_of_outcome (S.frame store.old).config outcome.now ≡ None }
-    ensures ok { IfOk result (λ accepted. (s : Situation) → s.latest ≡ now → S.stands store.old s.held → Stores (S.frame store.old).config s key.now outcome.now accepted (S.stands store.new) (Hands (S.untaken store.old) (S.untaken store.new))) }
+    ensures ok { IfOk result (λ accepted. (s : Situation) → s.latest ≡ now → S.stands store.old s.held → Stores (S.frame store.old).config s key.now outcome.now accepted (S.stands store.new) (AppendsNotes (S.untaken store.old) (S.untaken store.new))) }
     ensures part { IfOk result (λ accepted. IfSome accepted (λ a. a.part ≡ (S.frame store.old).part_of key.now)) }
     ensures frame { OnOk result (KeepsFrame (S.frame store.old) (S.frame store.new) now) }
     ensures dropped { (S.frame store.new).dropped ≡ (S.frame store.old).dropped }

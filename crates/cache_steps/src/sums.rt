@@ -3,18 +3,18 @@ ghost use Rattle.std.specs.Prelude.{◌≡◌, ◌<◌, ◌≤◌, ◌^◌, ◌+
 ghost use Rattle.audit_model.specs.History.{Running, accepts_values};
 ghost use Rattle.audit_model.specs.Situation.{Situation, HeldValue};
 ghost use Rattle.audit_model.specs.declared.command.Command.TheVariants as says;
-ghost use Rattle.cache_store.specs.Handing.{Hands};
+ghost use Rattle.cache_store.specs.Handing.{AppendsNotes};
 ghost use Rattle.cache_store.specs.Identifiers.{KeepsIdentifiers};
-ghost use Rattle.cache_store.specs.Promises.{Done, IsUnchanged, accepting, using, value_of};
+ghost use Rattle.cache_store.specs.Promises.{Done, IsUnchanged, accepting, using, value_for};
 ghost use Rattle.cache_store.specs.Recency.{KeepsRecency};
 ghost use Rattle.cache_steps.specs.Order.{MovesOrder};
-ghost use Rattle.cache_steps.specs.Right.{Answers, KeepsFrame};
+ghost use Rattle.cache_steps.specs.Right.{RepliesRightly, KeepsFrame};
 ghost use Rattle.cache_steps.specs.Sums.{sum_of_bytes};
 
 use crate::commands::{SHORT, accepts};
 use crate::writing::{take_back, write};
+use audit_lines::number;
 use audit_model::Accepted;
-use cache_numbers::number;
 use cache_store::Store;
 use itoa::Buffer;
 use std::alloc::AllocError;
@@ -34,7 +34,7 @@ pub fn add<S: Store>(
     requires moment { now < 2 ^ 63 }
     requires brief { IfSome milliseconds (λ m. m ≤ 999999999999) }
     requires timed { IsSome milliseconds → IsTrue (S.frame store.old).config.own_deadlines }
-    ensures ok { IfOk result (λ accepted. (s : Situation) → s.latest ≡ now → s.dropped ≡ (S.frame store.old).dropped → S.stands store.old s.held → Answers (S.frame store.old).config s (Running (says.Add key.now milliseconds added)) accepted (S.stands store.new) (S.frame store.new).dropped (Hands (S.untaken store.old) (S.untaken store.new)) output.old.items output.new.items) }
+    ensures ok { IfOk result (λ accepted. (s : Situation) → s.latest ≡ now → s.dropped ≡ (S.frame store.old).dropped → S.stands store.old s.held → RepliesRightly (S.frame store.old).config s (Running (says.Add key.now milliseconds added)) accepted (S.stands store.new) (S.frame store.new).dropped (AppendsNotes (S.untaken store.old) (S.untaken store.new)) output.old.items output.new.items) }
     ensures part { IfOk result (λ accepted. IfSome accepted (λ a. a.part ≡ (S.frame store.old).part_of key.now)) }
     ensures frame { OnOk result (KeepsFrame (S.frame store.old) (S.frame store.new) now) }
     ensures few { length (S.untaken store.new) ≤ length (S.untaken store.old) + S.count store.old + 1 }
@@ -78,7 +78,7 @@ fn use_value<S: Store>(
     requires short { length text.now ≤ SHORT }
     ensures none { IfOk result (λ accepted. accepted ≡ None) }
     ensures written { OnOk result ((held : List HeldValue) → S.stands store.old held → output.new.items ≡ output.old.items ++ text.now) }
-    ensures done { OnOk result ((held : List HeldValue) → S.stands store.old held → Done (S.frame store.old).config now (using key.now) held (S.stands store.new) (Hands (S.untaken store.old) (S.untaken store.new))) }
+    ensures done { OnOk result ((held : List HeldValue) → S.stands store.old held → Done (S.frame store.old).config now (using key.now) held (S.stands store.new) (AppendsNotes (S.untaken store.old) (S.untaken store.new))) }
     ensures frame { OnOk result (S.frame store.new ≡ record (S.frame store.old) { latest = now }) }
     ensures few { length (S.untaken store.new) ≤ length (S.untaken store.old) + S.count store.old + 1 }
     ensures identifiers { KeepsIdentifiers (S.stream store.old) (S.stream store.new) (S.registered store.old) (S.registered store.new) }
@@ -110,7 +110,7 @@ fn accept_sum<S: Store>(
     requires timed { IsSome milliseconds → IsTrue (S.frame store.old).config.own_deadlines }
     ensures written { OnOk result (output.new.items ≡ output.old.items ++ (codes "VAL " ++ decimal sum ++ codes "\n")) }
     ensures part { IfOk result (λ accepted. accepted ≡ Some (record { part = (S.frame store.old).part_of key.now })) }
-    ensures done { OnOk result ((held : List HeldValue) → S.stands store.old held → Done (S.frame store.old).config now (accepting (Some key.now) (value_of (S.frame store.old) now key.now (decimal sum) milliseconds)) held (S.stands store.new) (Hands (S.untaken store.old) (S.untaken store.new))) }
+    ensures done { OnOk result ((held : List HeldValue) → S.stands store.old held → Done (S.frame store.old).config now (accepting (Some key.now) (value_for (S.frame store.old) now key.now (decimal sum) milliseconds)) held (S.stands store.new) (AppendsNotes (S.untaken store.old) (S.untaken store.new))) }
     ensures frame { OnOk result (S.frame store.new ≡ record (S.frame store.old) { latest = now }) }
     ensures few { length (S.untaken store.new) ≤ length (S.untaken store.old) + S.count store.old + 1 }
     ensures identifiers { KeepsIdentifiers (S.stream store.old) (S.stream store.new) (S.registered store.old) (S.registered store.new) }

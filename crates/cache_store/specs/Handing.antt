@@ -3,13 +3,13 @@ use Rattle.std.specs.Prelude.{◌≡◌, List, [], ◌∷◌, ◌++◌, Option, 
 use Rattle.audit_model.specs.declared.transcript.Note.{Note}
 
 -- the notes told stand behind those that wait, in whichever part their keys are
-pub record Hands (old new told : List Note) : Type 0 where
+pub record AppendsNotes (old new told : List Note) : Type 0 where
   pub added : new ≡ old ++ told
 
 -- none waits, or the first is taken
-abbrev pub Takes : List Note → List Note → Option Note → Type 0
-Takes old new None = (old ≡ []) × (new ≡ [])
-Takes old new (Some note) = old ≡ note ∷ new
+abbrev pub TakesFirstNote : List Note → List Note → Option Note → Type 0
+TakesFirstNote old new None = (old ≡ []) × (new ≡ [])
+TakesFirstNote old new (Some note) = old ≡ note ∷ new
 
 -- no note is told
 pub record TellsNone (old new told : List Note) : Type 0 where

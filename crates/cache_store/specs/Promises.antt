@@ -43,8 +43,8 @@ abbrev pub syncing : Deed
 syncing = record no_deed { syncs = true }
 
 -- the value that is accepted for a key and bytes
-abbrev pub value_of : Frame → ℕ → List ℕ → List ℕ → Option ℕ → Value
-value_of frame now key bytes ms =
+abbrev pub value_for : Frame → ℕ → List ℕ → List ℕ → Option ℕ → Value
+value_for frame now key bytes ms =
     record { key = key; bytes = bytes; part = frame.part_of key; weight = weight_of frame.config.weight bytes; accepted_at = now; own_deadline = own_deadline_from now ms }
 
 -- ---- what a call does

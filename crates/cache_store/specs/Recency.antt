@@ -3,7 +3,7 @@ use Rattle.std.specs.Prelude.{◌≡◌, ℕ, suc, Bool, false, not, List, ◌�
 use Rattle.std.specs.List.{list_any, filter}
 use Rattle.audit_model.specs.Bytewise.{same}
 use Rattle.audit_model.specs.History.{part_count}
-use Rattle.audit_model.specs.Recency.{without}
+use Rattle.audit_model.specs.Recency.{keys_without}
 use Rattle.audit_model.specs.Situation.{HeldValue}
 use Rattle.audit_model.specs.declared.config.Config.{Config}
 use Rattle.audit_model.specs.declared.config.Weight.TheVariants.{One}
@@ -21,7 +21,7 @@ pub record IsPlainLru (config : Config) (number : ℕ) : Type 0 where
 
 -- a key that is written goes first
 abbrev pub put_first : List ℕ → List (List ℕ) → List (List ℕ)
-put_first key keys = key ∷ without key keys
+put_first key keys = key ∷ keys_without key keys
 
 -- a key that is looked up goes first, where it is there
 abbrev pub used_first : List ℕ → List (List ℕ) → List (List ℕ)

@@ -11,12 +11,12 @@ ghost use Rattle.audit_model.specs.Notes.{is_within};
 ghost use Rattle.audit_model.specs.Changes.{all_held_after};
 ghost use Rattle.audit_model.specs.Situation.{HeldValue, live_at, live_keys_at};
 ghost use Rattle.audit_model.specs.declared.transcript.Note.{Note as Told};
-ghost use Rattle.cache_store.specs.Promises.{Frame, Done, IsUnchanged, Finds, using, accepting, deleting, covering, syncing, no_deed, value_of};
-ghost use Rattle.cache_store.specs.Handing.{Hands, Takes, TellsNone};
+ghost use Rattle.cache_store.specs.Promises.{Frame, Done, IsUnchanged, Finds, using, accepting, deleting, covering, syncing, no_deed, value_for};
+ghost use Rattle.cache_store.specs.Handing.{AppendsNotes, TakesFirstNote, TellsNone};
 ghost use Rattle.cache_store.specs.Running.{is_bounded, is_timely};
 ghost use Rattle.cache_store.specs.Recency.{IsPlainLru, put_first, used_first, AreKeysOf, KeepsRecency};
 ghost use Rattle.cache_store.specs.Identifiers.{Register, KeepsIdentifiers, Registers, DrawsAlone, AreUsedUp};
-ghost use Rattle.audit_model.specs.Recency.{without};
+ghost use Rattle.audit_model.specs.Recency.{keys_without};
 
 use audit_model::Note;
 use std::alloc::AllocError;
@@ -97,7 +97,7 @@ pub trait Store: Drop {
         // the answer is the live value and no other
         ensures answer { IfOk result (λ is_found. (held : List HeldValue) → stands self.old held → Finds (live_at (frame self.old).config now held key.now) is_found found.old.items found.new.items) }
         // the key's value is used, and what left is told
-        ensures done { OnOk result ((held : List HeldValue) → stands self.old held → Done (frame self.old).config now (using key.now) held (stands self.new) (Hands (untaken self.old) (untaken self.new))) }
+        ensures done { OnOk result ((held : List HeldValue) → stands self.old held → Done (frame self.old).config now (using key.now) held (stands self.new) (AppendsNotes (untaken self.old) (untaken self.new))) }
         // no more notes than values
         ensures few { length (untaken self.new) ≤ length (untaken self.old) + count self.old + 1 }
         ensures frame { OnOk result (frame self.new ≡ record (frame self.old) { latest = now }) }
@@ -128,7 +128,7 @@ pub trait Store: Drop {
         requires timed { IsSome milliseconds → IsTrue (frame self.old).config.own_deadlines }
         ensures part { IfOk result (λ part. part ≡ (frame self.old).part_of key.now) }
         // the value is held or told, and what left is told
-        ensures done { OnOk result ((held : List HeldValue) → stands self.old held → Done (frame self.old).config now (accepting (if looked_up then Some key.now else None) (value_of (frame self.old) now key.now bytes.now milliseconds)) held (stands self.new) (Hands (untaken self.old) (untaken self.new))) }
+        ensures done { OnOk result ((held : List HeldValue) → stands self.old held → Done (frame self.old).config now (accepting (if looked_up then Some key.now else None) (value_for (frame self.old) now key.now bytes.now milliseconds)) held (stands self.new) (AppendsNotes (untaken self.old) (untaken self.new))) }
         // no more notes than values
         ensures few { length (untaken self.new) ≤ length (untaken self.old) + count self.old + 1 }
         ensures frame { OnOk result (frame self.new ≡ record (frame self.old) { latest = now }) }
@@ -142,12 +142,12 @@ pub trait Store: Drop {
     fn remove(&mut self, key: &[u8], now: u64) -> Result<(), AllocError>
         requires { (frame self.old).latest ≤ now }
         // the key's value is told, and what left besides
-        ensures done { OnOk result ((held : List HeldValue) → stands self.old held → Done (frame self.old).config now (deleting key.now) held (stands self.new) (Hands (untaken self.old) (untaken self.new))) }
+        ensures done { OnOk result ((held : List HeldValue) → stands self.old held → Done (frame self.old).config now (deleting key.now) held (stands self.new) (AppendsNotes (untaken self.old) (untaken self.new))) }
         // no more notes than values
         ensures few { length (untaken self.new) ≤ length (untaken self.old) + count self.old + 1 }
         ensures frame { OnOk result (frame self.new ≡ record (frame self.old) { latest = now }) }
         // the key is on the list no more
-        ensures recency { OnOk result ((n : ℕ) (keys : List (List ℕ)) → IsPlainLru (frame self.old).config n → recency self.old true keys → recency self.new false (without key.now keys)) }
+        ensures recency { OnOk result ((n : ℕ) (keys : List (List ℕ)) → IsPlainLru (frame self.old).config n → recency self.old true keys → recency self.new false (keys_without key.now keys)) }
         ensures identifiers { KeepsIdentifiers (stream self.old) (stream self.new) (registered self.old) (registered self.new) }
         ensures unchanged { OnErr result (IsUnchanged (stands self.old) (stands self.new) (frame self.old) (frame self.new) (untaken self.old) (untaken self.new)) }
         ensures unmoved { OnErr result (KeepsRecency (recency self.old) (recency self.new)) };
@@ -186,7 +186,7 @@ pub trait Store: Drop {
     fn run_all(&mut self, now: u64) -> Counts
         requires { (frame self.old).latest ≤ now }
         // what left is told, each part weighs at most its share, and the counts are those of what is left
-        ensures done { (held : List HeldValue) → stands self.old held → Done (frame self.old).config now syncing held (λ left. stands self.new left × IsTrue (is_within (frame self.old).config (map (λ h. h.value) left)) × (result.number ≡ length left) × (result.weight ≡ sum_by (λ h. h.value.weight) left)) (Hands (untaken self.old) (untaken self.new)) }
+        ensures done { (held : List HeldValue) → stands self.old held → Done (frame self.old).config now syncing held (λ left. stands self.new left × IsTrue (is_within (frame self.old).config (map (λ h. h.value) left)) × (result.number ≡ length left) × (result.weight ≡ sum_by (λ h. h.value.weight) left)) (AppendsNotes (untaken self.old) (untaken self.new)) }
         // nothing stays that is covered or long dead
         ensures timely { (held : List HeldValue) → stands self.new held → IsTrue (list_all (is_timely (frame self.old).config (frame self.old).made now) held) }
         // no more notes than values
@@ -200,7 +200,7 @@ pub trait Store: Drop {
 
     /// Takes the note that was told first.
     fn next_notice(&mut self) -> Option<Note>
-        ensures taken { Takes (untaken self.old) (untaken self.new) result }
+        ensures taken { TakesFirstNote (untaken self.old) (untaken self.new) result }
         ensures stands { (held : List HeldValue) → stands self.old held → stands self.new held }
         ensures frame { frame self.new ≡ frame self.old }
         ensures recency { KeepsRecency (recency self.old) (recency self.new) }

@@ -2,7 +2,7 @@
 #![tactic(auto)]
 
 use cache_devices::Watched;
-use cached_program::without_words;
+use cached_script::without_words;
 use cached_server::cached;
 use std::env::Env;
 use std::process::ExitCode;

@@ -3,9 +3,9 @@ ghost use Rattle.std.specs.Prelude.{◌≡◌, true, take, drop};
 ghost use Rattle.std.specs.List.{list_all};
 ghost use Rattle.audit_model.specs.Configs.{is_time, is_valid};
 ghost use Rattle.audit_model.specs.Grammar.{is_value};
-ghost use Rattle.cached_config.specs.Good.{are_distinct, are_good, is_apart, is_good, is_loadable, is_name, is_name_byte};
+ghost use Rattle.cached_config.specs.Good.{are_distinct, are_good, is_apart, is_good_namespace, is_loadable, is_name, is_name_byte};
 
-use crate::listed::{Hosted, Listed};
+use crate::listed::{HostedNamespace, Listed};
 use audit_model::Config;
 
 /// The most namespaces.
@@ -15,15 +15,15 @@ const MOST: usize = 16;
 const MOST_BYTES: usize = 8192;
 
 /// Whether a file may have these namespaces: 1 to 16, each as it should be, all names and all ports different.
-pub fn are_good(spaces: &[Hosted]) -> bool
+pub fn are_good(spaces: &[HostedNamespace]) -> bool
     ensures { result ≡ are_good spaces.now }
 {
     !spaces.is_empty() && spaces.len() <= MOST && are_all_good(spaces) && are_distinct(spaces)
 }
 
 /// Whether each is as it should be.
-fn are_all_good(spaces: &[Hosted]) -> bool
-    ensures { result ≡ list_all is_good spaces.now }
+fn are_all_good(spaces: &[HostedNamespace]) -> bool
+    ensures { result ≡ list_all is_good_namespace spaces.now }
 {
     for space in spaces {
         if !is_good(space) {
@@ -34,7 +34,7 @@ fn are_all_good(spaces: &[Hosted]) -> bool
 }
 
 /// Whether no two have the same name or the same port.
-fn are_distinct(spaces: &[Hosted]) -> bool
+fn are_distinct(spaces: &[HostedNamespace]) -> bool
     ensures { result ≡ are_distinct spaces.now }
 {
     let mut rest = spaces;
@@ -48,7 +48,7 @@ fn are_distinct(spaces: &[Hosted]) -> bool
 }
 
 /// Whether none of the others has its name or its port.
-fn is_apart(space: &Hosted, others: &[Hosted]) -> bool
+fn is_apart(space: &HostedNamespace, others: &[HostedNamespace]) -> bool
     ensures { result ≡ list_all (is_apart space.now) others.now }
 {
     for other in others {
@@ -60,8 +60,8 @@ fn is_apart(space: &Hosted, others: &[Hosted]) -> bool
 }
 
 /// Whether a namespace is as it should be.
-fn is_good(space: &Hosted) -> bool
-    ensures { result ≡ is_good space.now }
+fn is_good(space: &HostedNamespace) -> bool
+    ensures { result ≡ is_good_namespace space.now }
 {
     is_name(space.name.as_slice())
         && space.port >= 1

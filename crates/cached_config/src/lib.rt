@@ -1,10 +1,12 @@
 //! The configuration file of a server: which namespaces it has, each with its port and the values that its loads find.
 #![tactic(auto)]
 
+#[cfg(test)]
+mod configs;
 mod fields;
 mod good;
 mod listed;
 mod reading;
 
-pub use listed::{ConfigError, Hosted, Listed};
+pub use listed::{ConfigError, HostedNamespace, Listed};
 pub use reading::read_config;

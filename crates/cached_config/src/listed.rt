@@ -11,7 +11,7 @@ pub struct Listed {
 
 /// A namespace that is served.
 #[derive(Drop)]
-pub struct Hosted {
+pub struct HostedNamespace {
     /// Its name: 1 to 32 of `a` to `z`, `0` to `9`, `-` and `_`.
     pub name: Bytes,
     /// Its port on 127.0.0.1, from 1 on.

@@ -7,7 +7,7 @@ use crate::fields::{
     number_at, only, policy_at, switch_at, table_at, tables_at, text_at, weight_at,
 };
 use crate::good::are_good;
-use crate::listed::{ConfigError, Hosted, Listed};
+use crate::listed::{ConfigError, HostedNamespace, Listed};
 use audit_model::{Config, Seq};
 use std::alloc::Global;
 use toml::{Table, Value};
@@ -32,7 +32,7 @@ const KEYS: [&str; 10] = [
 /// `capacity`, `policy` (`"lru"` or `"tinylfu"`, which is the default), `parts` (1 to 256, by default 1), `weight` (`"one"`, the
 /// default, or `"bytes"`), `live_ms` and `idle_ms` (1 to 999,999,999,999), `deadlines` (by default false; not beside `live_ms`) and a
 /// table `loads` of texts without line ends, of at most 8192 bytes. All else is `Bad`. Without memory `OutOfMemory`.
-pub fn read_config(alloc: Global, text: &str) -> Result<Vec<Hosted>, ConfigError>
+pub fn read_config(alloc: Global, text: &str) -> Result<Vec<HostedNamespace>, ConfigError>
     ensures ok { IfOk result (λ spaces. IsTrue (are_good spaces.items)) }
     ensures text { parse_document text.now ≡ None → IsErr result }
 {
@@ -56,7 +56,7 @@ fn error_of(error: toml::de::Error) -> ConfigError {
 }
 
 /// The namespaces, if a file may have them.
-fn judge(spaces: Vec<Hosted>) -> Result<Vec<Hosted>, ConfigError>
+fn judge(spaces: Vec<HostedNamespace>) -> Result<Vec<HostedNamespace>, ConfigError>
     ensures ok { IfOk result (λ spaces. IsTrue (are_good spaces.items)) }
 {
     if are_good(&spaces) {
@@ -67,7 +67,7 @@ fn judge(spaces: Vec<Hosted>) -> Result<Vec<Hosted>, ConfigError>
 }
 
 /// The namespaces of a document.
-fn read_document(alloc: Global, document: &Table) -> Result<Vec<Hosted>, ConfigError> {
+fn read_document(alloc: Global, document: &Table) -> Result<Vec<HostedNamespace>, ConfigError> {
     only(document, &["namespace"])?;
     let mut spaces = Vec::new(alloc);
     for value in tables_at(document, "namespace")? {
@@ -80,7 +80,7 @@ fn read_document(alloc: Global, document: &Table) -> Result<Vec<Hosted>, ConfigE
 }
 
 /// The namespace of a value, which is a table.
-fn read_value(alloc: Global, value: &Value) -> Result<Hosted, ConfigError> {
+fn read_value(alloc: Global, value: &Value) -> Result<HostedNamespace, ConfigError> {
     match value.as_table() {
         Some(table) => read_space(alloc, table),
         None => Err(ConfigError::Bad),
@@ -88,7 +88,7 @@ fn read_value(alloc: Global, value: &Value) -> Result<Hosted, ConfigError> {
 }
 
 /// The namespace of a table.
-fn read_space(alloc: Global, table: &Table) -> Result<Hosted, ConfigError> {
+fn read_space(alloc: Global, table: &Table) -> Result<HostedNamespace, ConfigError> {
     only(table, &KEYS)?;
     let Some(name) = text_at(table, "name")? else {
         return Err(ConfigError::Bad);
@@ -99,7 +99,7 @@ fn read_space(alloc: Global, table: &Table) -> Result<Hosted, ConfigError> {
         Some(listed) => read_loads(alloc, listed)?,
         None => Vec::new(alloc),
     };
-    Ok(Hosted {
+    Ok(HostedNamespace {
         name: Seq::from_vec(Vec::from_slice(alloc, name.as_bytes())?),
         port,
         config,

@@ -3,8 +3,8 @@ use Rattle.std.proofs.Common.{◌≡◌, ℕ, List, [], ◌++◌, Option, sym, a
 use Rattle.std.specs.Prelude.{Result, Ok, Err, OnOk}
 use Rattle.std.specs.Io.KnownBytes.{Appends}
 use Rattle.std.proofs.lemmas.List.{append-nil}
-use Rattle.cached_program.specs.Gathering.{Gathers}
-use Rattle.cached_program.proofs.Gathered.{gathers-more}
+use Rattle.cached_script.specs.Gathering.{Gathers}
+use Rattle.cached_script.proofs.Gathered.{gathers-more}
 
 -- what was gathered from nothing, and then written out
 pub whole-line : (a b c : Option (List ℕ)) (g h k text : List ℕ) {T E : Type 0} (r : Result T E) → g ≡ [] → Gathers a g text b h → OnOk r (Gathers b h [] c k) → OnOk r (k ≡ [])

@@ -2,11 +2,11 @@
 use Rattle.std.specs.Prelude.{ℕ, List, [], ◌∷◌, ◌++◌, codes}
 use Rattle.std.specs.Fmt.{decimal}
 use Rattle.audit_model.specs.declared.transcript.Note.{Note}
-use Rattle.cached_program.specs.Notes.{note_text}
+use Rattle.cached_script.specs.Notes.{note_text}
 
 -- a note, with the name of its namespace before it
-abbrev pub note_line : List ℕ → Note → List ℕ
-note_line name note = name ++ 32 ∷ [] ++ note_text note
+abbrev pub named_note_line : List ℕ → Note → List ℕ
+named_note_line name note = name ++ 32 ∷ [] ++ note_text note
 
 -- a namespace that is served, with its port
 abbrev pub listening_line : List ℕ → ℕ → List ℕ

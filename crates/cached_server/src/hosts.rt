@@ -6,8 +6,8 @@ use audit_model::{Config, Instant};
 use cache_live::LiveService;
 use cache_serve::host;
 use cache_shared::{Seating, SharedService};
-use cached_config::Hosted;
-use cached_program::Fault;
+use cached_config::HostedNamespace;
+use cached_script::Fault;
 use rand_core::SeedableRng;
 use rand_xoshiro::Xoshiro256PlusPlus;
 use std::alloc::Global;
@@ -120,7 +120,7 @@ fn make_post<L, W, R>(
     alloc: Global,
     shared: &SharedService<L, LiveService>,
     namespace: u64,
-    space: Hosted,
+    space: HostedNamespace,
     listener: TcpListener,
     lines: &SharedLines<W>,
     start: time::Instant,
@@ -158,7 +158,7 @@ fn host_all<L, W, R>(
     core: LiveService,
     blank: Blank,
     parts: u64,
-    spaces: Vec<Hosted>,
+    spaces: Vec<HostedNamespace>,
     listeners: Vec<TcpListener>,
     lines: &SharedLines<W>,
     begun: time::Instant,
@@ -228,7 +228,7 @@ fn join_all(rt: &impl Threads, threads: Vec<JoinHandle<()>>) {
 }
 
 /// The limits of namespaces, in their order.
-fn gather_configs(alloc: Global, spaces: &[Hosted]) -> Option<Vec<Config>> {
+fn gather_configs(alloc: Global, spaces: &[HostedNamespace]) -> Option<Vec<Config>> {
     let mut configs = Vec::with_capacity(alloc, spaces.len()).ok()?;
     for space in spaces {
         configs.push(space.config).ok()?;
@@ -237,7 +237,7 @@ fn gather_configs(alloc: Global, spaces: &[Hosted]) -> Option<Vec<Config>> {
 }
 
 /// The service of these namespaces, made at moment 0.
-fn make_core(alloc: Global, spaces: &[Hosted]) -> Result<LiveService, Fault>
+fn make_core(alloc: Global, spaces: &[HostedNamespace]) -> Result<LiveService, Fault>
     ensures none { IfOk result (λ core. core.events ≡ 0) }
     ensures err { IfErr result (λ e. e ≡ Fault.OutOfMemory) }
 {
@@ -255,7 +255,7 @@ fn make_core(alloc: Global, spaces: &[Hosted]) -> Result<LiveService, Fault>
 pub fn serve_spaces<W, R>(
     rt: R,
     alloc: Global,
-    spaces: Vec<Hosted>,
+    spaces: Vec<HostedNamespace>,
     listeners: Vec<TcpListener>,
     lines: &SharedLines<W>,
     begun: time::Instant,

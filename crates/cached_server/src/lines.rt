@@ -3,13 +3,13 @@ ghost use Rattle.std.specs.Prelude.{◌≡◌, ◌≤◌, ◌++◌, ◌∷◌, [
 ghost use Rattle.std.specs.Io.KnownBytes.{Appends};
 ghost use Rattle.cache_devices.specs.Failures.{HasFailed};
 ghost use Rattle.cache_devices.specs.Watched.{device, failures};
-ghost use Rattle.cached_program.specs.Gathering.{Gathers};
-ghost use Rattle.cached_program.specs.Notes.{note_text};
-ghost use Rattle.cached_server.specs.Lines.{listening_line, note_line};
+ghost use Rattle.cached_script.specs.Gathering.{Gathers};
+ghost use Rattle.cached_script.specs.Notes.{note_text};
+ghost use Rattle.cached_server.specs.Lines.{listening_line, named_note_line};
 
 use audit_model::Note;
 use cache_devices::{SendError, Watched};
-use cached_program::{put, write_note, write_out};
+use cached_script::{put, write_note, write_out};
 use itoa::Buffer;
 use std::alloc::{AllocError, Global};
 use std::io::Write;
@@ -40,7 +40,7 @@ impl<W: Write + Drop> Lines<W> {
 
     /// Writes the line of a note of a namespace of that name, in one piece. Takes no memory.
     pub fn tell(&mut self, name: &[u8], note: &Note) -> Result<(), SendError>
-        ensures ok { OnOk result (Appends (W.contents (device self.old.writer)) (W.contents (device self.new.writer)) (note_line name.now note.now)) }
+        ensures ok { OnOk result (Appends (W.contents (device self.old.writer)) (W.contents (device self.new.writer)) (named_note_line name.now note.now)) }
         ensures whole { OnOk result (self.new.is_cut ≡ self.old.is_cut) }
         ensures cut { OnErr result (self.new.is_cut ≡ true) }
         ensures still { self.old.is_cut ≡ true → (self.new ≡ self.old) × IsErr result }
@@ -94,7 +94,7 @@ fn write_note_line<W: Write>(
     gathered: &mut Vec<u8>,
     writer: &mut Watched<W>,
 ) -> Result<(), SendError>
-    ensures ok { OnOk result (Appends (W.contents (device writer.old)) (W.contents (device writer.new)) (note_line name.now note.now)) }
+    ensures ok { OnOk result (Appends (W.contents (device writer.old)) (W.contents (device writer.new)) (named_note_line name.now note.now)) }
     ensures cause { OnErr result (HasFailed (failures writer.old) (failures writer.new)) }
 {
     gathered.clear();

@@ -2,8 +2,8 @@
 ghost use Rattle.std.specs.Prelude.{◌≡◌, ◌⊎◌, IfErr};
 
 use crate::announcing::SharedLines;
-use cached_config::Hosted;
-use cached_program::Fault;
+use cached_config::HostedNamespace;
+use cached_script::Fault;
 use std::alloc::Global;
 use std::io::Write;
 use std::net::{Ipv4Addr, Net, SocketAddr, TcpListener, TcpStream};
@@ -13,7 +13,7 @@ use std::sync::Wait;
 pub fn listen<R: Net<Listener = TcpListener, Stream = TcpStream>>(
     rt: &R,
     alloc: Global,
-    spaces: &[Hosted],
+    spaces: &[HostedNamespace],
 ) -> Result<Vec<TcpListener>, Fault>
     ensures { IfErr result (λ e. (e ≡ Fault.CannotListen) ⊎ (e ≡ Fault.OutOfMemory)) }
 {
@@ -34,7 +34,7 @@ pub fn listen<R: Net<Listener = TcpListener, Stream = TcpStream>>(
 pub fn show_all<W: Write + Drop>(
     rt: &impl Wait,
     lines: &SharedLines<W>,
-    spaces: &[Hosted],
+    spaces: &[HostedNamespace],
 ) -> Result<(), Fault>
     ensures { IfErr result (λ e. e ≡ Fault.Write) }
 {

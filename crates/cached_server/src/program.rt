@@ -2,15 +2,15 @@
 ghost use Rattle.std.specs.Prelude.{◌≡◌, ◌≢◌, ◌≤◌, ◌⊎◌, None, IsErr, IfErr};
 ghost use Rattle.toml.specs.Parse.{parse_document};
 ghost use Rattle.cache_devices.specs.Watched.{device, failures};
-ghost use Rattle.cached_program.specs.Faults.{Tells, fault_text, usage_text};
-ghost use Rattle.cached_program.specs.Scripts.{ServesScript};
+ghost use Rattle.cached_script.specs.Faults.{Tells, fault_message, usage_text};
+ghost use Rattle.cached_script.specs.Scripts.{ServesScript};
 
 use crate::hosts::serve_spaces;
 use crate::lines::Lines;
 use crate::listening::{listen, show_all};
 use crate::reading::{read_spaces, read_text};
 use cache_devices::Watched;
-use cached_program::{Chosen, Fault, fail, fail_words, run_script, take_words};
+use cached_script::{Chosen, Fault, fail, fail_words, run_script, take_words};
 use std::alloc::Global;
 use std::convert::AsStr;
 use std::io::{Read, Write};
@@ -85,7 +85,7 @@ where
         + Sync
         + 'static,
     ensures status { result ≡ 1 }
-    ensures told { (fault : Fault) × Tells (fault_text fault) (E.contents (device errors.old)) (E.contents (device errors.new)) (failures errors.old) (failures errors.new) }
+    ensures told { (fault : Fault) × Tells (fault_message fault) (E.contents (device errors.old)) (E.contents (device errors.new)) (failures errors.old) (failures errors.new) }
 {
     let Ok(begun) = Instant::now(&rt) else {
         return fail(errors, Fault::CannotListen);

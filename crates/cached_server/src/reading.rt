@@ -3,8 +3,8 @@ ghost use Rattle.std.specs.Prelude.{◌≡◌, ◌⊎◌, None, IsErr, IsTrue, I
 ghost use Rattle.toml.specs.Parse.{parse_document};
 ghost use Rattle.cached_config.specs.Good.{are_good};
 
-use cached_config::{ConfigError, Hosted, read_config};
-use cached_program::Fault;
+use cached_config::{ConfigError, HostedNamespace, read_config};
+use cached_script::Fault;
 use std::alloc::Global;
 use std::fs;
 use std::io::ErrorKind;
@@ -27,7 +27,7 @@ pub fn read_text<R: Files + AllocGlobal>(rt: &R, path: &str) -> Result<String, F
 }
 
 /// The namespaces that a text configures, in its order.
-pub fn read_spaces(alloc: Global, text: &str) -> Result<Vec<Hosted>, Fault>
+pub fn read_spaces(alloc: Global, text: &str) -> Result<Vec<HostedNamespace>, Fault>
     ensures ok { IfOk result (λ spaces. IsTrue (are_good spaces.items)) }
     ensures text { parse_document text.now ≡ None → IsErr result }
     ensures err { IfErr result (λ e. (e ≡ Fault.BadConfiguration) ⊎ (e ≡ Fault.OutOfMemory)) }

@@ -1,7 +1,7 @@
 //! Servers of configurations, with clients.
 use crate::clients::{free_ports, take_port};
 use crate::stages::{Cast, Served, stage};
-use cached_program::Fault;
+use cached_script::Fault;
 use std::alloc::{AllocError, Global};
 use std::net::{Net, TcpListener, TcpStream};
 use std::sync::Wait;

@@ -1,5 +1,5 @@
 -- The identifiers of predicates: a generator gives them, and one that is registered is not taken again.
-use Rattle.std.specs.Prelude.{◌≡◌, ℕ, zero, suc, ◌<◌, ◌==◌, Bool, true, false, List}
+use Rattle.std.specs.Prelude.{◌≡◌, ℕ, zero, suc, ◌<◌, ◌==◌, Bool, true, false, List, length, All}
 use Rattle.std.specs.Int.{from_be_bytes, w128}
 use Rattle.std.specs.List.{list_any}
 use Rattle.rand_core.specs.Stream.{Stream, fill_bytes}
@@ -19,6 +19,15 @@ stream_after (suc n) stream = (drawn (stream_after n stream)).1
 abbrev pub identifier_at : ℕ → Stream → ℕ
 identifier_at n stream = from_be_bytes w128 (drawn (stream_after n stream)).0
 
+-- bytes, 16 of them
+pub record AreSixteenBytes (bytes : List ℕ) : Type 0 where
+  pub sixteen : length bytes ≡ 16
+  pub each : All (λ b. b < 256) bytes
+
+-- so many identifiers are 16 bytes each
+abbrev pub AreIdentifiers : ℕ → Stream → Type 0
+AreIdentifiers number stream = (n : ℕ) → n < number → AreSixteenBytes (drawn (stream_after n stream)).0
+
 -- a predicate is registered under the identifier
 abbrev pub is_registered : {P : Type 0} → List (Registered P) → ℕ → Bool
 is_registered registered id = list_any (λ p. p.id == id) registered
@@ -27,6 +36,7 @@ is_registered registered id = list_any (λ p. p.id == id) registered
 pub record DrawsSome (number : ℕ) (old new : Stream) (registered : ℕ → Bool) : Type 0 where
   pub stream : new ≡ stream_after number old
   pub each : (n : ℕ) → n < number → registered (identifier_at n old) ≡ true
+  pub bytes : AreIdentifiers number old
 
 -- fewer than a thousand were drawn, each of them registered, and then this one, which is not
 pub record Draws (old new : Stream) (registered : ℕ → Bool) (id : ℕ) : Type 0 where
@@ -36,6 +46,7 @@ pub record Draws (old new : Stream) (registered : ℕ → Bool) (id : ℕ) : Typ
   pub free : registered id ≡ false
   pub stream : new ≡ stream_after (suc place) old
   pub each : (n : ℕ) → n < place → registered (identifier_at n old) ≡ true
+  pub bytes : AreIdentifiers (suc place) old
 
 -- a thousand identifiers were drawn, each of them registered
 pub record AreInUse (old new : Stream) (registered : ℕ → Bool) : Type 0 where

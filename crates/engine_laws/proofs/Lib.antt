@@ -1,8 +1,10 @@
 pub mod Fronting
 pub mod Fewer
 pub mod Rising
-pub mod Pointing
+pub mod Justly
 pub mod Ordering
 pub mod Ticking
+pub mod ByList
 pub mod Swept
+pub mod Rises
 pub mod Shown

@@ -1,5 +1,5 @@
 -- Calls and uncut runs keep a state in order.
-use Rattle.std.proofs.Common.{◌≡◌, refl, ap, sym, ◌∙◌, subst, ℕ, ◌+◌, ◌<◌, ◌≤◌, arith, Bool, true, false, true≢false, cond, List, [], ◌∷◌, ◌++◌, Option, Some, None, map, append_assoc, inl, inr, eqb, ◌==◌}
+use Rattle.std.proofs.Common.{zero, suc, ◌≡◌, refl, ap, sym, ◌∙◌, subst, ℕ, ◌+◌, ◌<◌, ◌≤◌, arith, Bool, true, false, true≢false, cond, List, [], ◌∷◌, ◌++◌, Option, Some, None, map, append_assoc, inl, inr, eqb, ◌==◌}
 use Rattle.std.specs.Prelude.{nat_lt, unwrap_or, sum_by}
 use Rattle.std.proofs.lemmas.Bool.{eqb-true, eq-eqb, ne_eqb, ltb-true}
 use Rattle.std.proofs.lemmas.List.{map-append}
@@ -23,25 +23,26 @@ use Rattle.engine_reference.proofs.TellingSteps.{run_tells}
 use Rattle.engine_laws.specs.Points.{AreRising, with_write, IsKeptBy, AreKept, pending_of, IsInOrder, CallsStayInOrder, RunsStayInOrder}
 use Rattle.engine_laws.proofs.Fewer.{Fewer, fewer-refl, fewer-weight, fewer-changed, without-none_of, kept-fewer, weight-cons}
 use Rattle.engine_laws.proofs.Fronting.{each-at}
-use Rattle.engine_laws.proofs.Pointing.{above-more, in_right, in_either}
+use Rattle.engine_laws.proofs.Justly.{above-more, in_right, in_either}
 use Rattle.engine_laws.proofs.Rising.{rising-own, rising-other}
+use Rattle.engine_laws.proofs.Swept.{each-run}
 
 -- ---- one more write is pending
 
 pending-push : (ws : List Write) (us : List Unsent) (u : Unsent) → ws ++ map (λ x. x.write) (us ++ u ∷ []) ≡ (ws ++ map (λ x. x.write) us) ++ u.write ∷ []
 pending-push ws us u = ap (λ l. ws ++ l) (map-append (λ x. x.write) us (u ∷ [])) ∙ sym (append_assoc ws (map (λ x. x.write) us) (u.write ∷ []))
 
-rising-push_removed : (n a m : ℕ) (ws : List Write) → AreRising n a ws → AreRising n a (ws ++ Removed m ∷ [])
+pub rising-push_removed : (n a m : ℕ) (ws : List Write) → AreRising n a ws → AreRising n a (ws ++ Removed m ∷ [])
 rising-push_removed n a m [] h = tt
 rising-push_removed n a m (Put u ∷ ws) h = (h.0, rising-push_removed n (cond (u.number == n) u.write a) m ws h.1)
 rising-push_removed n a m (Removed k ∷ ws) h = rising-push_removed n a m ws h
 
-rising-push_other : (n a : ℕ) (v : Upsert) (ws : List Write) → (v.number ≡ n → ⊥) → AreRising n a ws → AreRising n a (ws ++ Put v ∷ [])
+pub rising-push_other : (n a : ℕ) (v : Upsert) (ws : List Write) → (v.number ≡ n → ⊥) → AreRising n a ws → AreRising n a (ws ++ Put v ∷ [])
 rising-push_other n a v [] other h = ((λ e. absurd (other e)), tt)
 rising-push_other n a v (Put u ∷ ws) other h = (h.0, rising-push_other n (cond (u.number == n) u.write a) v ws other h.1)
 rising-push_other n a v (Removed k ∷ ws) other h = rising-push_other n a v ws other h
 
-rising-fresh : (n a : ℕ) (v : Upsert) (ws : List Write) → ((w : Write) → IsIn w ws → number_of w ≡ n → ⊥) → a < v.write → AreRising n a (ws ++ Put v ∷ [])
+pub rising-fresh : (n a : ℕ) (v : Upsert) (ws : List Write) → ((w : Write) → IsIn w ws → number_of w ≡ n → ⊥) → a < v.write → AreRising n a (ws ++ Put v ∷ [])
 rising-fresh n a v [] others less = ((λ e. less), tt)
 rising-fresh n a v (Put u ∷ ws) others less =
     let other = others (Put u) (inl refl) in
@@ -76,7 +77,7 @@ not_above-within (Some c) a h = go (nat_lt c a) refl
     go false e = refl
 
 module _ {K V : Type 0} where
-  rising-push_own : (x : Record K V) (a : ℕ) (v : Upsert) (ws : List Write) → ((w : Write) → IsIn w ws → Fits w x) → a < v.write → x.writes < v.write → AreRising x.number a ws → AreRising x.number a (ws ++ Put v ∷ [])
+  pub rising-push_own : (x : Record K V) (a : ℕ) (v : Upsert) (ws : List Write) → ((w : Write) → IsIn w ws → Fits w x) → a < v.write → x.writes < v.write → AreRising x.number a ws → AreRising x.number a (ws ++ Put v ∷ [])
   rising-push_own x a v [] fits less last h = ((λ e. less), tt)
   rising-push_own x a v (Put u ∷ ws) fits less last h = (h.0, rising-push_own x (cond (u.number == x.number) u.write a) v ws (λ w i. fits w (inr i)) (go (u.number == x.number) refl) last h.1)
     where
@@ -343,7 +344,7 @@ module _ (K V P S R : Type 0) where
       }
 
   pub runs_stay_in_order : RunsStayInOrder K V P S R
-  runs_stay_in_order answers now old new h sent positive k =
+  runs_stay_in_order answers now old new h sent bare k =
       let s = run-sound answers now old new h k.runs in
       let c = run_tells answers now old new k.runs in
       let e = k.runs.after in
@@ -358,5 +359,16 @@ module _ (K V P S R : Type 0) where
         rising = subst (λ ws. Each (λ r. AreRising r.number r.applied ws) new.records) (sym nothing) (each-map (IsAccounted [] []) (λ r. AreRising r.number r.applied []) (λ r l. tt) new.records accounted);
         kept = subst (λ ws. AreKept ws new.records) (sym nothing) tt;
         within = not_above-within new.settings.capacity (admitted_weight new.records)
-            (λ capacity is_set. let low = exact.within capacity is_set (positive capacity (sym (ap (λ t. t.capacity) c.keeps.settings) ∙ is_set)) in omega (arith, same));
+            (λ capacity is_set. low capacity (sym (ap (λ t. t.capacity) c.keeps.settings) ∙ is_set) (exact.within capacity is_set) same);
       }
+    where
+      none-left : old.records ≡ [] → admitted_weight new.records ≡ 0
+      none-left e = go new.records (each-run (λ r. ⊥) (λ r applied counts k. k) answers now old new h (subst (λ rs. Each (λ r. ⊥) rs) (sym e) tt) k.runs)
+        where
+          go : (rs : List (Record K V)) → Each (λ r. ⊥) rs → admitted_weight rs ≡ 0
+          go [] all = refl
+          go (r ∷ rs) all = absurd (all.0)
+
+      low : (capacity : ℕ) → old.settings.capacity ≡ Some capacity → (0 < capacity → held_weight new.records ≤ capacity) → admitted_weight new.records ≡ held_weight new.records → admitted_weight new.records ≤ capacity
+      low zero is_set within same = let none = none-left (bare is_set) in omega arith
+      low (suc c) is_set within same = let fits = within (omega arith) in omega arith

@@ -35,11 +35,3 @@ module _ {K V : Type 0} where
         (λ x k. ap (λ b. cond b (Some r) (record_at rs x.number)) (ne_eqb r.number x.number (λ e. k.1 (sym e))) ∙ k.0) rs
         (each-both (λ x. record_at rs x.number ≡ Some x) (λ x. x.number ≡ r.number → ⊥) rs (each-own rs numbered.1) (none_there r.number rs numbered.0)),
   )
-
-  -- the record as it stood in an earlier list, but for what maintenance knows of it
-  pub record ComesFrom (rs : List (Record K V)) (r : Record K V) : Type 0 where
-    pub owner : Record K V
-    pub there : record_at rs owner.number ≡ Some owner
-    pub number : owner.number ≡ r.number
-    pub entry : owner.entry ≡ r.entry
-    pub held : owner.is_held ≡ r.is_held

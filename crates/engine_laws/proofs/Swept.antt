@@ -16,7 +16,7 @@ use Rattle.engine_reference.specs.declared.data.Write.{Write}
 use Rattle.engine_reference.specs.declared.data.Write.TheVariants.{Put, Removed}
 use Rattle.engine_reference.specs.Admission.{Verdict, admit, displace, refuse, verdict}
 use Rattle.engine_reference.specs.Calls.{with_written, first_entry, next_entry, with_sent, sent, unsent_at, without_ticket, with_removed, removal_told, with_read, used_entry}
-use Rattle.engine_reference.specs.Records.{record_at, held_at, without_record, changed_at, without, moved_to_back, held_weight}
+use Rattle.engine_reference.specs.Records.{record_at, held_at, without_record, changed_at, without, moved_to_back, held_weight, with_admitted, admitted_in}
 use Rattle.engine_reference.specs.Runs.{Step, reads, writes, grows, leaves, evicts, ends, Steps, Runs, left, all_left, after_read, after_hit, after_write, after_put, after_removal, counting, put_off, judged, is_overtaken, first_of}
 use Rattle.engine_reference.specs.Soundness.{IsIn, Each, AreNumbered, IsAccounted, IsSound}
 use Rattle.engine_reference.specs.State.{State, Answers}
@@ -26,10 +26,12 @@ use Rattle.engine_reference.proofs.HeldRecords.{record_at-number}
 use Rattle.engine_reference.proofs.SoundCalls.{calls_stay_sound, held_at-only, each-push, used-sound}
 use Rattle.engine_reference.proofs.SoundSteps.{IsCounted, counted, step-sound, run-sound, left-each, all_left-sound}
 use Rattle.engine_reference.proofs.TellingSteps.{run_tells}
-use Rattle.engine_laws.specs.Sweeping.{order_after, with_admitted, admitted_in, InOrderBy, IsWrittenBefore, IsUsedBefore, IsSwept, LeavesNoneDue, IsTimely, SweptRunsLeaveNoneDue, SweptRunsStayTimely, CallsStayTimely, LookingAtAllSweeps, LookingAtAllLeavesNoneDue}
+use Rattle.engine_laws.specs.Just.{ComesFrom}
+use Rattle.engine_laws.specs.Sweeping.{order_after, InOrderBy, IsWrittenBefore, IsUsedBefore, LeavesNoneDue, LookingAtAllSweeps}
+use Rattle.engine_laws.proofs.ByList.{IsSweptBy, IsTimelyBy, SweptRunsLeaveNoneDueBy, SweptRunsStayTimelyBy, CallsStayTimelyBy}
 use Rattle.engine_laws.specs.Fronts.{NothingIsDue}
 use Rattle.engine_laws.proofs.Fronting.{each-at, or_right}
-use Rattle.engine_laws.proofs.Rising.{each-own, ComesFrom}
+use Rattle.engine_laws.proofs.Rising.{each-own}
 use Rattle.engine_laws.proofs.Ticking.{own-tick, changed-tick, end-later, end-after, tick-not_reached, lt-false-up, earlier-not_reached}
 
 -- ---- what maintenance does not touch
@@ -65,10 +67,10 @@ module _ {K V P S R : Type 0} (Q : Record K V → Type 0) (stable : (r : Record 
       go : (o : Option (Record K V)) → Each Q (after_removal o s).records
       go None = h
       go (Some r) =
-          each-either r.is_held s (record s { records = without_record r.number s.records; access = without r.number s.access }) h
+          each-either r.is_held s (record s { records = without_record r.number s.records; access = without r.number s.access; order = without r.number s.order }) h
           (each-without r.number Q Q (λ x other k. k) s.records sound.records.numbered h)
 
-  read-records : (r : Read) (s : State K V P S R) → (after_read r s).records ≡ s.records
+  pub read-records : (r : Read) (s : State K V P S R) → (after_read r s).records ≡ s.records
   read-records (Miss hash) s = refl
   read-records (Hit n hash) s = by_record (record_at s.records n)
     where
@@ -84,7 +86,7 @@ module _ {K V P S R : Type 0} (Q : Record K V → Type 0) (stable : (r : Record 
       by_record (Some r) = by_counts r.number (is_some r.counts)
 
   module _ (answers : Answers K V P R) (now : ℕ) where
-    each-step : (s t : State K V P S R) → IsSound s → Each Q s.records → Step answers now s t → Each Q t.records
+    pub each-step : (s t : State K V P S R) → IsSound s → Each Q s.records → Step answers now s t → Each Q t.records
     each-step s t sound h (reads r rest e after) = subst (λ rs. Each Q rs) (sym (ap (λ x. x.records) after ∙ read-records r (record s { reads = rest }))) h
     each-step s t sound h (writes w rest none e after) = subst (λ x. Each Q x.records) (sym after) (each-write w (record s { writes = rest }) s.writes (record { records = sound.records; named = sound.named }) h)
     each-step s t sound h (grows words applied wants capacity is_set size after) = subst (λ x. Each Q x.records) (sym after) h
@@ -145,7 +147,7 @@ module _ {K V : Type 0} where
           )
 
   -- the first of the list that is there stands before each other
-  first-before : (Rel : Record K V → Record K V → Type 0) → ((x : Record K V) → Rel x x) → (rs : List (Record K V)) → Each (λ r. is_some r.counts ≡ true) rs → (ns : List ℕ) → InOrderBy Rel rs ns
+  pub first-before : (Rel : Record K V → Record K V → Type 0) → ((x : Record K V) → Rel x x) → (rs : List (Record K V)) → Each (λ r. is_some r.counts ≡ true) rs → (ns : List ℕ) → InOrderBy Rel rs ns
       → (m : ℕ) (x : Record K V) → IsIn m ns → record_at rs m ≡ Some x → (y : Record K V) × (first_of (admitted_in rs ns) ≡ Some y) × Rel y x
   first-before Rel same rs all [] h m x i there = elim i [ ]
   first-before Rel same rs all (n ∷ ns) h m x i there = go (record_at rs n) refl i (λ j. first-before Rel same rs all ns h.1 m x j there)
@@ -164,7 +166,7 @@ module _ {K V : Type 0} where
       go (Some y) here i later = (y, ap (λ b. first_of (cond b (y ∷ admitted_in rs ns) (admitted_in rs ns))) (each-at (λ r. is_some r.counts ≡ true) rs n y all here), rel y here i)
 
   -- what is first on a list is found under its number
-  first-found : (rs : List (Record K V)) (ns : List ℕ) (r : Record K V) → first_of (admitted_in rs ns) ≡ Some r → record_at rs r.number ≡ Some r
+  pub first-found : (rs : List (Record K V)) (ns : List ℕ) (r : Record K V) → first_of (admitted_in rs ns) ≡ Some r → record_at rs r.number ≡ Some r
   first-found rs [] r e = absurd (cc)
   first-found rs (n ∷ ns) r e = go (record_at rs n) refl e (first-found rs ns r)
     where
@@ -178,7 +180,7 @@ module _ {K V : Type 0} where
 
   -- ---- records by number
 
-  changed-other : (n m : ℕ) (change : Record K V → Record K V) → ((x : Record K V) → (change x).number ≡ x.number) → (rs : List (Record K V)) → (m ≡ n → ⊥) → record_at (changed_at n change rs) m ≡ record_at rs m
+  pub changed-other : (n m : ℕ) (change : Record K V → Record K V) → ((x : Record K V) → (change x).number ≡ x.number) → (rs : List (Record K V)) → (m ≡ n → ⊥) → record_at (changed_at n change rs) m ≡ record_at rs m
   changed-other n m change same [] other = refl
   changed-other n m change same (r ∷ rs) other = go (eqb r.number n) refl (changed-other n m change same rs other)
     where
@@ -189,7 +191,7 @@ module _ {K V : Type 0} where
       go false t later = ap (λ o. cond (eqb r.number m) (Some r) o) later
 
   -- what is found after a change was there before, or is what it became
-  changed-from : (n m : ℕ) (change : Record K V → Record K V) → ((x : Record K V) → (change x).number ≡ x.number) → (rs : List (Record K V)) (r : Record K V) → record_at (changed_at n change rs) m ≡ Some r
+  pub changed-from : (n m : ℕ) (change : Record K V → Record K V) → ((x : Record K V) → (change x).number ≡ x.number) → (rs : List (Record K V)) (r : Record K V) → record_at (changed_at n change rs) m ≡ Some r
       → (o : Record K V) × (record_at rs m ≡ Some o) × ((r ≡ o) ⊎ (r ≡ change o))
   changed-from n m change same [] r h = absurd (cc)
   changed-from n m change same (x ∷ rs) r h = go (eqb x.number n) (eqb x.number m) refl h (changed-from n m change same rs r)
@@ -207,7 +209,7 @@ module _ {K V : Type 0} where
           (x, refl, inl (let e : r ≡ x = cc in e))
       go false false t h later = later (sym (ap (λ b. cond b (Some x) (record_at (changed_at n change rs) m)) t) ∙ h)
 
-  push-other : (m : ℕ) (rs : List (Record K V)) (x : Record K V) → (m ≡ x.number → ⊥) → record_at (rs ++ x ∷ []) m ≡ record_at rs m
+  pub push-other : (m : ℕ) (rs : List (Record K V)) (x : Record K V) → (m ≡ x.number → ⊥) → record_at (rs ++ x ∷ []) m ≡ record_at rs m
   push-other m [] x other = ap (λ b. cond b (Some x) None) (ne_eqb x.number m (λ e. other (sym e)))
   push-other m (r ∷ rs) x other = ap (λ o. cond (eqb r.number m) (Some r) o) (push-other m rs x other)
 
@@ -215,7 +217,7 @@ module _ {K V : Type 0} where
 
 module _ {K V P S R : Type 0} where
   -- a later moment
-  timely-later : (moment step now : ℕ) (order : List ℕ) (s : State K V P S R) → moment ≤ now → now ≤ 9223372036854775807 → IsTimely moment step order s → IsTimely now step order s
+  timely-later : (moment step now : ℕ) (order : List ℕ) (s : State K V P S R) → moment ≤ now → now ≤ 9223372036854775807 → IsTimelyBy moment step order s → IsTimelyBy now step order s
   timely-later moment step now order s less range h =
       let ran = h.ran in
       record {
@@ -230,7 +232,7 @@ module _ {K V P S R : Type 0} where
       }
 
   -- a call that touches none of it
-  timely-same : (moment step : ℕ) (order : List ℕ) (s t : State K V P S R) → IsSound t → t.unsent ≡ s.unsent → t.records ≡ s.records → t.writes ≡ s.writes → t.settings ≡ s.settings → t.ran ≡ s.ran → IsTimely moment step order s → IsTimely moment step order t
+  timely-same : (moment step : ℕ) (order : List ℕ) (s t : State K V P S R) → IsSound t → t.unsent ≡ s.unsent → t.records ≡ s.records → t.writes ≡ s.writes → t.settings ≡ s.settings → t.ran ≡ s.ran → IsTimelyBy moment step order s → IsTimelyBy moment step order t
   timely-same moment step order s t sound unsent records queued settings ran h = record {
     sound = sound;
     sent = unsent ∙ h.sent;
@@ -242,7 +244,7 @@ module _ {K V P S R : Type 0} where
     range = h.range;
   }
 
-  sent-one : (u : Unsent) (t : State K V P S R) → t.unsent ≡ u ∷ [] → sent u.ticket t ≡ record t { unsent = []; writes = t.writes ++ u.write ∷ [] }
+  pub sent-one : (u : Unsent) (t : State K V P S R) → t.unsent ≡ u ∷ [] → sent u.ticket t ≡ record t { unsent = []; writes = t.writes ++ u.write ∷ [] }
   sent-one u t e =
       let yes = eq-eqb u.ticket u.ticket refl in
       let found : unsent_at t.unsent u.ticket ≡ Some u.write = ap (λ us. unsent_at us u.ticket) e ∙ ap (λ b. cond b (Some u.write) None) yes in
@@ -250,10 +252,10 @@ module _ {K V P S R : Type 0} where
       ap (λ o. with_sent u.ticket o t) found ∙ ap (λ us. record t { unsent = us; writes = t.writes ++ u.write ∷ [] }) gone
 
   removed-timely : (eq : K → K → Bool) (moment step : ℕ) (order : List ℕ) (s : State K V P S R) (key : K) (o : Option (Record K V)) → held_at eq s.records key ≡ o → IsSound (sent s.next_ticket (with_removed o s))
-      → IsTimely moment step order s → IsTimely moment step order (sent s.next_ticket (with_removed o s))
+      → IsTimelyBy moment step order s → IsTimelyBy moment step order (sent s.next_ticket (with_removed o s))
   removed-timely eq moment step order s key None e sound h =
       let same : sent s.next_ticket s ≡ s = ap (λ us. with_sent s.next_ticket (unsent_at us s.next_ticket) s) h.sent in
-      subst (λ t. IsTimely moment step order t) (sym same) h
+      subst (λ t. IsTimelyBy moment step order t) (sym same) h
   removed-timely eq moment step order s key (Some r) e sound h =
       let u : Unsent = record { ticket = s.next_ticket; write = Removed r.number } in
       let t = with_removed (Some r) s in
@@ -261,7 +263,7 @@ module _ {K V P S R : Type 0} where
       let same = sent-one u t (ap (λ us. us ++ u ∷ []) h.sent) in
       let order_is = order-removed s.writes r.number order in
       let numbered = h.sound.records.numbered in
-      subst (λ x. IsTimely moment step order x) (sym same) (record {
+      subst (λ x. IsTimelyBy moment step order x) (sym same) (record {
         sound = subst (λ x. IsSound x) same sound;
         sent = refl;
         ordered = subst (λ ns. InOrderBy IsWrittenBefore (changed_at r.number f s.records) ns) (sym order_is)
@@ -278,7 +280,7 @@ module _ {K V P S R : Type 0} where
         range = h.range;
       })
 
-  read-timely : (answers : Answers K V P R) (moment step : ℕ) (order : List ℕ) (s : State K V P S R) (o : Option (Record K V)) (hash now : ℕ) → moment ≤ now → now ≤ 9223372036854775807 → IsTimely moment step order s → IsTimely moment step order (with_read answers o hash now s)
+  read-timely : (answers : Answers K V P R) (moment step : ℕ) (order : List ℕ) (s : State K V P S R) (o : Option (Record K V)) (hash now : ℕ) → moment ≤ now → now ≤ 9223372036854775807 → IsTimelyBy moment step order s → IsTimelyBy moment step order (with_read answers o hash now s)
   read-timely answers moment step order s None hash now less range h = timely-same moment step order s (with_read answers None hash now s) (used-sound answers None hash now s h.sound) refl refl refl refl refl h
   read-timely answers moment step order s (Some r) hash now less range h =
       let f = λ (x : Record K V). record x { entry = used_entry answers s now x.entry } in
@@ -298,7 +300,7 @@ module _ {K V P S R : Type 0} where
         range = h.range;
       }
 
-  told-timely : (answers : Answers K V P R) (moment step : ℕ) (order : List ℕ) (s : State K V P S R) (e : Entry K V) (now : ℕ) → IsSound (removal_told answers e now s) → IsTimely moment step order s → IsTimely moment step order (removal_told answers e now s)
+  told-timely : (answers : Answers K V P R) (moment step : ℕ) (order : List ℕ) (s : State K V P S R) (e : Entry K V) (now : ℕ) → IsSound (removal_told answers e now s) → IsTimelyBy moment step order s → IsTimelyBy moment step order (removal_told answers e now s)
   told-timely answers moment step order s e now sound h = timely-same moment step order s (removal_told answers e now s) sound refl refl refl refl refl h
 
   -- the records after a write
@@ -308,20 +310,20 @@ module _ {K V P S R : Type 0} where
     latest : Each (λ r. (r.entry.step ≤ next) × (r.entry.written ≤ now)) rs
     own : Each (λ r. (expires : ℕ) → r.entry.expires ≡ Some expires → tick_of s.settings s.ran ≤ tick_of s.settings expires) rs
 
-  written-last : (moment step now next : ℕ) (order : List ℕ) (s : State K V P S R) → moment ≤ now → step ≤ next → IsTimely moment step order s → (m : ℕ) (y x : Record K V) → record_at s.records m ≡ Some y → x.entry.step ≡ next → x.entry.written ≡ now → IsWrittenBefore y x
+  written-last : (moment step now next : ℕ) (order : List ℕ) (s : State K V P S R) → moment ≤ now → step ≤ next → IsTimelyBy moment step order s → (m : ℕ) (y x : Record K V) → record_at s.records m ≡ Some y → x.entry.step ≡ next → x.entry.written ≡ now → IsWrittenBefore y x
   written-last moment step now next order s less rises h m y x there is_step is_written =
       let low = each-at (λ r. (r.entry.step ≤ step) × (r.entry.written ≤ moment)) s.records m y h.latest there in
       (omega (arith, low.0, is_step), omega (arith, low.1, is_written))
 
-  written-timely : (moment step now next : ℕ) (order : List ℕ) (s t : State K V P S R) (v : Upsert) → moment ≤ now → now ≤ 9223372036854775807 → IsTimely moment step order s
+  written-timely : (moment step now next : ℕ) (order : List ℕ) (s t : State K V P S R) (v : Upsert) → moment ≤ now → now ≤ 9223372036854775807 → IsTimelyBy moment step order s
       → t.unsent ≡ s.unsent ++ (record { ticket = s.next_ticket; write = Put v }) ∷ [] → t.writes ≡ s.writes → t.settings ≡ s.settings → t.ran ≡ s.ran → IsSound (sent s.next_ticket t)
-      → HasWritten moment step now next s (order_after s.writes order) v.number t.records → IsTimely now next order (sent s.next_ticket t)
+      → HasWritten moment step now next s (order_after s.writes order) v.number t.records → IsTimelyBy now next order (sent s.next_ticket t)
   written-timely moment step now next order s t v less range h unsent queued settings ran sound k =
       let u : Unsent = record { ticket = s.next_ticket; write = Put v } in
       let same = sent-one u t (unsent ∙ ap (λ us. us ++ u ∷ []) h.sent) in
       let order_is : order_after (t.writes ++ Put v ∷ []) order ≡ moved_to_back v.number (order_after s.writes order) = ap (λ ws. order_after (ws ++ Put v ∷ []) order) queued ∙ order-put s.writes v order in
       let before = h.ran in
-      subst (λ x. IsTimely now next order x) (sym same) (record {
+      subst (λ x. IsTimelyBy now next order x) (sym same) (record {
         sound = subst (λ x. IsSound x) same sound;
         sent = refl;
         ordered = subst (λ ns. InOrderBy IsWrittenBefore t.records ns) (sym order_is) k.ordered;
@@ -333,8 +335,8 @@ module _ {K V P S R : Type 0} where
       })
 
   put-timely : (eq : K → K → Bool) (answers : Answers K V P R) (moment step now next : ℕ) (order : List ℕ) (s : State K V P S R) (key : K) (hash : ℕ) (value : V) (o : Option (Record K V)) → held_at eq s.records key ≡ o
-      → moment ≤ now → now ≤ 9223372036854775807 → step ≤ next → IsSound (sent s.next_ticket (with_written answers o s key hash value now next)) → IsTimely moment step order s
-      → IsTimely now next order (sent s.next_ticket (with_written answers o s key hash value now next))
+      → moment ≤ now → now ≤ 9223372036854775807 → step ≤ next → IsSound (sent s.next_ticket (with_written answers o s key hash value now next)) → IsTimelyBy moment step order s
+      → IsTimelyBy now next order (sent s.next_ticket (with_written answers o s key hash value now next))
   put-timely eq answers moment step now next order s key hash value None e less range rises sound h =
       written-timely moment step now next order s (with_written answers None s key hash value now next) v less range h refl refl refl refl sound (record { ordered = ordered; listed = listed; latest = latest; own = own })
     where
@@ -418,15 +420,15 @@ module _ {K V P S R : Type 0} where
 
 module _ {K V P S R : Type 0} where
   -- a record that was there before the run, held as it is
-  record RunLeaves (old new : State K V P S R) : Type 0 where
-    sound : IsSound new
-    from : Each (ComesFrom old.records) new.records
-    counted : Each IsCounted new.records
-    queue : new.writes ≡ []
-    unsent : new.unsent ≡ []
-    settings : new.settings ≡ old.settings
+  pub record RunLeaves (old new : State K V P S R) : Type 0 where
+    pub sound : IsSound new
+    pub from : Each (ComesFrom old.records) new.records
+    pub counted : Each IsCounted new.records
+    pub queue : new.writes ≡ []
+    pub unsent : new.unsent ≡ []
+    pub settings : new.settings ≡ old.settings
 
-  run-leaves : (answers : Answers K V P R) (now : ℕ) (old new : State K V P S R) → IsSound old → old.unsent ≡ [] → Runs answers now old new → RunLeaves old new
+  pub run-leaves : (answers : Answers K V P R) (now : ℕ) (old new : State K V P S R) → IsSound old → old.unsent ≡ [] → Runs answers now old new → RunLeaves old new
   run-leaves answers now old new sound sent run =
       let s = run-sound answers now old new sound run in
       let c = run_tells answers now old new run in
@@ -448,7 +450,7 @@ module _ {K V P S R : Type 0} where
       let f = each-at (ComesFrom old.records) new.records m r k.from there in
       (f.owner, ap (λ n. record_at old.records n) (sym (record_at-number new.records m r there) ∙ sym f.number) ∙ f.there, f.entry, f.held)
 
-  module _ (answers : Answers K V P R) (moment step now : ℕ) (order : List ℕ) (old new : State K V P S R) (h : IsTimely moment step order old) (less : moment ≤ now) (range : now ≤ 9223372036854775807) (k : RunLeaves old new) where
+  module _ (answers : Answers K V P R) (moment step now : ℕ) (order : List ℕ) (old new : State K V P S R) (h : IsTimelyBy moment step order old) (less : moment ≤ now) (range : now ≤ 9223372036854775807) (k : RunLeaves old new) where
     run-ordered : InOrderBy IsWrittenBefore new.records (order_after old.writes order)
     run-ordered = ordered-map old.records new.records (λ m r there. let f = from-at old new k m r there in (f.0, f.1, ap (λ e. e.step) f.2, ap (λ e. e.written) f.2)) (order_after old.writes order) h.ordered
 
@@ -471,7 +473,7 @@ module _ {K V P S R : Type 0} where
         let admitted = each-at (λ x. is_some x.counts ≡ true) new.records r.number r all_admitted there in
         first-before IsUsedBefore (λ x. omega arith) new.records all_admitted new.access close r.number r (listed admitted) there
 
-    run-own : IsSwept now (order_after old.writes order) old new → (r : Record K V) → record_at new.records r.number ≡ Some r → (expires : ℕ) → r.entry.expires ≡ Some expires → tick_of new.settings now ≤ tick_of new.settings expires
+    run-own : IsSweptBy now (order_after old.writes order) old new → (r : Record K V) → record_at new.records r.number ≡ Some r → (expires : ℕ) → r.entry.expires ≡ Some expires → tick_of new.settings now ≤ tick_of new.settings expires
     run-own swept r there expires e = subst (λ c. tick_of c now ≤ tick_of c expires) (sym k.settings) (go (nat_lt (tick_of old.settings old.ran) (tick_of old.settings now)) refl)
       where
         go : (b : Bool) → nat_lt (tick_of old.settings old.ran) (tick_of old.settings now) ≡ b → tick_of old.settings now ≤ tick_of old.settings expires
@@ -482,7 +484,7 @@ module _ {K V P S R : Type 0} where
             let low = ltb-false (tick_of old.settings old.ran) (tick_of old.settings now) t in
             omega (arith, before, low)
 
-    run-none_due : IsSwept now (order_after old.writes order) old new → LeavesNoneDue now new
+    run-none_due : IsSweptBy now (order_after old.writes order) old new → LeavesNoneDue now new
     run-none_due swept = record {
       live = λ r there. let f = first-written r there in end-later f.0.entry.written r.entry.written new.settings.live now f.2.1 (swept.live f.0 f.1);
       clear = λ r there. let f = first-written r there in lt-false-up f.0.entry.step r.entry.step new.cleared f.2.0 (swept.clear f.0 f.1);
@@ -510,16 +512,16 @@ module _ {K V P S R : Type 0} (answers : Answers K V P R) (now : ℕ) (s : State
       (or_right (nat_lt r.entry.step s.cleared) (list_any (λ p. is_covered_by answers s.rules p r.entry) s.predicates) (quiet.uncovered r there held)).0
 
 module _ (K V P S R : Type 0) where
-  pub swept_runs_leave_none_due : SweptRunsLeaveNoneDue K V P S R
-  swept_runs_leave_none_due answers moment step now order old new h less range run swept =
-      run-none_due answers moment step now order old new h less range (run-leaves answers now old new h.sound h.sent run.runs) swept
+  pub swept_runs_leave_none_due_by : SweptRunsLeaveNoneDueBy K V P S R
+  swept_runs_leave_none_due_by answers moment step now order old new h less range run swept =
+      run-none_due answers moment step now order old new h less range (run-leaves answers now old new h.sound h.sent run) swept
 
-  pub swept_runs_stay_timely : SweptRunsStayTimely K V P S R
-  swept_runs_stay_timely answers moment step now order old new h less range run swept =
-      let k = run-leaves answers now old new h.sound h.sent run.runs in
+  pub swept_runs_stay_timely_by : SweptRunsStayTimelyBy K V P S R
+  swept_runs_stay_timely_by answers moment step now order old new h less range run swept =
+      let k = run-leaves answers now old new h.sound h.sent run in
       let ns = order_after old.writes order in
       let own = each-own new.records k.sound.records.numbered in
-      let ran : new.ran ≡ now = ap (λ t. t.ran) run.runs.after in
+      let ran : new.ran ≡ now = ap (λ t. t.ran) run.after in
       record {
         sound = k.sound;
         sent = k.unsent;
@@ -538,8 +540,8 @@ module _ (K V P S R : Type 0) where
         range = range;
       }
 
-  pub calls_stay_timely : CallsStayTimely K V P S R
-  calls_stay_timely =
+  pub calls_stay_timely_by : CallsStayTimelyBy K V P S R
+  calls_stay_timely_by =
       let sound = calls_stay_sound K V P S R in
       record {
         empty = λ s none access unsent queue low. record {
@@ -564,23 +566,11 @@ module _ (K V P S R : Type 0) where
       }
 
   pub looking_at_all_sweeps : LookingAtAllSweeps K V P S R
-  looking_at_all_sweeps answers now order old new sound sent run quiet =
+  looking_at_all_sweeps answers now old new sound sent run quiet =
       let k = run-leaves answers now old new sound sent run in
       record {
-        live = λ r first. (all-alive answers now new quiet k.counted r (first-found new.records order r first)).1;
-        clear = λ r first. all-clear answers now new quiet k.counted r (first-found new.records order r first);
+        live = λ r first. (all-alive answers now new quiet k.counted r (first-found new.records new.order r first)).1;
+        clear = λ r first. all-clear answers now new quiet k.counted r (first-found new.records new.order r first);
         idle = λ r first. (all-alive answers now new quiet k.counted r (first-found new.records new.access r first)).2;
         own = λ later r there. (all-alive answers now new quiet k.counted r there).0;
-      }
-
-  pub looking_at_all_leaves_none_due : LookingAtAllLeavesNoneDue K V P S R
-  looking_at_all_leaves_none_due answers now old new sound sent run quiet =
-      let k = run-leaves answers now old new sound sent run in
-      record {
-        live = λ r there. (all-alive answers now new quiet k.counted r there).1;
-        clear = λ r there. all-clear answers now new quiet k.counted r there;
-        own = λ r there expires is_set. tick-not_reached new.settings r.entry.expires expires now (all-alive answers now new quiet k.counted r there).0 is_set;
-        idle = λ ordered r there time is_set.
-            let left = end-after r.entry.used time now (ap (λ o. is_reached (end_of r.entry.used o) now) (sym is_set) ∙ (all-alive answers now new quiet k.counted r there).2) in
-            omega arith;
       }

@@ -109,4 +109,4 @@ module _ (K V P S R : Type 0) where
   abbrev pub RunsStayInOrder : Type 0
   RunsStayInOrder =
       (answers : Answers K V P R) (now : ℕ) (old new : State K V P S R) → IsSound old → old.unsent ≡ []
-      → ((capacity : ℕ) → old.settings.capacity ≡ Some capacity → 0 < capacity) → RunsToEnd answers now old new → IsInOrder new
+      → (old.settings.capacity ≡ Some 0 → old.records ≡ []) → RunsToEnd answers now old new → IsInOrder new

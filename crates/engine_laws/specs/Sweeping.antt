@@ -1,17 +1,18 @@
 -- What an uncut run leaves of times and clears.
-use Rattle.std.specs.Prelude.{◌≡◌, ◌+◌, ◌<◌, ◌≤◌, ℕ, Bool, true, false, nat_lt, if◌then◌else◌, List, [], ◌∷◌, Option, Some, None, is_some}
+use Rattle.std.specs.Prelude.{◌≡◌, ◌+◌, ◌<◌, ◌≤◌, ℕ, Bool, true, false, nat_lt, List, [], ◌∷◌, Option, Some, is_some}
 use Rattle.engine_reference.specs.declared.data.Entry.{Entry}
 use Rattle.engine_reference.specs.declared.data.Record.{Record}
 use Rattle.engine_reference.specs.declared.data.Registered.{Registered}
 use Rattle.engine_reference.specs.declared.data.Write.{Write}
 use Rattle.engine_reference.specs.declared.data.Write.TheVariants.{Put, Removed}
-use Rattle.engine_reference.specs.Calls.{written, sent, removed_by, removal_told, with_read, cleared_by, with_predicate, with_room, without_notice}
+use Rattle.engine_reference.specs.Calls.{written, sent, removed_by, removal_told, with_read, cleared_by, with_predicate, with_room, without_room, registered, without_notice}
 use Rattle.engine_reference.specs.Records.{record_at, moved_to_back}
-use Rattle.engine_reference.specs.Runs.{Runs, RunsToEnd, first_of}
-use Rattle.engine_reference.specs.Soundness.{Each, IsIn, IsSound}
+use Rattle.engine_reference.specs.Runs.{Runs, RunsToEnd, IsSwept}
+use Rattle.engine_reference.specs.Soundness.{AreOnce, Each, IsIn, IsSound}
 use Rattle.engine_reference.specs.State.{State, Answers}
-use Rattle.engine_laws.specs.Fronts.{NothingIsDue}
 use Rattle.engine_reference.specs.Times.{end_of, is_reached, tick_of}
+use Rattle.engine_laws.specs.Fronts.{NothingIsDue}
+use Rattle.engine_laws.specs.Points.{AreRising}
 
 -- ---- the write list: the numbers of records, the one whose write was applied longest ago first. Records that are gone are passed over
 
@@ -22,15 +23,6 @@ order_after (Put u ∷ ws) ns = order_after ws (moved_to_back u.number ns)
 order_after (Removed number ∷ ws) ns = order_after ws ns
 
 module _ {K V : Type 0} where
-  abbrev pub with_admitted : Option (Record K V) → List (Record K V) → List (Record K V)
-  with_admitted None rest = rest
-  with_admitted (Some r) rest = if is_some r.counts then r ∷ rest else rest
-
-  -- the admitted records of a list of numbers, in its order
-  abbrev pub admitted_in : List (Record K V) → List ℕ → List (Record K V)
-  admitted_in rs [] = []
-  admitted_in rs (n ∷ ns) = with_admitted (record_at rs n) (admitted_in rs ns)
-
   -- each record of the list stands so to each that comes after it
   abbrev pub InOrderBy : (Record K V → Record K V → Type 0) → List (Record K V) → List ℕ → Type 0
   InOrderBy Rel rs [] = Unit {0}
@@ -44,18 +36,7 @@ module _ {K V : Type 0} where
   abbrev pub IsUsedBefore : Record K V → Record K V → Type 0
   IsUsedBefore y x = y.entry.used < x.entry.used + 300000000
 
--- ---- what a run does about times and clears: it looks at the front of the write list and of the access list, and at own expirations once a tick
-
 module _ {K V P S R : Type 0} where
-  pub record IsSwept (now : ℕ) (order : List ℕ) (old new : State K V P S R) : Type 0 where
-    -- the first of the write list is neither past its live time nor covered by a clear
-    pub live : (r : Record K V) → first_of (admitted_in new.records order) ≡ Some r → is_reached (end_of r.entry.written new.settings.live) now ≡ false
-    pub clear : (r : Record K V) → first_of (admitted_in new.records order) ≡ Some r → nat_lt r.entry.step new.cleared ≡ false
-    -- the first of the access list is not past its idle time
-    pub idle : (r : Record K V) → first_of (admitted_in new.records new.access) ≡ Some r → is_reached (end_of r.entry.used new.settings.idle) now ≡ false
-    -- in a later tick than the last run's, every own expiration that was reached was noticed
-    pub own : nat_lt (tick_of old.settings old.ran) (tick_of old.settings now) ≡ true → (r : Record K V) → record_at new.records r.number ≡ Some r → is_reached r.entry.expires now ≡ false
-
   -- ---- what is left
 
   pub record LeavesNoneDue (now : ℕ) (s : State K V P S R) : Type 0 where
@@ -68,15 +49,37 @@ module _ {K V P S R : Type 0} where
     -- none is 300 milliseconds or more past its last use plus the idle time, where none was used so long before one in front of it
     pub idle : InOrderBy IsUsedBefore s.records s.access → (r : Record K V) → record_at s.records r.number ≡ Some r → (time : ℕ) → s.settings.idle ≡ Some time → now < r.entry.used + time + 300000000
 
+  -- ---- where the writes of a record are applied in the order in which they were made
+
+  pub record IsRising (s : State K V P S R) : Type 0 where
+    -- the pending writes of a record rise, each above what was applied of it
+    pub rising : Each (λ r. AreRising r.number r.applied s.writes) s.records
+    -- the write list has each admitted record, none twice, and none that is there and not admitted
+    pub listed : Each (λ r. is_some r.counts ≡ true → IsIn r.number s.order) s.records
+    pub off : Each (λ r. is_some r.counts ≡ false → IsIn r.number s.order → ⊥) s.records
+    pub once : AreOnce s.order
+    pub below : (n : ℕ) → IsIn n s.order → n < s.next_number
+
+  -- taken through what is pending, the state's own write list goes by steps and moments
+  abbrev pub IsOrdered : State K V P S R → Type 0
+  IsOrdered s = InOrderBy IsWrittenBefore s.records (order_after s.writes s.order)
+
+  -- the state's own write list goes by steps and moments, and has each admitted record
+  pub record IsLeftInOrder (s : State K V P S R) : Type 0 where
+    pub rising : IsRising s
+    pub ordered : InOrderBy IsWrittenBefore s.records s.order
+    pub listed : Each (λ r. is_some r.counts ≡ true → IsIn r.number s.order) s.records
+
   -- ---- where moments never fell, and each ticket was sent before the next write or run
 
-  -- the last call came at this moment and step, and this is the write list
-  pub record IsTimely (moment step : ℕ) (order : List ℕ) (s : State K V P S R) : Type 0 where
+  -- the last call came at this moment and step
+  pub record IsTimely (moment step : ℕ) (s : State K V P S R) : Type 0 where
     pub sound : IsSound s
     pub sent : s.unsent ≡ []
+    pub rising : IsRising s
     -- once all that is pending is applied, the write list goes by steps and moments, and has every record that is held
-    pub ordered : InOrderBy IsWrittenBefore s.records (order_after s.writes order)
-    pub listed : Each (λ r. r.is_held ≡ true → IsIn r.number (order_after s.writes order)) s.records
+    pub ordered : IsOrdered s
+    pub listed : Each (λ r. r.is_held ≡ true → IsIn r.number (order_after s.writes s.order)) s.records
     pub latest : Each (λ r. (r.entry.step ≤ step) × (r.entry.written ≤ moment)) s.records
     -- no own expiration lies in an earlier tick than the last run
     pub own : Each (λ r. (expires : ℕ) → r.entry.expires ≡ Some expires → tick_of s.settings s.ran ≤ tick_of s.settings expires) s.records
@@ -84,38 +87,37 @@ module _ {K V P S R : Type 0} where
     pub range : moment ≤ 9223372036854775807
 
 module _ (K V P S R : Type 0) where
+  -- a run leaves the write list in order, whichever tickets wait
+  abbrev pub RunsLeaveOrder : Type 0
+  RunsLeaveOrder = (answers : Answers K V P R) (now : ℕ) (old new : State K V P S R) → IsSound old → IsRising old → IsOrdered old → Runs answers now old new → IsLeftInOrder new
+
   -- an uncut run leaves none that is due
-  abbrev pub SweptRunsLeaveNoneDue : Type 0
-  SweptRunsLeaveNoneDue =
-      (answers : Answers K V P R) (moment step now : ℕ) (order : List ℕ) (old new : State K V P S R) → IsTimely moment step order old → moment ≤ now → now ≤ 9223372036854775807
-      → RunsToEnd answers now old new → IsSwept now (order_after old.writes order) old new → LeavesNoneDue now new
+  abbrev pub UncutRunsLeaveNoneDue : Type 0
+  UncutRunsLeaveNoneDue =
+      (answers : Answers K V P R) (moment step now : ℕ) (old new : State K V P S R) → IsTimely moment step old → moment ≤ now → now ≤ 9223372036854775807
+      → RunsToEnd answers now old new → LeavesNoneDue now new
 
   -- and keeps it so
-  abbrev pub SweptRunsStayTimely : Type 0
-  SweptRunsStayTimely =
-      (answers : Answers K V P R) (moment step now : ℕ) (order : List ℕ) (old new : State K V P S R) → IsTimely moment step order old → moment ≤ now → now ≤ 9223372036854775807
-      → RunsToEnd answers now old new → IsSwept now (order_after old.writes order) old new → IsTimely now step (order_after old.writes order) new
+  abbrev pub UncutRunsStayTimely : Type 0
+  UncutRunsStayTimely =
+      (answers : Answers K V P R) (moment step now : ℕ) (old new : State K V P S R) → IsTimely moment step old → moment ≤ now → now ≤ 9223372036854775807
+      → RunsToEnd answers now old new → IsTimely now step new
 
-  -- a run that leaves nothing due did so, whatever the write list
+  -- a run that leaves nothing due has looked at times and clears
   abbrev pub LookingAtAllSweeps : Type 0
   LookingAtAllSweeps =
-      (answers : Answers K V P R) (now : ℕ) (order : List ℕ) (old new : State K V P S R) → IsSound old → old.unsent ≡ [] → Runs answers now old new → NothingIsDue answers now new → IsSwept now order old new
-
-  -- and leaves none that is due, whatever moments and tickets came before
-  abbrev pub LookingAtAllLeavesNoneDue : Type 0
-  LookingAtAllLeavesNoneDue =
-      (answers : Answers K V P R) (now : ℕ) (old new : State K V P S R) → IsSound old → old.unsent ≡ [] → Runs answers now old new → NothingIsDue answers now new → LeavesNoneDue now new
+      (answers : Answers K V P R) (now : ℕ) (old new : State K V P S R) → IsSound old → old.unsent ≡ [] → Runs answers now old new → NothingIsDue answers now new → IsSwept now old new
 
   -- as an empty cache is, and calls keep it, each at a moment and a step not before the last, with its ticket sent at once
   pub record CallsStayTimely : Type 0 where
-    pub empty : (s : State K V P S R) → s.records ≡ [] → s.access ≡ [] → s.unsent ≡ [] → s.writes ≡ [] → s.ran ≤ 9223372036854775807 → IsTimely s.ran 0 [] s
-    pub written : (eq : K → K → Bool) (answers : Answers K V P R) (moment step : ℕ) (order : List ℕ) (s : State K V P S R) (key : K) (hash : ℕ) (value : V) (now next : ℕ)
-        → IsTimely moment step order s → moment ≤ now → now ≤ 9223372036854775807 → step ≤ next → IsTimely now next order (sent s.next_ticket (written answers eq s key hash value now next))
-    pub removed : (eq : K → K → Bool) (moment step : ℕ) (order : List ℕ) (s : State K V P S R) (key : K) → IsTimely moment step order s → IsTimely moment step order (sent s.next_ticket (removed_by eq key s))
-    pub read : (answers : Answers K V P R) (moment step : ℕ) (order : List ℕ) (s : State K V P S R) (found : Option (Record K V)) (hash now : ℕ)
-        → IsTimely moment step order s → moment ≤ now → now ≤ 9223372036854775807 → IsTimely now step order (with_read answers found hash now s)
-    pub removal_told : (answers : Answers K V P R) (moment step : ℕ) (order : List ℕ) (s : State K V P S R) (e : Entry K V) (now : ℕ) → IsTimely moment step order s → IsTimely moment step order (removal_told answers e now s)
-    pub cleared : (moment step : ℕ) (order : List ℕ) (s : State K V P S R) (next : ℕ) → IsTimely moment step order s → IsTimely moment step order (cleared_by next s)
-    pub covered : (moment step : ℕ) (order : List ℕ) (s : State K V P S R) (p : Registered P) → IsTimely moment step order s → IsTimely moment step order (with_predicate p s)
-    pub room : (moment step : ℕ) (order : List ℕ) (s : State K V P S R) → IsTimely moment step order s → IsTimely moment step order (with_room s)
-    pub taken : (moment step : ℕ) (order : List ℕ) (s : State K V P S R) → IsTimely moment step order s → IsTimely moment step order (without_notice s)
+    pub empty : (s : State K V P S R) → s.records ≡ [] → s.access ≡ [] → s.order ≡ [] → s.unsent ≡ [] → s.writes ≡ [] → s.ran ≤ 9223372036854775807 → IsTimely s.ran 0 s
+    pub written : (eq : K → K → Bool) (answers : Answers K V P R) (moment step : ℕ) (s : State K V P S R) (key : K) (hash : ℕ) (value : V) (now next : ℕ)
+        → IsTimely moment step s → moment ≤ now → now ≤ 9223372036854775807 → step ≤ next → IsTimely now next (sent s.next_ticket (written answers eq s key hash value now next))
+    pub removed : (eq : K → K → Bool) (moment step : ℕ) (s : State K V P S R) (key : K) → IsTimely moment step s → IsTimely moment step (sent s.next_ticket (removed_by eq key s))
+    pub read : (answers : Answers K V P R) (moment step : ℕ) (s : State K V P S R) (found : Option (Record K V)) (hash now : ℕ)
+        → IsTimely moment step s → moment ≤ now → now ≤ 9223372036854775807 → IsTimely now step (with_read answers found hash now s)
+    pub removal_told : (answers : Answers K V P R) (moment step : ℕ) (s : State K V P S R) (e : Entry K V) (now : ℕ) → IsTimely moment step s → IsTimely moment step (removal_told answers e now s)
+    pub cleared : (moment step : ℕ) (s : State K V P S R) (next : ℕ) → IsTimely moment step s → IsTimely moment step (cleared_by next s)
+    pub covered : (moment step : ℕ) (s : State K V P S R) (p : Registered P) → IsTimely moment step s → IsTimely moment step (with_predicate p s)
+    pub room : (moment step : ℕ) (s : State K V P S R) → IsTimely moment step s → IsTimely moment step (with_room s)
+    pub taken : (moment step : ℕ) (s : State K V P S R) → IsTimely moment step s → IsTimely moment step (without_notice s)

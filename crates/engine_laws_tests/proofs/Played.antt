@@ -1,20 +1,21 @@
 -- The rows, computed.
 use Rattle.std.proofs.Common.{◌≡◌, refl, ap, sym, ◌∙◌, subst, ℕ, zero, suc, ◌<◌, ◌≤◌, arith, Bool, true, false, [], ◌∷◌, Option, Some, None}
-use Rattle.std.specs.Prelude.{option_map, nat_eq, nat_lt, slice_get}
+use Rattle.std.specs.Prelude.{option_map, nat_eq, nat_lt}
 use Rattle.engine_rules.specs.declared.causes.RemovalCause.TheVariants as cause
 use Rattle.engine_rules.specs.declared.settings.EvictionPolicy.TheVariants.{Lru}
 use Rattle.engine_reference.specs.declared.data.Record.{Record}
 use Rattle.engine_reference.specs.declared.data.Unsent.{Unsent}
 use Rattle.engine_reference.specs.Calls.{sent}
+use Rattle.engine_reference.specs.Records.{admitted_in}
 use Rattle.engine_reference.specs.Runs.{RunsToEnd, writes, leaves, evicts, first_of}
 use Rattle.engine_reference.specs.Times.{has_come, end_of, is_reached}
 use Rattle.engine_reference.specs.Visible.{is_covered}
 use Rattle.engine_laws_tests.specs.Playing.{Small, small_answers, new_small, put, put_unsent}
 use Rattle.engine_laws.specs.Points.{IsInOrder}
-use Rattle.engine_laws.specs.Sweeping.{order_after, admitted_in, IsTimely, IsSwept}
+use Rattle.engine_laws.specs.Sweeping.{IsTimely}
 use Rattle.engine_laws.proofs.Fronting.{each-at}
 use Rattle.engine_laws.proofs.Ordering.{calls_stay_in_order, runs_stay_in_order}
-use Rattle.engine_laws.proofs.Swept.{calls_stay_timely, swept_runs_leave_none_due}
+use Rattle.engine_laws.proofs.Rises.{calls_stay_timely, uncut_runs_leave_none_due}
 use Rattle.engine_laws_tests.specs.Runs.{applied_one, ended, full, written_all, evicted, two, both_written, swept, RowsOfPoints, RowsOfFronts, RowsOfSweeping}
 
 of_some : {X : Type 0} (f : X → Bool) (o : Option X) (x : X) → option_map f o ≡ Some false → o ≡ Some x → f x ≡ false
@@ -45,10 +46,6 @@ rows_of_fronts = record {
   victims = refl;
 }
 
-no_predicate : {X : Type 0} (n : ℕ) (p : X) → slice_get [] n ≡ Some p → ⊥
-no_predicate zero p h = absurd (cc)
-no_predicate (suc n) p h = absurd (cc)
-
 pub rows_of_points : RowsOfPoints
 rows_of_points = record { order = full-order; run = whole; told = refl; kept = refl; again = again }
   where
@@ -62,35 +59,43 @@ rows_of_points = record { order = full-order; run = whole; told = refl; kept = r
         last = evicted;
         steps = (writes _ _ refl refl refl, (writes _ _ refl refl refl, (writes _ _ refl refl refl, (evicts oldest (record { reads = refl; writes = refl }) refl refl refl, refl))));
         applied = record { reads = refl; writes = refl };
+        refused = true;
         after = refl;
       };
       done = record {
         within = λ capacity is_set above over. absurd (let same : 2 ≡ capacity = cc in let more : capacity < 2 = over in omega (arith, same, more));
-        uncovered = λ n p there. absurd (no_predicate n p there);
+        ended = refl;
+        table = λ e. e;
+      };
+      swept = λ sent. record {
+        live = λ r first. refl;
+        clear = λ r first. of_some (λ x. nat_lt x.entry.step 0) (first_of (admitted_in evicted.records evicted.order)) r refl first;
+        idle = λ r first. refl;
+        own = λ later r there. each-at (λ x. is_reached x.entry.expires 9 ≡ false) evicted.records r.number r (refl, (refl, tt)) there;
       };
     }
 
     again : IsInOrder (ended 9 evicted)
-    again = runs_stay_in_order ℕ ℕ ℕ ℕ ℕ small_answers 9 full (ended 9 evicted) full-order.sound refl (λ capacity is_set. let same : 2 ≡ capacity = cc in omega (arith, same)) whole
+    again = runs_stay_in_order ℕ ℕ ℕ ℕ ℕ small_answers 9 full (ended 9 evicted) full-order.sound refl (λ is_set. absurd (let same : ◌≡◌ {A = ℕ} 2 0 = cc in omega (arith, same))) whole
 
 -- ---- times
 
-put-timely : (key value moment step now next : ℕ) (s : Small) → IsTimely moment step [] s → moment ≤ now → now ≤ 9223372036854775807 → step ≤ next → IsTimely now next [] (put key value now next s)
-put-timely key value moment step now next s h less range rises = (calls_stay_timely ℕ ℕ ℕ ℕ ℕ).written nat_eq small_answers moment step [] s key key value now next h less range rises
+put-timely : (key value moment step now next : ℕ) (s : Small) → IsTimely moment step s → moment ≤ now → now ≤ 9223372036854775807 → step ≤ next → IsTimely now next (put key value now next s)
+put-timely key value moment step now next s h less range rises = (calls_stay_timely ℕ ℕ ℕ ℕ ℕ).written nat_eq small_answers moment step s key key value now next h less range rises
 
-two-timely : IsTimely 10000000000 2 [] two
+two-timely : IsTimely 10000000000 2 two
 two-timely =
     let a = new_small Lru None (Some 16000000000) None 0 in
-    put-timely 2 6 0 1 10000000000 2 (put 1 5 0 1 a) (put-timely 1 5 0 0 0 1 a ((calls_stay_timely ℕ ℕ ℕ ℕ ℕ).empty a refl refl refl refl (omega arith)) (omega arith) (omega arith) (omega arith)) (omega arith) (omega arith) (omega arith)
+    put-timely 2 6 0 1 10000000000 2 (put 1 5 0 1 a) (put-timely 1 5 0 0 0 1 a ((calls_stay_timely ℕ ℕ ℕ ℕ ℕ).empty a refl refl refl refl refl (omega arith)) (omega arith) (omega arith) (omega arith)) (omega arith) (omega arith) (omega arith)
 
 pub rows_of_sweeping : RowsOfSweeping
 rows_of_sweeping = record {
   timely = two-timely;
   run = whole;
-  fronts = fronts;
+  order = refl;
   told = refl;
   held = refl;
-  none_due = swept_runs_leave_none_due ℕ ℕ ℕ ℕ ℕ small_answers 10000000000 2 17000000000 [] two last two-timely (omega arith) (omega arith) whole fronts;
+  none_due = uncut_runs_leave_none_due ℕ ℕ ℕ ℕ ℕ small_answers 10000000000 2 17000000000 two last two-timely (omega arith) (omega arith) whole;
 }
   where
     last : Small
@@ -106,18 +111,18 @@ rows_of_sweeping = record {
         last = swept;
         steps = (writes _ _ refl refl refl, (writes _ _ refl refl refl, (leaves dead cause.Expired (record { reads = refl; writes = refl }) refl refl refl refl, refl)));
         applied = record { reads = refl; writes = refl };
+        refused = false;
         after = refl;
       };
       done = record {
         within = λ capacity is_set above over. absurd (let none : None ≡ Some capacity = is_set in cc);
-        uncovered = λ n p there. absurd (no_predicate n p there);
+        ended = refl;
+        table = λ e. e;
       };
-    }
-
-    fronts : IsSwept 17000000000 (order_after two.writes []) two last
-    fronts = record {
-      live = λ r first. of_some (λ x. is_reached (end_of x.entry.written (Some 16000000000)) 17000000000) (first_of (admitted_in swept.records (order_after two.writes []))) r refl first;
-      clear = λ r first. of_some (λ x. nat_lt x.entry.step 0) (first_of (admitted_in swept.records (order_after two.writes []))) r refl first;
-      idle = λ r first. refl;
-      own = λ later r there. each-at (λ x. is_reached x.entry.expires 17000000000 ≡ false) swept.records r.number r (refl, tt) there;
+      swept = λ sent. record {
+        live = λ r first. of_some (λ x. is_reached (end_of x.entry.written (Some 16000000000)) 17000000000) (first_of (admitted_in swept.records swept.order)) r refl first;
+        clear = λ r first. of_some (λ x. nat_lt x.entry.step 0) (first_of (admitted_in swept.records swept.order)) r refl first;
+        idle = λ r first. refl;
+        own = λ later r there. each-at (λ x. is_reached x.entry.expires 17000000000 ≡ false) swept.records r.number r (refl, tt) there;
+      };
     }

@@ -1,5 +1,5 @@
 -- A small cache that is played through the definitions: keys, values and hashes are numbers, a key is its own hash, a predicate is the value that it covers.
-use Rattle.std.specs.Prelude.{ℕ, suc, zero, ◌+◌, ◌*◌, ◌==◌, nat_eq, Bool, true, not, ◌&&◌, ◌||◌, if◌then◌else◌, List, [], ◌∷◌, Option, Some, None, filter}
+use Rattle.std.specs.Prelude.{ℕ, suc, zero, ◌+◌, ◌*◌, ◌==◌, nat_eq, Bool, true, false, not, ◌&&◌, ◌||◌, if◌then◌else◌, List, [], ◌∷◌, Option, Some, None, filter}
 use Rattle.policy_sketch.specs.Counts.{fresh}
 use Rattle.engine_rules.specs.declared.causes.RemovalCause.{RemovalCause}
 use Rattle.engine_rules.specs.declared.causes.RemovalCause.TheVariants as cause
@@ -36,6 +36,7 @@ abbrev pub new_small : EvictionPolicy → Option ℕ → Option ℕ → Option �
 new_small policy capacity live idle rules = record {
   records = [];
   access = [];
+  order = [];
   cleared = 0;
   predicates = [];
   unsent = [];
@@ -46,6 +47,7 @@ new_small policy capacity live idle rules = record {
   number = 0;
   weight = 0;
   ran = 0;
+  table_refused = false;
   next_number = 0;
   next_ticket = 0;
   reserved = 1000;

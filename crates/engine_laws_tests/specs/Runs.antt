@@ -7,11 +7,11 @@ use Rattle.engine_reference.specs.declared.data.Write.TheVariants.{Put, Removed}
 use Rattle.engine_reference.specs.Admission.{shortest_front}
 use Rattle.engine_reference.specs.Calls.{sent}
 use Rattle.engine_reference.specs.Records.{admitted_number, admitted_weight, settled_in}
-use Rattle.engine_reference.specs.Runs.{RunsToEnd, IsApplied, after_write, left}
+use Rattle.engine_reference.specs.Runs.{RunsToEnd, IsApplied, after_write, left, lacks_table}
 use Rattle.engine_laws_tests.specs.Playing.{Small, small_answers, new_small, put, put_unsent, run, told_by}
 use Rattle.engine_laws.specs.Fronts.{NothingIsDue}
 use Rattle.engine_laws.specs.Points.{IsInOrder}
-use Rattle.engine_laws.specs.Sweeping.{order_after, IsSwept, IsTimely, LeavesNoneDue}
+use Rattle.engine_laws.specs.Sweeping.{IsTimely, LeavesNoneDue}
 
 -- the oldest write is applied
 abbrev pub applied_one : Small → Small
@@ -21,9 +21,9 @@ applied_one s = go s.writes
     go [] = s
     go (w ∷ rest) = after_write w (record s { writes = rest })
 
--- the end of a run
+-- the end of a run, which found no memory for the sketch's table where it lacks one
 abbrev pub ended : ℕ → Small → Small
-ended now s = record s { number = admitted_number s.records; weight = min (admitted_weight s.records) 18446744073709551615; ran = now }
+ended now s = record s { number = admitted_number s.records; weight = min (admitted_weight s.records) 18446744073709551615; ran = now; table_refused = lacks_table s }
 
 abbrev kept_weights : List Write → List ℕ
 kept_weights [] = []
@@ -85,9 +85,9 @@ abbrev pub swept : Small
 swept = left cause.Expired 0 both_written
 
 pub record RowsOfSweeping : Type 0 where
-  pub timely : IsTimely 10000000000 2 [] two
+  pub timely : IsTimely 10000000000 2 two
   pub run : RunsToEnd small_answers 17000000000 two (ended 17000000000 swept)
-  pub fronts : IsSwept 17000000000 (order_after two.writes []) two (ended 17000000000 swept)
+  pub order : swept.order ≡ 1 ∷ []
   pub told : told_by swept ≡ 11
   pub held : length swept.records ≡ 1
   pub none_due : LeavesNoneDue 17000000000 (ended 17000000000 swept)

@@ -34,6 +34,7 @@ pub const MAX_READS: usize = 64;
 pub struct Lists<K: Eq, V, S, R: Rules<K, V>> {
     records: Vec<Record<K, V>>,
     access: Vec<u64>,
+    order: Vec<u64>,
     cleared: u64,
     predicates: Vec<Registered<R::Predicate>>,
     unsent: Vec<Unsent>,
@@ -44,6 +45,7 @@ pub struct Lists<K: Eq, V, S, R: Rules<K, V>> {
     number: u64,
     weight: u64,
     ran: u64,
+    table_refused: bool,
     next_number: u64,
     next_ticket: u64,
     reserved: u64,
@@ -64,6 +66,7 @@ impl<K: Eq, V, S, R: Rules<K, V>> Model for Lists<K, V, S, R> {
     ghost view = { λ c. record {
       records = c.records.items;
       access = c.access.items;
+      order = c.order.items;
       cleared = c.cleared;
       predicates = c.predicates.items;
       unsent = c.unsent.items;
@@ -74,6 +77,7 @@ impl<K: Eq, V, S, R: Rules<K, V>> Model for Lists<K, V, S, R> {
       number = c.number;
       weight = c.weight;
       ran = c.ran;
+      table_refused = c.table_refused;
       next_number = c.next_number;
       next_ticket = c.next_ticket;
       reserved = c.reserved;
@@ -83,12 +87,13 @@ impl<K: Eq, V, S, R: Rules<K, V>> Model for Lists<K, V, S, R> {
       rules = c.rules;
     } };
 
-    // each record has room for its notice, each write for its place on the access list, and what is reserved serves a write or a predicate
+    // each record has room for its notice, each write for its place on the access list and on the write list, and what is reserved serves a write or a predicate
     ghost invariant = { λ c. record {
       records : vec_len c.records + c.reserved ≤ vec_capacity c.records;
       unsent : vec_len c.unsent + c.reserved ≤ vec_capacity c.unsent;
       notices : vec_len c.notices + vec_len c.records + c.reserved ≤ vec_capacity c.notices;
       access : vec_len c.access + vec_len c.unsent + vec_len c.writes + c.reserved ≤ vec_capacity c.access;
+      order : vec_len c.order + vec_len c.unsent + vec_len c.writes + c.reserved ≤ vec_capacity c.order;
       predicates : vec_len c.predicates + c.reserved ≤ vec_capacity c.predicates;
       reads : 64 ≤ vec_capacity c.reads;
       writes : 128 ≤ vec_capacity c.writes;
@@ -112,6 +117,7 @@ impl<K: Eq, V, S, R: Rules<K, V>> Lists<K, V, S, R> {
         Ok(Lists {
             records: Vec::new(alloc),
             access: Vec::new(alloc),
+            order: Vec::new(alloc),
             cleared: 0,
             predicates: Vec::new(alloc),
             unsent: Vec::new(alloc),
@@ -122,6 +128,7 @@ impl<K: Eq, V, S, R: Rules<K, V>> Lists<K, V, S, R> {
             number: 0,
             weight: 0,
             ran: settings.made,
+            table_refused: false,
             next_number: 0,
             next_ticket: 0,
             reserved: 0,
@@ -200,6 +207,13 @@ impl<K: Eq, V, S, R: Rules<K, V>> Lists<K, V, S, R> {
         ensures { result ≡ self.now.ran }
     {
         self.ran
+    }
+
+    /// Whether the last run wanted the sketch's table and there was no memory for it.
+    pub fn table_refused(&self) -> bool
+        ensures { result ≡ self.now.table_refused }
+    {
+        self.table_refused
     }
 
     /// The number of the next record.
@@ -333,6 +347,7 @@ impl<K: Eq, V, S, R: Rules<K, V>> Lists<K, V, S, R> {
             told,
             listed,
         )?;
+        self.order.reserve(listed)?;
         self.reserved = more;
         Ok(())
     }
@@ -504,7 +519,7 @@ impl<K: Eq, V, S, R: Rules<K, V>> Lists<K, V, S, R> {
     pub fn count_write(&mut self, place: usize, write: u64, weight: u32)
         requires within { place < length self.old.records }
         requires some { 0 < length self.old.writes }
-        ensures { (r : Record K V) × (slice_get self.old.records place ≡ Some r) × (self.new ≡ record self.old { records = slice_set self.old.records place (record r { applied = write; counts = Some weight }); access = moved_to_back r.number self.old.access; writes = drop 1 self.old.writes }) }
+        ensures { (r : Record K V) × (slice_get self.old.records place ≡ Some r) × (self.new ≡ record self.old { records = slice_set self.old.records place (record r { applied = write; counts = Some weight }); access = moved_to_back r.number self.old.access; order = moved_to_back r.number self.old.order; writes = drop 1 self.old.writes }) }
     {
         self.writes.remove(0);
         let found = &mut self.records[place];
@@ -512,6 +527,7 @@ impl<K: Eq, V, S, R: Rules<K, V>> Lists<K, V, S, R> {
         found.counts = Some(weight);
         let number = found.number;
         move_to_back(&mut self.access, number);
+        move_to_back(&mut self.order, number);
     }
 
     /// The record at a place stays as it is, with this write applied.
@@ -528,7 +544,7 @@ impl<K: Eq, V, S, R: Rules<K, V>> Lists<K, V, S, R> {
         K: Drop,
         V: Drop,
         requires { place < length self.old.records }
-        ensures { (r : Record K V) × (slice_get self.old.records place ≡ Some r) × (self.new ≡ record self.old { records = remove self.old.records place; access = without r.number self.old.access; notices = if r.is_held then told self.old.settings.tells cause r.entry self.old.notices else self.old.notices }) }
+        ensures { (r : Record K V) × (slice_get self.old.records place ≡ Some r) × (self.new ≡ record self.old { records = remove self.old.records place; access = without r.number self.old.access; order = without r.number self.old.order; notices = if r.is_held then told self.old.settings.tells cause r.entry self.old.notices else self.old.notices }) }
     {
         let Record {
             number,
@@ -540,6 +556,7 @@ impl<K: Eq, V, S, R: Rules<K, V>> Lists<K, V, S, R> {
             counts: _,
         } = self.records.remove(place);
         take_out(&mut self.access, number);
+        take_out(&mut self.order, number);
         let tells = self.settings.tells;
         tell(&mut self.notices, is_held, tells, cause, entry);
     }
@@ -550,10 +567,11 @@ impl<K: Eq, V, S, R: Rules<K, V>> Lists<K, V, S, R> {
         K: Drop,
         V: Drop,
         requires { place < length self.old.records }
-        ensures { (r : Record K V) × (slice_get self.old.records place ≡ Some r) × (self.new ≡ record self.old { records = remove self.old.records place; access = without r.number self.old.access }) }
+        ensures { (r : Record K V) × (slice_get self.old.records place ≡ Some r) × (self.new ≡ record self.old { records = remove self.old.records place; access = without r.number self.old.access; order = without r.number self.old.order }) }
     {
         let gone = self.records.remove(place);
         take_out(&mut self.access, gone.number);
+        take_out(&mut self.order, gone.number);
     }
 
     /// Registers a predicate, for which there is room.
@@ -582,13 +600,14 @@ impl<K: Eq, V, S, R: Rules<K, V>> Lists<K, V, S, R> {
         Ok(())
     }
 
-    /// Takes down the counts at the end of a run.
-    pub fn finish_run(&mut self, number: u64, weight: u64, now: u64)
-        ensures { self.new ≡ record self.old { number = number; weight = weight; ran = now } }
+    /// Takes down the counts at the end of a run, and whether there was no memory for the sketch's table.
+    pub fn finish_run(&mut self, number: u64, weight: u64, now: u64, table_refused: bool)
+        ensures { self.new ≡ record self.old { number = number; weight = weight; ran = now; table_refused = table_refused } }
     {
         self.number = number;
         self.weight = weight;
         self.ran = now;
+        self.table_refused = table_refused;
     }
 }
 

@@ -74,11 +74,11 @@ module _ {K V P S R : Type 0} where
   popped s = record s { writes = drop 1 s.writes }
 
   pub counted : (s : State K V P S R) (place : ℕ) (u : Upsert) (r : Record K V) → AreNumbered s.records → slice_get s.records place ≡ Some r → record_at s.records u.number ≡ Some r
-      → record s { records = slice_set s.records place (record r { applied = u.write; counts = Some u.weight }); access = moved_to_back r.number s.access } ≡ counting u s
+      → record s { records = slice_set s.records place (record r { applied = u.write; counts = Some u.weight }); access = moved_to_back r.number s.access; order = moved_to_back r.number s.order } ≡ counting u s
   counted s place u r numbered there found =
       let number = record_at-number s.records u.number r found in
-      ap (λ rs. record s { records = rs; access = moved_to_back r.number s.access }) (sym (at_changed (λ x. record x { applied = u.write; counts = Some u.weight }) s.records place r numbered there))
-      ∙ ap (λ n. record s { records = changed_at n (λ x. record x { applied = u.write; counts = Some u.weight }) s.records; access = moved_to_back n s.access }) number
+      ap (λ rs. record s { records = rs; access = moved_to_back r.number s.access; order = moved_to_back r.number s.order }) (sym (at_changed (λ x. record x { applied = u.write; counts = Some u.weight }) s.records place r numbered there))
+      ∙ ap (λ n. record s { records = changed_at n (λ x. record x { applied = u.write; counts = Some u.weight }) s.records; access = moved_to_back n s.access; order = moved_to_back n s.order }) number
 
   popped_left : (why : RemovalCause) (number : ℕ) (s : State K V P S R) → left why number (popped s) ≡ popped (left why number s)
   popped_left why number s = go (record_at s.records number)

@@ -10,10 +10,10 @@ use Rattle.engine_reference.specs.Records.{admitted_number, admitted_weight, set
 use Rattle.engine_reference.specs.Soundness.{AreNumbered}
 use Rattle.engine_reference.specs.Visible.{told}
 use Rattle.engine_looks.proofs.Places.{at_without, at_number}
-use Rattle.engine_reference.specs.Runs.{RunsToEnd, IsDone, Step, Steps, after_read, after_hit, left, with_left, IsApplied}
+use Rattle.engine_reference.specs.Runs.{IsDone, lacks_table, Step, Steps, after_read, after_hit, left, with_left, IsApplied}
 use Rattle.engine_reference.specs.State.{State, Answers}
 use Rattle.engine_reference.proofs.HeldRecords.{record_at-number}
-use Rattle.engine_looks.specs.Chains.{Chain, is_admitted, is_due, none_due}
+use Rattle.engine_looks.specs.Chains.{EndsRun, Chain, is_admitted, is_due, none_due}
 
 pub first_rest : {X : Type 0} (xs : List X) (x : X) → slice_get xs 0 ≡ Some x → xs ≡ x ∷ drop 1 xs
 first_rest [] x h = absurd (cc)
@@ -86,9 +86,9 @@ module _ {K V P S R : Type 0} (answers : Answers K V P R) (now : ℕ) where
 module _ {K V P S R : Type 0} where
   -- what leaves its place leaves under its number
   pub left_at : (why : RemovalCause) (s : State K V P S R) (place : ℕ) (r : Record K V) → AreNumbered s.records → slice_get s.records place ≡ Some r
-      → record s { records = remove s.records place; access = without r.number s.access; notices = cond r.is_held (told s.settings.tells why r.entry s.notices) s.notices } ≡ left why r.number s
+      → record s { records = remove s.records place; access = without r.number s.access; order = without r.number s.order; notices = cond r.is_held (told s.settings.tells why r.entry s.notices) s.notices } ≡ left why r.number s
   left_at why s place r numbered there =
-      ap (λ rs. record s { records = rs; access = without r.number s.access; notices = cond r.is_held (told s.settings.tells why r.entry s.notices) s.notices }) (sym (at_without s.records place r numbered there))
+      ap (λ rs. record s { records = rs; access = without r.number s.access; order = without r.number s.order; notices = cond r.is_held (told s.settings.tells why r.entry s.notices) s.notices }) (sym (at_without s.records place r numbered there))
       ∙ ap (λ o. with_left why s o) (sym (at_number s.records place r numbered there))
 
   pub applied_left : (why : RemovalCause) (n : ℕ) (s : State K V P S R) → IsApplied s → IsApplied (left why n s)
@@ -119,26 +119,19 @@ module _ {K V P S R : Type 0} (answers : Answers K V P R) (now : ℕ) where
   pub chain_join : (old mid new : State K V P S R) → Chain answers now old mid → Chain answers now mid new → Chain answers now old new
   chain_join old mid new h k = record { stages = h.stages ++ k.stages; steps = joined h.stages k.stages old mid new h.steps k.steps }
 
-  -- steps to a state with nothing to apply, no record too many and no predicate, and then the counts
-  pub run_from : (old last new : State K V P S R) → Chain answers now old last → IsApplied last
-      → new ≡ record last { number = admitted_number last.records; weight = min (admitted_weight last.records) 18446744073709551615; ran = now }
+  -- steps to a state with nothing to apply, no record too many, no predicate and the table where there was memory for it, and then the counts
+  pub run_from : (refused : Bool) (old last new : State K V P S R) → Chain answers now old last → IsApplied last
+      → new ≡ record last { number = admitted_number last.records; weight = min (admitted_weight last.records) 18446744073709551615; ran = now; table_refused = refused }
       → ((capacity : ℕ) → last.settings.capacity ≡ Some capacity → 0 < capacity → capacity < admitted_weight last.records → settled_in last.records last.access ≡ []) → last.predicates ≡ []
-      → RunsToEnd answers now old new
-  run_from old last new h applied after within none = record {
-    runs = record { stages = h.stages; last = last; steps = h.steps; applied = applied; after = after };
-    done = subst (λ (s : State K V P S R). IsDone answers s) (sym after) (record {
-      within = within;
-      uncovered = λ number p there. absurd (nothing number p (subst (λ ps. slice_get ps number ≡ Some p) none there));
-    });
+      → (refused ≡ false → lacks_table last ≡ false) → EndsRun answers now old new
+  run_from refused old last new h applied after within none table = record {
+    runs = record { stages = h.stages; last = last; steps = h.steps; applied = applied; refused = refused; after = after };
+    done = subst (λ (s : State K V P S R). IsDone s) (sym after) (record { within = within; ended = none; table = table });
   }
-    where
-      nothing : (number : ℕ) (p : Registered P) → slice_get {X = Registered P} [] number ≡ Some p → ⊥
-      nothing zero p e = absurd (cc)
-      nothing (suc number) p e = absurd (cc)
 
   -- a run after such a stretch
-  pub run_later : (old mid new : State K V P S R) → Chain answers now old mid → RunsToEnd answers now mid new → RunsToEnd answers now old new
+  pub run_later : (old mid new : State K V P S R) → Chain answers now old mid → EndsRun answers now mid new → EndsRun answers now old new
   run_later old mid new h k = record {
-    runs = record { stages = h.stages ++ k.runs.stages; last = k.runs.last; steps = joined h.stages k.runs.stages old mid k.runs.last h.steps k.runs.steps; applied = k.runs.applied; after = k.runs.after };
+    runs = record { stages = h.stages ++ k.runs.stages; last = k.runs.last; steps = joined h.stages k.runs.stages old mid k.runs.last h.steps k.runs.steps; applied = k.runs.applied; refused = k.runs.refused; after = k.runs.after };
     done = k.done;
   }

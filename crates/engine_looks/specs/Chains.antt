@@ -1,7 +1,7 @@
 -- Stretches of a run.
 use Rattle.std.specs.Prelude.{ℕ, Bool, true, false, not, ◌&&◌, ◌||◌, List, [], ◌∷◌, Option, Some, None, is_some}
 use Rattle.engine_reference.specs.declared.data.Record.{Record}
-use Rattle.engine_reference.specs.Runs.{Steps}
+use Rattle.engine_reference.specs.Runs.{Steps, Runs, IsDone}
 use Rattle.engine_reference.specs.State.{State, Answers}
 use Rattle.engine_reference.specs.Times.{has_come}
 use Rattle.engine_reference.specs.Visible.{is_covered}
@@ -11,6 +11,11 @@ module _ {K V P S R : Type 0} (answers : Answers K V P R) where
   pub record Chain (now : ℕ) (old new : State K V P S R) : Type 0 where
     pub stages : List (State K V P S R)
     pub steps : Steps answers now old stages new
+
+  -- a run that leaves nothing to do, whatever it looked at
+  pub record EndsRun (now : ℕ) (old new : State K V P S R) : Type 0 where
+    pub runs : Runs answers now old new
+    pub done : IsDone new
 
   -- a record is held, and its deadline has come or something covers it
   abbrev pub is_due : State K V P S R → ℕ → Record K V → Bool

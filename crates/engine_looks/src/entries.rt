@@ -2,7 +2,7 @@
 ghost use Rattle.std.specs.Prelude.{◌≡◌, ℕ, ◌+◌, ◌<◌, ◌^◌, true, length, slice_get, Some, IfOk, if◌then◌else◌};
 ghost use Rattle.engine_rules.specs.Changes.{change_of};
 ghost use Rattle.engine_rules.specs.declared.causes.RemovalCause.TheVariants as cause;
-ghost use Rattle.engine_reference.specs.Calls.{first_entry, next_entry, used_entry};
+ghost use Rattle.engine_reference.specs.Calls.{first_entry, next_entry, removal_rooms, used_entry};
 ghost use Rattle.engine_reference.specs.Records.{held_weight};
 ghost use Rattle.engine_reference.specs.Times.{changed_expiration, has_come};
 ghost use Rattle.engine_reference.specs.Visible.{cause_of_write};
@@ -153,20 +153,35 @@ pub fn cause_of_removal<K, V>(settings: Settings, now: u64, entry: &Entry<K, V>)
     RemovalCause::Explicit
 }
 
-/// A clone of the entry at a place.
-pub fn clone_entry<K: Eq + Clone + Drop, V: Clone, S, R: Rules<K, V>>(
+/// Clones of the key and the value of the record at a place.
+pub fn clone_parts<K: Eq + Clone + Drop, V: Clone, S, R: Rules<K, V>>(
     lists: &Lists<K, V, S, R>,
     place: usize,
-) -> Result<Entry<K, V>, AllocError>
+) -> Result<(K, V), AllocError>
     requires within { place < length lists.now.records }
     requires exact_key { (x y : K) → K.is_clone x y → y ≡ x }
     requires exact { (x y : V) → V.is_clone x y → y ≡ x }
-    ensures { IfOk result (λ entry. (r : Record K V) → slice_get lists.now.records place ≡ Some r → entry ≡ r.entry) }
+    ensures { IfOk result (λ parts. (r : Record K V) → slice_get lists.now.records place ≡ Some r → parts ≡ (r.entry.key, r.entry.value)) }
 {
     let found = &record_in(lists, place).entry;
     let key = found.key.clone()?;
     let value = found.value.clone()?;
-    Ok(Entry {
+    Ok((key, value))
+}
+
+/// The entry at a place, whose key and value are these.
+pub fn entry_of<K: Eq, V, S, R: Rules<K, V>>(
+    lists: &Lists<K, V, S, R>,
+    place: usize,
+    key: K,
+    value: V,
+) -> Entry<K, V>
+    requires within { place < length lists.now.records }
+    requires parts { (r : Record K V) → slice_get lists.now.records place ≡ Some r → (key ≡ r.entry.key) × (value ≡ r.entry.value) }
+    ensures { (r : Record K V) → slice_get lists.now.records place ≡ Some r → result ≡ r.entry }
+{
+    let found = &record_in(lists, place).entry;
+    Entry {
         key,
         value,
         step: found.step,
@@ -174,12 +189,12 @@ pub fn clone_entry<K: Eq + Clone + Drop, V: Clone, S, R: Rules<K, V>>(
         used: found.used,
         expires: found.expires,
         weight: found.weight,
-    })
+    }
 }
 
 /// For how much a removal by key needs room: its own write, and where removals are told its notice.
 pub fn rooms_of_removal(settings: Settings) -> u64
-    ensures { result ≡ (if settings.tells then 2 else 1) }
+    ensures { result ≡ removal_rooms settings }
 {
     if settings.tells { 2 } else { 1 }
 }

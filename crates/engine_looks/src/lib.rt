@@ -14,11 +14,12 @@ pub use deciding::{Decision, decide, is_above};
 pub use displacing::displace_for;
 pub use due::{find_due, find_excess, record_in};
 pub use entries::{
-    beside, cause_of_removal, cause_of_write, clone_entry, expires_after_use, first_entry,
-    next_entry, rooms_of_removal, upsert,
+    beside, cause_of_removal, cause_of_write, clone_parts, entry_of, expires_after_use,
+    first_entry, next_entry, rooms_of_removal, upsert,
 };
 pub use looks::{
     clone_at, first_write, has_predicates, has_reads, has_writes, is_admitted, is_held_at, look_up,
+    number_at, value_at,
 };
 pub use settings::policy_of;
 pub use table::table_wanted;

@@ -43,6 +43,22 @@ pub fn clone_at<K: Eq, V: Clone, S, R: Rules<K, V>>(
     Ok((found.number, value))
 }
 
+/// The value of the record at a place.
+pub fn value_at<K: Eq, V, S, R: Rules<K, V>>(lists: &Lists<K, V, S, R>, place: usize) -> &V
+    requires { place < length lists.now.records }
+    ensures { (r : Record K V) → slice_get lists.now.records place ≡ Some r → result.now ≡ r.entry.value }
+{
+    &record_in(lists, place).entry.value
+}
+
+/// The number of the record at a place.
+pub fn number_at<K: Eq, V, S, R: Rules<K, V>>(lists: &Lists<K, V, S, R>, place: usize) -> u64
+    requires { place < length lists.now.records }
+    ensures { (r : Record K V) → slice_get lists.now.records place ≡ Some r → result ≡ r.number }
+{
+    record_in(lists, place).number
+}
+
 /// Whether the record of a number is there, and admitted.
 pub fn is_admitted<K: Eq, V, S, R: Rules<K, V>>(lists: &Lists<K, V, S, R>, number: u64) -> bool
     ensures { result ≡ is_admitted (record_at lists.now.records number) }

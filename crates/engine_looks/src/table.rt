@@ -1,7 +1,8 @@
 //! When the sketch's table is made, and for how many hashes.
 ghost use Rattle.std.specs.Prelude.{◌≡◌, false, IfSome, IfNone};
 ghost use Rattle.engine_reference.specs.Admission.{sketch_room, wants_table};
-ghost use Rattle.engine_looks.specs.Tables.{lacks_table, LacksTableFor};
+ghost use Rattle.engine_reference.specs.Runs.{lacks_table};
+ghost use Rattle.engine_looks.specs.Tables.{LacksTableFor};
 
 use engine_lists::{Lists, count_admitted, weigh_admitted};
 use engine_rules::Rules;

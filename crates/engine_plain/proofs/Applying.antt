@@ -23,15 +23,15 @@ module _ {K V P S R : Type 0} where
   applied_sound old new w first e h = sound_as old new (after_write w (popped old)) e (popped-is_sound old w (drop 1 old.writes) (first_rest old.writes w first)) h
 
   pub forgotten : (s : State K V P S R) (place number : ℕ) (r : Record K V) → AreNumbered s.records → slice_get s.records place ≡ Some r → record_at s.records number ≡ Some r → r.is_held ≡ false
-      → record s { records = remove s.records place; access = without r.number s.access } ≡ after_removal (record_at s.records number) s
+      → record s { records = remove s.records place; access = without r.number s.access; order = without r.number s.order } ≡ after_removal (record_at s.records number) s
   forgotten s place number r numbered there found out =
-      ap (λ rs. record s { records = rs; access = without r.number s.access }) (sym (at_without s.records place r numbered there))
-      ∙ ap (λ b. cond b s (record s { records = without_record r.number s.records; access = without r.number s.access })) (sym out)
+      ap (λ rs. record s { records = rs; access = without r.number s.access; order = without r.number s.order }) (sym (at_without s.records place r numbered there))
+      ∙ ap (λ b. cond b s (record s { records = without_record r.number s.records; access = without r.number s.access; order = without r.number s.order })) (sym out)
       ∙ ap (λ o. after_removal o s) (sym found)
 
   pub not_gone : (s : State K V P S R) (number : ℕ) (r : Record K V) → record_at s.records number ≡ Some r → r.is_held ≡ true → after_removal (record_at s.records number) s ≡ s
   not_gone s number r found held =
-      ap (λ o. after_removal o s) found ∙ ap (λ b. cond b s (record s { records = without_record r.number s.records; access = without r.number s.access })) held
+      ap (λ o. after_removal o s) found ∙ ap (λ b. cond b s (record s { records = without_record r.number s.records; access = without r.number s.access; order = without r.number s.order })) held
 
   pub unknown : (s : State K V P S R) (number : ℕ) → record_at s.records number ≡ None → after_removal (record_at s.records number) s ≡ s
   unknown s number none = ap (λ o. after_removal o s) none
@@ -48,5 +48,6 @@ module _ {K V P S R : Type 0} where
   gone s place r = record s {
     records = remove s.records place;
     access = without r.number s.access;
+    order = without r.number s.order;
     notices = cond r.is_held (told s.settings.tells cause.Size r.entry s.notices) s.notices;
   }

@@ -91,6 +91,6 @@ module _ {K V P S R : Type 0} (answers : Answers K V P R) (now : ℕ) where
       go None = h
       go (Some r) = none_same why s r (without_record r.number s.records) ∙ none_without s r.number s.records h
 
-  pub none_due-counted : (s : State K V P S R) (number weight ran : ℕ) (rs : List (Record K V)) → none_due answers (record s { number = number; weight = weight; ran = ran }) now rs ≡ none_due answers s now rs
-  none_due-counted s number weight ran [] = refl
-  none_due-counted s number weight ran (r ∷ rs) = ap (λ b. not (is_due answers s now r) && b) (none_due-counted s number weight ran rs)
+  pub none_due-counted : (s : State K V P S R) (number weight ran : ℕ) (refused : Bool) (rs : List (Record K V)) → none_due answers (record s { number = number; weight = weight; ran = ran; table_refused = refused }) now rs ≡ none_due answers s now rs
+  none_due-counted s number weight ran refused [] = refl
+  none_due-counted s number weight ran refused (r ∷ rs) = ap (λ b. not (is_due answers s now r) && b) (none_due-counted s number weight ran refused rs)

@@ -6,7 +6,7 @@ use Rattle.engine_reference.specs.declared.data.Record.{Record}
 use Rattle.engine_reference.specs.Calls.{MaintainsIfDue, with_read}
 use Rattle.engine_reference.specs.State.{State, Answers}
 use Rattle.engine_reference.specs.Visible.{visible_record}
-use Rattle.engine_scans.specs.Scanning.{past, LooksPast, LooksUpPast}
+use Rattle.engine_reference.specs.Scanning.{past, LooksPast, LooksUpPast}
 
 module _ {K V : Type 0} where
   abbrev numbered : Record K V → ℕ × V
@@ -18,6 +18,10 @@ module _ {K V : Type 0} where
   found_there (Some r) number value e =
       let same : ◌≡◌ {A = ℕ × V} (r.number, r.entry.value) (number, value) = same_Some _ _ (sym e) in
       (r, refl, ap (λ (p : ℕ × V). p.0) same, ap (λ (p : ℕ × V). p.1) same)
+
+  pub numbered_some : (o : Option (Record K V)) (number : ℕ) → Some number ≡ option_map (λ r. r.number) o → (r : Record K V) × (o ≡ Some r) × (r.number ≡ number)
+  numbered_some None number e = absurd (cc)
+  numbered_some (Some r) number e = (r, refl, same_Some _ _ (sym e))
 
   found_none : (o : Option (Record K V)) → ◌≡◌ {A = Option (ℕ × V)} None (option_map numbered o) → o ≡ None
   found_none None e = refl

@@ -1,5 +1,7 @@
 -- What a run leaves that looks at every record, where all tickets were sent as it began.
 use Rattle.std.proofs.Common.{◌≡◌, refl, ap, sym, ◌∙◌, ℕ, ◌==◌, Bool, true, false, true≢false, not, ◌&&◌, ◌||◌, cond, List, [], ◌∷◌, Some}
+use Rattle.std.specs.Prelude.{Result, Ok, Err, OnOk, OnErr}
+use Rattle.std.specs.Result.{is_err}
 use Rattle.std.proofs.Math.Logic.{∥∥₁_elim}
 use Rattle.std.proofs.Props.{props}
 use Rattle.engine_reference.specs.declared.data.Record.{Record}
@@ -12,9 +14,8 @@ use Rattle.engine_reference.specs.Times.{has_come}
 use Rattle.engine_reference.specs.Visible.{is_covered}
 use Rattle.engine_reference.proofs.SoundSteps.{counts_are_exact}
 use Rattle.engine_laws.specs.Fronts.{NothingIsDue}
-use Rattle.engine_laws.specs.Sweeping.{IsSwept, LeavesNoneDue}
-use Rattle.engine_laws.proofs.Swept.{looking_at_all_sweeps, looking_at_all_leaves_none_due}
-use Rattle.engine_looks.specs.Chains.{is_due, none_due}
+use Rattle.engine_laws.proofs.Swept.{looking_at_all_sweeps}
+use Rattle.engine_looks.specs.Chains.{EndsRun, is_due, none_due}
 use Rattle.engine_looks.proofs.Places.{and_left, and_right}
 
 is_not : (b : Bool) → not b ≡ true → b ≡ false
@@ -43,31 +44,39 @@ module _ {K V P S R : Type 0} (answers : Answers K V P R) (now : ℕ) (s : State
     uncovered = λ r there held. (neither r.is_held (has_come s.settings now r.entry) (is_covered answers s r.entry) held (none_at s.records r.number r h there)).1;
   }
 
-module _ {K V P S R : Type 0} (answers : Answers K V P R) (now : ℕ) (old new : State K V P S R) (h : ∥ IsSound old ∥₁) (run : RunsToEnd answers now old new) where
-  pub run_counts : old.unsent ≡ [] → CountsExactly K V P S R answers new
-  run_counts sent = record {
+-- what an answer says, where it is known which it is
+pub made_then : {T E : Type 0} (r : Result T E) (X : Type 0) → OnOk r X → is_err r ≡ false → X
+made_then (Ok x) X h e = h
+made_then (Err y) X h e = absurd (true≢false e)
+
+pub ok_then : {T E X : Type 0} (r : Result T E) → (is_err r ≡ false → X) → OnOk r X
+ok_then (Ok x) h = h refl
+ok_then (Err y) h = tt
+
+pub err_then : {T E X : Type 0} (r : Result T E) → (is_err r ≡ true → X) → OnErr r X
+err_then (Ok x) h = tt
+err_then (Err y) h = h refl
+
+module _ {K V P S R : Type 0} (answers : Answers K V P R) (now : ℕ) (old new : State K V P S R) (h : ∥ IsSound old ∥₁) where
+  pub run_counts : RunsToEnd answers now old new → old.unsent ≡ [] → CountsExactly K V P S R answers new
+  run_counts run sent = record {
     number = ∥∥₁_elim h (Prim.hlevel props) (λ k. (counts_are_exact K V P S R answers now old new k sent run).number);
     weight = ∥∥₁_elim h (Prim.hlevel props) (λ k. (counts_are_exact K V P S R answers now old new k sent run).weight);
     within = λ capacity is_set above. ∥∥₁_elim h (Prim.hlevel props) (λ k. (counts_are_exact K V P S R answers now old new k sent run).within capacity is_set above);
-    uncovered = run.done.uncovered;
+    uncovered = λ place p there. ∥∥₁_elim h (Prim.hlevel props) (λ k. (counts_are_exact K V P S R answers now old new k sent run).uncovered place p there);
   }
 
-  pub run_swept : none_due answers new now new.records ≡ true → old.unsent ≡ [] → (order : List ℕ) → IsSwept now order old new
-  run_swept none sent order =
+  -- a run that leaves nothing due is uncut
+  pub run_whole : EndsRun answers now old new → none_due answers new now new.records ≡ true → RunsToEnd answers now old new
+  run_whole ends none =
       let nothing = quiet answers now new none in
       record {
-        live = λ r first. ∥∥₁_elim h (Prim.hlevel props) (λ k. (looking_at_all_sweeps K V P S R answers now order old new k sent run.runs nothing).live r first);
-        clear = λ r first. ∥∥₁_elim h (Prim.hlevel props) (λ k. (looking_at_all_sweeps K V P S R answers now order old new k sent run.runs nothing).clear r first);
-        idle = λ r first. ∥∥₁_elim h (Prim.hlevel props) (λ k. (looking_at_all_sweeps K V P S R answers now order old new k sent run.runs nothing).idle r first);
-        own = λ later r there. ∥∥₁_elim h (Prim.hlevel props) (λ k. (looking_at_all_sweeps K V P S R answers now order old new k sent run.runs nothing).own later r there);
-      }
-
-  pub run_leaves_none : none_due answers new now new.records ≡ true → old.unsent ≡ [] → LeavesNoneDue now new
-  run_leaves_none none sent =
-      let nothing = quiet answers now new none in
-      record {
-        live = λ r there. ∥∥₁_elim h (Prim.hlevel props) (λ k. (looking_at_all_leaves_none_due K V P S R answers now old new k sent run.runs nothing).live r there);
-        clear = λ r there. ∥∥₁_elim h (Prim.hlevel props) (λ k. (looking_at_all_leaves_none_due K V P S R answers now old new k sent run.runs nothing).clear r there);
-        own = λ r there expires is_set. ∥∥₁_elim h (Prim.hlevel props) (λ k. (looking_at_all_leaves_none_due K V P S R answers now old new k sent run.runs nothing).own r there expires is_set);
-        idle = λ ordered r there time is_set. ∥∥₁_elim h (Prim.hlevel props) (λ k. (looking_at_all_leaves_none_due K V P S R answers now old new k sent run.runs nothing).idle ordered r there time is_set);
+        runs = ends.runs;
+        done = ends.done;
+        swept = λ sent. record {
+          live = λ r first. ∥∥₁_elim h (Prim.hlevel props) (λ k. (looking_at_all_sweeps K V P S R answers now old new k sent ends.runs nothing).live r first);
+          clear = λ r first. ∥∥₁_elim h (Prim.hlevel props) (λ k. (looking_at_all_sweeps K V P S R answers now old new k sent ends.runs nothing).clear r first);
+          idle = λ r first. ∥∥₁_elim h (Prim.hlevel props) (λ k. (looking_at_all_sweeps K V P S R answers now old new k sent ends.runs nothing).idle r first);
+          own = λ later r there. ∥∥₁_elim h (Prim.hlevel props) (λ k. (looking_at_all_sweeps K V P S R answers now old new k sent ends.runs nothing).own later r there);
+        };
       }

@@ -8,13 +8,13 @@ use Rattle.engine_rules.specs.declared.causes.RemovalCause.{RemovalCause}
 use Rattle.engine_reference.specs.declared.data.Record.{Record}
 use Rattle.engine_reference.specs.Admission.{sketch_room, wants_table}
 use Rattle.engine_reference.specs.Records.{record_at, without_record, admitted_number, admitted_weight}
-use Rattle.engine_reference.specs.Runs.{Step, reads, writes, grows, leaves, evicts, ends, Steps, IsApplied, left, with_left}
+use Rattle.engine_reference.specs.Runs.{Step, reads, writes, grows, leaves, evicts, ends, Steps, IsApplied, left, with_left, lacks_table}
 use Rattle.engine_reference.specs.State.{State, Answers}
 use Rattle.engine_reference.proofs.Evicting.{weight-without}
 use Rattle.engine_reference.proofs.HeldRecords.{record_at-number}
 use Rattle.engine_looks.proofs.Steps.{applied_left}
 use Rattle.engine_looks.specs.Chains.{Chain}
-use Rattle.engine_looks.specs.Tables.{lacks_table, LacksTableFor}
+use Rattle.engine_looks.specs.Tables.{LacksTableFor}
 
 and_second : (a b c : Bool) → (a && b && c) ≡ true → b ≡ true
 and_second a true c h = refl

@@ -1,16 +1,17 @@
 -- What a write makes of the lists is what the reference cache says.
-use Rattle.std.proofs.Common.{◌≡◌, refl, ap, sym, ◌∙◌, ℕ, ◌+◌, ◌-◌, Bool, true, false, cond, arith, List, [], ◌∷◌, ◌++◌, Some, None}
+use Rattle.std.proofs.Common.{◌≡◌, refl, ap, sym, ◌∙◌, subst, ℕ, ◌+◌, ◌-◌, ◌≤◌, Bool, true, false, cond, arith, List, [], ◌∷◌, ◌++◌, Option, Some, None}
 use Rattle.std.specs.Prelude.{slice_get, slice_set}
 use Rattle.engine_rules.specs.declared.causes.RemovalCause.{RemovalCause}
 use Rattle.engine_reference.specs.declared.data.Entry.{Entry}
 use Rattle.engine_reference.specs.declared.data.Record.{Record}
 use Rattle.engine_reference.specs.declared.data.Upsert.{Upsert}
 use Rattle.engine_reference.specs.declared.data.Write.TheVariants.{Put, Removed}
-use Rattle.engine_reference.specs.Calls.{removed_by, with_removed, written, with_written, first_entry, next_entry}
+use Rattle.engine_reference.specs.Calls.{removal_rooms, with_reserved_removal, with_removed, written, with_written, first_entry, next_entry}
 use Rattle.engine_reference.specs.Records.{held_at, held_weight, changed_at}
-use Rattle.engine_reference.specs.Soundness.{AreNumbered}
+use Rattle.engine_reference.specs.Soundness.{AreNumbered, IsSound}
 use Rattle.engine_reference.specs.State.{State, Answers}
 use Rattle.engine_reference.specs.Visible.{told, cause_of_write}
+use Rattle.engine_reference.proofs.SoundCalls.{calls_stay_sound}
 use Rattle.engine_looks.proofs.Places.{at_changed, held_at-held}
 use Rattle.engine_looks.proofs.Sums.{held_weight-push, held_weight-set}
 
@@ -76,9 +77,9 @@ module _ {K V P S R : Type 0} (answers : Answers K V P R) where
 abbrev pub marked : {K V : Type 0} → Record K V → Record K V
 marked r = record r { is_held = false; writes = r.writes + 1 }
 
-room_left : (n by : ℕ) (tells : Bool) → by ≡ cond tells 2 1 → (n + by) - 1 ≡ cond tells (n + 1) n
-room_left n by true e = omega arith
-room_left n by false e = omega arith
+room_left : (n : ℕ) (tells : Bool) → cond tells 2 1 ≤ n → n - 1 ≡ cond tells ((n - cond tells 2 1) + 1) (n - cond tells 2 1)
+room_left n true enough = omega arith
+room_left n false enough = omega arith
 
 module _ {K V P S R : Type 0} where
   abbrev pub taken : State K V P S R → List (Record K V) → ℕ → ℕ → State K V P S R
@@ -89,10 +90,20 @@ module _ {K V P S R : Type 0} where
     reserved = reserved;
   }
 
-  pub removed_at : (eq : K → K → Bool) (s : State K V P S R) (key : K) (place by : ℕ) (r : Record K V)
-      → AreNumbered s.records → slice_get s.records place ≡ Some r → held_at eq s.records key ≡ Some r → by ≡ cond s.settings.tells 2 1
-      → taken s (slice_set s.records place (marked r)) r.number ((s.reserved + by) - 1) ≡ removed_by eq key s
-  removed_at eq s key place by r numbered there held e =
-      ap (λ n. taken s (slice_set s.records place (marked r)) r.number n) (room_left s.reserved by s.settings.tells e)
-      ∙ ap (λ rs. taken s rs r.number (cond s.settings.tells (s.reserved + 1) s.reserved)) (sym (at_changed marked s.records place r numbered there))
-      ∙ ap (λ o. with_removed o s) (sym held)
+  pub removed_at : (eq : K → K → Bool) (s : State K V P S R) (key : K) (place : ℕ) (r : Record K V)
+      → AreNumbered s.records → slice_get s.records place ≡ Some r → held_at eq s.records key ≡ Some r → removal_rooms s.settings ≤ s.reserved
+      → taken s (slice_set s.records place (marked r)) r.number (s.reserved - 1) ≡ with_reserved_removal (held_at eq s.records key) s
+  removed_at eq s key place r numbered there held enough =
+      ap (λ n. taken s (slice_set s.records place (marked r)) r.number n) (room_left s.reserved s.settings.tells enough)
+      ∙ ap (λ rs. taken s rs r.number (cond s.settings.tells ((s.reserved - removal_rooms s.settings) + 1) (s.reserved - removal_rooms s.settings))) (sym (at_changed marked s.records place r numbered there))
+      ∙ ap (λ o. with_reserved_removal o s) (sym held)
+
+  -- a removal in the room that was made for it is one that makes it no more
+  pub removed_sound : (eq : K → K → Bool) (key : K) (s : State K V P S R) → IsSound s → IsSound (with_reserved_removal (held_at eq s.records key) s)
+  removed_sound eq key s h = go (held_at eq s.records key) refl
+    where
+      go : (o : Option (Record K V)) → held_at eq s.records key ≡ o → IsSound (with_reserved_removal o s)
+      go None e = h
+      go (Some r) e =
+          let less : State K V P S R = record s { reserved = s.reserved - removal_rooms s.settings } in
+          subst (λ o. IsSound (with_removed o less)) e ((calls_stay_sound K V P S R).removed eq key less (record { records = h.records; named = h.named }))

@@ -3,10 +3,10 @@ ghost use Rattle.std.specs.Prelude.{◌≡◌, ℕ, ◌+◌, ◌-◌, ◌<◌, �
 ghost use Rattle.std.specs.Duration.{as_nanos};
 ghost use Rattle.std.specs.Result.{IsErrOf};
 ghost use Rattle.engine_reference.specs.Admission.{Verdict, admit, displace, refuse, verdict, is_above, shortest_front, wants_table};
-ghost use Rattle.engine_reference.specs.Calls.{without_ticket, IsNew, written, with_written, sent, unsent_at, is_full, removed_by, removal_told, LooksUp, MaintainsIfDue, with_read, cleared_by, without_notice, with_room, used_entry};
+ghost use Rattle.engine_reference.specs.Calls.{without_ticket, IsNew, written, with_written, sent, unsent_at, is_full, removal_told, MaintainsIfDue, with_read, cleared_by, without_notice, with_room, used_entry};
 ghost use Rattle.engine_reference.specs.Laws.{CountsExactly};
 ghost use Rattle.engine_reference.specs.Records.{admitted_number, moved_to_back, held_at, record_at, held_weight, settled_in, admitted_weight, is_settled};
-ghost use Rattle.engine_reference.specs.Runs.{counting, put_off, is_due_for, Step, RunsToEnd, after_read, after_hit, after_write, after_put, IsApplied, next_to_evict, left, all_left, is_overtaken, is_due};
+ghost use Rattle.engine_reference.specs.Runs.{counting, put_off, is_due_for, Step, RunsToEnd, after_read, after_hit, after_write, after_put, IsApplied, next_to_evict, left, all_left, is_overtaken, is_due, lacks_table};
 ghost use Rattle.engine_reference.specs.Visible.{visible_record, visible_value, cause_of_write};
 ghost use Rattle.policy_sketch.specs.Counts.{incremented};
 ghost use Rattle.engine_reference.specs.declared.data.Record.{Record};
@@ -15,21 +15,21 @@ ghost use Rattle.engine_reference.specs.declared.data.Upsert.{Upsert};
 ghost use Rattle.engine_reference.specs.declared.data.Write.{Write};
 ghost use Rattle.engine_reference.specs.declared.data.Write.TheVariants.{Put, Removed};
 ghost use Rattle.engine_rules.specs.declared.causes.RemovalCause.TheVariants as cause;
-ghost use Rattle.engine_laws.specs.Sweeping.{IsSwept, LeavesNoneDue};
+ghost use Rattle.engine_laws.specs.Sweeping.{IsTimely, LeavesNoneDue};
 ghost use Rattle.engine_lists.specs.Asking.{answers_of};
-ghost use Rattle.engine_looks.specs.Chains.{Chain, none_due, is_admitted};
+ghost use Rattle.engine_looks.specs.Chains.{Chain, EndsRun, none_due, is_admitted};
 ghost use Rattle.engine_looks.specs.Displacing.{front_of, displaced};
-ghost use Rattle.engine_looks.specs.Tables.{lacks_table, LacksTableFor};
+ghost use Rattle.engine_looks.specs.Tables.{LacksTableFor};
 
 use engine_lists::{
     Lists, MAX_READS, MAX_WRITES, Refusal, count_admitted, place_at, place_of_ticket,
     weigh_admitted, weigh_held,
 };
 use engine_looks::{
-    Decision, beside, cause_of_removal, cause_of_write, clone_at, clone_entry, decide,
-    displace_for, expires_after_use, find_due, find_excess, first_entry, first_write,
-    has_predicates, has_reads, has_writes, is_admitted, is_due, is_held_at, look_up, next_entry,
-    policy_of, rooms_of_removal, table_wanted, upsert, use_found,
+    Decision, beside, cause_of_removal, cause_of_write, clone_at, decide, displace_for,
+    expires_after_use, find_due, find_excess, first_entry, first_write, has_predicates, has_reads,
+    has_writes, is_admitted, is_due, is_held_at, look_up, next_entry, policy_of, table_wanted,
+    upsert, use_found,
 };
 use engine_reference::{Entry, Notice, Read, Record, Settings, Upsert, Write};
 use engine_rules::{Policy, RemovalCause, Rules};
@@ -37,7 +37,9 @@ use policy_base::Instant;
 use std::alloc::{AllocError, Global};
 use std::marker::Model;
 
+mod lookups;
 mod predicates;
+mod removals;
 mod scans;
 mod settings;
 
@@ -219,49 +221,6 @@ impl<K: Eq, V, S, R: Rules<K, V>> BaseCache<K, V, S, R> {
         let write = upsert(others.0, next, entry.weight, hash, others.1);
         self.lists
             .write_over(place, entry, cause, Write::Put(write));
-    }
-
-    /// Removes a key, whether its deadline has come or not, and answers its entry and the ticket of the removal.
-    /// Where removals are told, `notify_invalidate` is to tell the entry.
-    pub fn remove_entry(
-        &mut self,
-        key: &K,
-        _hash: u64,
-    ) -> Result<Option<(Entry<K, V>, u64)>, Refusal>
-    where
-        K: Clone + Drop,
-        V: Clone + Drop,
-        requires exact_key { (x y : K) → K.is_clone x y → y ≡ x }
-        requires exact { (x y : V) → V.is_clone x y → y ≡ x }
-        ensures removed { OnOk result (self.new ≡ removed_by K.eq key.now self.old) }
-        ensures entry { IfOk result (λ gone. gone ≡ option_map (λ r. (r.entry, self.old.next_ticket)) (held_at K.eq self.old.records key.now)) }
-        ensures err { OnErr result (self.new ≡ self.old) }
-        ensures used_up { IsErrOf result Refusal.UsedUp → 2 ^ 64 ≤ self.old.next_ticket + self.old.reserved + (if self.old.settings.tells then 2 else 1) }
-        ensures only { OnErr result ((IsErrOf result Refusal.OutOfMemory) ⊎ (IsErrOf result Refusal.UsedUp)) }
-    {
-        match self.lists.place_of(key) {
-            Some(place) => {
-                let entry = clone_entry(&self.lists, place)?;
-                let ticket = self.lists.next_ticket();
-                self.remove_at(place, key)?;
-                Ok(Some((entry, ticket)))
-            }
-            None => Ok(None),
-        }
-    }
-
-    /// Removes the key of the record at a place.
-    fn remove_at(&mut self, place: usize, key: &K) -> Result<(), Refusal>
-        requires { (r : Record K V) × (slice_get self.old.records place ≡ Some r) × (held_at K.eq self.old.records key.now ≡ Some r) }
-        ensures ok { OnOk result (self.new ≡ removed_by K.eq key.now self.old) }
-        ensures err { OnErr result (self.new ≡ self.old) }
-        ensures used_up { IsErrOf result Refusal.UsedUp → 2 ^ 64 ≤ self.old.next_ticket + self.old.reserved + (if self.old.settings.tells then 2 else 1) }
-        ensures only { OnErr result ((IsErrOf result Refusal.OutOfMemory) ⊎ (IsErrOf result Refusal.UsedUp)) }
-    {
-        let by = rooms_of_removal(self.lists.settings());
-        self.lists.make_room(by)?;
-        self.lists.mark_removed(place);
-        Ok(())
     }
 
     /// Tells an entry that was removed by its key.
@@ -755,51 +714,51 @@ impl<K: Eq, V, S, R: Rules<K, V>> BaseCache<K, V, S, R> {
         }
     }
 
-    /// Takes down number and weight of the admitted records.
-    fn finish_run(&mut self, now: u64)
-        ensures { self.new ≡ record self.old { number = admitted_number self.old.records; weight = min (admitted_weight self.old.records) 18446744073709551615; ran = now } }
+    /// Takes down number and weight of the admitted records, and whether there was no memory for the sketch's table.
+    fn finish_run(&mut self, now: u64, table_refused: bool)
+        ensures { self.new ≡ record self.old { number = admitted_number self.old.records; weight = min (admitted_weight self.old.records) 18446744073709551615; ran = now; table_refused = table_refused } }
     {
         let number = count_admitted(self.lists.records());
         let weight = capped(weigh_admitted(self.lists.records()));
-        self.lists.finish_run(number, weight, now);
+        self.lists.finish_run(number, weight, now, table_refused);
     }
 
-    /// A run of what has no read and no write to apply, once the sketch's table was tried.
-    fn settle(&mut self, now: u64)
+    /// (answers_of R.weight_of R.created R.read R.updated R.covers) run of what has no read and no write to apply, once the sketch's table was tried.
+    fn settle(&mut self, now: u64, table_refused: bool)
     where
         K: Drop,
         V: Drop,
-        requires { IsApplied self.old }
-        ensures runs { RunsToEnd (answers_of R.weight_of R.created R.read R.updated R.covers) now self.old self.new }
+        requires applied { IsApplied self.old }
+        requires table { table_refused ≡ false → lacks_table self.old ≡ false }
+        ensures ends { EndsRun (answers_of R.weight_of R.created R.read R.updated R.covers) now self.old self.new }
         ensures none { none_due (answers_of R.weight_of R.created R.read R.updated R.covers) self.new now self.new.records ≡ true }
-        ensures table { lacks_table self.old ≡ false → lacks_table self.new ≡ false }
+        ensures refused { self.new.table_refused ≡ table_refused }
     {
         self.sweep(now);
         self.end_predicates(now);
         self.evict(now);
-        self.finish_run(now);
+        self.finish_run(now, table_refused);
     }
 
-    /// Runs maintenance to its end: all that is pending is applied, what is due leaves, and then the excess. Nothing that is held is then dead or covered.
-    /// Where all tickets were sent as it began, the counts are exact, nothing that is kept is due, and the run did what laws on runs ask of one that looks at times.
+    /// Runs maintenance to its end: all that is pending is applied, what is due leaves, and then the excess.
+    /// Where all tickets were sent as it began, the counts are exact; where moments never fell and steps rose too, nothing that is kept is due.
     /// Where half the capacity is held and the sketch has no table, it is made first; an error tells that there was no memory for it, and the run is as whole without.
     pub fn try_run_pending_tasks(&mut self, now: Instant) -> Result<(), AllocError>
     where
         K: Drop,
         V: Drop,
         ensures runs { RunsToEnd (answers_of R.weight_of R.created R.read R.updated R.covers) now self.old self.new }
-        ensures none { none_due (answers_of R.weight_of R.created R.read R.updated R.covers) self.new now self.new.records ≡ true }
         ensures counts { self.old.unsent ≡ [] → CountsExactly K V R.Predicate S R (answers_of R.weight_of R.created R.read R.updated R.covers) self.new }
-        ensures due { self.old.unsent ≡ [] → LeavesNoneDue now self.new }
-        ensures swept { self.old.unsent ≡ [] → (order : List ℕ) → IsSwept now order self.old self.new }
-        ensures table { OnOk result (lacks_table self.new ≡ false) }
+        ensures due { (moment step : ℕ) → IsTimely moment step self.old → moment ≤ now → now ≤ 9223372036854775807 → LeavesNoneDue now self.new }
+        ensures made { OnOk result (self.new.table_refused ≡ false) }
+        ensures refused { OnErr result (self.new.table_refused ≡ true) }
     {
         let _ = &self.lists;
         let moment = now.as_nanos();
         self.apply_reads(moment);
         self.apply_writes(moment);
         let grown = self.grow(moment);
-        self.settle(moment);
+        self.settle(moment, grown.is_err());
         grown
     }
 
@@ -809,12 +768,17 @@ impl<K: Eq, V, S, R: Rules<K, V>> BaseCache<K, V, S, R> {
         K: Drop,
         V: Drop,
         ensures runs { RunsToEnd (answers_of R.weight_of R.created R.read R.updated R.covers) now self.old self.new }
-        ensures none { none_due (answers_of R.weight_of R.created R.read R.updated R.covers) self.new now self.new.records ≡ true }
         ensures counts { self.old.unsent ≡ [] → CountsExactly K V R.Predicate S R (answers_of R.weight_of R.created R.read R.updated R.covers) self.new }
-        ensures due { self.old.unsent ≡ [] → LeavesNoneDue now self.new }
-        ensures swept { self.old.unsent ≡ [] → (order : List ℕ) → IsSwept now order self.old self.new }
+        ensures due { (moment step : ℕ) → IsTimely moment step self.old → moment ≤ now → now ≤ 9223372036854775807 → LeavesNoneDue now self.new }
     {
         let _grown = self.try_run_pending_tasks(now);
+    }
+
+    /// Whether the last run wanted the sketch's table and there was no memory for it.
+    pub fn is_table_refused(&self) -> bool
+        ensures { result ≡ self.now.table_refused }
+    {
+        self.lists.table_refused()
     }
 
     // ---- uses
@@ -854,36 +818,6 @@ impl<K: Eq, V, S, R: Rules<K, V>> BaseCache<K, V, S, R> {
         ensures { self.new ≡ with_read (answers_of R.weight_of R.created R.read R.updated R.covers) None hash _now self.old }
     {
         self.lists.push_read(Read::Miss(hash));
-    }
-
-    /// A clone of the visible value of a key, of which it is a use. Maintenance runs where it is due, after the look.
-    pub fn get_with_hash(
-        &mut self,
-        key: &K,
-        hash: u64,
-        now: Instant,
-    ) -> Result<Option<V>, AllocError>
-    where
-        K: Drop,
-        V: Clone + Drop,
-        requires exact { (x y : V) → V.is_clone x y → y ≡ x }
-        ensures found { IfOk result (λ found. found ≡ visible_value (answers_of R.weight_of R.created R.read R.updated R.covers) K.eq self.old now key.now) }
-        ensures used { OnOk result (LooksUp (answers_of R.weight_of R.created R.read R.updated R.covers) K.eq key.now hash now self.old self.new) }
-        ensures err { OnErr result (self.new ≡ self.old) }
-    {
-        match look_up(&self.lists, key, now.as_nanos()) {
-            Some(place) => {
-                let found = clone_at(&self.lists, place)?;
-                self.apply_reads_writes_if_needed(now);
-                self.record_hit(found.0, hash, now);
-                Ok(Some(found.1))
-            }
-            None => {
-                self.apply_reads_writes_if_needed(now);
-                self.record_miss(hash, now);
-                Ok(None)
-            }
-        }
     }
 }
 

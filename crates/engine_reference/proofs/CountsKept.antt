@@ -54,7 +54,7 @@ module _ {K V P S R : Type 0} where
   after_removal-sketch None s = refl
   after_removal-sketch (Some r) s = go r.is_held
     where
-      go : (b : Bool) → (cond b s (record s { records = without_record r.number s.records; access = without r.number s.access })).sketch ≡ s.sketch
+      go : (b : Bool) → (cond b s (record s { records = without_record r.number s.records; access = without r.number s.access; order = without r.number s.order })).sketch ≡ s.sketch
       go true = refl
       go false = refl
 

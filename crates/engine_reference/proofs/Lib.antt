@@ -2,7 +2,9 @@ pub mod HeldRecords
 pub mod TellingSteps
 pub mod StayingVisible
 pub mod CountsKept
+pub mod RestKept
 pub mod NameKept
+pub mod Halves
 pub mod Seeing
 pub mod Unapplied
 pub mod Accounts

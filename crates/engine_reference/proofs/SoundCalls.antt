@@ -9,7 +9,7 @@ use Rattle.engine_reference.specs.declared.data.Write.TheVariants.{Put, Removed}
 use Rattle.engine_reference.specs.Calls.{with_written, first_entry, next_entry, with_sent, unsent_at, without_ticket, with_removed, MaintainsIfDue, with_read, used_entry}
 use Rattle.engine_reference.specs.Laws.{CallsStaySound}
 use Rattle.engine_reference.specs.Records.{record_at, held_at, changed_at, held_weight}
-use Rattle.engine_reference.specs.Runs.{Runs, is_due}
+use Rattle.engine_reference.specs.Runs.{RunsToEnd, is_due}
 use Rattle.engine_reference.specs.Soundness.{IsIn, number_of, IsPending, Each, AreNumbered, IsLastOf, Fits, IsAccounted, IsSound}
 use Rattle.engine_reference.specs.State.{State, Answers}
 use Rattle.engine_reference.specs.Visible.{visible_record}
@@ -274,8 +274,8 @@ module _ {K V P S R : Type 0} where
   maintained-sound : (answers : Answers K V P R) (now : ℕ) (old new : State K V P S R) → IsSound old → MaintainsIfDue answers now old new → IsSound new
   maintained-sound answers now old new h k = go (is_due old now) k
     where
-      go : (b : Bool) → MatchBool b (Runs answers now old new) (new ≡ old) → IsSound new
-      go true k = run-sound answers now old new h k
+      go : (b : Bool) → MatchBool b (RunsToEnd answers now old new) (new ≡ old) → IsSound new
+      go true k = run-sound answers now old new h k.runs
       go false e = subst (λ t. IsSound t) (sym e) h
 
   written-sound : (eq : K → K → Bool) (answers : Answers K V P R) (s : State K V P S R) (key : K) (hash : ℕ) (value : V) (now step : ℕ) (o : Option (Record K V)) → held_at eq s.records key ≡ o

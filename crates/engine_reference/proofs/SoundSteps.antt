@@ -1,6 +1,6 @@
 -- Runs keep a sound state sound, and where nothing is pending its counts are exact.
-use Rattle.std.proofs.Common.{◌≡◌, refl, ap, sym, ◌∙◌, subst, ℕ, ◌+◌, ◌<◌, ◌≤◌, arith, Bool, true, false, true≢false, cond, List, [], ◌∷◌, Option, Some, None, length, is_some, inl, inr}
-use Rattle.std.specs.Prelude.{fold, nat_lt, min}
+use Rattle.std.proofs.Common.{zero, suc, ◌≡◌, refl, ap, sym, ◌∙◌, subst, ℕ, ◌+◌, ◌<◌, ◌≤◌, arith, Bool, true, false, true≢false, cond, List, [], ◌∷◌, Option, Some, None, length, is_some, inl, inr}
+use Rattle.std.specs.Prelude.{fold, nat_lt, min, slice_get}
 use Rattle.std.proofs.lemmas.Bool.{ltb-true, ltb-false, cases_eq, cases_lt, eq-eqb}
 use Rattle.policy_sketch.specs.Counts.{incremented}
 use Rattle.engine_rules.specs.declared.causes.RemovalCause.{RemovalCause}
@@ -135,7 +135,7 @@ module _ {K V P S R : Type 0} where
 
   after_removal-frame : (o : Option (Record K V)) (s : State K V P S R) → Frame s (after_removal o s)
   after_removal-frame None s = Frame-refl s
-  after_removal-frame (Some r) s = Frame-either r.is_held s s (record s { records = without_record r.number s.records; access = without r.number s.access }) (Frame-refl s) (record { unsent = refl; writes = refl; reads = refl; next = refl })
+  after_removal-frame (Some r) s = Frame-either r.is_held s s (record s { records = without_record r.number s.records; access = without r.number s.access; order = without r.number s.order }) (Frame-refl s) (record { unsent = refl; writes = refl; reads = refl; next = refl })
 
   pub after_write-frame : (w : Write) (s : State K V P S R) → Frame s (after_write w s)
   after_write-frame (Put u) s = after_put-frame u (record_at s.records u.number) s
@@ -224,7 +224,7 @@ module _ {K V P S R : Type 0} where
   after_removal-sound unsent rest next n s h (Some x) here = go x.is_held refl
     where
       gone : State K V P S R
-      gone = record s { records = without_record x.number s.records; access = without x.number s.access }
+      gone = record s { records = without_record x.number s.records; access = without x.number s.access; order = without x.number s.order }
 
       go : (b : Bool) → x.is_held ≡ b → AreSound unsent rest next (cond b s gone).records (cond b s gone).access
       go true held =
@@ -364,6 +364,10 @@ module _ {K V : Type 0} where
       (eq-eqb r.writes r.applied (sym (h.0).settled))
       (listed.0 (ap (λ o. is_some o) (h.0).counts)) e)
 
+nothing_at : {X : Type 0} (place : ℕ) (x : X) → slice_get [] place ≡ Some x → ⊥
+nothing_at zero x e = absurd (cc)
+nothing_at (suc place) x e = absurd (cc)
+
 module _ (K V P S R : Type 0) where
   pub runs_stay_sound : RunsStaySound K V P S R
   runs_stay_sound answers now old new h k = run-sound answers now old new h k
@@ -384,5 +388,5 @@ module _ (K V P S R : Type 0) where
           | inl over ↦ (let none = all_gone new.records new.access all s.records.listed (k.done.within capacity is_set above over) in absurd (omega arith))
           | inr fits ↦ subst (λ w. w ≤ capacity) (counted-weight new.records all) fits
         ];
-        uncovered = k.done.uncovered;
+        uncovered = λ place p there. absurd (nothing_at place p (subst (λ ps. slice_get ps place ≡ Some p) k.done.ended there));
       }

@@ -216,7 +216,7 @@ module _ {K V P S R : Type 0} where
       here = ap (λ n. record_at s.records n) (record_at-number s.records number r there) ∙ there
 
       gone : State K V P S R
-      gone = record s { records = without_record r.number s.records; access = without r.number s.access }
+      gone = record s { records = without_record r.number s.records; access = without r.number s.access; order = without r.number s.order }
 
       go : (b : Bool) → r.is_held ≡ b → WriteTells 0 s (cond b s gone)
       go true held = nothing_written 0 s s (Keeps-refl s) refl refl

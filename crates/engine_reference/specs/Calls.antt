@@ -12,7 +12,7 @@ use Rattle.engine_reference.specs.Records.{record_at, held_at, changed_at, held_
 use Rattle.engine_reference.specs.State.{State, Answers}
 use Rattle.engine_reference.specs.Times.{own_expiration, changed_expiration, time_left}
 use Rattle.engine_reference.specs.Visible.{cause_of_write, cause_of_removal, told, visible_record}
-use Rattle.engine_reference.specs.Runs.{Runs, is_due}
+use Rattle.engine_reference.specs.Runs.{RunsToEnd, is_due}
 
 -- the write of a ticket that was not sent
 abbrev pub unsent_at : List Unsent → ℕ → Option Write
@@ -22,6 +22,10 @@ unsent_at (u ∷ us) ticket = if u.ticket == ticket then Some u.write else unsen
 abbrev pub without_ticket : ℕ → List Unsent → List Unsent
 without_ticket ticket [] = []
 without_ticket ticket (u ∷ us) = if u.ticket == ticket then us else u ∷ without_ticket ticket us
+
+-- for how much a removal needs room: its own write, and where removals are told its notice
+abbrev pub removal_rooms : Settings → ℕ
+removal_rooms settings = if settings.tells then 2 else 1
 
 module _ {K V P S R : Type 0} where
   -- ---- sending
@@ -53,6 +57,16 @@ module _ {K V P S R : Type 0} where
   abbrev pub removed_by : (K → K → Bool) → K → State K V P S R → State K V P S R
   removed_by eq key s = with_removed (held_at eq s.records key) s
 
+  -- the first half makes the room of the key's removal, where it is held
+  abbrev pub with_removal_room : Option (Record K V) → State K V P S R → State K V P S R
+  with_removal_room None s = s
+  with_removal_room (Some r) s = record s { reserved = s.reserved + removal_rooms s.settings }
+
+  -- the second removes it in that room
+  abbrev pub with_reserved_removal : Option (Record K V) → State K V P S R → State K V P S R
+  with_reserved_removal None s = s
+  with_reserved_removal (Some r) s = with_removed (Some r) (record s { reserved = s.reserved - removal_rooms s.settings })
+
   -- ---- clears, predicates, room, notices, the name
 
   -- every entry of an earlier step is covered
@@ -64,6 +78,14 @@ module _ {K V P S R : Type 0} where
 
   abbrev pub with_room : State K V P S R → State K V P S R
   with_room s = record s { reserved = s.reserved + 1 }
+
+  -- the room of one write is given up
+  abbrev pub without_room : State K V P S R → State K V P S R
+  without_room s = record s { reserved = s.reserved - 1 }
+
+  -- a predicate takes the room that was made for it
+  abbrev pub registered : Registered P → State K V P S R → State K V P S R
+  registered p s = with_predicate p (without_room s)
 
   abbrev pub without_notice : State K V P S R → State K V P S R
   without_notice s = record s { notices = drop 1 s.notices }
@@ -148,9 +170,9 @@ module _ {K V P S R : Type 0} (answers : Answers K V P R) where
     reads = s.reads ++ Hit r.number hash ∷ [];
   }
 
-  -- maintenance comes where it is due
+  -- maintenance comes where it is due, and is not cut
   abbrev pub MaintainsIfDue : ℕ → State K V P S R → State K V P S R → Type 0
-  MaintainsIfDue now old new = MatchBool (is_due old now) (Runs answers now old new) (new ≡ old)
+  MaintainsIfDue now old new = MatchBool (is_due old now) (RunsToEnd answers now old new) (new ≡ old)
 
   -- a look-up with its read: the answer is what is visible as it begins, then comes due maintenance, then the read
   pub record LooksUp (eq : K → K → Bool) (key : K) (hash now : ℕ) (old new : State K V P S R) : Type 0 where
@@ -173,6 +195,7 @@ module _ {K V P S R : Type 0} (answers : Answers K V P R) where
 pub record IsNew {K V P S R : Type 0} (settings : Settings) (hasher : S) (rules : R) (s : State K V P S R) : Type 0 where
   pub records : s.records ≡ []
   pub access : s.access ≡ []
+  pub order : s.order ≡ []
   pub cleared : s.cleared ≡ 0
   pub predicates : s.predicates ≡ []
   pub unsent : s.unsent ≡ []
@@ -183,6 +206,7 @@ pub record IsNew {K V P S R : Type 0} (settings : Settings) (hasher : S) (rules 
   pub number : s.number ≡ 0
   pub weight : s.weight ≡ 0
   pub ran : s.ran ≡ settings.made
+  pub table_refused : s.table_refused ≡ false
   pub next_number : s.next_number ≡ 0
   pub next_ticket : s.next_ticket ≡ 0
   pub reserved : s.reserved ≡ 0

@@ -1,21 +1,23 @@
 -- Laws of the reference cache.
-use Rattle.std.specs.Prelude.{◌-◌, ◌<◌, ◌≤◌, [], length, min, slice_get, ◌≡◌, ◌⊎◌, Bool, ℕ, List, ◌∷◌, Some, None, true, false}
+use Rattle.std.specs.Prelude.{◌-◌, ◌<◌, ◌≤◌, [], length, min, slice_get, ◌≡◌, ◌⊎◌, Bool, ℕ, List, ◌∷◌, Option, Some, None, true, false}
 use Rattle.policy_sketch.specs.Counts.{incremented}
 use Rattle.engine_rules.specs.declared.causes.RemovalCause.{RemovalCause}
 use Rattle.engine_rules.specs.declared.causes.RemovalCause.TheVariants as cause
 use Rattle.engine_reference.specs.declared.data.Entry.{Entry}
 use Rattle.engine_reference.specs.declared.data.Record.{Record}
 use Rattle.engine_reference.specs.declared.data.Registered.{Registered}
+use Rattle.engine_reference.specs.declared.data.Settings.{Settings}
+use Rattle.engine_reference.specs.declared.data.Unsent.{Unsent}
 use Rattle.engine_reference.specs.declared.data.Upsert.{Upsert}
 use Rattle.engine_reference.specs.declared.data.Read.{Read}
 use Rattle.engine_reference.specs.declared.data.Read.TheVariants.{Hit, Miss}
 use Rattle.engine_reference.specs.declared.data.Write.{Write}
 use Rattle.engine_reference.specs.declared.data.Write.TheVariants.{Put}
-use Rattle.engine_reference.specs.Calls.{written, sent, removed_by, removal_told, LooksUp, cleared_by, with_predicate, with_room, without_notice}
+use Rattle.engine_reference.specs.Calls.{written, sent, removed_by, with_removal_room, with_reserved_removal, removal_told, LooksUp, cleared_by, with_predicate, with_room, without_room, registered, without_notice}
 use Rattle.engine_reference.specs.Visible.{visible}
 use Rattle.engine_reference.specs.Admission.{is_above, shortest_front}
 use Rattle.std.specs.Cmp.{IsEquivalence}
-use Rattle.engine_reference.specs.Records.{admitted_weight, settled_in, held_entries, held_weight, record_at, is_settled}
+use Rattle.engine_reference.specs.Records.{held_at, admitted_weight, settled_in, held_entries, held_weight, record_at, is_settled}
 use Rattle.engine_reference.specs.Soundness.{IsSound}
 use Rattle.engine_reference.specs.Runs.{covers_none, RunsToEnd, Step, Runs, running_weight, after_write, left, next_to_evict, is_overtaken}
 use Rattle.engine_reference.specs.State.{State, Answers}
@@ -25,6 +27,31 @@ use Rattle.engine_reference.specs.Telling.{AreApart, StaysVisible, Removal, Tell
 abbrev pub hash_of : Read → ℕ
 hash_of (Hit number hash) = hash
 hash_of (Miss hash) = hash
+
+-- the part of a state that calls alone change
+pub record Rest (S R : Type 0) : Type 0 where
+  pub unsent : List Unsent
+  pub cleared : ℕ
+  pub next_number : ℕ
+  pub next_ticket : ℕ
+  pub reserved : ℕ
+  pub name : Option (List ℕ)
+  pub settings : Settings
+  pub hasher : S
+  pub rules : R
+
+abbrev pub rest_of : {K V P S R : Type 0} → State K V P S R → Rest S R
+rest_of s = record {
+  unsent = s.unsent;
+  cleared = s.cleared;
+  next_number = s.next_number;
+  next_ticket = s.next_ticket;
+  reserved = s.reserved;
+  name = s.name;
+  settings = s.settings;
+  hasher = s.hasher;
+  rules = s.rules;
+}
 
 module _ (K V P S R : Type 0) where
   -- what a step takes away it tells once; for weight it takes only where a capacity is set and a running weight is above it
@@ -86,6 +113,11 @@ module _ (K V P S R : Type 0) where
     pub covered : (p : Registered P) (s : State K V P S R) → (with_predicate p s).sketch ≡ s.sketch
     pub sent : (ticket : ℕ) (s : State K V P S R) → (sent ticket s).sketch ≡ s.sketch
 
+  -- ---- what maintenance has no part in
+
+  abbrev pub RunsKeepRest : Type 0
+  RunsKeepRest = (answers : Answers K V P R) (now : ℕ) (old new : State K V P S R) → Runs answers now old new → rest_of new ≡ rest_of old
+
   -- ---- what the cache is called
 
   -- no call changes it but the one that gives it, and no run does
@@ -100,6 +132,14 @@ module _ (K V P S R : Type 0) where
     pub covered : (p : Registered P) (s : State K V P S R) → (with_predicate p s).name ≡ s.name
     pub room : (s : State K V P S R) → (with_room s).name ≡ s.name
     pub taken : (s : State K V P S R) → (without_notice s).name ≡ s.name
+
+  -- ---- calls in two halves
+
+  -- the halves of a predicate and of a removal are the whole, and room that is given up is as if it had never been made
+  pub record HalvesAreWhole : Type 0 where
+    pub predicate : (p : Registered P) (s : State K V P S R) → registered p (with_room s) ≡ with_predicate p s
+    pub removal : (eq : K → K → Bool) (key : K) (s : State K V P S R) → with_reserved_removal (held_at eq s.records key) (with_removal_room (held_at eq s.records key) s) ≡ removed_by eq key s
+    pub room : (s : State K V P S R) → without_room (with_room s) ≡ s
 
   -- ---- look-ups and the order of sending
 

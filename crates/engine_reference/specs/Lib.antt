@@ -5,6 +5,7 @@ pub mod Visible
 pub mod Admission
 pub mod Runs
 pub mod Calls
+pub mod Scanning
 pub mod Telling
 pub mod Laws
 pub mod Soundness

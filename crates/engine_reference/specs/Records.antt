@@ -63,3 +63,12 @@ module _ {K V : Type 0} where
   abbrev pub settled_in : List (Record K V) → List ℕ → List (Record K V)
   settled_in rs [] = []
   settled_in rs (n ∷ ns) = with_settled (record_at rs n) (settled_in rs ns)
+
+  abbrev pub with_admitted : Option (Record K V) → List (Record K V) → List (Record K V)
+  with_admitted None rest = rest
+  with_admitted (Some r) rest = if is_some r.counts then r ∷ rest else rest
+
+  -- the admitted records of a list of numbers, in its order
+  abbrev pub admitted_in : List (Record K V) → List ℕ → List (Record K V)
+  admitted_in rs [] = []
+  admitted_in rs (n ∷ ns) = with_admitted (record_at rs n) (admitted_in rs ns)

@@ -11,9 +11,9 @@ use Rattle.engine_reference.specs.declared.data.Read.{Read}
 use Rattle.engine_reference.specs.declared.data.Read.TheVariants.{Hit, Miss}
 use Rattle.engine_reference.specs.declared.data.Write.{Write}
 use Rattle.engine_reference.specs.declared.data.Write.TheVariants.{Put, Removed}
-use Rattle.engine_reference.specs.Records.{record_at, without_record, changed_at, without, moved_to_back, admitted_weight, admitted_number, settled_in}
+use Rattle.engine_reference.specs.Records.{record_at, without_record, changed_at, without, moved_to_back, admitted_weight, admitted_number, settled_in, admitted_in}
 use Rattle.engine_reference.specs.State.{State, Answers}
-use Rattle.engine_reference.specs.Times.{has_come, is_reached, end_of}
+use Rattle.engine_reference.specs.Times.{has_come, is_reached, end_of, tick_of}
 use Rattle.engine_reference.specs.Visible.{is_covered, is_covered_by, told}
 use Rattle.engine_reference.specs.Admission.{Verdict, admit, displace, refuse, verdict, is_above, wants_table, sketch_room}
 
@@ -45,6 +45,7 @@ module _ {K V P S R : Type 0} where
   with_left why s (Some r) = record s {
     records = without_record r.number s.records;
     access = without r.number s.access;
+    order = without r.number s.order;
     notices = if r.is_held then told s.settings.tells why r.entry s.notices else s.notices;
   }
 
@@ -74,6 +75,7 @@ module _ {K V P S R : Type 0} where
   counting u s = record s {
     records = changed_at u.number (λ r. record r { applied = u.write; counts = Some u.weight }) s.records;
     access = moved_to_back u.number s.access;
+    order = moved_to_back u.number s.order;
   }
 
   -- it stays as it is, not admitted: a later write of it is judged as of a new record
@@ -93,7 +95,7 @@ module _ {K V P S R : Type 0} where
   -- the record of a removed key goes; it was told when the key was removed
   abbrev pub after_removal : Option (Record K V) → State K V P S R → State K V P S R
   after_removal None s = s
-  after_removal (Some r) s = if r.is_held then s else record s { records = without_record r.number s.records; access = without r.number s.access }
+  after_removal (Some r) s = if r.is_held then s else record s { records = without_record r.number s.records; access = without r.number s.access; order = without r.number s.order }
 
   abbrev pub after_write : Write → State K V P S R → State K V P S R
   after_write (Put u) s = after_put u (record_at s.records u.number) s
@@ -152,17 +154,39 @@ module _ {K V P S R : Type 0} (answers : Answers K V P R) where
     pub last : State K V P S R
     pub steps : Steps now old stages last
     pub applied : IsApplied last
-    pub after : new ≡ record last { number = admitted_number last.records; weight = min (admitted_weight last.records) 18446744073709551615; ran = now }
+    -- whether there was no memory for the sketch's table
+    pub refused : Bool
+    pub after : new ≡ record last { number = admitted_number last.records; weight = min (admitted_weight last.records) 18446744073709551615; ran = now; table_refused = refused }
 
-  -- what a run to its end leaves: no settled record too many, and no admitted one that a predicate covers
+-- ---- what a run to its end leaves
+
+module _ {K V P S R : Type 0} where
+  -- half the capacity is held, and the sketch has no table
+  abbrev pub lacks_table : State K V P S R → Bool
+  lacks_table s = wants_table s.settings.capacity s.sketch (admitted_weight s.records)
+
+  -- no settled record too many, no predicate, and the sketch's table where half the capacity is held, unless there was no memory for it
   pub record IsDone (s : State K V P S R) : Type 0 where
     pub within : (capacity : ℕ) → s.settings.capacity ≡ Some capacity → 0 < capacity → capacity < admitted_weight s.records → settled_in s.records s.access ≡ []
-    pub uncovered : (number : ℕ) (p : Registered P) → slice_get s.predicates number ≡ Some p → covers_none answers s.rules p s.records ≡ true
+    pub ended : s.predicates ≡ []
+    pub table : s.table_refused ≡ false → lacks_table s ≡ false
 
-  -- an uncut run
+  -- what a run does about times and clears: it looks at the fronts of the write list and of the access list, and at own expirations once a tick
+  pub record IsSwept (now : ℕ) (old new : State K V P S R) : Type 0 where
+    -- the first of the write list is neither past its live time nor covered by a clear
+    pub live : (r : Record K V) → first_of (admitted_in new.records new.order) ≡ Some r → is_reached (end_of r.entry.written new.settings.live) now ≡ false
+    pub clear : (r : Record K V) → first_of (admitted_in new.records new.order) ≡ Some r → nat_lt r.entry.step new.cleared ≡ false
+    -- the first of the access list is not past its idle time
+    pub idle : (r : Record K V) → first_of (admitted_in new.records new.access) ≡ Some r → is_reached (end_of r.entry.used new.settings.idle) now ≡ false
+    -- in a later tick than the last run's, every own expiration that was reached was noticed
+    pub own : nat_lt (tick_of old.settings old.ran) (tick_of old.settings now) ≡ true → (r : Record K V) → record_at new.records r.number ≡ Some r → is_reached r.entry.expires now ≡ false
+
+module _ {K V P S R : Type 0} (answers : Answers K V P R) where
+  -- an uncut run. Where all tickets were sent as it began it has looked at times and clears
   pub record RunsToEnd (now : ℕ) (old new : State K V P S R) : Type 0 where
-    pub runs : Runs now old new
+    pub runs : Runs answers now old new
     pub done : IsDone new
+    pub swept : old.unsent ≡ [] → IsSwept now old new
 
 -- a run comes where 64 writes or 64 reads are pending, or 300 milliseconds after the last one
 abbrev pub is_due : {K V P S R : Type 0} → State K V P S R → ℕ → Bool

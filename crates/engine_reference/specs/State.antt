@@ -24,6 +24,8 @@ pub record State (K V P S R : Type 0) : Type 0 where
   pub records : List (Record K V)
   -- the access list: the numbers of admitted records, the one used longest ago first
   pub access : List ℕ
+  -- the write list: the same numbers, the one whose write was applied longest ago first
+  pub order : List ℕ
   -- the step of the last clear, or 0
   pub cleared : ℕ
   pub predicates : List (Registered P)
@@ -40,6 +42,8 @@ pub record State (K V P S R : Type 0) : Type 0 where
   pub number : ℕ
   pub weight : ℕ
   pub ran : ℕ
+  -- whether the last run wanted the sketch's table and there was no memory for it
+  pub table_refused : Bool
   pub next_number : ℕ
   pub next_ticket : ℕ
   -- for how many writes there is room

@@ -1,5 +1,5 @@
 //! Laws of the reference cache. Each function does nothing: its contract is the law.
-ghost use Rattle.engine_reference.specs.Laws.{StepsTell, RunsTell, NothingTakenForSize, RunsKeepVisible, CountsAreKept, NameIsKept, SendingKeepsVisible, CoverShowsNothing, UnappliedStay, CallsStaySound, RunsStaySound, CountsAreExact, EvictsShortestFront};
+ghost use Rattle.engine_reference.specs.Laws.{StepsTell, RunsTell, NothingTakenForSize, RunsKeepVisible, CountsAreKept, NameIsKept, RunsKeepRest, HalvesAreWhole, SendingKeepsVisible, CoverShowsNothing, UnappliedStay, CallsStaySound, RunsStaySound, CountsAreExact, EvictsShortestFront};
 
 /// A step of a run tells what it takes away once, and takes for weight only where a running weight is above the capacity.
 pub fn steps_tell<K, V, P, S, R>()
@@ -26,9 +26,19 @@ pub fn counts_are_kept<K, V, P, S, R>()
     ensures { CountsAreKept K V P S R }
 {}
 
+/// A run leaves the writes that were not sent, the last clear, numbers, tickets, room, name, settings, hasher and rules as they are.
+pub fn runs_keep_rest<K, V, P, S, R>()
+    ensures { RunsKeepRest K V P S R }
+{}
+
 /// No write, look-up, removal, clear, predicate, notice or run changes what the cache is called.
 pub fn name_is_kept<K, V, P, S, R>()
     ensures { NameIsKept K V P S R }
+{}
+
+/// A predicate that is registered in the room that was made for it, and a removal in its room, are the same as in one call; and room that is given up is as if it had never been made.
+pub fn halves_are_whole<K, V, P, S, R>()
+    ensures { HalvesAreWhole K V P S R }
 {}
 
 /// Sending a ticket changes no look-up, whichever ticket it is.

@@ -9,7 +9,7 @@ use Rattle.engine_reference.specs.Records.{held_entries}
 use Rattle.engine_reference.specs.State.{State, Answers}
 use Rattle.engine_reference.specs.Visible.{visible_record}
 use Rattle.engine_lists.proofs.Dropped.{drop-there}
-use Rattle.engine_scans.specs.Scanning.{past, held_keys, LooksPast}
+use Rattle.engine_reference.specs.Scanning.{past, held_keys, LooksPast}
 
 one_more : (i : ℕ) → i + 1 ≡ suc i
 one_more i = omega arith

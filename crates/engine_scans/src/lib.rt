@@ -6,7 +6,7 @@ ghost use Rattle.std.specs.Fn.{FnOnceReturnsAt};
 ghost use Rattle.engine_reference.specs.Records.{held_at};
 ghost use Rattle.engine_reference.specs.declared.data.Record.{Record};
 ghost use Rattle.engine_lists.specs.Asking.{answers_of};
-ghost use Rattle.engine_scans.specs.Scanning.{held_keys, LooksPast};
+ghost use Rattle.engine_reference.specs.Scanning.{held_keys, LooksPast};
 
 use engine_lists::Lists;
 use engine_looks::{clone_at, look_up, record_in};

@@ -29,6 +29,9 @@ pub trait Engine: Drop {
     /// Removes a key, tells its entry, and answers its value and the ticket of the removal.
     fn remove(&mut self, key: u32, now: Instant) -> Result<Option<(u32, u64)>, Refusal>;
 
+    /// The same in two halves.
+    fn remove_in_halves(&mut self, key: u32, now: Instant) -> Result<Option<(u32, u64)>, Refusal>;
+
     /// `get_with_hash`.
     fn get(&mut self, key: u32, now: Instant) -> Result<Option<u32>, AllocError>;
 
@@ -36,9 +39,18 @@ pub trait Engine: Drop {
     fn get_past(&mut self, key: u32, now: Instant, past: u32) -> Result<Option<u32>, AllocError>;
 
     /// `get_with_hash_without_recording`.
-    fn peek(&self, key: u32, now: Instant) -> Result<Option<u32>, AllocError>;
+    fn look(&self, key: u32, now: Instant) -> Result<Option<u32>, AllocError>;
 
     fn scanning_get(&self, key: u32, now: Instant) -> Result<Option<u32>, AllocError>;
+
+    /// `peek`, which clones nothing.
+    fn borrow(&self, key: u32, now: Instant) -> Option<u32>;
+
+    /// The same, and then `note_look_up`.
+    fn get_in_halves(&mut self, key: u32, now: Instant) -> Option<u32>;
+
+    /// `held_value_with_hash`.
+    fn held(&self, key: u32) -> Result<Option<u32>, AllocError>;
 
     /// `contains_key_with_hash`.
     fn contains_key(&self, key: u32, now: Instant) -> bool;
@@ -67,6 +79,14 @@ pub trait Engine: Drop {
         generator: &mut Repeating,
     ) -> Result<u128, Refusal>;
 
+    /// The same, with its room made before its identifier is drawn.
+    fn invalidate_apart(
+        &mut self,
+        predicate: ValueIs,
+        step: u64,
+        generator: &mut Repeating,
+    ) -> Result<u128, Refusal>;
+
     /// The first half alone, whose room is given up.
     fn prepare_and_give_up(&mut self, generator: &mut Repeating) -> Result<u128, Refusal>;
 
@@ -75,6 +95,8 @@ pub trait Engine: Drop {
     fn try_run_pending_tasks(&mut self, now: Instant) -> Result<(), AllocError>;
 
     fn apply_reads_writes_if_needed(&mut self, now: Instant);
+
+    fn is_table_refused(&self) -> bool;
 
     fn entry_count(&self) -> u64;
 
@@ -125,12 +147,26 @@ impl Engine for Plain {
     }
 
     fn remove(&mut self, key: u32, now: Instant) -> Result<Option<(u32, u64)>, Refusal> {
-        match self.remove_entry(&key, u64::from(key))? {
+        match self.remove_entry(&key, u64::from(key), 0)? {
             Some((entry, ticket)) => {
                 let value = entry.value.number;
                 self.notify_invalidate(entry, now);
                 Ok(Some((value, ticket)))
             }
+            None => Ok(None),
+        }
+    }
+
+    fn remove_in_halves(&mut self, key: u32, now: Instant) -> Result<Option<(u32, u64)>, Refusal> {
+        match self.prepare_removal(&key, u64::from(key))? {
+            Some(parts) => match self.remove_reserved(&key, u64::from(key), parts) {
+                Some((entry, ticket)) => {
+                    let value = entry.value.number;
+                    self.notify_invalidate(entry, now);
+                    Ok(Some((value, ticket)))
+                }
+                None => Ok(None),
+            },
             None => Ok(None),
         }
     }
@@ -144,12 +180,29 @@ impl Engine for Plain {
         Ok(number_of(self.get_with_hash_and_ignore_if(&key, u64::from(key), now, is_past)?))
     }
 
-    fn peek(&self, key: u32, now: Instant) -> Result<Option<u32>, AllocError> {
+    fn look(&self, key: u32, now: Instant) -> Result<Option<u32>, AllocError> {
         Ok(number_of(self.get_with_hash_without_recording(&key, u64::from(key), now)?))
     }
 
     fn scanning_get(&self, key: u32, now: Instant) -> Result<Option<u32>, AllocError> {
         Ok(number_of(self.scanning_get(&key, now)?))
+    }
+
+    fn borrow(&self, key: u32, now: Instant) -> Option<u32> {
+        match self.peek(&key, u64::from(key), now) {
+            Some(value) => Some(value.number),
+            None => None,
+        }
+    }
+
+    fn get_in_halves(&mut self, key: u32, now: Instant) -> Option<u32> {
+        let found = self.borrow(key, now);
+        self.note_look_up(&key, u64::from(key), now, false);
+        found
+    }
+
+    fn held(&self, key: u32) -> Result<Option<u32>, AllocError> {
+        Ok(number_of(self.held_value_with_hash(&key, u64::from(key))?))
     }
 
     fn contains_key(&self, key: u32, now: Instant) -> bool {
@@ -192,6 +245,25 @@ impl Engine for Plain {
         Ok(id)
     }
 
+    fn invalidate_apart(
+        &mut self,
+        predicate: ValueIs,
+        step: u64,
+        generator: &mut Repeating,
+    ) -> Result<u128, Refusal> {
+        self.reserve_predicate()?;
+        match self.draw_predicate_id(generator) {
+            Ok(id) => {
+                self.commit_predicate(id, predicate, step);
+                Ok(id)
+            }
+            Err(refusal) => {
+                self.release_room();
+                Err(refusal)
+            }
+        }
+    }
+
     fn prepare_and_give_up(&mut self, generator: &mut Repeating) -> Result<u128, Refusal> {
         let id = self.prepare_predicate(generator)?;
         self.release_room();
@@ -208,6 +280,10 @@ impl Engine for Plain {
 
     fn apply_reads_writes_if_needed(&mut self, now: Instant) {
         self.apply_reads_writes_if_needed(now);
+    }
+
+    fn is_table_refused(&self) -> bool {
+        self.is_table_refused()
     }
 
     fn entry_count(&self) -> u64 {

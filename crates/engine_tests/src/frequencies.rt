@@ -1,7 +1,7 @@
 //! Rows on newcomers: under TinyLFU a newcomer comes in where it was asked for more often than those that would go for it.
 use crate::engine::Plain;
 use crate::rules::ITSELF;
-use crate::script::{CASE, Case, Look, Row, SETTINGS, first_wrong, none_wrong};
+use crate::script::{CASE, Case, Look, Row, SECOND, SETTINGS, first_wrong, none_wrong};
 use engine_reference::Settings;
 use engine_rules::{EvictionPolicy, RemovalCause};
 
@@ -19,6 +19,7 @@ const REFUSED_TWICE: &[Row<'static>] = &[
     // the second makes the table where memory for it was refused to the first
     Row::Runs,
     Row::Runs,
+    Row::TableRefused(false),
     Row::Puts(2, 7, 3),
     Row::Shows(Look::Get, 2, Some(7)),
     Row::RunsWhole,
@@ -131,6 +132,24 @@ const CASES: &[Case<'static>] = &[
             Row::Tells(RemovalCause::Size, 3, 15),
             Row::TellsNone,
             Row::Weight(20),
+        ],
+        ..CASE
+    },
+    // A run that is due makes the table too: the second where memory for it was refused to the first.
+    Case {
+        settings: Settings {
+            capacity: Some(3),
+            ..TINY_LFU
+        },
+        rows: &[
+            Row::TableRefused(false),
+            Row::Puts(0, 5, 1),
+            Row::At(SECOND),
+            Row::RunsIfDue,
+            Row::At(2 * SECOND),
+            Row::RunsIfDue,
+            Row::TableRefused(false),
+            Row::Number(1),
         ],
         ..CASE
     },

@@ -56,6 +56,21 @@ const CASES: &[Case<'static>] = &[
             Row::Shows(Look::GetPast(11), 1, Some(10)),
             Row::At(13 * SECOND),
             Row::Shows(Look::Scan, 1, Some(10)),
+            // a look without a clone is no use, and what is held is shown dead too
+            Row::At(18 * SECOND),
+            Row::Shows(Look::Borrow, 1, Some(10)),
+            Row::At(19 * SECOND),
+            Row::Shows(Look::Borrow, 1, None),
+            Row::Shows(Look::Held, 1, Some(10)),
+            Row::Shows(Look::Held, 2, None),
+            // a look-up in two halves is a use
+            Row::At(18 * SECOND),
+            Row::Shows(Look::InHalves, 1, Some(10)),
+            Row::Shows(Look::InHalves, 2, None),
+            Row::At(24 * SECOND),
+            Row::Shows(Look::Borrow, 1, Some(10)),
+            Row::At(25 * SECOND),
+            Row::Shows(Look::Borrow, 1, None),
         ],
         ..CASE
     },
@@ -73,6 +88,9 @@ const CASES: &[Case<'static>] = &[
             Row::Key(2, None),
             Row::Shows(Look::Scan, 1, None),
             Row::Shows(Look::Scan, 3, Some(30)),
+            Row::RemovesInHalves(3, Ok(Some((30, 4)))),
+            Row::RemovesInHalves(3, Ok(None)),
+            Row::Keys(&[1]),
         ],
         ..CASE
     },

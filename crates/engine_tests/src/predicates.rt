@@ -34,6 +34,8 @@ const CASES: &[Case<'static>] = &[
             Row::Runs,
             Row::Tells(RemovalCause::Explicit, 1, 10),
             Row::TellsNone,
+            Row::InvalidatesApart(9, 7, ZEROS, Ok(OF_ZEROS)),
+            Row::InvalidatesApart(10, 8, ZEROS, Err(Refusal::IdsInUse)),
         ],
         ..CASE
     },
@@ -69,6 +71,7 @@ const CASES: &[Case<'static>] = &[
             Row::Puts(1, 10, 1),
             Row::Invalidates(10, 2, ZEROS, Err(Refusal::InvalidationClosuresDisabled)),
             Row::GivesUp(ZEROS, Err(Refusal::InvalidationClosuresDisabled)),
+            Row::InvalidatesApart(10, 3, ZEROS, Err(Refusal::InvalidationClosuresDisabled)),
             Row::Contains(1, true),
         ],
         ..CASE

@@ -22,9 +22,16 @@ pub enum Look {
     Get,
     /// By `get_past`, which passes over this value.
     GetPast(u32),
+    /// By `look`.
     Peek,
     /// By `scanning_get`.
     Scan,
+    /// By `borrow`.
+    Borrow,
+    /// By `get_in_halves`, a use.
+    InHalves,
+    /// By `held`, which shows dead and covered values too.
+    Held,
 }
 
 /// What is asked, and what has to come of it.
@@ -42,12 +49,16 @@ pub enum Row<'a> {
     Sends(u64, Result<(), Refusal>),
     /// A key is removed and its entry told: its value, and the ticket of the removal, which is not sent.
     Removes(u32, Result<Option<(u32, u64)>, Refusal>),
+    /// The same in two halves.
+    RemovesInHalves(u32, Result<Option<(u32, u64)>, Refusal>),
     /// All is cleared at a step.
     Clears(u64),
     /// A predicate of a value is registered at a step under that identifier, by a generator of that word.
     Invalidates(u32, u64, u32, Result<u128, Refusal>),
     /// The same in two halves.
     InvalidatesInHalves(u32, u64, u32, Result<u128, Refusal>),
+    /// The same, with its room made before its identifier is drawn.
+    InvalidatesApart(u32, u64, u32, Result<u128, Refusal>),
     /// An identifier is drawn by a generator of that word, and its room given up.
     GivesUp(u32, Result<u128, Refusal>),
     Runs,
@@ -68,6 +79,8 @@ pub enum Row<'a> {
     Keys(&'a [u32]),
     /// There is no such segment.
     NoKeys(usize),
+    /// Whether the last run found no memory for the sketch's table.
+    TableRefused(bool),
     /// How many values are held.
     Number(u64),
     /// What they weigh.
@@ -170,6 +183,18 @@ fn remove<E: Engine>(cache: &mut E, key: u32, now: Instant) -> Result<Option<(u3
     }
 }
 
+/// The same in two halves.
+fn remove_in_halves<E: Engine>(
+    cache: &mut E,
+    key: u32,
+    now: Instant,
+) -> Result<Option<(u32, u64)>, Refusal> {
+    match cache.remove_in_halves(key, now) {
+        Err(Refusal::OutOfMemory) => cache.remove_in_halves(key, now),
+        answer => answer,
+    }
+}
+
 /// Registers a predicate of a value, at the second try where memory is refused.
 fn invalidate<E: Engine>(cache: &mut E, value: u32, step: u64, word: u32) -> Result<u128, Refusal> {
     let mut generator = Repeating(word);
@@ -193,6 +218,20 @@ fn invalidate_in_halves<E: Engine>(
         Err(Refusal::OutOfMemory) => {
             cache.invalidate_in_halves(ValueIs(value), step, &mut generator)
         }
+        answer => answer,
+    }
+}
+
+/// The same, with its room made before its identifier is drawn.
+fn invalidate_apart<E: Engine>(
+    cache: &mut E,
+    value: u32,
+    step: u64,
+    word: u32,
+) -> Result<u128, Refusal> {
+    let mut generator = Repeating(word);
+    match cache.invalidate_apart(ValueIs(value), step, &mut generator) {
+        Err(Refusal::OutOfMemory) => cache.invalidate_apart(ValueIs(value), step, &mut generator),
         answer => answer,
     }
 }
@@ -238,8 +277,11 @@ fn shown<E: Engine>(
     match by {
         Look::Get => cache.get(key, now),
         Look::GetPast(past) => cache.get_past(key, now, past),
-        Look::Peek => cache.peek(key, now),
+        Look::Peek => cache.look(key, now),
         Look::Scan => cache.scanning_get(key, now),
+        Look::Borrow => Ok(cache.borrow(key, now)),
+        Look::InHalves => Ok(cache.get_in_halves(key, now)),
+        Look::Held => cache.held(key),
     }
 }
 
@@ -323,6 +365,7 @@ fn writes_so<E: Engine>(alloc: Global, cache: &mut E, now: Instant, row: Row<'_>
         }
         Row::Sends(ticket, wanted) => cache.send(ticket) == wanted,
         Row::Removes(key, wanted) => remove(cache, key, now) == wanted,
+        Row::RemovesInHalves(key, wanted) => remove_in_halves(cache, key, now) == wanted,
         Row::Clears(step) => {
             cache.invalidate_all(step);
             true
@@ -339,6 +382,9 @@ fn runs_so<E: Engine>(alloc: Global, cache: &mut E, now: Instant, row: Row<'_>) 
         }
         Row::InvalidatesInHalves(value, step, word, wanted) => {
             invalidate_in_halves(cache, value, step, word) == wanted
+        }
+        Row::InvalidatesApart(value, step, word, wanted) => {
+            invalidate_apart(cache, value, step, word) == wanted
         }
         Row::GivesUp(word, wanted) => prepare_and_give_up(cache, word) == wanted,
         Row::Runs => {
@@ -374,6 +420,7 @@ fn looks_so<E: Engine>(cache: &mut E, now: Instant, row: Row<'_>) -> bool {
 /// Whether a cache has these counts or was made so.
 fn is_so<E: Engine>(cache: &E, row: Row<'_>) -> bool {
     match row {
+        Row::TableRefused(wanted) => cache.is_table_refused() == wanted,
         Row::Number(wanted) => cache.entry_count() == wanted,
         Row::Weight(wanted) => cache.weighted_size() == wanted,
         Row::Notifies(wanted) => cache.is_removal_notifier_enabled() == wanted,

@@ -7,4 +7,4 @@ pub use audit_laws::{
     places_agree, records_lead, replies_by_commands, steps_agree, steps_in_parts,
     transcripts_may_be_cut,
 };
-pub use receipt_laws::receipts_in_order;
+pub use audit_receipts::receipts_in_order;

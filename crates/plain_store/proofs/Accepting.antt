@@ -19,7 +19,7 @@ use Rattle.audit_model.specs.declared.config.Weight.TheVariants.{One, Bytes}
 use Rattle.audit_model.specs.declared.transcript.Note.{Note}
 use Rattle.audit_model.specs.declared.transcript.RemovalCause.{RemovalCause}
 use Rattle.audit_model.specs.declared.transcript.RemovalCause.TheVariants.{Expired, Explicit, Replaced, Size}
-use Rattle.cache_store.specs.Handing.{Hands}
+use Rattle.cache_store.specs.Handing.{AppendsNotes}
 use Rattle.cache_store.specs.Promises.{Done, accepting}
 use Rattle.cache_store.specs.Running.{weight_in}
 use Rattle.plain_table.specs.Items.{value_at, without, is_absent, are_apart}
@@ -212,10 +212,10 @@ module _ (config : Config) (now : ℕ) (used : Option (List ℕ)) (value : Value
 
     pub accept_does : (old new told : List Note) (table : List HeldValue) → new ≡ old ++ (replaced_note config now (value_at items value.key) ++ told)
         → Tells config now (Some value.part) (limit_of config) (weight_in value.part put) put told → ((xs : List HeldValue) → Corresponds (left told put) xs → Corresponds table xs)
-        → Done config now (accepting used value) held (Stands config table) (Hands old new)
+        → Done config now (accepting used value) held (Stands config table) (AppendsNotes old new)
     accept_does old new told table same_notes t left_is = go (value_at held value.key) refl
       where
-        go : (o : Option HeldValue) → value_at held value.key ≡ o → Done config now (accepting used value) held (Stands config table) (Hands old new)
+        go : (o : Option HeldValue) → value_at held value.key ≡ o → Done config now (accepting used value) held (Stands config table) (AppendsNotes old new)
         go None e =
             let absent : is_absent value.key held ≡ true = absent_from_none value.key held e in
             let none_there : value_at items value.key ≡ None = sym (c.found value.key) ∙ ap (option_map plain) e in

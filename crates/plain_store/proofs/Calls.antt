@@ -15,7 +15,7 @@ use Rattle.audit_model.specs.declared.config.Config.{Config}
 use Rattle.audit_model.specs.declared.transcript.Note.{Note}
 use Rattle.audit_model.specs.declared.transcript.RemovalCause.{RemovalCause}
 use Rattle.audit_model.specs.declared.transcript.RemovalCause.TheVariants.{Expired, Explicit, Replaced, Size}
-use Rattle.cache_store.specs.Handing.{Hands, Takes, TellsNone}
+use Rattle.cache_store.specs.Handing.{AppendsNotes, TakesFirstNote, TellsNone}
 use Rattle.cache_store.specs.Promises.{Done, Finds, using, deleting, syncing, covering}
 use Rattle.plain_table.specs.Items.{value_at, without, is_absent, are_apart, used_at}
 use Rattle.plain_table.proofs.Keys.{same-refl, same-flip_false, equal_from_same, same_from_equal}
@@ -29,7 +29,7 @@ use Rattle.plain_store.specs.Putting.{if_live, live_in, Writes, deleted_note}
 use Rattle.plain_store.specs.Standing.{Stands}
 use Rattle.plain_store.specs.Doing.{or_no, after_plain, corresponds-as, evictable_after, stands_after, none_succeeded, right_to_tell_none}
 
-pub hands_none : (old new : List Note) → new ≡ old → Hands old new []
+pub hands_none : (old new : List Note) → new ≡ old → AppendsNotes old new []
 hands_none old new e = record { added = e ∙ sym (append-nil old) }
 
 -- ---- look-ups
@@ -165,7 +165,7 @@ module _ (config : Config) (now : ℕ) (key : List ℕ) (items held : List HeldV
 
 -- a look-up uses the key's live value
 pub look_up_does : (config : Config) (now : ℕ) (key : List ℕ) (items held : List HeldValue) (old new : List Note) → are_apart items ≡ true → new ≡ old → Stands config items held
-    → Done config now (using key) held (Stands config (looked_up config now key items)) (Hands old new)
+    → Done config now (using key) held (Stands config (looked_up config now key items)) (AppendsNotes old new)
 look_up_does config now key items held old new a same_notes s = record {
   told = [];
   right = right_to_tell_none config now (Some key) Nothing false held;
@@ -217,7 +217,7 @@ all_always (h ∷ held) = all_always held
 
 -- a run tells what is dead or covered
 pub run_does : (config : Config) (now : ℕ) (items held : List HeldValue) (old new : List Note) → are_apart items ≡ true → new ≡ old ++ (swept config now None None 0 items).told → Stands config items held
-    → Done config now syncing held (Stands config (swept config now None None 0 items).kept) (Hands old new)
+    → Done config now syncing held (Stands config (swept config now None None 0 items).kept) (AppendsNotes old new)
 run_does config now items held old new a same_notes s =
     let told = (swept config now None None 0 items).told in
     let cand = candidate_at config now in
@@ -245,13 +245,13 @@ deleted_none config now key (h ∷ held) absent = let parts = and_parts (not (sa
 
 pub remove_does : (config : Config) (now : ℕ) (key : List ℕ) (items held : List HeldValue) (old new : List Note) → are_apart items ≡ true
     → new ≡ old ++ deleted_note config now (value_at items key) → Stands config items held
-    → Done config now (deleting key) held (Stands config (without key items)) (Hands old new)
+    → Done config now (deleting key) held (Stands config (without key items)) (AppendsNotes old new)
 remove_does config now key items held old new a same_notes s = go (value_at held key) refl
   where
     absent_left : is_absent key (without key held) ≡ true
     absent_left = absent-without key held s.same.apart
 
-    go : (o : Option HeldValue) → value_at held key ≡ o → Done config now (deleting key) held (Stands config (without key items)) (Hands old new)
+    go : (o : Option HeldValue) → value_at held key ≡ o → Done config now (deleting key) held (Stands config (without key items)) (AppendsNotes old new)
     go None e =
         let absent = absent_from_none key held e in
         let none_there : value_at items key ≡ None = sym (s.same.found key) ∙ ap (option_map plain) e in
@@ -302,6 +302,6 @@ none_left [] new e d = refl
 none_left (n ∷ old) new e d = absurd (longer n old (e ∙ d))
 
 -- the first note is taken
-pub takes_first : (old new : List Note) (r : Option Note) → old ≡ option_to_list r ++ new → new ≡ drop 1 old → Takes old new r
+pub takes_first : (old new : List Note) (r : Option Note) → old ≡ option_to_list r ++ new → new ≡ drop 1 old → TakesFirstNote old new r
 takes_first old new None e d = let none = none_left old new e d in (none, sym e ∙ none)
 takes_first old new (Some n) e d = e

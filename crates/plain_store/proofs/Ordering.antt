@@ -41,23 +41,23 @@ same-flip a b = go (same a b) refl
     go true e = sym (same_from_equal b a (sym (equal_from_same a b e)))
     go false e = sym (same-flip_false a b e)
 
-keys-absent : (key : List ℕ) (items : List HeldValue) → is_absent key items ≡ true → recent.without key (keys_of items) ≡ keys_of items
+keys-absent : (key : List ℕ) (items : List HeldValue) → is_absent key items ≡ true → recent.keys_without key (keys_of items) ≡ keys_of items
 keys-absent key [] a = refl
 keys-absent key (h ∷ items) a =
     let parts = and_parts (not (same key h.value.key)) (is_absent key items) a in
-    ap (λ b. cond (not b) (h.value.key ∷ recent.without key (keys_of items)) (recent.without key (keys_of items))) (same-flip_false key h.value.key (not-true _ parts.0))
+    ap (λ b. cond (not b) (h.value.key ∷ recent.keys_without key (keys_of items)) (recent.keys_without key (keys_of items))) (same-flip_false key h.value.key (not-true _ parts.0))
     ∙ ap (λ ks. h.value.key ∷ ks) (keys-absent key items parts.1)
 
 -- the keys but for this one
-pub keys-without : (key : List ℕ) (items : List HeldValue) → are_apart items ≡ true → keys_of (without key items) ≡ recent.without key (keys_of items)
+pub keys-without : (key : List ℕ) (items : List HeldValue) → are_apart items ≡ true → keys_of (without key items) ≡ recent.keys_without key (keys_of items)
 keys-without key [] a = refl
 keys-without key (h ∷ items) a =
     let parts = and_parts (is_absent h.value.key items) (are_apart items) a in
     go (same key h.value.key) refl parts.0 (keys-without key items parts.1)
-    ∙ ap (λ b. cond (not b) (h.value.key ∷ recent.without key (keys_of items)) (recent.without key (keys_of items))) (same-flip key h.value.key)
+    ∙ ap (λ b. cond (not b) (h.value.key ∷ recent.keys_without key (keys_of items)) (recent.keys_without key (keys_of items))) (same-flip key h.value.key)
   where
-    go : (b : Bool) → same key h.value.key ≡ b → is_absent h.value.key items ≡ true → keys_of (without key items) ≡ recent.without key (keys_of items)
-        → keys_of (cond b items (h ∷ without key items)) ≡ cond (not b) (h.value.key ∷ recent.without key (keys_of items)) (recent.without key (keys_of items))
+    go : (b : Bool) → same key h.value.key ≡ b → is_absent h.value.key items ≡ true → keys_of (without key items) ≡ recent.keys_without key (keys_of items)
+        → keys_of (cond b items (h ∷ without key items)) ≡ cond (not b) (h.value.key ∷ recent.keys_without key (keys_of items)) (recent.keys_without key (keys_of items))
     go true e a next = sym (keys-absent key items (subst (λ k. is_absent k items ≡ true) (sym (equal_from_same key h.value.key e)) a))
     go false e a next = ap (λ ks. h.value.key ∷ ks) next
 
@@ -190,9 +190,9 @@ module _ (config : Config) (part_of : List ℕ → ℕ) (n : ℕ) (p : IsPlainLr
 
   -- a key that is deleted goes
   pub order_without : (key : List ℕ) (items : List HeldValue) (keys : List (List ℕ)) → AreKept config part_of items → AreInOrder config items true keys
-      → AreInOrder config (without key items) false (recent.without key keys)
+      → AreInOrder config (without key items) false (recent.keys_without key keys)
   order_without key items keys k o =
-      let is : recent.without key keys ≡ keys_of (without key items) = ap (recent.without key) (o.whole refl) ∙ sym (keys-without key items k.apart) in
+      let is : recent.keys_without key keys ≡ keys_of (without key items) = ap (recent.keys_without key) (o.whole refl) ∙ sym (keys-without key items k.apart) in
       record { cut = λ m q. ap (take (suc m)) is; whole = λ e. is; uncovered = all-without_key is_uncovered key_of key items o.uncovered }
 
   all_stay : (now : ℕ) (items : List HeldValue) → list_all (is_proper config part_of) items ≡ true → list_all is_uncovered items ≡ true → (swept config now None None 0 items).kept ≡ items

@@ -2,9 +2,9 @@
 ghost use Rattle.std.specs.Prelude.{IfOk};
 ghost use Rattle.transcript_program.specs.Judged.{IsJustOf};
 
+use audit_text_reader::{TextError, read_transcript};
 use moka_audit::{Verdict, audit};
 use std::alloc::Global;
-use text_reader::{TextError, read_transcript};
 
 /// The verdict on the transcript of a text.
 pub fn judge(alloc: Global, text: &[u8]) -> Result<Verdict, TextError>

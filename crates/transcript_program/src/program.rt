@@ -3,12 +3,12 @@ ghost use Rattle.std.specs.Prelude.{◌≡◌, ◌≢◌, ◌≤◌, ◌⊎◌};
 
 use crate::auditing::judge;
 use crate::replaying::{ReplayError, replay};
+use audit_text_reader::TextError;
 use itoa::Buffer;
 use moka_audit::Verdict;
 use std::alloc::Global;
 use std::convert::AsStr;
 use std::io::{ErrorKind, Read, Write};
-use text_reader::TextError;
 
 const USAGE: &[u8] = b"usage: transcript audit | transcript replay\n";
 

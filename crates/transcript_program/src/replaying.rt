@@ -4,12 +4,12 @@ ghost use Rattle.transcript_program.specs.Printed.{IsPrintedOf, namespace_text, 
 
 use audit_model::{Config, ServiceError, Transcript};
 use audit_text::write_transcript;
+use audit_text_reader::{TextError, read_inputs};
 use cache_play::play;
 use itoa::Buffer;
 use rand_core::SeedableRng;
 use rand_xoshiro::Xoshiro256PlusPlus;
 use std::alloc::{AllocError, Global};
-use text_reader::{TextError, read_inputs};
 
 /// A replay's generator is seeded by this number, so that it prints the same each time.
 const SEED: u64 = 0;

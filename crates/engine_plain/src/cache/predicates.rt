@@ -2,12 +2,11 @@
 ghost use Rattle.std.specs.Prelude.{◌≡◌, ◌+◌, ◌-◌, ◌<◌, ◌≤◌, ◌^◌, ◌⊎◌, true, false, IfOk, OnOk, OnErr};
 ghost use Rattle.std.specs.Result.{IsErrOf};
 ghost use Rattle.engine_identifiers.specs.Drawing.{Draws, AreInUse, is_registered};
-ghost use Rattle.engine_predicates.specs.Registering.{registered, without_room};
-ghost use Rattle.engine_reference.specs.Calls.{with_room, with_predicate};
+ghost use Rattle.engine_reference.specs.Calls.{with_room, with_predicate, without_room, registered};
 
 use crate::cache::BaseCache;
 use engine_lists::Refusal;
-use engine_predicates::{commit, invalidate, prepare};
+use engine_predicates::{commit, draw_id, invalidate, prepare, reserve};
 use engine_rules::Rules;
 use rand_core::Rng;
 
@@ -45,6 +44,27 @@ impl<K: Eq, V, S, R: Rules<K, V>> BaseCache<K, V, S, R> {
         ensures kinds { OnErr result ((IsErrOf result Refusal.OutOfMemory) ⊎ ((IsErrOf result Refusal.InvalidationClosuresDisabled) ⊎ ((IsErrOf result Refusal.IdsInUse) ⊎ (IsErrOf result Refusal.UsedUp)))) }
     {
         prepare(&mut self.lists, generator)
+    }
+
+    /// Makes room for a predicate, which `commit_predicate` takes, and draws nothing.
+    pub fn reserve_predicate(&mut self) -> Result<(), Refusal>
+        ensures ok { OnOk result (self.new ≡ with_room self.old) }
+        ensures err { OnErr result (self.new ≡ self.old) }
+        ensures takes { OnOk result (self.old.settings.takes_predicates ≡ true) }
+        ensures disabled { IsErrOf result Refusal.InvalidationClosuresDisabled → self.old.settings.takes_predicates ≡ false }
+        ensures used_up { IsErrOf result Refusal.UsedUp → 2 ^ 64 ≤ self.old.next_ticket + self.old.reserved + 1 }
+        ensures kinds { OnErr result ((IsErrOf result Refusal.OutOfMemory) ⊎ ((IsErrOf result Refusal.InvalidationClosuresDisabled) ⊎ (IsErrOf result Refusal.UsedUp))) }
+    {
+        reserve(&mut self.lists)
+    }
+
+    /// Draws an identifier under which no predicate is registered.
+    pub fn draw_predicate_id<G: Rng>(&self, generator: &mut G) -> Result<u128, Refusal>
+        ensures drawn { IfOk result (λ id. Draws (G.stream generator.old) (G.stream generator.new) (is_registered self.now.predicates) id) }
+        ensures in_use { OnErr result (AreInUse (G.stream generator.old) (G.stream generator.new) (is_registered self.now.predicates)) }
+        ensures kinds { OnErr result (IsErrOf result Refusal.IdsInUse) }
+    {
+        draw_id(&self.lists, generator)
     }
 
     /// The second half, which is not refused: registers a predicate under its identifier, in the room that was made for it.

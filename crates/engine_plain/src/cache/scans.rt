@@ -4,9 +4,10 @@ ghost use Rattle.std.specs.Fn.{FnOnceReturnsAt};
 ghost use Rattle.engine_lists.specs.Asking.{answers_of};
 ghost use Rattle.engine_reference.specs.Records.{held_at};
 ghost use Rattle.engine_reference.specs.Visible.{visible_value};
-ghost use Rattle.engine_scans.specs.Scanning.{held_keys, LooksUpPast};
+ghost use Rattle.engine_reference.specs.Scanning.{held_keys, LooksUpPast};
 
 use crate::cache::BaseCache;
+use engine_looks::{clone_at, look_up, value_at};
 use engine_rules::Rules;
 use engine_scans::{held_keys, look_past, stored_key};
 use policy_base::Instant;
@@ -42,6 +43,32 @@ impl<K: Eq, V, S, R: Rules<K, V>> BaseCache<K, V, S, R> {
         ensures { IfOk result (λ found. found ≡ visible_value (answers_of R.weight_of R.created R.read R.updated R.covers) K.eq self.now now key.now) }
     {
         self.get_with_hash_without_recording(key, 0, now)
+    }
+
+    /// The visible value of a key, without a clone. It is no use of it.
+    pub fn peek(&self, key: &K, _hash: u64, now: Instant) -> Option<&V>
+        ensures { option_map (λ value. value.now) result ≡ visible_value (answers_of R.weight_of R.created R.read R.updated R.covers) K.eq self.now now key.now }
+    {
+        match look_up(&self.lists, key, now.as_nanos()) {
+            Some(place) => Some(value_at(&self.lists, place)),
+            None => None,
+        }
+    }
+
+    /// A clone of the value that is held under a key, whether it is visible or not. It is no use of it.
+    pub fn held_value_with_hash(&self, key: &K, _hash: u64) -> Result<Option<V>, AllocError>
+    where
+        V: Clone,
+        requires exact { (x y : V) → V.is_clone x y → y ≡ x }
+        ensures { IfOk result (λ found. found ≡ option_map (λ r. r.entry.value) (held_at K.eq self.now.records key.now)) }
+    {
+        match self.lists.place_of(key) {
+            Some(place) => {
+                let found = clone_at(&self.lists, place)?;
+                Ok(Some(found.1))
+            }
+            None => Ok(None),
+        }
     }
 
     /// A clone of the key that is stored for a key, whether its value is visible or not.

@@ -1,6 +1,6 @@
 use Rattle.std.proofs.Common.{refl, ap, ◌∙◌, ◌+◌, ◌++◌, drop, arith}
 use Rattle.std.proofs.lemmas.Option.{slice_get_read}
-use Rattle.engine_scans.specs.Scanning.{held_keys}
+use Rattle.engine_reference.specs.Scanning.{held_keys}
 use Rattle.engine_scans.proofs.Looking.{keys_next}
 use Rattle.engine_scans.proofs.held_keys.Goals as goal
 

@@ -1,5 +1,5 @@
 use Rattle.std.proofs.Common.{◌≡◌, ◌++◌, drop}
-use Rattle.engine_scans.specs.Scanning.{held_keys}
+use Rattle.engine_reference.specs.Scanning.{held_keys}
 use Rattle.engine_scans.proofs.held_keys.Given as goal
 
 abbrev pub invariant-loop-found : goal.invariant-loop-found

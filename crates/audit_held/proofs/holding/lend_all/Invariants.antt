@@ -1,5 +1,5 @@
 use Rattle.std.proofs.Common.{◌≡◌, ◌++◌, map, reverse}
-use Rattle.audit_table.specs.Slots.{slots_of}
+use Rattle.audit_held.specs.Slots.{slots_of}
 use Rattle.audit_held.specs.Seeing.{held_of}
 use Rattle.audit_held.specs.Holds.{held_by}
 use Rattle.audit_held.proofs.holding.lend_all.Given as goal

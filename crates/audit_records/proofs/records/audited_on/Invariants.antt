@@ -1,11 +1,11 @@
 use Rattle.std.proofs.Common.{◌≡◌, drop, true}
-use Rattle.audit_situation.specs.States.{situation_of}
+use Rattle.audit_situation.specs.States.{shown_situation}
 use Rattle.audit_records.specs.Auditing.{audited_from}
 use Rattle.audit_records.specs.Tidy.{is_tidy}
 use Rattle.audit_records.proofs.records.audited_on.Given as goal
 
 abbrev pub invariant-loop-i : goal.invariant-loop-i
 invariant-loop-i l = record {
-  same : audited_from l.config l.initial.parts (situation_of l.initial.s) 0 l.records ≡ audited_from l.config l.parts (situation_of l.s) l.i (drop l.i l.records);
-  tidy : is_tidy (situation_of l.s) ≡ true;
+  same : audited_from l.config l.initial.parts (shown_situation l.initial.s) 0 l.records ≡ audited_from l.config l.parts (shown_situation l.s) l.i (drop l.i l.records);
+  tidy : is_tidy (shown_situation l.s) ≡ true;
 }

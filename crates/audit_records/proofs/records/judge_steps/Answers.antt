@@ -5,7 +5,7 @@ use Rattle.audit_model.specs.Bytewise.{is_empty}
 use Rattle.audit_model.specs.Follows.{placed_step_in}
 use Rattle.audit_model.specs.Places.{due, first_due, left_after}
 use Rattle.audit_model.specs.Situation.{may_run_in}
-use Rattle.audit_situation.specs.States.{situation_of}
+use Rattle.audit_situation.specs.States.{shown_situation}
 use Rattle.audit_steps.specs.Judging.{IsJudged}
 use Rattle.audit_steps.specs.Showing.{task_of}
 use Rattle.audit_records.specs.Auditing.{Reached, audited_steps}
@@ -15,8 +15,8 @@ use Rattle.audit_records.proofs.records.judge_steps.Goals as goal
 pub returns-then-not-branch-clause-reaches : goal.returns-then-not-branch-clause-reaches
 returns-then-not-branch-clause-reaches c =
     let config = c.args.config.now in
-    let s = situation_of c.loop-step.s in
-    let t = situation_of c.judge.new.s in
+    let s = shown_situation c.loop-step.s in
+    let t = shown_situation c.judge.new.s in
     let parts = c.loop-step.parts in
     let more = c.judge.new.parts in
     let duties = c.args.duties.now in
@@ -34,8 +34,8 @@ returns-then-not-branch-clause-reaches c =
 pub loop-step-preserved : goal.loop-step-preserved
 loop-step-preserved c =
     let config = c.args.config.now in
-    let s = situation_of c.loop-step.s in
-    let t = situation_of c.judge.new.s in
+    let s = shown_situation c.loop-step.s in
+    let t = shown_situation c.judge.new.s in
     let parts = c.loop-step.parts in
     let more = c.judge.new.parts in
     let duties = c.args.duties.now in
@@ -60,7 +60,7 @@ loop-step-preserved c =
 pub returns-clause-reaches : goal.returns-clause-reaches
 returns-clause-reaches c =
     let config = c.args.config.now in
-    let s = situation_of c.loop-step.s in
+    let s = shown_situation c.loop-step.s in
     let parts = c.loop-step.parts in
     let duties = c.args.duties.now in
     let tasks = map task_of (drop c.loop-step.at duties) in

@@ -3,10 +3,10 @@ use Rattle.std.specs.Prelude.{IfOk}
 use Rattle.std.specs.Option.{option_map}
 use Rattle.audit_model.specs.Follows.{placed_step_in}
 use Rattle.audit_model.specs.Steps.{Store}
-use Rattle.audit_situation.specs.States.{situation_of}
+use Rattle.audit_situation.specs.States.{shown_situation}
 use Rattle.audit_steps.specs.Judging.{IsJudged}
 use Rattle.audit_steps.specs.Showing.{task_of}
-use Rattle.audit_records.specs.Auditing.{Reaches, audited_steps, own_step}
+use Rattle.audit_records.specs.Auditing.{Reaches, audited_steps, step_of_answer}
 use Rattle.audit_records.proofs.Walking.{store-on}
 use Rattle.audit_records.proofs.records.judge_stored.Goals as goal
 
@@ -15,15 +15,15 @@ returns-clause-reaches c =
     let config = c.args.config.now in
     let parts = c.args.parts.now in
     let more = c.store.new.parts in
-    let s = situation_of c.args.s.now in
-    let t = situation_of c.store.new.s in
+    let s = shown_situation c.args.s.now in
+    let t = shown_situation c.store.new.s in
     let outcome = c.args.outcome.now in
-    let own = own_step c.args.entry.now in
+    let own = step_of_answer c.args.entry.now in
     let steps = c.args.entry.now.steps in
     let key = option_map (λ k. k.now.items) c.args.key in
     let tasks = map task_of c.args.duties.now in
     let judged =
     subst (λ b. IsJudged config s parts (Some (Store key outcome)) own (placed_step_in config s (Some (Store key outcome)) own) b t more) c.if-not-branch.false c.in_ok-store.ensures.judged in
-    subst (λ o. IfOk c.judge_steps.result (λ b. Reaches b (situation_of c.judge_steps.new.s) c.judge_steps.new.parts o))
+    subst (λ o. IfOk c.judge_steps.result (λ b. Reaches b (shown_situation c.judge_steps.new.s) c.judge_steps.new.parts o))
     (sym (store-on config parts more s t key outcome tasks own steps judged ∙ ap (audited_steps config more t tasks) (sym c.as_slice.ensures)))
     c.judge_steps.ensures.reaches

@@ -1,7 +1,7 @@
 use Rattle.std.proofs.Common.{◌≡◌, ◌<◌, ◌+◌, ℕ, List, length, take, drop, Option, Some, None, MatchOption}
 use Rattle.memchr.specs.Find.{IsFirstByte, is_byte}
 use Rattle.audit_model.specs.Bytewise.{cut_at}
-use Rattle.cache_lines.proofs.Cuts.{cut_at-searched, cut_at-missed}
+use Rattle.audit_lines.proofs.Cuts.{cut_at-searched, cut_at-missed}
 use Rattle.audit_situation.proofs.link.end_of_line.Goals as goal
 
 ends : (bytes : List ℕ) (end : Option ℕ) → IsFirstByte (is_byte 10) bytes end

@@ -1,5 +1,5 @@
 use Rattle.std.proofs.Common.{◌-◌, length, sym, arith}
-use Rattle.cache_lines.proofs.Returns.{without_return-dropped, without_return-kept}
+use Rattle.audit_lines.proofs.Returns.{without_return-dropped, without_return-kept}
 use Rattle.audit_situation.proofs.link.trim.Goals as goal
 
 pub returns-then-line-len-eq13 : goal.returns-then-line-len-eq13

@@ -5,20 +5,20 @@ use Rattle.audit_model.specs.Commands.{deed_of, is_sync}
 use Rattle.audit_model.specs.Notes.{is_within}
 use Rattle.audit_model.specs.Situation.{view_in}
 use Rattle.audit_model.specs.Steps.{has_right_notes}
-use Rattle.audit_judge.specs.After.{has_true_notes}
+use Rattle.audit_notes.specs.After.{has_true_notes}
 use Rattle.audit_held.specs.Weights.{values_of}
-use Rattle.audit_situation.specs.States.{situation_of}
-use Rattle.audit_owing.specs.Doings.{action_of}
+use Rattle.audit_situation.specs.States.{shown_situation}
+use Rattle.audit_actions.specs.Doings.{action_of}
 use Rattle.audit_steps.specs.Judging.{placed_with, is_synced, reply_fits}
-use Rattle.audit_steps.specs.Showing.{step_of}
+use Rattle.audit_steps.specs.Showing.{shown_step}
 use Rattle.audit_steps.proofs.Judged.{first-wrong, second-wrong, both-right, values-after}
 use Rattle.audit_steps.proofs.judging.do_values.Goals as goal
 
 pub returns-then-not-branch-clause-right : goal.returns-then-not-branch-clause-right
 returns-then-not-branch-clause-right c task =
     let config = c.args.config.now in
-    let s = situation_of c.args.s.now in
-    let step = step_of c.args.shown in
+    let s = shown_situation c.args.s.now in
+    let step = shown_step c.args.shown in
     let value = option_map (λ h. h.value) c.args.newcomer in
     let placed = placed_with config s task (action_of c.args.doing) step value in
     first-wrong _ (is_synced config placed) (sym (c.in_ok-do_deed.ensures.told ∙ ap (λ d. has_true_notes config s.latest s.held d step.notices) (c.deed_of-deed.ensures step.load value)) ∙ c.if-not-branch.true)
@@ -26,8 +26,8 @@ returns-then-not-branch-clause-right c task =
 pub returns-then-not-branch-2-clause-right : goal.returns-then-not-branch-2-clause-right
 returns-then-not-branch-2-clause-right c task =
     let config = c.args.config.now in
-    let s = situation_of c.args.s.now in
-    let step = step_of c.args.shown in
+    let s = shown_situation c.args.s.now in
+    let step = shown_step c.args.shown in
     let action = action_of c.args.doing in
     let value = option_map (λ h. h.value) c.args.newcomer in
     let placed = placed_with config s task action step value in
@@ -40,8 +40,8 @@ returns-then-not-branch-2-clause-right c task =
 pub returns-clause-right : goal.returns-clause-right
 returns-clause-right c task =
     let config = c.args.config.now in
-    let s = situation_of c.args.s.now in
-    let step = step_of c.args.shown in
+    let s = shown_situation c.args.s.now in
+    let step = shown_step c.args.shown in
     let action = action_of c.args.doing in
     let value = option_map (λ h. h.value) c.args.newcomer in
     let placed = placed_with config s task action step value in
@@ -55,8 +55,8 @@ returns-clause-right c task =
 pub returns-clause-left : goal.returns-clause-left
 returns-clause-left c e =
     let config = c.args.config.now in
-    let s = situation_of c.args.s.now in
-    let step = step_of c.args.shown in
+    let s = shown_situation c.args.s.now in
+    let step = shown_step c.args.shown in
     let value = option_map (λ h. h.value) c.args.newcomer in
     let deed = c.deed_of-deed.ensures step.load value in
     let left = c.in_ok-do_deed.ensures.left c.if-not-branch.false ∙ ap (λ d. all_held_after config s.latest s.held d step.notices) deed in

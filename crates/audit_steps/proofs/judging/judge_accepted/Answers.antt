@@ -2,19 +2,19 @@ use Rattle.std.proofs.Common.{◌≡◌, ◌∙◌, ◌&&◌, ap, sym, subst, tr
 use Rattle.std.specs.Prelude.{IfOk}
 use Rattle.std.specs.Option.{option_map}
 use Rattle.audit_model.specs.Steps.{has_right_notes}
-use Rattle.audit_judge.proofs.Passing.{copied}
-use Rattle.audit_situation.specs.States.{situation_of}
-use Rattle.audit_owing.specs.Doings.{action_of}
-use Rattle.audit_parts.specs.Known.{agrees_with, with_value}
+use Rattle.audit_notes.proofs.Passing.{copied}
+use Rattle.audit_situation.specs.States.{shown_situation}
+use Rattle.audit_actions.specs.Doings.{action_of}
+use Rattle.audit_held.specs.Known.{agrees_with, with_value}
 use Rattle.audit_steps.specs.Judging.{placed_with, is_synced}
-use Rattle.audit_steps.specs.Showing.{step_of, task_of}
+use Rattle.audit_steps.specs.Showing.{shown_step, task_of}
 use Rattle.audit_steps.proofs.Judged.{first-wrong, if-ok-always}
 use Rattle.audit_steps.proofs.judging.judge_accepted.Goals as goal
 
 pub returns-then-not-branch : goal.returns-then-not-branch
 returns-then-not-branch c =
     let config = c.args.config.now in
-    let placed = placed_with config (situation_of c.args.s.now) (option_map task_of c.args.duty) (action_of c.args.doing) (step_of c.args.shown) (option_map (λ h. h.value) c.args.newcomer) in
+    let placed = placed_with config (shown_situation c.args.s.now) (option_map task_of c.args.duty) (action_of c.args.doing) (shown_step c.args.shown) (option_map (λ h. h.value) c.args.newcomer) in
     let value = copied c.as_ref.result ∙ ap (option_map (λ h. h.value)) c.as_ref.ensures.value in
     record {
       right = first-wrong _ (has_right_notes config placed && is_synced config placed) (sym (c.in_ok-admit.ensures.agrees ∙ ap (agrees_with c.args.parts.now) value) ∙ c.if-not-branch.true);
@@ -26,7 +26,7 @@ pub returns : goal.returns
 returns c =
     let config = c.args.config.now in
     let parts = c.args.parts.now in
-    let placed = placed_with config (situation_of c.args.s.now) (option_map task_of c.args.duty) (action_of c.args.doing) (step_of c.args.shown) (option_map (λ h. h.value) c.args.newcomer) in
+    let placed = placed_with config (shown_situation c.args.s.now) (option_map task_of c.args.duty) (action_of c.args.doing) (shown_step c.args.shown) (option_map (λ h. h.value) c.args.newcomer) in
     let value = copied c.as_ref.result ∙ ap (option_map (λ h. h.value)) c.as_ref.ensures.value in
     record {
       right =

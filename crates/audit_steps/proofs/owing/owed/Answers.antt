@@ -1,18 +1,18 @@
 use Rattle.std.proofs.Common.{ap, ◌∙◌, sym}
 use Rattle.audit_model.specs.Replies.{reply_of}
 use Rattle.audit_model.specs.Situation.{view_in}
-use Rattle.audit_situation.specs.States.{situation_of}
-use Rattle.audit_owing.specs.Doings.{action_of}
+use Rattle.audit_situation.specs.States.{shown_situation}
+use Rattle.audit_actions.specs.Doings.{action_of}
 use Rattle.audit_steps.proofs.Judged.{if-ok}
 use Rattle.audit_steps.proofs.owing.owed.Goals as goal
 
 pub returns-in-Load : goal.returns-in-Load
 returns-in-Load c =
     if-ok c.load_reply.result
-    (λ r f values e. f values ∙ ap (λ d. reply_of c.args.config.now (view_in c.args.config.now (situation_of c.args.s.now)) values (action_of d)) (sym c.in-Load.is))
+    (λ r f values e. f values ∙ ap (λ d. reply_of c.args.config.now (view_in c.args.config.now (shown_situation c.args.s.now)) values (action_of d)) (sym c.in-Load.is))
     c.load_reply.ensures
 
 pub returns-in_ok-add_reply-in-Add : goal.returns-in_ok-add_reply-in-Add
 returns-in_ok-add_reply-in-Add c values e =
     c.in_ok-add_reply-in-Add.ensures c.in-Add.ms values
-    ∙ ap (λ d. reply_of c.args.config.now (view_in c.args.config.now (situation_of c.args.s.now)) values (action_of d)) (sym c.in-Add.is)
+    ∙ ap (λ d. reply_of c.args.config.now (view_in c.args.config.now (shown_situation c.args.s.now)) values (action_of d)) (sym c.in-Add.is)

@@ -1,6 +1,6 @@
 use Rattle.std.proofs.Common.{◌≡◌, ◌∷◌, [], sym, ap, ◌∙◌}
 use Rattle.std.specs.Prelude.{unwrap_or}
-use Rattle.cache_lines.proofs.Lines.{IsLine-first_line}
+use Rattle.audit_lines.proofs.Lines.{IsLine-first_line}
 use Rattle.cache_namespace.specs.Gathered.{gather}
 use Rattle.cache_namespace.specs.Kept.{gathered}
 use Rattle.cache_namespace.specs.Lines.{held_step}

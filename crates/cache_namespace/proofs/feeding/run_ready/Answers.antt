@@ -5,7 +5,7 @@ use Rattle.audit_model.specs.Situation.{live_at}
 use Rattle.audit_model.specs.Stream.{behind_lines, without_return}
 use Rattle.audit_model.specs.declared.config.Config.{Config}
 use Rattle.cache_store.specs.Promises.{Frame, no_deed}
-use Rattle.cache_lines.proofs.Lines.{IsLine-first_line, long_from}
+use Rattle.audit_lines.proofs.Lines.{IsLine-first_line, long_from}
 use Rattle.cache_steps.specs.Loading.{step_silent}
 use Rattle.cache_namespace.specs.Drawing.{workings}
 use Rattle.cache_namespace.specs.Kept.{gathered}
@@ -13,7 +13,7 @@ use Rattle.cache_namespace.specs.Lines.{held_step, ready, set_in, with_drops}
 use Rattle.cache_namespace.specs.Ran.{RanLines, RanReady, standing_with}
 use Rattle.cache_namespace.specs.Gathered.{IsFresh, gather}
 use Rattle.cache_namespace.specs.Making.{making_of}
-use Rattle.cache_namespace.specs.Waiting.{loads_in, sent_by, under_way, waiting, when_waiting, with_under_way}
+use Rattle.cache_namespace.specs.Waiting.{loads_in, load_sent_for, under_way, waiting, when_waiting, with_under_way}
 use Rattle.cache_namespace.specs.Whole.{held_line}
 use Rattle.cache_namespace.proofs.FeedSteps.{ready-held, ready-stopped, stops-partial, stops-long, stops-quit}
 use Rattle.cache_namespace.proofs.LoadFeeds.{ready-by, ready-waits, same-under}
@@ -105,11 +105,11 @@ returns-in-Ok-clause-ran g c = λ base held e d under there m.
     let line = held_line rest in
     let said : line ≡ without_return (take c.in-Misses.len rest) = ap (λ o. unwrap_or o []) (IsLine-first_line rest c.in-Misses.len c.in-Misses.ensures.stops) in
     let none : live_at c.args.config.now base.latest r.left missed.key ≡ None = subst (λ (n : ℕ). live_at c.args.config.now n r.left missed.key ≡ None) (sym e) (missed.none r.left r.stands) in
-    let load = sent_by missed.key (loads_in base) in
+    let load = load_sent_for missed.key (loads_in base) in
     let gathers =
     ap (λ t. gathered t c.join_first.new.kept (g.S.Store.untaken c.run_lines.new.store)) c.join_first.ensures.output
     ∙ c.in-Ok.ensures.step missed.key missed.reads c.run_lines.new.text.items (g.S.Store.untaken c.run_lines.new.store)
-    ∙ ap (λ u. gather middle (step_silent c.args.number line (sent_by missed.key u) None [] ∷ [])) (sym under) in
+    ∙ ap (λ u. gather middle (step_silent c.args.number line (load_sent_for missed.key u) None [] ∷ [])) (sym under) in
     let new = gathered c.join_first.new.output.items c.join_first.new.kept (g.S.Store.untaken c.run_lines.new.store) in
     let joined = ap (when_waiting c.args.number missed.key) under ∙ sym (c.in-Ok.ensures.joined missed.key missed.reads) in
     subst (λ u. RanReady c.args.config.now base c.args.number making held all false false (λ left. set_in (with_under_way u (with_drops dropped base)) left (waiting c.args.number line (behind_lines 1 rest) 1)) Stands drawn drawing old new) joined
@@ -120,7 +120,7 @@ returns-in-Ok-clause-fresh g c =
     let missed = c.in-Misses.ensures.missed refl in
     let untaken = g.S.Store.untaken c.run_lines.new.store in
     subst IsFresh (sym (ap (λ t. gathered t c.join_first.new.kept untaken) c.join_first.ensures.output ∙ c.in-Ok.ensures.step missed.key missed.reads c.run_lines.new.text.items untaken))
-    (fresh-gather (gathered c.run_lines.new.text.items c.run_lines.new.kept untaken) (step_silent c.args.number (held_line c.run_lines.new.unread.bytes) (sent_by missed.key (under_way c.args.loads.now)) None [] ∷ []) c.run_lines.ensures.fresh)
+    (fresh-gather (gathered c.run_lines.new.text.items c.run_lines.new.kept untaken) (step_silent c.args.number (held_line c.run_lines.new.unread.bytes) (load_sent_for missed.key (under_way c.args.loads.now)) None [] ∷ []) c.run_lines.ensures.fresh)
 
 pub returns-in-Err-clause-ran : goal.returns-in-Err-clause-ran
 returns-in-Err-clause-ran g c = λ base held e d under there m.

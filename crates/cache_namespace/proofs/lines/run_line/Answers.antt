@@ -3,7 +3,7 @@ use Rattle.audit_model.specs.Grammar.{reading}
 use Rattle.audit_model.specs.History.{part_count}
 use Rattle.audit_model.specs.declared.command.Command.TheVariants as says
 use Rattle.cache_store.specs.Identifiers.{AreUsedUp}
-use Rattle.cache_lines.specs.Request.{said}
+use Rattle.audit_lines.specs.Request.{said}
 use Rattle.cache_namespace.specs.Lines.{says_quit}
 use Rattle.cache_namespace.proofs.Reading.{answers-as, moves-as, no-drop, part-none, plain-as, synced-as, timely-as}
 use Rattle.cache_steps.proofs.Drawn.{draws-kept, draws-none, spends-kept, spends-none}

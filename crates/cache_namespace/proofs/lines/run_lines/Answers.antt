@@ -1,6 +1,6 @@
 use Rattle.std.proofs.Common.{◌≡◌, true, false, refl, ap, ◌∙◌, sym, subst, []}
 use Rattle.std.specs.Prelude.{unwrap_or}
-use Rattle.cache_lines.proofs.Lines.{IsLine-first_line}
+use Rattle.audit_lines.proofs.Lines.{IsLine-first_line}
 use Rattle.cache_store.specs.Recency.{KeepsRecency}
 use Rattle.cache_namespace.specs.Drawing.{Spends, identifiers_in, workings}
 use Rattle.cache_namespace.specs.Ran.{Misses}

@@ -7,7 +7,7 @@ use Rattle.cache_namespace.specs.Taken.{FeedsConnection, IsOpenOrEnded, text_at}
 use Rattle.cache_namespace.specs.declared.connection.Connection.{Connection}
 use Rattle.cache_namespace.specs.Making.{making_of}
 use Rattle.cache_namespace.specs.Waiting.{under_way}
-use Rattle.cache_loads.specs.Standings.{holds}
+use Rattle.cache_loads.specs.Standings.{holds_line}
 use Rattle.cache_namespace.proofs.Places.{at-place, at-replaced, text-is, closing-is}
 use Rattle.cache_namespace.proofs.namespace.feed_at.Goals as goal
 
@@ -45,7 +45,7 @@ pub returns-in-Err-clause-again : goal.returns-in-Err-clause-again
 returns-in-Err-clause-again g c = λ h k at.
     let old = c.index_mut-connection.result.now in
     let is : old ≡ k = same_Some _ _ (sym (at-place c.args.connections.now.items c.args.index c.index_mut-connection.result.now c.requires.inside c.index_mut-connection.ensures.value) ∙ at) in
-    ap (λ (x : Connection). holds x.standing) (sym is) ∙ c.in-Err.ensures.again h
+    ap (λ (x : Connection). holds_line x.standing) (sym is) ∙ c.in-Err.ensures.again h
 
 pub returns-in-Ok-clause-closing : goal.returns-in-Ok-clause-closing
 returns-in-Ok-clause-closing g c =

@@ -1,9 +1,9 @@
 use Rattle.std.proofs.Common.{◌≡◌, ◌||◌, false, true, List, None, sym, ap, refl, ◌∙◌}
 use Rattle.audit_model.specs.Situation.{Situation, HeldValue}
 use Rattle.audit_model.specs.declared.command.Closing.TheVariants as by
-use Rattle.cache_lines.proofs.Lines.{long_from, IsPartial-not_long}
+use Rattle.audit_lines.proofs.Lines.{long_from, IsPartial-not_long}
 use Rattle.cache_namespace.specs.Drawing.{workings}
-use Rattle.cache_namespace.specs.Lines.{ended, ready, with_drops}
+use Rattle.cache_namespace.specs.Lines.{situation_behind, ready, with_drops}
 use Rattle.cache_namespace.specs.Ran.{standing_with}
 use Rattle.cache_namespace.specs.Shown.{put_parts, standing_as}
 use Rattle.cache_namespace.specs.Taken.{is_quit}
@@ -20,7 +20,7 @@ returns-in-Ok-More-clause-ran g c = λ base values e d under there m.
     let loads = under_way c.feed_lines.new.loads in
     let rest = c.feed_lines.new.unread.bytes in
     let after = with_under_way loads (with_drops dropped base) in
-    let target : List HeldValue → Situation = λ left. ended false after left (ready c.args.number rest) in
+    let target : List HeldValue → Situation = λ left. situation_behind false after left (ready c.args.number rest) in
     feeds-to c.args.config.now base c.args.number (making_of (g.S.Store.frame c.args.store.now)) values c.args.connection.now _ c.args.piece.now false false target _ dropped loads (workings (g.S.Store.stream c.args.store.now) (g.S.Store.registered c.args.store.now) (g.S.Store.recency c.args.store.now)) (workings (g.S.Store.stream c.feed_lines.new.store) (g.S.Store.registered c.feed_lines.new.store) (g.S.Store.recency c.feed_lines.new.store)) _ _
     c.requires.runs (rw c.in-Ok-More.field-0-is at (rw c.is_holding-held.ensures at (c.in-Ok-More.ensures.ran base values e d under there m)))
     (λ left. put-open after left c.args.number c.args.connection.now.closing now.Ready 0 rest c.requires.open (ap (λ b. b || false) (IsPartial-not_long rest (rw c.in-Ok-More.field-0-is at c.in-Ok-More.ensures.ends)))) (sym (ap is_quit c.requires.open))
@@ -31,7 +31,7 @@ returns-in-Ok-TooLong-clause-ran g c = λ base values e d under there m.
     let loads = under_way c.feed_lines.new.loads in
     let rest = c.feed_lines.new.unread.bytes in
     let after = with_under_way loads (with_drops dropped base) in
-    let target : List HeldValue → Situation = λ left. ended false after left (ready c.args.number rest) in
+    let target : List HeldValue → Situation = λ left. situation_behind false after left (ready c.args.number rest) in
     feeds-to c.args.config.now base c.args.number (making_of (g.S.Store.frame c.args.store.now)) values c.args.connection.now _ c.args.piece.now false false target _ dropped loads (workings (g.S.Store.stream c.args.store.now) (g.S.Store.registered c.args.store.now) (g.S.Store.recency c.args.store.now)) (workings (g.S.Store.stream c.feed_lines.new.store) (g.S.Store.registered c.feed_lines.new.store) (g.S.Store.recency c.feed_lines.new.store)) _ _
     c.requires.runs (rw c.in-Ok-TooLong.field-0-is at (rw c.is_holding-held.ensures at (c.in-Ok-TooLong.ensures.ran base values e d under there m)))
     (λ left. put-long after left c.args.number by.Long now.Ready 0 c.clear.new.self.bytes (ready c.args.number rest) refl (ap (λ b. b || false) (long_from rest (rw c.in-Ok-TooLong.field-0-is at c.in-Ok-TooLong.ensures.ends)))) refl
@@ -42,7 +42,7 @@ returns-in-Ok-Quit-clause-ran g c = λ base values e d under there m.
     let loads = under_way c.feed_lines.new.loads in
     let rest = c.feed_lines.new.unread.bytes in
     let after = with_under_way loads (with_drops dropped base) in
-    let target : List HeldValue → Situation = λ left. ended true after left (ready c.args.number rest) in
+    let target : List HeldValue → Situation = λ left. situation_behind true after left (ready c.args.number rest) in
     feeds-to c.args.config.now base c.args.number (making_of (g.S.Store.frame c.args.store.now)) values c.args.connection.now _ c.args.piece.now true false target _ dropped loads (workings (g.S.Store.stream c.args.store.now) (g.S.Store.registered c.args.store.now) (g.S.Store.recency c.args.store.now)) (workings (g.S.Store.stream c.feed_lines.new.store) (g.S.Store.registered c.feed_lines.new.store) (g.S.Store.recency c.feed_lines.new.store)) _ _
     c.requires.runs (rw c.in-Ok-Quit.field-0-is at (rw c.is_holding-held.ensures at (c.in-Ok-Quit.ensures.ran base values e d under there m)))
     (λ left. put-quit after left c.args.number now.Ready 0 c.clear-in-Ok-Quit.new.self.bytes rest) refl
@@ -53,7 +53,7 @@ returns-in-Ok-Held-clause-ran g c = λ base values e d under there m.
     let loads = under_way c.feed_lines.new.loads in
     let rest = c.feed_lines.new.unread.bytes in
     let after = with_under_way loads (with_drops dropped base) in
-    let target : List HeldValue → Situation = λ left. ended false after left (standing_with c.args.number true 0 rest) in
+    let target : List HeldValue → Situation = λ left. situation_behind false after left (standing_with c.args.number true 0 rest) in
     feeds-to c.args.config.now base c.args.number (making_of (g.S.Store.frame c.args.store.now)) values c.args.connection.now _ c.args.piece.now false true target _ dropped loads (workings (g.S.Store.stream c.args.store.now) (g.S.Store.registered c.args.store.now) (g.S.Store.recency c.args.store.now)) (workings (g.S.Store.stream c.feed_lines.new.store) (g.S.Store.registered c.feed_lines.new.store) (g.S.Store.recency c.feed_lines.new.store)) _ _
     c.requires.runs (rw c.in-Ok-Held.field-0-is at (rw c.is_holding-held.ensures at (c.in-Ok-Held.ensures.ran base values e d under there m)))
     (λ left. put-open after left c.args.number c.args.connection.now.closing now.Held 0 rest c.requires.open refl) (sym (ap is_quit c.requires.open))
@@ -65,7 +65,7 @@ returns-then-close_where_behind-clause-ran g c = λ base values e d under there 
     let rest = c.feed_lines.new.unread.bytes in
     let times = c.in-Ok-Waits.times in
     let after = with_under_way loads (with_drops dropped base) in
-    let target : List HeldValue → Situation = λ left. ended false after left (standing_as c.args.number now.Waiting times rest) in
+    let target : List HeldValue → Situation = λ left. situation_behind false after left (standing_as c.args.number now.Waiting times rest) in
     let put = c.close_where_behind.new.unread.bytes in
     let closing = c.close_where_behind.new.closing in
     let closed = c.close_where_behind.ensures.closed c.if-close_where_behind.true in
@@ -80,7 +80,7 @@ returns-else-close_where_behind-clause-ran g c = λ base values e d under there 
     let rest = c.feed_lines.new.unread.bytes in
     let times = c.in-Ok-Waits.times in
     let after = with_under_way loads (with_drops dropped base) in
-    let target : List HeldValue → Situation = λ left. ended false after left (standing_as c.args.number now.Waiting times rest) in
+    let target : List HeldValue → Situation = λ left. situation_behind false after left (standing_as c.args.number now.Waiting times rest) in
     let put = c.close_where_behind.new.unread.bytes in
     let closing = c.close_where_behind.new.closing in
     let opens : closing ≡ None = c.close_where_behind.ensures.open c.if-close_where_behind.false ∙ c.requires.open in

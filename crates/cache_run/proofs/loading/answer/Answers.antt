@@ -1,7 +1,7 @@
 use Rattle.std.proofs.Common.{Some, refl, inl, inr}
 use Rattle.audit_model.specs.declared.input.ServiceError.TheVariants as error
 use Rattle.cache_spaces.specs.Serves.{SameSpace}
-use Rattle.cache_run.specs.Connected.{IsFed, IsTaken}
+use Rattle.cache_run.specs.Connected.{IsFed, HasTakenReplies}
 use Rattle.cache_run.specs.Happened.{asking_of}
 use Rattle.cache_run.proofs.Connecting.{connected-map, refused-here}
 use Rattle.cache_run.proofs.Placing.{at-map}
@@ -39,7 +39,7 @@ pub returns-in-NoLoad-clause-left : goal.returns-in-NoLoad-clause-left
 returns-in-NoLoad-clause-left c = λ yes.
     let r = c.requires.taken in
     let a = at-map _ SameSpace _ _ _ (refused-here _ _ _ _ _ r.space r.at c.in-Err.ensures.refused) (λ x y p. p.0) in
-    connected-map IsTaken IsFed _ _ _ (connected-kept _ _ _ _ r a) (λ x left. left.0)
+    connected-map HasTakenReplies IsFed _ _ _ (connected-kept _ _ _ _ r a) (λ x left. left.0)
 
 pub returns-in_default-clause-refused : goal.returns-in_default-clause-refused
 returns-in_default-clause-refused c = λ no.

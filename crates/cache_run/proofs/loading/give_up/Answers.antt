@@ -2,7 +2,7 @@ use Rattle.std.proofs.Common.{refl, inr}
 use Rattle.audit_model.specs.declared.input.ServiceError.TheVariants as error
 use Rattle.cache_spaces.specs.Serves.{SameSpace, known_of}
 use Rattle.cache_spaces.specs.Spaces.{config_of}
-use Rattle.cache_run.specs.Connected.{IsFed, IsTaken}
+use Rattle.cache_run.specs.Connected.{IsFed, HasTakenReplies}
 use Rattle.cache_run.proofs.Connecting.{connected-map, refused-here}
 use Rattle.cache_run.proofs.Placing.{at-map}
 use Rattle.cache_run.proofs.Refusing.{give-up-late, give-up-unknown}
@@ -33,7 +33,7 @@ pub returns-in_default-clause-left : goal.returns-in_default-clause-left
 returns-in_default-clause-left c =
     let r = c.requires.taken in
     let a = at-map _ SameSpace _ _ _ (refused-here _ _ _ _ _ r.space r.at c.in-Err.ensures.refused) (λ x y p. p.0) in
-    connected-map IsTaken IsFed _ _ _ (connected-kept _ _ _ _ r a) (λ x left. left.0)
+    connected-map HasTakenReplies IsFed _ _ _ (connected-kept _ _ _ _ r a) (λ x left. left.0)
 
 pub returns-in-Ok-clause-gone : goal.returns-in-Ok-clause-gone
 returns-in-Ok-clause-gone c = at-settles _ _ _ c.args.load (giving_up c.args.load c.args.moment) refl c.in-Ok.ensures.taken

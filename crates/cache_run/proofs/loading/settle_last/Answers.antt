@@ -1,6 +1,6 @@
 use Rattle.std.proofs.Common.{[], ◌∷◌, ap, arith}
 use Rattle.std.specs.Option.{option_copied}
-use Rattle.cache_run.specs.Connected.{IsFed, IsTaken}
+use Rattle.cache_run.specs.Connected.{IsFed, HasTakenReplies}
 use Rattle.cache_run.specs.Happened.{asking_of}
 use Rattle.cache_run.proofs.Knowing.{known-parts}
 use Rattle.cache_run.proofs.Carrying.{same_consumes}
@@ -26,7 +26,7 @@ returns-in-Err g c =
       goes = λ remaining.
           turn-broken g.C.Clock.reads g.L.Loader.loads _ _ _ _ _ [] moment asks _ _ _ _ _ _ _ _ _ (at-unanswered _ _ _ _ [] moment asks _ _ (at-refused _ _ _ _ [] moment asks _ refused.0 refused.1))
           (same_consumes remaining) c.now-moment.ensures (askings-one g.L.Loader.loads _ _ _ _ c.load.ensures);
-      left = connected-map IsTaken IsFed _ _ _ (connected-kept _ _ _ _ c.requires.taken refused.0) (λ x left. left.0);
+      left = connected-map HasTakenReplies IsFed _ _ _ (connected-kept _ _ _ _ c.requires.taken refused.0) (λ x left. left.0);
       accounted = at-accounts-later _ _ _ _ (at-later-same _ _ _ refused.0);
       asked = asked-one g.L.Loader.loads _ _ _ _ c.load.ensures;
       why = because-refused _ _ _ _ moment c.in-Err.error refused.1 (λ late. (_, moment, c.now-moment.ensures, late));

@@ -1,6 +1,6 @@
 use Rattle.std.proofs.Common.{◌≡◌, ◌^◌, ◌-◌, arith, inl, inr}
 use Rattle.cache_devices.proofs.Sending.{failed_after}
-use Rattle.cache_run.specs.Connected.{IsFed, IsTaken}
+use Rattle.cache_run.specs.Connected.{IsFed, HasTakenReplies}
 use Rattle.cache_run.specs.declared.errors.RunError.TheVariants.{Moment, UsedUp}
 use Rattle.cache_run.proofs.Causing.{because-map}
 use Rattle.cache_run.proofs.Connecting.{connected-map}
@@ -71,7 +71,7 @@ pub returns : goal.returns
 returns g c = record {
   goes = λ remaining.
       at-broken g.C.Clock.reads g.L.Loader.loads _ _ _ _ _ _ _ _ UsedUp (λ is. let h : UsedUp ≡ Moment = is in cc) (c.loop-turn.invariant.carried remaining);
-  left = connected-map IsTaken IsFed _ _ _ c.loop-turn.invariant.taken (λ x left. left.0);
+  left = connected-map HasTakenReplies IsFed _ _ _ c.loop-turn.invariant.taken (λ x left. left.0);
   accounted = c.loop-turn.invariant.accounted;
   all = tt;
   asks = asked-fewer g.L.Loader.loads _ _ _ 0 (omega arith) c.loop-turn.invariant.asked;

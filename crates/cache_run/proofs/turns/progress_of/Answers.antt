@@ -1,6 +1,6 @@
 use Rattle.std.proofs.Common.{◌≡◌, ◌≤◌, sym, ◌∙◌, inr, arith, ⊎_elim, length}
 use Rattle.std.proofs.lemmas.Option.{slice_get_within}
-use Rattle.cache_run.specs.Connected.{IsOver, IsReady, IsTaken}
+use Rattle.cache_run.specs.Connected.{IsOver, IsReady, HasTakenReplies}
 use Rattle.cache_run.proofs.Connecting.{connected-here, ended-where-closed, fact-here, not-unknown}
 use Rattle.cache_spaces.specs.Serves.{IsUnknown}
 use Rattle.cache_spaces.specs.Services.{spaces_of}
@@ -11,13 +11,13 @@ pub returns-in-Ok-None : goal.returns-in-Ok-None
 returns-in-Ok-None c = λ remaining.
     let r = c.requires.taken in
     let is : c.in-Ok-None.field-0 ≡ closing_of r.space c.args.conn.number = c.in-Ok-None.ensures.closing r.space r.at in
-    connected-here IsTaken IsReady _ _ _ r (sym is ∙ c.in-Ok-None.field-0-is, r.left.1)
+    connected-here HasTakenReplies IsReady _ _ _ r (sym is ∙ c.in-Ok-None.field-0-is, r.left.1)
 
 pub returns-in-Ok-Some : goal.returns-in-Ok-Some
 returns-in-Ok-Some c = λ remaining.
     let r = c.requires.taken in
     let is : c.in-Ok-Some.field-0 ≡ closing_of r.space c.args.conn.number = c.in-Ok-Some.ensures.closing r.space r.at in
-    connected-here IsTaken (IsOver remaining) _ _ _ r (inr (ended-where-closed _ c.in-Ok-Some.field-0-0 r.left.0 (sym is ∙ c.in-Ok-Some.field-0-is)))
+    connected-here HasTakenReplies (IsOver remaining) _ _ _ r (inr (ended-where-closed _ c.in-Ok-Some.field-0-0 r.left.0 (sym is ∙ c.in-Ok-Some.field-0-is)))
 
 pub unreachable-requires : goal.unreachable-requires
 unreachable-requires c =

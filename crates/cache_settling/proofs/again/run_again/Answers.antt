@@ -11,7 +11,7 @@ use Rattle.cache_namespace.specs.Drawing.{Spends, identifiers, workings}
 use Rattle.cache_namespace.specs.Gathered.{gather}
 use Rattle.cache_namespace.specs.Kept.{gathered}
 use Rattle.cache_namespace.specs.Making.{making_of}
-use Rattle.cache_namespace.specs.Waiting.{UnderWay, sent_by, under_way, when_waiting}
+use Rattle.cache_namespace.specs.Waiting.{UnderWay, load_sent_for, under_way, when_waiting}
 use Rattle.cache_namespace.specs.Whole.{held_line, is_near}
 use Rattle.cache_namespace.proofs.Drawn.{spends-same}
 use Rattle.cache_settling.specs.Noted.{noted_in}
@@ -77,7 +77,7 @@ returns-in-Waits-clause-ran g c = λ s latest drops loads found m.
     let x = w.1.0 in
     let stays = subst (λ (f : Config). g.S.Store.stands was (all_held_after f s.latest s.held no_deed [])) c.requires.config (g.met.S.Store.idle was s.held s.latest m) in
     let none = subst (λ (n : ℕ). live_at config n s.held x.key ≡ None) (sym latest) (x.none s.held m) in
-    let gathers = w.1.2 ∙ ap (λ (u : UnderWay). gather (gathered old.output.items c.args.kept.now told) (step_silent c.args.number line (sent_by x.key u) None [] ∷ [])) (sym loads) in
+    let gathers = w.1.2 ∙ ap (λ (u : UnderWay). gather (gathered old.output.items c.args.kept.now told) (step_silent c.args.number line (load_sent_for x.key u) None [] ∷ [])) (sym loads) in
     let spends = subst (λ z. Spends ids (identifiers (g.S.Store.stream z) (g.S.Store.registered z))) (sym w.0) (spends-same ids) in
     waits-again config (making_of (g.S.Store.frame was)) s c.args.number (g.S.Store.stands is) (under_way c.load_first.new.loads) (g.S.Store.frame is).dropped ids (identifiers (g.S.Store.stream is) (g.S.Store.registered is)) old _ (noted_in c.args.kept.now told) (noted_in c.load_first.new.kept (g.S.Store.untaken is)) x.key
     found c.requires.waits x.reads (not-last old.waited c.if-connection-ge-MAX_WAITS.false) c.requires.open c.requires.waits (c.in-Waits.ensures.stays refl) (let e : old.waited + 1 ≡ suc old.waited = omega arith in e) gathers

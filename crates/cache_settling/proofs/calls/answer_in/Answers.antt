@@ -1,8 +1,8 @@
 use Rattle.std.proofs.Common.{[], false, sym, ap, subst}
 use Rattle.cache_namespace.specs.Shown.{situation}
 use Rattle.cache_namespace.specs.Waiting.{UnderWay, under_way}
-use Rattle.load_laws.specs.Tidy.{Tidy}
-use Rattle.load_laws.proofs.Records.{records}
+use Rattle.audit_waiting_laws.specs.Tidy.{Tidy}
+use Rattle.audit_waiting_laws.proofs.Records.{records}
 use Rattle.cache_settling.proofs.Admitted.{tidy-same}
 use Rattle.cache_settling.specs.Laws.{record_answered}
 use Rattle.cache_settling.proofs.calls.answer_in.Goals as goal

@@ -2,7 +2,7 @@ use Rattle.std.proofs.Common.{◌≤◌, ◌+◌, ◌∷◌, ◌++◌, [], None,
 use Rattle.std.proofs.lemmas.List.{map-append}
 use Rattle.audit_model.specs.Replies.{outcome_text}
 use Rattle.cache_steps.specs.Right.{step_saying}
-use Rattle.load_laws.specs.Tidy.{times_in}
+use Rattle.audit_waiting_laws.specs.Tidy.{times_in}
 use Rattle.cache_settling.specs.Told.{line_of, steps_told}
 use Rattle.cache_settling.proofs.Chain.{fewer-next, front-more, once-first, rest-next}
 use Rattle.cache_settling.proofs.drafting.told_steps.Goals as goal

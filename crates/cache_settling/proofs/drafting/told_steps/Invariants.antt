@@ -1,5 +1,5 @@
 use Rattle.std.proofs.Common.{◌≡◌, ◌≤◌, ℕ, take, drop}
-use Rattle.load_laws.specs.Tidy.{times_in}
+use Rattle.audit_waiting_laws.specs.Tidy.{times_in}
 use Rattle.cache_settling.specs.Told.{steps_told}
 use Rattle.cache_settling.proofs.drafting.told_steps.Given as goal
 

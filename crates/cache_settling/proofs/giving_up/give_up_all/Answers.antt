@@ -4,7 +4,7 @@ use Rattle.cache_store.specs.Promises.{Frame}
 use Rattle.cache_namespace.specs.Drawing.{identifiers}
 use Rattle.cache_namespace.specs.Making.{Making, making_of}
 use Rattle.cache_namespace.specs.Waiting.{under_way}
-use Rattle.load_laws.specs.Tidy.{times_in}
+use Rattle.audit_waiting_laws.specs.Tidy.{times_in}
 use Rattle.cache_namespace.specs.Kept.{HasMore}
 use Rattle.cache_settling.specs.Noted.{noted_in}
 use Rattle.cache_settling.proofs.Noting.{more-fewer, twice-more}

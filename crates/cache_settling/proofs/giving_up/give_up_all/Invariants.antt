@@ -6,7 +6,7 @@ use Rattle.cache_steps.specs.Right.{KeepsFrame}
 use Rattle.cache_namespace.specs.Drawing.{identifiers}
 use Rattle.cache_namespace.specs.Making.{making_of}
 use Rattle.cache_namespace.specs.Waiting.{under_way}
-use Rattle.load_laws.specs.Tidy.{times_in}
+use Rattle.audit_waiting_laws.specs.Tidy.{times_in}
 use Rattle.cache_namespace.specs.Kept.{HasMore}
 use Rattle.cache_settling.specs.Noted.{NothingWaits, noted_in}
 use Rattle.cache_settling.specs.GivenUp.{GivesUp, HaveLoads}

@@ -2,8 +2,8 @@ use Rattle.std.proofs.Common.{ℕ, [], None, subst}
 use Rattle.cache_namespace.specs.Drawing.{identifiers}
 use Rattle.cache_namespace.specs.Making.{making_of}
 use Rattle.cache_namespace.specs.Waiting.{under_way}
-use Rattle.cache_settling.specs.Answered.{but_for, waiting_for}
-use Rattle.cache_namespace.specs.Kept.{steps_of}
+use Rattle.cache_settling.specs.Answered.{but_for, waiting_on}
+use Rattle.cache_namespace.specs.Kept.{kept_steps}
 use Rattle.cache_settling.specs.Noted.{Noted, noted_in}
 use Rattle.cache_settling.specs.GivenUp.{GivesUp}
 use Rattle.cache_settling.proofs.Admitted.{give-up-under, waiting-tidy}
@@ -15,11 +15,11 @@ settle_give_up-requires-clause-under g c = give-up-under c.args.config.now (unde
 
 pub settle_give_up-requires-clause-once : goal.settle_give_up-requires-clause-once
 settle_give_up-requires-clause-once g c =
-    told-few (waiting_for c.args.load (under_way c.args.loads.now)) c.args.connections.now.items (waiting-tidy c.args.load (under_way c.args.loads.now) c.args.connections.now.items c.requires.tidy)
+    told-few (waiting_on c.args.load (under_way c.args.loads.now)) c.args.connections.now.items (waiting-tidy c.args.load (under_way c.args.loads.now) c.args.connections.now.items c.requires.tidy)
 
 pub settle_give_up-requires-clause-waits : goal.settle_give_up-requires-clause-waits
 settle_give_up-requires-clause-waits g c =
-    told-loads c.args.config.now (waiting_for c.args.load (under_way c.args.loads.now)) c.args.connections.now.items (waiting-tidy c.args.load (under_way c.args.loads.now) c.args.connections.now.items c.requires.tidy) (λ n k line found stands. c.requires.reads n k line found stands)
+    told-loads c.args.config.now (waiting_on c.args.load (under_way c.args.loads.now)) c.args.connections.now.items (waiting-tidy c.args.load (under_way c.args.loads.now) c.args.connections.now.items c.requires.tidy) (λ n k line found stands. c.requires.reads n k line found stands)
 
 pub returns-clause-ran : goal.returns-clause-ran
 returns-clause-ran g c = λ values m.
@@ -35,5 +35,5 @@ returns-clause-ran g c = λ values m.
     let a = identifiers (g.S.Store.stream was) (g.S.Store.registered was) in
     let b = identifiers (g.S.Store.stream is) (g.S.Store.registered is) in
     let noting : Noted = record { kept = None; waiting = g.S.Store.untaken was } in
-    given-up config making load c.args.latest c.args.moment values (g.S.Store.stands is) l k (g.S.Store.frame was).dropped (g.S.Store.frame is).dropped a b cs new (g.S.Store.untaken was) (g.S.Store.untaken is) (steps_of c.settle_give_up.new.kept) c.requires.admitted
-    (subst (λ (now : ℕ). GivesUp config making now values (waiting_for load l) [] (g.S.Store.stands is) (but_for load l) k (g.S.Store.frame was).dropped (g.S.Store.frame is).dropped a b cs new noting (noted_in c.settle_give_up.new.kept (g.S.Store.untaken is))) c.max-now.ensures (c.settle_give_up.ensures.ran values m))
+    given-up config making load c.args.latest c.args.moment values (g.S.Store.stands is) l k (g.S.Store.frame was).dropped (g.S.Store.frame is).dropped a b cs new (g.S.Store.untaken was) (g.S.Store.untaken is) (kept_steps c.settle_give_up.new.kept) c.requires.admitted
+    (subst (λ (now : ℕ). GivesUp config making now values (waiting_on load l) [] (g.S.Store.stands is) (but_for load l) k (g.S.Store.frame was).dropped (g.S.Store.frame is).dropped a b cs new noting (noted_in c.settle_give_up.new.kept (g.S.Store.untaken is))) c.max-now.ensures (c.settle_give_up.ensures.ran values m))

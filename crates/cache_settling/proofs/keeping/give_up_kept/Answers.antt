@@ -1,6 +1,6 @@
 use Rattle.cache_namespace.specs.Shown.{situation}
 use Rattle.cache_namespace.specs.Waiting.{under_way}
-use Rattle.load_laws.proofs.Records.{records}
+use Rattle.audit_waiting_laws.proofs.Records.{records}
 use Rattle.cache_settling.specs.Laws.{record_given_up}
 use Rattle.cache_settling.proofs.keeping.give_up_kept.Goals as goal
 

@@ -4,15 +4,15 @@ use Rattle.audit_model.specs.Bytewise.{is_empty}
 use Rattle.audit_model.specs.History.{Storing}
 use Rattle.audit_model.specs.Situation.{Situation}
 use Rattle.audit_model.specs.declared.config.Config.{Config}
-use Rattle.cache_store.specs.Handing.{Hands}
+use Rattle.cache_store.specs.Handing.{AppendsNotes}
 use Rattle.cache_steps.specs.Loading.{Stores, step_silent}
 use Rattle.cache_steps.specs.Right.{held_when_run}
 use Rattle.cache_namespace.specs.Drawing.{identifiers}
 use Rattle.cache_namespace.specs.Making.{Making, making_of}
 use Rattle.cache_namespace.specs.Shown.{situation}
 use Rattle.cache_namespace.specs.Waiting.{under_way}
-use Rattle.cache_settling.specs.Answered.{HandsOut, but_for, waiting_for}
-use Rattle.cache_namespace.specs.Kept.{steps_of}
+use Rattle.cache_settling.specs.Answered.{HandsOut, but_for, waiting_on}
+use Rattle.cache_namespace.specs.Kept.{kept_steps}
 use Rattle.cache_settling.specs.Noted.{Noted, noted_in}
 use Rattle.cache_settling.proofs.Admitted.{answer-fits, few-replied, tidy-same, waiting-tidy}
 use Rattle.cache_settling.proofs.Answered.{answered, answered-same}
@@ -58,16 +58,16 @@ returns-clause-ran g c = λ values m.
     let s = situation (max moment latest) (but_for load l) between dropped values in
     let ok = c.in_ok-accepted.ensures.ok in
     let key = ok.0 in
-    let x = subst (λ (f : Config). (y : Stores f s key outcome accepted (g.S.Store.stands mid) (Hands told telling)) × ((is_some accepted || is_empty y.told) ≡ true)) c.requires.sound.config
+    let x = subst (λ (f : Config). (y : Stores f s key outcome accepted (g.S.Store.stands mid) (AppendsNotes told telling)) × ((is_some accepted || is_empty y.told) ≡ true)) c.requires.sound.config
     (ok.3 s (sym c.max-now.ensures) m) in
     let held = held_when_run config s (Storing (Some key) outcome) (step_silent 0 [] None accepted x.0.told) in
     let same : making_of (g.S.Store.frame mid) ≡ making = ap making_of c.in_ok-accepted.ensures.frame.rest in
-    let h = subst (λ (now : ℕ). HandsOut config making outcome now held (waiting_for load l) (g.S.Store.stands is) (but_for load l) k dropped dropping b d between new noting noted) c.max-now.ensures
-    (subst (λ (drop : Bool). HandsOut config making outcome c.max-now.result held (waiting_for load l) (g.S.Store.stands is) (but_for load l) k drop dropping b d between new noting noted) c.store_for.ensures.dropped
-    (subst (λ (made : Making). HandsOut config made outcome c.max-now.result held (waiting_for load l) (g.S.Store.stands is) (but_for load l) k (g.S.Store.frame mid).dropped dropping b d between new noting noted) same
+    let h = subst (λ (now : ℕ). HandsOut config making outcome now held (waiting_on load l) (g.S.Store.stands is) (but_for load l) k dropped dropping b d between new noting noted) c.max-now.ensures
+    (subst (λ (drop : Bool). HandsOut config making outcome c.max-now.result held (waiting_on load l) (g.S.Store.stands is) (but_for load l) k drop dropping b d between new noting noted) c.store_for.ensures.dropped
+    (subst (λ (made : Making). HandsOut config made outcome c.max-now.result held (waiting_on load l) (g.S.Store.stands is) (but_for load l) k (g.S.Store.frame mid).dropped dropping b d between new noting noted) same
     (c.settle_answer.ensures.out held x.0.left))) in
     answered-same config making load latest moment outcome accepted values (g.S.Store.stands is) l k old between new dropped dropping a d told last c.reserve_for.ensures.same
-    (answered config making load latest moment key outcome accepted values (g.S.Store.stands mid) (g.S.Store.stands is) l k between new dropped dropping a b d told telling last (steps_of c.settle_answer.new.kept) c.requires.admitted ok.1 ok.2 x.0 x.1 c.store_for.ensures.identifiers h)
+    (answered config making load latest moment key outcome accepted values (g.S.Store.stands mid) (g.S.Store.stands is) l k between new dropped dropping a b d told telling last (kept_steps c.settle_answer.new.kept) c.requires.admitted ok.1 ok.2 x.0 x.1 c.store_for.ensures.identifiers h)
 
 pub returns-clause-count : goal.returns-clause-count
 returns-clause-count g c = c.settle_answer.ensures.count ∙ ap (λ (s : Situation). s.opened) (c.reserve_for.ensures.same.situation 0 (under_way c.args.loads.now) false [])

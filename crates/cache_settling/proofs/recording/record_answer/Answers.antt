@@ -4,7 +4,7 @@ use Rattle.audit_model.specs.Bytewise.{is_empty}
 use Rattle.audit_model.specs.History.{Storing}
 use Rattle.audit_model.specs.declared.config.Config.{Config}
 use Rattle.audit_model.specs.declared.transcript.Note.{Note}
-use Rattle.cache_store.specs.Handing.{Hands}
+use Rattle.cache_store.specs.Handing.{AppendsNotes}
 use Rattle.cache_steps.specs.Loading.{Stores, step_silent}
 use Rattle.cache_steps.specs.Right.{held_when_run}
 use Rattle.cache_store.specs.Promises.{Frame}
@@ -13,7 +13,7 @@ use Rattle.cache_namespace.specs.Making.{Making, making_of}
 use Rattle.cache_namespace.specs.Shown.{situation}
 use Rattle.cache_namespace.specs.Waiting.{under_way}
 use Rattle.cache_namespace.proofs.Drawn.{keeps-more}
-use Rattle.cache_settling.specs.Answered.{HandsOut, but_for, waiting_for}
+use Rattle.cache_settling.specs.Answered.{HandsOut, but_for, waiting_on}
 use Rattle.cache_settling.specs.Noted.{Noted, noted_in}
 use Rattle.cache_settling.specs.Told.{HaveLines}
 use Rattle.cache_settling.proofs.Admitted.{answer-fits, few-replied, waiting-tidy}
@@ -30,7 +30,7 @@ pub draft_answer-requires-clause-lines : goal.draft_answer-requires-clause-lines
 draft_answer-requires-clause-lines g c =
     let l = under_way c.args.loads.now in
     let cs = c.args.connections.now.items in
-    subst (λ ks. HaveLines ks (waiting_for c.args.load l)) (sym c.deref.ensures.value) (have-lines (waiting_for c.args.load l) cs (waiting-tidy c.args.load l cs c.requires.tidy))
+    subst (λ ks. HaveLines ks (waiting_on c.args.load l)) (sym c.deref.ensures.value) (have-lines (waiting_on c.args.load l) cs (waiting-tidy c.args.load l cs c.requires.tidy))
 
 pub settle_answer-requires-clause-tidy : goal.settle_answer-requires-clause-tidy
 settle_answer-requires-clause-tidy g c = waiting-tidy c.args.load (under_way c.args.loads.now) c.args.connections.now.items c.requires.tidy
@@ -63,16 +63,16 @@ returns-clause-ran g c = λ values m.
     let s = situation (max moment latest) (but_for load l) cs dropped values in
     let ok = c.in_ok-accepted.ensures.ok in
     let key = ok.0 in
-    let x = subst (λ (f : Config). (y : Stores f s key outcome accepted (g.S.Store.stands mid) (Hands told telling)) × ((is_some accepted || is_empty y.told) ≡ true)) c.requires.sound.config
+    let x = subst (λ (f : Config). (y : Stores f s key outcome accepted (g.S.Store.stands mid) (AppendsNotes told telling)) × ((is_some accepted || is_empty y.told) ≡ true)) c.requires.sound.config
     (ok.3 s (sym c.max-now.ensures) m) in
     let held = held_when_run config s (Storing (Some key) outcome) (step_silent 0 [] None accepted x.0.told) in
     let same : making_of (g.S.Store.frame between) ≡ making = ap making_of c.drain.ensures.frame ∙ ap making_of c.in_ok-accepted.ensures.frame.rest in
     let drops : (g.S.Store.frame between).dropped ≡ dropped = ap (λ (f : Frame). f.dropped) c.drain.ensures.frame ∙ c.store_for.ensures.dropped in
     let none : Noted = record { kept = Some []; waiting = [] } in
-    let h = subst (λ (now : ℕ). HandsOut config making outcome now held (waiting_for load l) (g.S.Store.stands is) (but_for load l) k dropped dropping b d cs new none noted) c.max-now.ensures
-    (subst (λ (drop : Bool). HandsOut config making outcome c.max-now.result held (waiting_for load l) (g.S.Store.stands is) (but_for load l) k drop dropping b d cs new none noted) drops
-    (subst (λ (made : Making). HandsOut config made outcome c.max-now.result held (waiting_for load l) (g.S.Store.stands is) (but_for load l) k (g.S.Store.frame between).dropped dropping b d cs new none noted) same
-    (subst (λ (w : List Note). HandsOut config (making_of (g.S.Store.frame between)) outcome c.max-now.result held (waiting_for load l) (g.S.Store.stands is) (but_for load l) k (g.S.Store.frame between).dropped dropping b d cs new (record { kept = Some []; waiting = w }) noted) c.drain.ensures.none
+    let h = subst (λ (now : ℕ). HandsOut config making outcome now held (waiting_on load l) (g.S.Store.stands is) (but_for load l) k dropped dropping b d cs new none noted) c.max-now.ensures
+    (subst (λ (drop : Bool). HandsOut config making outcome c.max-now.result held (waiting_on load l) (g.S.Store.stands is) (but_for load l) k drop dropping b d cs new none noted) drops
+    (subst (λ (made : Making). HandsOut config made outcome c.max-now.result held (waiting_on load l) (g.S.Store.stands is) (but_for load l) k (g.S.Store.frame between).dropped dropping b d cs new none noted) same
+    (subst (λ (w : List Note). HandsOut config (making_of (g.S.Store.frame between)) outcome c.max-now.result held (waiting_on load l) (g.S.Store.stands is) (but_for load l) k (g.S.Store.frame between).dropped dropping b d cs new (record { kept = Some []; waiting = w }) noted) c.drain.ensures.none
     (c.settle_answer.ensures.out held (c.drain.ensures.stands held x.0.left))))) in
     let notes : c.drain.new.notes.items ≡ x.0.told =
     c.drain.ensures.drained ∙ ap (λ ns. ns ++ telling) c.in_ok-notices.ensures.items ∙ x.0.handed.added ∙ ap (λ ns. ns ++ x.0.told) c.requires.untaken in

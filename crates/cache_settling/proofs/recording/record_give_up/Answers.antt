@@ -4,7 +4,7 @@ use Rattle.audit_model.specs.declared.transcript.Step.{Step as Ran}
 use Rattle.cache_namespace.specs.Drawing.{identifiers}
 use Rattle.cache_namespace.specs.Making.{making_of}
 use Rattle.cache_namespace.specs.Waiting.{under_way}
-use Rattle.cache_settling.specs.Answered.{but_for, waiting_for}
+use Rattle.cache_settling.specs.Answered.{but_for, waiting_on}
 use Rattle.cache_settling.specs.GivenUp.{GivesUp}
 use Rattle.cache_settling.specs.Noted.{Noted, noted_in}
 use Rattle.cache_settling.proofs.Admitted.{give-up-under, waiting-tidy}
@@ -17,11 +17,11 @@ settle_give_up-requires-clause-under g c = give-up-under c.args.config.now (unde
 
 pub settle_give_up-requires-clause-once : goal.settle_give_up-requires-clause-once
 settle_give_up-requires-clause-once g c =
-    told-few (waiting_for c.args.load (under_way c.args.loads.now)) c.args.connections.now.items (waiting-tidy c.args.load (under_way c.args.loads.now) c.args.connections.now.items c.requires.tidy)
+    told-few (waiting_on c.args.load (under_way c.args.loads.now)) c.args.connections.now.items (waiting-tidy c.args.load (under_way c.args.loads.now) c.args.connections.now.items c.requires.tidy)
 
 pub settle_give_up-requires-clause-waits : goal.settle_give_up-requires-clause-waits
 settle_give_up-requires-clause-waits g c =
-    told-loads c.args.config.now (waiting_for c.args.load (under_way c.args.loads.now)) c.args.connections.now.items (waiting-tidy c.args.load (under_way c.args.loads.now) c.args.connections.now.items c.requires.tidy) (λ n k line found stands. c.requires.reads n k line found stands)
+    told-loads c.args.config.now (waiting_on c.args.load (under_way c.args.loads.now)) c.args.connections.now.items (waiting-tidy c.args.load (under_way c.args.loads.now) c.args.connections.now.items c.requires.tidy) (λ n k line found stands. c.requires.reads n k line found stands)
 
 pub returns-clause-ran : goal.returns-clause-ran
 returns-clause-ran g c = λ values m.
@@ -41,9 +41,9 @@ returns-clause-ran g c = λ values m.
     let none : Noted = record { kept = Some []; waiting = [] } in
     let noted = noted_in c.settle_give_up.new.kept (g.S.Store.untaken is) in
     give-up-kept config making load c.args.latest c.args.moment values (g.S.Store.stands is) l k dropped dropping a b cs new c.steps_kept.result noted c.requires.admitted
-    (subst (λ (now : ℕ). GivesUp config making now values (waiting_for load l) [] (g.S.Store.stands is) (but_for load l) k dropped dropping a b cs new none noted) c.max-now.ensures
-    (subst (λ (w : List Note). GivesUp config making c.max-now.result values (waiting_for load l) [] (g.S.Store.stands is) (but_for load l) k dropped dropping a b cs new (record { kept = Some []; waiting = w }) noted) c.requires.untaken
-    (subst (λ (steps : List Ran). GivesUp config making c.max-now.result values (waiting_for load l) [] (g.S.Store.stands is) (but_for load l) k dropped dropping a b cs new (record { kept = Some steps; waiting = g.S.Store.untaken was }) noted) c.in_ok-kept.ensures.steps
+    (subst (λ (now : ℕ). GivesUp config making now values (waiting_on load l) [] (g.S.Store.stands is) (but_for load l) k dropped dropping a b cs new none noted) c.max-now.ensures
+    (subst (λ (w : List Note). GivesUp config making c.max-now.result values (waiting_on load l) [] (g.S.Store.stands is) (but_for load l) k dropped dropping a b cs new (record { kept = Some []; waiting = w }) noted) c.requires.untaken
+    (subst (λ (steps : List Ran). GivesUp config making c.max-now.result values (waiting_on load l) [] (g.S.Store.stands is) (but_for load l) k dropped dropping a b cs new (record { kept = Some steps; waiting = g.S.Store.untaken was }) noted) c.in_ok-kept.ensures.steps
     (c.settle_give_up.ensures.ran values m)))) c.steps_kept.ensures
 
 pub returns-clause-untold : goal.returns-clause-untold

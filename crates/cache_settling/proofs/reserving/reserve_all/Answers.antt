@@ -1,5 +1,5 @@
 use Rattle.std.proofs.Common.{sym, subst, take, get_or}
-use Rattle.cache_settling.specs.Told.{HaveRoom}
+use Rattle.cache_settling.specs.Told.{HaveReplyRoom}
 use Rattle.cache_settling.proofs.Chain.{front-more}
 use Rattle.cache_settling.proofs.Rooms.{room-more, same-on}
 use Rattle.cache_settling.proofs.reserving.reserve_all.Goals as goal
@@ -15,6 +15,6 @@ loop-number-preserved c =
     let new = c.reserve_at.new.connections.items in
     record {
       same = same-on c.args.connections.now.items mid new c.loop-number.invariant.same c.reserve_at.ensures.same;
-      room = subst (HaveRoom new c.args.size) (sym (front-more ns at c.loop-number-test.true))
+      room = subst (HaveReplyRoom new c.args.size) (sym (front-more ns at c.loop-number-test.true))
           (room-more mid new c.args.size (get_or ns at 0) (take at ns) c.loop-number.invariant.room c.reserve_at.ensures.others c.in_ok-reserve_at.ensures.room);
     }

@@ -1,10 +1,10 @@
 use Rattle.std.proofs.Common.{take}
 use Rattle.cache_namespace.specs.Taken.{SameConnections}
-use Rattle.cache_settling.specs.Told.{HaveRoom}
+use Rattle.cache_settling.specs.Told.{HaveReplyRoom}
 use Rattle.cache_settling.proofs.reserving.reserve_all.Given as goal
 
 abbrev pub invariant-loop-number : goal.invariant-loop-number
 invariant-loop-number l = record {
   same : SameConnections l.fn.connections.items l.connections.items;
-  room : HaveRoom l.connections.items l.size (take l.number-index l.waiting);
+  room : HaveReplyRoom l.connections.items l.size (take l.number-index l.waiting);
 }

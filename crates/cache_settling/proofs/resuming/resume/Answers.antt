@@ -1,9 +1,9 @@
 use Rattle.std.proofs.Common.{◌≡◌, ◌||◌, false, true, List, None, sym, ap, refl, ◌∙◌, inl, inr}
 use Rattle.audit_model.specs.Situation.{Situation, HeldValue}
 use Rattle.audit_model.specs.declared.command.Closing.TheVariants as by
-use Rattle.cache_lines.proofs.Lines.{long_from, IsPartial-not_long}
+use Rattle.audit_lines.proofs.Lines.{long_from, IsPartial-not_long}
 use Rattle.cache_namespace.specs.Drawing.{workings}
-use Rattle.cache_namespace.specs.Lines.{ended, ready, with_drops}
+use Rattle.cache_namespace.specs.Lines.{situation_behind, ready, with_drops}
 use Rattle.cache_namespace.specs.Ran.{standing_with}
 use Rattle.cache_namespace.specs.Shown.{put_parts, standing_as}
 use Rattle.cache_namespace.specs.Taken.{is_quit}
@@ -23,7 +23,7 @@ returns-in-More-clause-ran g c = λ base values e d under there m.
     let loads = under_way c.run_ready.new.loads in
     let rest = c.run_ready.new.unread.bytes in
     let after = with_under_way loads (with_drops dropped base) in
-    let target : List HeldValue → Situation = λ left. ended false after left (ready c.args.number rest) in
+    let target : List HeldValue → Situation = λ left. situation_behind false after left (ready c.args.number rest) in
     resumed c.args.config.now base c.args.number (making_of (g.S.Store.frame was)) values c.args.connection.now _ false false target _ dropped loads (workings (g.S.Store.stream was) (g.S.Store.registered was) (g.S.Store.recency was)) (workings (g.S.Store.stream is) (g.S.Store.registered is) (g.S.Store.recency is))
     c.args.kept.now c.run_ready.new.kept c.args.connection.now.output.items c.run_ready.new.text.items (g.S.Store.untaken was) (g.S.Store.untaken is) c.requires.ready (c.in-More.ensures.ran base values e d under there m)
     (λ left. put-open after left c.args.number c.args.connection.now.closing now.Ready 0 rest c.requires.open (ap (λ b. b || false) (IsPartial-not_long rest c.in-More.ensures.ends))) (sym (ap is_quit c.requires.open))
@@ -36,7 +36,7 @@ returns-in-TooLong-clause-ran g c = λ base values e d under there m.
     let loads = under_way c.run_ready.new.loads in
     let rest = c.run_ready.new.unread.bytes in
     let after = with_under_way loads (with_drops dropped base) in
-    let target : List HeldValue → Situation = λ left. ended false after left (ready c.args.number rest) in
+    let target : List HeldValue → Situation = λ left. situation_behind false after left (ready c.args.number rest) in
     resumed c.args.config.now base c.args.number (making_of (g.S.Store.frame was)) values c.args.connection.now _ false false target _ dropped loads (workings (g.S.Store.stream was) (g.S.Store.registered was) (g.S.Store.recency was)) (workings (g.S.Store.stream is) (g.S.Store.registered is) (g.S.Store.recency is))
     c.args.kept.now c.run_ready.new.kept c.args.connection.now.output.items c.run_ready.new.text.items (g.S.Store.untaken was) (g.S.Store.untaken is) c.requires.ready (c.in-TooLong.ensures.ran base values e d under there m)
     (λ left. put-long after left c.args.number by.Long now.Ready 0 c.clear.new.self.bytes (ready c.args.number rest) refl (ap (λ b. b || false) (long_from rest c.in-TooLong.ensures.ends))) refl
@@ -49,7 +49,7 @@ returns-in-Quit-clause-ran g c = λ base values e d under there m.
     let loads = under_way c.run_ready.new.loads in
     let rest = c.run_ready.new.unread.bytes in
     let after = with_under_way loads (with_drops dropped base) in
-    let target : List HeldValue → Situation = λ left. ended true after left (ready c.args.number rest) in
+    let target : List HeldValue → Situation = λ left. situation_behind true after left (ready c.args.number rest) in
     resumed c.args.config.now base c.args.number (making_of (g.S.Store.frame was)) values c.args.connection.now _ true false target _ dropped loads (workings (g.S.Store.stream was) (g.S.Store.registered was) (g.S.Store.recency was)) (workings (g.S.Store.stream is) (g.S.Store.registered is) (g.S.Store.recency is))
     c.args.kept.now c.run_ready.new.kept c.args.connection.now.output.items c.run_ready.new.text.items (g.S.Store.untaken was) (g.S.Store.untaken is) c.requires.ready (c.in-Quit.ensures.ran base values e d under there m)
     (λ left. put-quit after left c.args.number now.Ready 0 c.clear-in-Quit.new.self.bytes rest) refl
@@ -62,7 +62,7 @@ returns-in-Held-clause-ran g c = λ base values e d under there m.
     let loads = under_way c.run_ready.new.loads in
     let rest = c.run_ready.new.unread.bytes in
     let after = with_under_way loads (with_drops dropped base) in
-    let target : List HeldValue → Situation = λ left. ended false after left (standing_with c.args.number true 0 rest) in
+    let target : List HeldValue → Situation = λ left. situation_behind false after left (standing_with c.args.number true 0 rest) in
     resumed c.args.config.now base c.args.number (making_of (g.S.Store.frame was)) values c.args.connection.now _ false true target _ dropped loads (workings (g.S.Store.stream was) (g.S.Store.registered was) (g.S.Store.recency was)) (workings (g.S.Store.stream is) (g.S.Store.registered is) (g.S.Store.recency is))
     c.args.kept.now c.run_ready.new.kept c.args.connection.now.output.items c.run_ready.new.text.items (g.S.Store.untaken was) (g.S.Store.untaken is) c.requires.ready (c.in-Held.ensures.ran base values e d under there m)
     (λ left. put-open after left c.args.number c.args.connection.now.closing now.Held 0 rest c.requires.open refl) (sym (ap is_quit c.requires.open))
@@ -77,7 +77,7 @@ returns-then-close_where_behind-clause-ran g c = λ base values e d under there 
     let after = with_under_way loads (with_drops dropped base) in
     let put = c.close_where_behind.new.unread.bytes in
     let closed = c.close_where_behind.ensures.closed c.if-close_where_behind.true in
-    let target : List HeldValue → Situation = λ left. ended false after left (standing_as c.args.number now.Waiting c.in-Waits.times rest) in
+    let target : List HeldValue → Situation = λ left. situation_behind false after left (standing_as c.args.number now.Waiting c.in-Waits.times rest) in
     resumed c.args.config.now base c.args.number (making_of (g.S.Store.frame was)) values c.args.connection.now _ false false target _ dropped loads (workings (g.S.Store.stream was) (g.S.Store.registered was) (g.S.Store.recency was)) (workings (g.S.Store.stream is) (g.S.Store.registered is) (g.S.Store.recency is))
     c.args.kept.now c.run_ready.new.kept c.args.connection.now.output.items c.run_ready.new.text.items (g.S.Store.untaken was) (g.S.Store.untaken is) c.requires.ready (c.in-Waits.ensures.ran base values e d under there m)
     (λ left. put-behind after left c.args.number c.in-Waits.times rest put (c.close_where_behind.ensures.long c.if-close_where_behind.true) ∙ ap (λ o. put_parts after left c.args.number o now.Ready 0 put) (sym closed)) (sym (ap is_quit closed))
@@ -93,7 +93,7 @@ returns-else-close_where_behind-clause-ran g c = λ base values e d under there 
     let closing = c.close_where_behind.new.closing in
     let opens : closing ≡ None = c.close_where_behind.ensures.open c.if-close_where_behind.false ∙ c.requires.open in
     let stays = c.close_where_behind.ensures.bytes c.if-close_where_behind.false in
-    let target : List HeldValue → Situation = λ left. ended false after left (standing_as c.args.number now.Waiting c.in-Waits.times rest) in
+    let target : List HeldValue → Situation = λ left. situation_behind false after left (standing_as c.args.number now.Waiting c.in-Waits.times rest) in
     resumed c.args.config.now base c.args.number (making_of (g.S.Store.frame was)) values c.args.connection.now _ false false target _ dropped loads (workings (g.S.Store.stream was) (g.S.Store.registered was) (g.S.Store.recency was)) (workings (g.S.Store.stream is) (g.S.Store.registered is) (g.S.Store.recency is))
     c.args.kept.now c.run_ready.new.kept c.args.connection.now.output.items c.run_ready.new.text.items (g.S.Store.untaken was) (g.S.Store.untaken is) c.requires.ready (c.in-Waits.ensures.ran base values e d under there m)
     (λ left. put-near after left c.args.number closing c.in-Waits.times rest opens (c.close_where_behind.ensures.near c.if-close_where_behind.false) ∙ ap (λ b. put_parts after left c.args.number closing now.Waiting c.in-Waits.times b) (sym stays)) (sym (ap is_quit opens))

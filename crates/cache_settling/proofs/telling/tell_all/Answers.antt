@@ -4,7 +4,7 @@ use Rattle.std.specs.List.{slice_get}
 use Rattle.cache_namespace.specs.Shown.{situation}
 use Rattle.cache_namespace.specs.Waiting.{no_loads}
 use Rattle.cache_namespace.proofs.Places.{replaced-count}
-use Rattle.load_laws.specs.Tidy.{Tidy, times_in}
+use Rattle.audit_waiting_laws.specs.Tidy.{Tidy, times_in}
 use Rattle.cache_settling.specs.Told.{TellsThem, WritesTo, steps_told}
 use Rattle.cache_settling.proofs.Chain.{fewer-next, front-more, inside, numbered-after, once-first, rest-next, tells-more, texts-more, tidy-more, told-there, untouched-more, waits-there}
 use Rattle.cache_settling.proofs.Placed.{waits-at}

@@ -6,7 +6,7 @@ use Rattle.cache_namespace.specs.Drawing.{Identifiers}
 use Rattle.cache_namespace.specs.Making.{Making}
 use Rattle.cache_namespace.specs.Shown.{situation}
 use Rattle.cache_namespace.specs.Waiting.{UnderWay, no_loads}
-use Rattle.load_laws.specs.Tidy.{Tidy, times_in}
+use Rattle.audit_waiting_laws.specs.Tidy.{Tidy, times_in}
 use Rattle.cache_settling.specs.Told.{TellsThem, WritesTo, steps_told}
 use Rattle.cache_settling.proofs.telling.tell_all.Given as goal
 

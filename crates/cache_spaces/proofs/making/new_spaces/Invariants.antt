@@ -1,5 +1,5 @@
 use Rattle.std.proofs.Common.{◌≡◌, length, take}
-use Rattle.cache_spaces.specs.Services.{AreNew, stream_after}
+use Rattle.cache_spaces.specs.Services.{AreNew, stream_after_forks}
 use Rattle.cache_spaces.proofs.Newly.{stream_from}
 use Rattle.cache_spaces.proofs.making.new_spaces.Given as goal
 
@@ -7,5 +7,5 @@ abbrev pub invariant-loop-config : goal.invariant-loop-config
 invariant-loop-config l = record {
   new : AreNew l.spaces.items (take l.config-index l.configs) l.fn.generator l.made;
   number : length l.spaces.items ≡ l.config-index;
-  forked : stream_from l.generator ≡ stream_after l.config-index (stream_from l.fn.generator);
+  forked : stream_from l.generator ≡ stream_after_forks l.config-index (stream_from l.fn.generator);
 }

@@ -4,7 +4,7 @@ use Rattle.audit_model.specs.declared.event.Event.{Event}
 use Rattle.audit_model.specs.declared.event.Event.TheVariants as event
 use Rattle.std.proofs.lemmas.Result.{IfErr-weaker}
 use Rattle.audit_model.specs.declared.input.Input.{Input}
-use Rattle.cache_namespace.specs.Taken.{fed}
+use Rattle.cache_namespace.specs.Taken.{feed_event}
 use Rattle.cache_spaces.specs.Recorded.{namespace_of}
 use Rattle.cache_spaces.specs.Spaces.{connections_of}
 use Rattle.cache_spaces.proofs.Noting.{own-number, records-input, refused-input}
@@ -42,13 +42,13 @@ returns-in-Close-clause-refused c =
 pub returns-in-Feed-clause-ok : goal.returns-in-Feed-clause-ok
 returns-in-Feed-clause-ok c =
     let n = length (connections_of c.args.space.now) in
-    records-input c.args.input.now (fed c.in-Feed.conn.number c.in-Feed.piece c.in-Feed.moment.nanos) c.args.records.now.items c.record_feed.new.records.items c.args.space.now c.record_feed.new.space
+    records-input c.args.input.now (feed_event c.in-Feed.conn.number c.in-Feed.piece c.in-Feed.moment.nanos) c.args.records.now.items c.record_feed.new.records.items c.args.space.now c.record_feed.new.space
     (ap (here n) c.in-Feed.is ∙ own-number c.in-Feed.conn.namespace _) c.record_feed.result c.record_feed.ensures.ok
 
 pub returns-in-Feed-clause-refused : goal.returns-in-Feed-clause-refused
 returns-in-Feed-clause-refused c =
     let n = length (connections_of c.args.space.now) in
-    refused-input c.args.input.now (fed c.in-Feed.conn.number c.in-Feed.piece c.in-Feed.moment.nanos) c.args.space.now (ap (here n) c.in-Feed.is ∙ own-number c.in-Feed.conn.namespace _) c.record_feed.result c.record_feed.ensures.refused
+    refused-input c.args.input.now (feed_event c.in-Feed.conn.number c.in-Feed.piece c.in-Feed.moment.nanos) c.args.space.now (ap (here n) c.in-Feed.is ∙ own-number c.in-Feed.conn.namespace _) c.record_feed.result c.record_feed.ensures.refused
 
 pub returns-in-Answer-clause-ok : goal.returns-in-Answer-clause-ok
 returns-in-Answer-clause-ok c =

@@ -1,4 +1,4 @@
-use Rattle.engine_laws.proofs.Swept.{calls_stay_timely}
+use Rattle.engine_laws.proofs.Rises.{calls_stay_timely}
 use Rattle.engine_laws.proofs.laws.calls_stay_timely.Goals as goal
 
 pub returns : goal.returns

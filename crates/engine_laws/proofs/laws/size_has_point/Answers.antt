@@ -1,4 +1,4 @@
-use Rattle.engine_laws.proofs.Pointing.{size_has_point}
+use Rattle.engine_laws.proofs.Justly.{size_has_point}
 use Rattle.engine_laws.proofs.laws.size_has_point.Goals as goal
 
 pub returns : goal.returns

@@ -14,7 +14,7 @@ returns-in-Some g c =
     let there = ap (λ rs. slice_get rs c.in-Some.place) (sym c.records.ensures) ∙ f.1 in
     let found = ap (λ rs. record_at rs c.args.write.number) (sym c.records.ensures) ∙ f.2 in
     let same : l.0 ≡ f.0 = same_Some _ _ (sym l.1 ∙ there) in
-    l.2 ∙ ap (λ (r : Record g.row.K.Denot g.row.V.Denot). record (popped s) { records = slice_set s.records c.in-Some.place (record r { applied = c.args.write.write; counts = Some c.args.write.weight }); access = moved_to_back r.number s.access }) same
+    l.2 ∙ ap (λ (r : Record g.row.K.Denot g.row.V.Denot). record (popped s) { records = slice_set s.records c.in-Some.place (record r { applied = c.args.write.write; counts = Some c.args.write.weight }); access = moved_to_back r.number s.access; order = moved_to_back r.number s.order }) same
     ∙ counted (popped s) c.in-Some.place c.args.write f.0 c.requires.numbered there found
 
 pub count_write-requires-clause-within : goal.count_write-requires-clause-within

@@ -1,7 +1,7 @@
 use Rattle.std.proofs.Common.{sym, ap, ◌∙◌, option_map, Some}
 use Rattle.std.specs.List.{find}
 use Rattle.audit_model.specs.Bytewise.{same}
-use Rattle.audit_table.specs.Slots.{slot_of}
+use Rattle.audit_held.specs.Slots.{slot_of}
 use Rattle.audit_held.specs.Holds.{held_by}
 use Rattle.audit_held.proofs.Keeping.{find-held}
 use Rattle.audit_held.proofs.holding.Holding.get.Goals as goal

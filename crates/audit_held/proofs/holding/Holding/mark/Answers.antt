@@ -1,5 +1,5 @@
 use Rattle.std.proofs.Common.{sym, ap, ◌∙◌, map, set, get_or, subst, if◌then◌else◌}
-use Rattle.audit_held.specs.Holds.{held_by, marked_in, Keeps}
+use Rattle.audit_held.specs.Holds.{held_by, marked_in, RepresentsHeld}
 use Rattle.audit_held.proofs.Keeping.{keeps-marked, view-marked}
 use Rattle.audit_held.proofs.holding.Holding.mark.Goals as goal
 
@@ -10,7 +10,7 @@ invariant_of-self-inside c =
     c.put_mark.ensures
     ∙ ap (set inside.marks.items c.args.part)
     (c.mark_after-mark.ensures ∙ ap (λ m. if c.args.over then inside.next else (if c.args.anew then 0 else m)) (c.mark_at.ensures ∙ ap (λ ms. get_or ms c.args.part 0) c.deref.ensures.value)) in (
-      subst (λ ms. Keeps inside.next ms inside.weights.items inside.total inside.table) (sym marks)
+      subst (λ ms. RepresentsHeld inside.next ms inside.weights.items inside.total inside.table) (sym marks)
           (keeps-marked inside.next inside.open_keys inside.marks.items inside.weights.items inside.total inside.table inside.keeps c.args.part c.args.over c.args.anew c.requires),
       tt,
     )

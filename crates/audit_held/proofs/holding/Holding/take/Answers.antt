@@ -2,8 +2,8 @@ use Rattle.std.proofs.Common.{false, cond, sym, ap, ◌∙◌, ◌-◌, ◌<◌,
 use Rattle.std.specs.List.{find}
 use Rattle.audit_model.specs.Bytewise.{same}
 use Rattle.audit_model.specs.Values.{without_key}
-use Rattle.audit_table.specs.Slots.{slot_of, without}
-use Rattle.audit_held.specs.Holds.{held_by, is_open, Keeps}
+use Rattle.audit_held.specs.Slots.{slot_of, slots_without}
+use Rattle.audit_held.specs.Holds.{held_by, is_open_key, RepresentsHeld}
 use Rattle.audit_held.proofs.Keeping.{keeps-taken, keeps-missed, enough-weight, enough-total, part-small, find-held, without-held, view-beside, found-key}
 use Rattle.audit_held.proofs.holding.Holding.take.Goals as goal
 
@@ -40,9 +40,9 @@ invariant_of-self-inside c =
     let weights =
     c.put_weight.ensures ∙ ap (λ w. set inside.weights.items c.in-Some.kept.part (c.weight_at.result - w)) c.from.ensures
     ∙ ap (λ w. set inside.weights.items c.in-Some.kept.part (w - c.in-Some.kept.weight)) (c.weight_at.ensures ∙ ap (λ ws. get_or ws c.in-Some.kept.part 0) c.deref.ensures.value) in (
-      subst (λ ws. Keeps inside.next inside.marks.items ws (inside.total - c.from-in-Some.result) c.take.new.self) (sym weights)
-          (subst (λ n. Keeps inside.next inside.marks.items (set inside.weights.items c.in-Some.kept.part (get_or inside.weights.items c.in-Some.kept.part 0 - c.in-Some.kept.weight)) (inside.total - n) c.take.new.self) (sym c.from-in-Some.ensures)
-          (subst (Keeps inside.next inside.marks.items (set inside.weights.items c.in-Some.kept.part (get_or inside.weights.items c.in-Some.kept.part 0 - c.in-Some.kept.weight)) (inside.total - c.in-Some.kept.weight)) (sym c.in-Some.ensures.rest) taken)),
+      subst (λ ws. RepresentsHeld inside.next inside.marks.items ws (inside.total - c.from-in-Some.result) c.take.new.self) (sym weights)
+          (subst (λ n. RepresentsHeld inside.next inside.marks.items (set inside.weights.items c.in-Some.kept.part (get_or inside.weights.items c.in-Some.kept.part 0 - c.in-Some.kept.weight)) (inside.total - n) c.take.new.self) (sym c.from-in-Some.ensures)
+          (subst (RepresentsHeld inside.next inside.marks.items (set inside.weights.items c.in-Some.kept.part (get_or inside.weights.items c.in-Some.kept.part 0 - c.in-Some.kept.weight)) (inside.total - c.in-Some.kept.weight)) (sym c.in-Some.ensures.rest) taken)),
       tt,
     )
 
@@ -50,7 +50,7 @@ pub invariant_of-self-inside-in-None : goal.invariant_of-self-inside-in-None
 invariant_of-self-inside-in-None c =
     let inside = c.self.inside in
     let same_table = c.in-None.ensures.rest ∙ keeps-missed inside.next inside.open_keys inside.marks.items inside.weights.items inside.total inside.table inside.keeps c.args.key.now (sym c.in-None.ensures.found) in
-    (subst (Keeps inside.next inside.marks.items inside.weights.items inside.total) (sym same_table) inside.keeps, tt)
+    (subst (RepresentsHeld inside.next inside.marks.items inside.weights.items inside.total) (sym same_table) inside.keeps, tt)
 
 pub returns-in-Some-clause-found : goal.returns-in-Some-clause-found
 returns-in-Some-clause-found c =
@@ -66,8 +66,8 @@ returns-in-Some-clause-rest c =
     let s = slot_of c.in-Some.key.items c.in-Some.kept in
     let own = found-key c.args.key.now inside.table s (sym c.in-Some.ensures.found) in
     ap (map (held_by c.hand_out.new.keys inside.marks.items)) c.in-Some.ensures.rest
-    ∙ view-beside c.hand_out.new.keys inside.open_keys inside.marks.items c.args.key.now (without c.args.key.now inside.table)
-    (λ q e. c.hand_out.ensures.closed q ∙ ap (λ b. cond b false (is_open q inside.open_keys)) (ap (λ k. same k q) (sym own) ∙ e)) (c.len-number.ensures.apart c.args.key.now)
+    ∙ view-beside c.hand_out.new.keys inside.open_keys inside.marks.items c.args.key.now (slots_without c.args.key.now inside.table)
+    (λ q e. c.hand_out.ensures.closed q ∙ ap (λ b. cond b false (is_open_key q inside.open_keys)) (ap (λ k. same k q) (sym own) ∙ e)) (c.len-number.ensures.apart c.args.key.now)
     ∙ sym (without-held inside.open_keys inside.marks.items c.args.key.now inside.table) ∙ ap (without_key (λ h. h.value.key) c.args.key.now) c.self.view_is
 
 pub returns-in-Some-clause-small : goal.returns-in-Some-clause-small

@@ -5,7 +5,7 @@ use Rattle.cache_store.specs.Running.{is_bounded}
 use Rattle.audit_model.specs.declared.event.Event.TheVariants as event
 use Rattle.cache_namespace.specs.Drawing.{workings}
 use Rattle.cache_namespace.specs.Shown.{situation}
-use Rattle.cache_namespace.specs.Taken.{Takes}
+use Rattle.cache_namespace.specs.Taken.{FollowsEvent}
 use Rattle.cache_namespace.specs.declared.connection.Connection.{Connection}
 use Rattle.cache_namespace.specs.Making.{making_of}
 use Rattle.cache_namespace.specs.Waiting.{under_way}
@@ -17,7 +17,7 @@ returns-clause-ran g c = λ values was m.
     let old = c.args.self.now in
     let frame = g.S.Store.frame old.store in
     let n = c.new_connection-connection in
-    subst (λ (cs : List Connection). Takes old.config (making_of frame) (situation old.latest (under_way old.loads) old.connections.items frame.dropped values) (event.Open c.len.result) false false (g.S.Store.stands old.store) (situation old.latest (under_way old.loads) cs frame.dropped) (workings (g.S.Store.stream old.store) (g.S.Store.registered old.store) (g.S.Store.recency old.store)) (workings (g.S.Store.stream old.store) (g.S.Store.registered old.store) (g.S.Store.recency old.store)) was was) (sym c.in_ok-push.ensures.items)
+    subst (λ (cs : List Connection). FollowsEvent old.config (making_of frame) (situation old.latest (under_way old.loads) old.connections.items frame.dropped values) (event.Open c.len.result) false false (g.S.Store.stands old.store) (situation old.latest (under_way old.loads) cs frame.dropped) (workings (g.S.Store.stream old.store) (g.S.Store.registered old.store) (g.S.Store.recency old.store)) (workings (g.S.Store.stream old.store) (g.S.Store.registered old.store) (g.S.Store.recency old.store)) was was) (sym c.in_ok-push.ensures.items)
     (follows-open old.config (making_of frame) old.latest c.len.result (under_way old.loads) n.result old.connections.items frame.dropped values (g.S.Store.stands old.store) (workings (g.S.Store.stream old.store) (g.S.Store.registered old.store) (g.S.Store.recency old.store)) was (omega (arith, c.in_ok-push.ensures.len, c.len.ensures)) n.ensures.closing n.ensures.standing n.ensures.unread m)
 
 pub returns-clause-bounded : goal.returns-clause-bounded

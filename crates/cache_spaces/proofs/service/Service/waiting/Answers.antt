@@ -1,7 +1,7 @@
 use Rattle.std.proofs.Common.{◌≡◌, refl, arith, true}
 use Rattle.cache_namespace.specs.Taken.{is_waiting_in, known}
 use Rattle.cache_spaces.specs.Serves.{IsUnknown}
-use Rattle.cache_spaces.specs.Spaces.{Stands, connections_of}
+use Rattle.cache_spaces.specs.Spaces.{StandsFor, connections_of}
 use Rattle.cache_spaces.proofs.Putting.{of-space, opened, refuses-look}
 use Rattle.cache_spaces.proofs.service.Service.waiting.Goals as goal
 
@@ -10,7 +10,7 @@ index-space-requires c = omega (arith, c.in-Ok.ensures.place.0, c.in-Ok.ensures.
 
 pub returns-in-Ok-waiting-clause-waits : goal.returns-in-Ok-waiting-clause-waits
 returns-in-Ok-waiting-clause-waits c = λ space s is.
-    of-space (λ x. Stands x s → c.in-Ok-waiting.waits ≡ is_waiting_in s c.args.conn.number) c.args.self.now.spaces.items c.in-Ok.index c.args.conn.namespace c.index-space.result.now c.in-Ok.ensures.place.0 c.in-Ok.ensures.place.1
+    of-space (λ x. StandsFor x s → c.in-Ok-waiting.waits ≡ is_waiting_in s c.args.conn.number) c.args.self.now.spaces.items c.in-Ok.index c.args.conn.namespace c.index-space.result.now c.in-Ok.ensures.place.0 c.in-Ok.ensures.place.1
     c.index-space.ensures (c.in-Ok-waiting.ensures.waits s) space is
 
 pub returns-in-Ok-waiting-clause-known : goal.returns-in-Ok-waiting-clause-known

@@ -1,7 +1,7 @@
 use Rattle.std.proofs.Common.{false, subst, ◌≡◌, ◌-◌, refl, ap, sym, ◌∙◌, None, arith, length, length-append, [], ◌∷◌}
 use Rattle.std.specs.List.{slice_get}
-use Rattle.cache_loads.specs.Pending.{namespace_of, taken_of}
-use Rattle.cache_namespace.specs.Taken.{IsSound, is_quit, text_at}
+use Rattle.cache_loads.specs.Pending.{namespace_of_loads, loads_taken}
+use Rattle.cache_namespace.specs.Taken.{KnowsStore, is_quit, text_at}
 use Rattle.cache_spaces.specs.Spaces.{gathered_in}
 use Rattle.cache_namespace.specs.Shown.{situation}
 use Rattle.cache_namespace.specs.Waiting.{under_way}
@@ -35,7 +35,7 @@ returns-in-Ok-clause-takes c =
       others = λ k ne. ap (λ cs. slice_get cs k) added.3 ∙ others-opened old.connections.items added.0 k (λ e. ne (e ∙ sym place));
       config = rw c.in-Ok.ensures.rest refl;
       made = rw c.in-Ok.ensures.rest refl;
-      goes = record { taken = ap (λ n. taken_of n.loads) c.in-Ok.ensures.rest; namespace = ap (λ n. namespace_of n.loads) c.in-Ok.ensures.rest };
+      goes = record { taken = ap (λ n. loads_taken n.loads) c.in-Ok.ensures.rest; namespace = ap (λ n. namespace_of_loads n.loads) c.in-Ok.ensures.rest };
       left = (
         opened-closing old.connections.items new.connections.items added.0 (c.in-Ok.number - 1) place added.3 ∙ added.2,
         opened-text old.connections.items new.connections.items added.0 (c.in-Ok.number - 1) place added.3 ∙ added.1,
@@ -67,4 +67,4 @@ returns-in-Ok-clause-outputs c = λ n.
 
 pub invariant_of-self-clause-sound : goal.invariant_of-self-clause-sound
 invariant_of-self-clause-sound c =
-    subst (λ n. IsSound n.config (plain.frame_of n.store.config (part_by n.store.parts (hashed 0)) n.store.made n.store.dropped n.store.latest) n.latest) (sym c.open.ensures.rest) c.args.self.now.sound
+    subst (λ n. KnowsStore n.config (plain.frame_of n.store.config (part_by n.store.parts (hashed 0)) n.store.made n.store.dropped n.store.latest) n.latest) (sym c.open.ensures.rest) c.args.self.now.sound

@@ -1,7 +1,7 @@
 use Rattle.std.proofs.Common.{◌≡◌, refl, ap, ◌∙◌, [], false, subst, sym}
 use Rattle.cache_namespace.specs.Shown.{situation}
 use Rattle.cache_namespace.specs.Waiting.{under_way}
-use Rattle.cache_namespace.specs.Taken.{IsSound}
+use Rattle.cache_namespace.specs.Taken.{KnowsStore}
 use Rattle.plain_store.specs.Hashing.{hashed}
 use Rattle.plain_store.specs.Parting.{part_by}
 use Rattle.plain_store.specs.Standing as plain
@@ -34,4 +34,4 @@ invariant_of-self-clause-waiting c =
 
 pub invariant_of-self-clause-sound : goal.invariant_of-self-clause-sound
 invariant_of-self-clause-sound c =
-    subst (λ n. IsSound n.config (plain.frame_of n.store.config (part_by n.store.parts (hashed 0)) n.store.made n.store.dropped n.store.latest) n.latest) (sym c.take_output.ensures.rest) c.args.self.now.sound
+    subst (λ n. KnowsStore n.config (plain.frame_of n.store.config (part_by n.store.parts (hashed 0)) n.store.made n.store.dropped n.store.latest) n.latest) (sym c.take_output.ensures.rest) c.args.self.now.sound

@@ -10,6 +10,7 @@ invariant_of-self g c = record {
   unsent = c.self.invariant.unsent;
   notices = c.self.invariant.notices;
   access = c.self.invariant.access;
+  order = c.self.invariant.order;
   predicates = omega arith;
   reads = c.self.invariant.reads;
   writes = c.self.invariant.writes;

@@ -12,6 +12,7 @@ invariant_of-self g c =
       unsent = c.self.invariant.unsent;
       notices = omega arith;
       access = omega arith;
+      order = omega arith;
       predicates = c.self.invariant.predicates;
       reads = c.self.invariant.reads;
       writes = c.self.invariant.writes;
@@ -25,7 +26,7 @@ pub returns : goal.returns
 returns g c =
     let e = c.remove-gone.result in
     let here = slice_get_read c.self.inside.records.items _ c.args.place e refl (omega (arith, ap (λ v. length v.records) c.self.view_is)) c.remove-gone.ensures.value in
-    (e, sym (ap (λ v. slice_get v.records c.args.place) c.self.view_is) ∙ here, rw (c.remove-gone.ensures.items, c.take_out.ensures.items, ← c.self.view_is) refl)
+    (e, sym (ap (λ v. slice_get v.records c.args.place) c.self.view_is) ∙ here, rw (c.remove-gone.ensures.items, c.take_out.ensures.items, c.take_out-2.ensures.items, ← c.self.view_is) refl)
 
 pub remove-gone-requires : goal.remove-gone-requires
 remove-gone-requires g c = omega (arith, ap (λ v. length v.records) c.self.view_is)

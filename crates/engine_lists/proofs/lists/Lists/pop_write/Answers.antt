@@ -12,6 +12,7 @@ invariant_of-self g c = record {
   unsent = c.self.invariant.unsent;
   notices = c.self.invariant.notices;
   access = omega arith;
+  order = omega arith;
   predicates = c.self.invariant.predicates;
   reads = c.self.invariant.reads;
   writes = omega arith;

@@ -10,6 +10,7 @@ invariant_of-self g c = record {
   unsent = c.self.invariant.unsent;
   notices = c.self.invariant.notices;
   access = c.self.invariant.access;
+  order = c.self.invariant.order;
   predicates = c.self.invariant.predicates;
   reads = omega arith;
   writes = c.self.invariant.writes;

@@ -15,6 +15,7 @@ invariant_of-self g c =
       unsent = c.self.invariant.unsent;
       notices = omega arith;
       access = c.self.invariant.access;
+      order = c.self.invariant.order;
       predicates = c.self.invariant.predicates;
       reads = c.self.invariant.reads;
       writes = c.self.invariant.writes;

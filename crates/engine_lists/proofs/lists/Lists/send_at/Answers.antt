@@ -15,6 +15,7 @@ invariant_of-self g c = record {
   unsent = omega arith;
   notices = c.self.invariant.notices;
   access = omega arith;
+  order = omega arith;
   predicates = c.self.invariant.predicates;
   reads = c.self.invariant.reads;
   writes = omega arith;

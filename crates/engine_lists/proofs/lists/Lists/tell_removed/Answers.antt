@@ -15,6 +15,7 @@ invariant_of-self g c =
       unsent = omega arith;
       notices = omega arith;
       access = omega arith;
+      order = omega arith;
       predicates = omega arith;
       reads = c.self.invariant.reads;
       writes = c.self.invariant.writes;

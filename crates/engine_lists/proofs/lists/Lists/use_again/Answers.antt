@@ -11,6 +11,7 @@ invariant_of-self g c = record {
   unsent = c.self.invariant.unsent;
   notices = c.self.invariant.notices;
   access = omega (arith, c.move_to_back.ensures.len, ap (λ v. length v.access) c.self.view_is, ap (λ v. length (without c.args.number v.access)) c.self.view_is);
+  order = c.self.invariant.order;
   predicates = c.self.invariant.predicates;
   reads = c.self.invariant.reads;
   writes = c.self.invariant.writes;

@@ -2,7 +2,7 @@ use Rattle.std.proofs.Common.{ℕ, subst, Option, Some, None}
 use Rattle.std.specs.Fn.{FnOnceReturnsAt}
 use Rattle.engine_reference.specs.State.{State}
 use Rattle.engine_lists.specs.Asking.{answers_of}
-use Rattle.engine_scans.specs.Scanning.{LooksPast}
+use Rattle.engine_reference.specs.Scanning.{LooksPast}
 use Rattle.engine_plain.proofs.Passing.{number_known, hit_past, miss_past}
 use Rattle.engine_plain.proofs.cache.BaseCache.get_with_hash_and_ignore_if.Goals as goal
 

@@ -1,7 +1,7 @@
 use Rattle.std.proofs.Common.{◌≡◌, ◌+◌, ◌-◌, ◌<◌, ◌∷◌, ◌++◌, Some, None, true, length, if◌then◌else◌, refl, sym, ap, ◌∙◌, subst, arith}
 use Rattle.std.proofs.lemmas.List.{append_assoc}
 use Rattle.audit_model.specs.History.{Value}
-use Rattle.cache_store.specs.Promises.{value_of}
+use Rattle.cache_store.specs.Promises.{value_for}
 use Rattle.cache_store.specs.Running.{weight_in}
 use Rattle.plain_table.specs.Items.{without, value_at}
 use Rattle.plain_sweep.specs.Evicted.{Evicts}
@@ -69,7 +69,7 @@ invariant_of-self-2 g c =
     let lt : part < store.parts = subst (λ p. p < store.parts) (sym at) (subst (λ n. part_of key < n) (sym store.counted) (store.kept.served key)) in
     let parted = parted_from store.config part_of store.table store.kept.proper in
     let was : c.weight_at.result ≡ weight_in part store.table = c.weight_at.ensures ∙ store.weighed.each part lt in
-    let value : Value = value_of (frame_of store.config part_of store.made store.dropped store.latest) c.args.now key c.args.bytes.now c.args.milliseconds in
+    let value : Value = value_for (frame_of store.config part_of store.made store.dropped store.latest) c.args.now key c.args.bytes.now c.args.milliseconds in
     let h = new_item c.args.now key value.bytes part value.weight value.own_deadline in
     let is : c.put.new.table ≡ h ∷ without key store.table =
     put_is c.args.now c.in_ok-key.key.items key c.in_ok-key.bytes.items value.bytes part part c.weight_of-weight.result value.weight c.own_deadline-own_deadline.result value.own_deadline
@@ -105,7 +105,7 @@ returns-clause-done g c = λ held stands.
     let lt : part < store.parts = subst (λ p. p < store.parts) (sym at) (subst (λ n. part_of key < n) (sym store.counted) (store.kept.served key)) in
     let parted = parted_from store.config part_of store.table store.kept.proper in
     let was : c.weight_at.result ≡ weight_in part store.table = c.weight_at.ensures ∙ store.weighed.each part lt in
-    let value : Value = value_of (frame_of store.config part_of store.made store.dropped store.latest) c.args.now key c.args.bytes.now c.args.milliseconds in
+    let value : Value = value_for (frame_of store.config part_of store.made store.dropped store.latest) c.args.now key c.args.bytes.now c.args.milliseconds in
     let h = new_item c.args.now key value.bytes (part_of key) value.weight value.own_deadline in
     let is : c.put.new.table ≡ h ∷ without key store.table =
     put_is c.args.now c.in_ok-key.key.items key c.in_ok-key.bytes.items value.bytes part (part_of key) c.weight_of-weight.result value.weight c.own_deadline-own_deadline.result value.own_deadline
@@ -142,7 +142,7 @@ returns-clause-recency g c = λ n keys p o.
     let lt : part < store.parts = subst (λ p. p < store.parts) (sym at) (subst (λ n. part_of key < n) (sym store.counted) (store.kept.served key)) in
     let parted = parted_from store.config part_of store.table store.kept.proper in
     let was : c.weight_at.result ≡ weight_in part store.table = c.weight_at.ensures ∙ store.weighed.each part lt in
-    let value : Value = value_of (frame_of store.config part_of store.made store.dropped store.latest) c.args.now key c.args.bytes.now c.args.milliseconds in
+    let value : Value = value_for (frame_of store.config part_of store.made store.dropped store.latest) c.args.now key c.args.bytes.now c.args.milliseconds in
     let h = new_item c.args.now key value.bytes part value.weight value.own_deadline in
     let is : c.put.new.table ≡ h ∷ without key store.table =
     put_is c.args.now c.in_ok-key.key.items key c.in_ok-key.bytes.items value.bytes part part c.weight_of-weight.result value.weight c.own_deadline-own_deadline.result value.own_deadline

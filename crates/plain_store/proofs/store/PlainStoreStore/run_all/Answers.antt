@@ -4,7 +4,7 @@ use Rattle.std.proofs.lemmas.List.{length-append}
 use Rattle.audit_model.specs.Changes.{all_held_after}
 use Rattle.audit_model.specs.Situation.{HeldValue}
 use Rattle.cache_store.specs.Promises.{Done, syncing}
-use Rattle.cache_store.specs.Handing.{Hands}
+use Rattle.cache_store.specs.Handing.{AppendsNotes}
 use Rattle.plain_sweep.specs.Swept.{swept}
 use Rattle.plain_sweep.proofs.Sweeping.{swept_number}
 use Rattle.plain_store.specs.Standing.{Stands}
@@ -32,7 +32,7 @@ returns-clause-done g c = λ held stands.
     let store = c.args.self.now in
     let part_of = part_by store.parts (g.H.KeyHasher.number_of store.hasher) in
     let s = swept store.config c.args.now None None 0 store.table in
-    let d : Done store.config c.args.now syncing held (Stands store.config s.kept) (Hands store.notes.items c.sweep.new.notes.items) =
+    let d : Done store.config c.args.now syncing held (Stands store.config s.kept) (AppendsNotes store.notes.items c.sweep.new.notes.items) =
     run_does store.config c.args.now store.table held store.notes.items c.sweep.new.notes.items store.kept.apart c.sweep.ensures.told stands in
     let xs = all_held_after store.config c.args.now held syncing d.told in
     let k = kept_swept store.config part_of c.args.now store.table store.kept in

@@ -1,0 +1,7 @@
+pub mod Digits
+pub mod Cuts
+pub mod Returns
+pub mod Lines
+pub mod Keys
+pub mod Values
+pub mod Words

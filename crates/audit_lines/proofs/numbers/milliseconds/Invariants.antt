@@ -1,0 +1,11 @@
+use Rattle.std.proofs.Common.{◌≡◌, ◌≤◌, length, take}
+use Rattle.std.specs.Str.Parse.{digits_value}
+use Rattle.audit_lines.proofs.Digits.{AreDigits}
+use Rattle.audit_lines.proofs.numbers.milliseconds.Given as goal
+
+abbrev pub invariant-loop-digit : goal.invariant-loop-digit
+invariant-loop-digit l = record {
+  inside : l.digit-index ≤ length l.word;
+  value : l.value ≡ digits_value 10 (take l.digit-index l.word);
+  digits : AreDigits (take l.digit-index l.word);
+}

@@ -1,0 +1,317 @@
+//! What a line says, with its words where they stand in it.
+ghost use Rattle.std.specs.Prelude.{◌≡◌, ◌≤◌, ℕ, List, [], IsTrue, IfSome, MatchOption, option_map, position, not};
+ghost use Rattle.audit_model.specs.Bytewise.{cut_at, words, words_up_to};
+ghost use Rattle.audit_model.specs.Grammar.{is_key, is_key_byte, is_value, deadline_in, read_words, read_verb, words_behind, set, get, has, load, del, add, dropif, verb_in, reading};
+ghost use Rattle.audit_model.specs.declared.config.Config.{Config};
+ghost use Rattle.audit_lines.specs.Request.{said, verb_of, IsFit, IsOwn, LacksKey};
+
+use crate::numbers::{milliseconds, number};
+use audit_model::{Config, LineError, key_fits};
+use memchr::{memchr, memchr2};
+
+/// A key has at most this many bytes.
+const MAX_KEY: usize = 250;
+
+/// A line that was read, with its words where they stand in the line, or its first fault.
+#[derive(Clone, Copy)]
+pub enum Request<'a> {
+    Set {
+        key: &'a [u8],
+        deadline: Option<u64>,
+        value: &'a [u8],
+    },
+    Get {
+        key: &'a [u8],
+    },
+    Has {
+        key: &'a [u8],
+    },
+    Load {
+        key: &'a [u8],
+    },
+    Del {
+        key: &'a [u8],
+    },
+    Add {
+        key: &'a [u8],
+        deadline: Option<u64>,
+        number: u64,
+    },
+    Clear,
+    DropIf {
+        prefix: &'a [u8],
+    },
+    Keys,
+    Sync,
+    Quit,
+    Fault(LineError),
+}
+
+/// A command's word.
+#[derive(Clone, Copy)]
+pub enum Word {
+    Set,
+    Get,
+    Has,
+    Load,
+    Del,
+    Add,
+    Clear,
+    DropIf,
+    Keys,
+    Sync,
+    Quit,
+}
+
+/// What a line says.
+pub fn read_line<'a>(config: &Config, line: &'a [u8]) -> Request<'a>
+    ensures said { said result ≡ reading config.now line.now }
+    ensures fit { IsFit config.now line.now result }
+{
+    let (word, rest) = cut(line);
+    match word_of(word) {
+        Some(word) => match rest {
+            Some(rest) => read_behind(config, word, rest),
+            None => read_alone(word),
+        },
+        None => Request::Fault(LineError::Command),
+    }
+}
+
+/// The command's word that the bytes are.
+fn word_of(bytes: &[u8]) -> Option<Word>
+    ensures { option_map verb_of result ≡ verb_in bytes.now }
+{
+    if bytes == b"SET".as_slice() {
+        Some(Word::Set)
+    } else if bytes == b"GET".as_slice() {
+        Some(Word::Get)
+    } else if bytes == b"HAS".as_slice() {
+        Some(Word::Has)
+    } else if bytes == b"LOAD".as_slice() {
+        Some(Word::Load)
+    } else if bytes == b"DEL".as_slice() {
+        Some(Word::Del)
+    } else if bytes == b"ADD".as_slice() {
+        Some(Word::Add)
+    } else if bytes == b"CLEAR".as_slice() {
+        Some(Word::Clear)
+    } else if bytes == b"DROPIF".as_slice() {
+        Some(Word::DropIf)
+    } else if bytes == b"KEYS".as_slice() {
+        Some(Word::Keys)
+    } else if bytes == b"SYNC".as_slice() {
+        Some(Word::Sync)
+    } else if bytes == b"QUIT".as_slice() {
+        Some(Word::Quit)
+    } else {
+        None
+    }
+}
+
+/// Reads a line that is a command's word alone.
+fn read_alone<'a>(word: Word) -> Request<'a>
+    ensures said { (config : Config) → said result ≡ read_words config (verb_of word) [] }
+    ensures fit { (config : Config) (line : List ℕ) → IsFit config line result }
+{
+    match word {
+        Word::Clear => Request::Clear,
+        Word::Keys => Request::Keys,
+        Word::Sync => Request::Sync,
+        Word::Quit => Request::Quit,
+        Word::Set | Word::Get | Word::Has | Word::Load => Request::Fault(LineError::Syntax),
+        Word::Del | Word::Add | Word::DropIf => Request::Fault(LineError::Syntax),
+    }
+}
+
+/// Reads what stands behind a command's word and a space.
+fn read_behind<'a>(config: &Config, word: Word, rest: &'a [u8]) -> Request<'a>
+    ensures said { said result ≡ read_words config.now (verb_of word) (words_behind (verb_of word) (Some rest.now)) }
+    ensures fit { IsFit config.now rest.now result }
+{
+    match word {
+        Word::Set => read_set(config, rest),
+        Word::Get => read_get(rest),
+        Word::Has => read_has(rest),
+        Word::Load => read_load(rest),
+        Word::Del => read_del(rest),
+        Word::Add => read_add(config, rest),
+        Word::DropIf => read_dropif(rest),
+        Word::Clear => Request::Fault(LineError::Syntax),
+        Word::Keys => Request::Fault(LineError::Syntax),
+        Word::Sync => Request::Fault(LineError::Syntax),
+        Word::Quit => Request::Fault(LineError::Syntax),
+    }
+}
+
+/// Reads what stands behind the word `SET`.
+fn read_set<'a>(config: &Config, rest: &'a [u8]) -> Request<'a>
+    ensures said { said result ≡ read_words config.now set (words_up_to 2 rest.now) }
+    ensures fit { IsFit config.now rest.now result }
+{
+    let Some((key, rest)) = cut_key(rest) else {
+        return Request::Fault(LineError::Syntax);
+    };
+    let (deadline, value) = cut(rest);
+    let Some(value) = value else {
+        return Request::Fault(LineError::Syntax);
+    };
+    if !value_fits(value) {
+        return Request::Fault(LineError::Syntax);
+    }
+    match read_deadline(config, deadline) {
+        Some(deadline) => Request::Set {
+            key,
+            deadline,
+            value,
+        },
+        None => Request::Fault(LineError::Deadline),
+    }
+}
+
+/// Reads what stands behind the word `ADD`.
+fn read_add<'a>(config: &Config, rest: &'a [u8]) -> Request<'a>
+    ensures said { said result ≡ read_words config.now add (words rest.now) }
+    ensures fit { (line : List ℕ) → IsFit config.now line result }
+{
+    let Some((key, rest)) = cut_key(rest) else {
+        return Request::Fault(LineError::Syntax);
+    };
+    let (deadline, rest) = cut(rest);
+    let Some(rest) = rest else {
+        return Request::Fault(LineError::Syntax);
+    };
+    let (digits, more) = cut(rest);
+    if more.is_some() {
+        return Request::Fault(LineError::Syntax);
+    }
+    let Some(deadline) = read_deadline(config, deadline) else {
+        return Request::Fault(LineError::Deadline);
+    };
+    match number(digits) {
+        Some(number) => Request::Add {
+            key,
+            deadline,
+            number,
+        },
+        None => Request::Fault(LineError::Number),
+    }
+}
+
+/// Reads the key behind the word `GET`.
+fn read_get(rest: &[u8]) -> Request<'_>
+    ensures said { (config : Config) → said result ≡ read_words config get (words rest.now) }
+    ensures fit { (config : Config) (line : List ℕ) → IsFit config line result }
+{
+    if key_fits(rest) {
+        Request::Get { key: rest }
+    } else {
+        Request::Fault(LineError::Syntax)
+    }
+}
+
+/// Reads the key behind the word `HAS`.
+fn read_has(rest: &[u8]) -> Request<'_>
+    ensures said { (config : Config) → said result ≡ read_words config has (words rest.now) }
+    ensures fit { (config : Config) (line : List ℕ) → IsFit config line result }
+{
+    if key_fits(rest) {
+        Request::Has { key: rest }
+    } else {
+        Request::Fault(LineError::Syntax)
+    }
+}
+
+/// Reads the key behind the word `LOAD`.
+fn read_load(rest: &[u8]) -> Request<'_>
+    ensures said { (config : Config) → said result ≡ read_words config load (words rest.now) }
+    ensures fit { (config : Config) (line : List ℕ) → IsFit config line result }
+{
+    if key_fits(rest) {
+        Request::Load { key: rest }
+    } else {
+        Request::Fault(LineError::Syntax)
+    }
+}
+
+/// Reads the key behind the word `DEL`.
+fn read_del(rest: &[u8]) -> Request<'_>
+    ensures said { (config : Config) → said result ≡ read_words config del (words rest.now) }
+    ensures fit { (config : Config) (line : List ℕ) → IsFit config line result }
+{
+    if key_fits(rest) {
+        Request::Del { key: rest }
+    } else {
+        Request::Fault(LineError::Syntax)
+    }
+}
+
+/// Reads the prefix behind the word `DROPIF`.
+fn read_dropif(rest: &[u8]) -> Request<'_>
+    ensures said { (config : Config) → said result ≡ read_words config dropif (words rest.now) }
+    ensures fit { (config : Config) (line : List ℕ) → IsFit config line result }
+{
+    if key_fits(rest) {
+        Request::DropIf { prefix: rest }
+    } else {
+        Request::Fault(LineError::Syntax)
+    }
+}
+
+/// What stands before the first space and behind it, if there is one.
+fn cut(line: &[u8]) -> (&[u8], Option<&[u8]>)
+    ensures { (result.0.now, option_map (λ r. r.now) result.1) ≡ cut_at 32 line.now }
+{
+    match memchr(b' ', line) {
+        Some(at) => (&line[..at], Some(&line[at + 1..])),
+        None => (line, None),
+    }
+}
+
+/// The key before the first space, and what stands behind that space; none where there is no such key.
+fn cut_key(rest: &[u8]) -> Option<(&[u8], &[u8])>
+    ensures { MatchOption result (LacksKey (cut_at 32 rest.now))
+        (λ r. (cut_at 32 rest.now ≡ (r.0.now, Some r.1.now)) × IsTrue (is_key r.0.now)) }
+{
+    let Some(end) = key_end(rest) else {
+        return None;
+    };
+    if rest[end] != b' ' {
+        return None;
+    }
+    if end == 0 || end > MAX_KEY {
+        return None;
+    }
+    Some((&rest[..end], &rest[end + 1..]))
+}
+
+/// The first byte that may not stand in a key.
+fn key_end(rest: &[u8]) -> Option<usize>
+    ensures { result ≡ position (λ b. not (is_key_byte b)) rest.now }
+{
+    rest.iter().position(|b| !b.is_ascii_graphic())
+}
+
+/// Whether the bytes may stand as a value.
+fn value_fits(bytes: &[u8]) -> bool
+    ensures { result ≡ is_value bytes.now }
+{
+    memchr2(b'\n', b'\r', bytes).is_none()
+}
+
+/// The milliseconds that a deadline says, or that it says none; nothing where it is no deadline.
+fn read_deadline(config: &Config, word: &[u8]) -> Option<Option<u64>>
+    ensures said { result ≡ deadline_in config.now word.now }
+    ensures own { IfSome result (IsOwn config.now) }
+{
+    if word == b"-".as_slice() {
+        return Some(None);
+    }
+    if !config.own_deadlines {
+        return None;
+    }
+    match milliseconds(word) {
+        Some(ms) => Some(Some(ms)),
+        None => None,
+    }
+}

@@ -1,7 +1,0 @@
-use Rattle.std.proofs.Common.{ap, ◌∙◌}
-use Rattle.audit_parts.specs.Known.{part_in}
-use Rattle.audit_parts.proofs.Keyed.{lookup_is}
-use Rattle.audit_parts.proofs.parts.Parts.get.Goals as goal
-
-pub returns : goal.returns
-returns c = c.copied.ensures ∙ c.peek.ensures ∙ lookup_is c.args.key.now c.self.inside.cache.entries ∙ ap (λ xs. part_in xs c.args.key.now) c.self.view_is

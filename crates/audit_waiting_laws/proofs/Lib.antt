@@ -1,0 +1,10 @@
+pub mod Steps
+pub mod Events
+pub mod Apart
+pub mod Closed
+pub mod Keys
+pub mod Sending
+pub mod Counts
+pub mod Records
+pub mod Standing
+pub mod Turns

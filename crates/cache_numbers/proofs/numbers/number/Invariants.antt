@@ -1,6 +1,0 @@
-use Rattle.std.proofs.Common.{◌≡◌, ◌≤◌, ◌<◌, ◌^◌, length, take}
-use Rattle.std.specs.Str.Parse.{digits_value}
-use Rattle.cache_numbers.proofs.numbers.number.Given as goal
-
-abbrev pub invariant-loop-digit : goal.invariant-loop-digit
-invariant-loop-digit l = record { inside : l.digit-index ≤ length l.word; value : l.value ≡ digits_value 10 (take l.digit-index l.word); small : l.value < 2 ^ 64 }

@@ -1,0 +1,82 @@
+//! Notes, as lines of text.
+ghost use Rattle.std.specs.Prelude.{◌≡◌, ◌≤◌, ◌<◌, ◌∷◌, ◌⊎◌, ◌^◌, ◌-◌, [], length, IfNone, IfSome, OnOk, OnErr};
+ghost use Rattle.std.specs.Io.KnownBytes.{Appends};
+ghost use Rattle.cache_devices.specs.Failures.{HasFailed};
+ghost use Rattle.cache_devices.specs.Watched.{device, failures};
+ghost use Rattle.cache_spaces.specs.Services.{spaces_of};
+ghost use Rattle.cached_script.specs.Gathering.{Gathers};
+ghost use Rattle.cached_script.specs.Notes.{cause_text, note_text, notes_text, notices_at};
+
+use crate::gathering::{put, write_out};
+use audit_model::{Note, RemovalCause};
+use cache_devices::{SendError, Watched};
+use cache_spaces::Service;
+use std::io::Write;
+
+/// The word of a cause.
+fn cause_word(cause: RemovalCause) -> &'static [u8]
+    ensures { result.now ≡ cause_text cause }
+{
+    match cause {
+        RemovalCause::Expired => b"Expired",
+        RemovalCause::Explicit => b"Explicit",
+        RemovalCause::Replaced => b"Replaced",
+        RemovalCause::Size => b"Size",
+    }
+}
+
+/// Gathers the line of a note. Takes no memory.
+pub fn write_note<W: Write>(
+    note: &Note,
+    gathered: &mut Vec<u8>,
+    writer: &mut Watched<W>,
+) -> Result<(), SendError>
+    ensures ok { OnOk result (Gathers (W.contents (device writer.old)) gathered.old.items (note_text note.now) (W.contents (device writer.new)) gathered.new.items) }
+    ensures cause { OnErr result (HasFailed (failures writer.old) (failures writer.new)) }
+    ensures count { failures writer.old ≤ failures writer.new }
+{
+    put(gathered, b"NOTE ", writer)?;
+    put(gathered, cause_word(note.cause), writer)?;
+    put(gathered, b" ", writer)?;
+    put(gathered, note.key.as_slice(), writer)?;
+    put(gathered, b" ", writer)?;
+    put(gathered, note.value.as_slice(), writer)?;
+    put(gathered, b"\n", writer)
+}
+
+/// The oldest note of a namespace that there is.
+fn next_note(service: &mut Service, namespace: u64) -> Option<Note>
+    requires known { namespace < length (spaces_of service.old) }
+    ensures none { IfNone result ((notices_at (spaces_of service.old) namespace ≡ []) × (notices_at (spaces_of service.new) namespace ≡ [])) }
+    ensures first { IfSome result (λ note. notices_at (spaces_of service.old) namespace ≡ note ∷ notices_at (spaces_of service.new) namespace) }
+    ensures count { length (spaces_of service.new) ≡ length (spaces_of service.old) }
+{
+    match service.next_notice(namespace) {
+        Ok(note) => note,
+        Err(_) => unreachable!(),
+    }
+}
+
+/// Takes all notes of a namespace, and writes their lines. Lines are gathered within the capacity of `gathered`, so that few
+/// writes are made, and no memory is taken.
+pub fn tell_notes<W: Write>(
+    service: &mut Service,
+    namespace: u64,
+    gathered: &mut Vec<u8>,
+    writer: &mut Watched<W>,
+) -> Result<(), SendError>
+    requires known { namespace < length (spaces_of service.old) }
+    requires none { gathered.old.items ≡ [] }
+    ensures told { OnOk result (Appends (W.contents (device writer.old)) (W.contents (device writer.new)) (notes_text (notices_at (spaces_of service.old) namespace))) }
+    ensures all { OnOk result (notices_at (spaces_of service.new) namespace ≡ []) }
+    ensures cause { OnErr result (HasFailed (failures writer.old) (failures writer.new) ⊎ (2 ^ 64 - 1 ≤ length (notices_at (spaces_of service.old) namespace))) }
+    ensures count { failures writer.old ≤ failures writer.new }
+{
+    for _note in 0..u64::MAX {
+        match next_note(service, namespace) {
+            Some(note) => write_note(&note, gathered, writer)?,
+            None => return write_out(gathered, writer),
+        }
+    }
+    Err(SendError::UsedUp)
+}

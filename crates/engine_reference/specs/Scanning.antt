@@ -1,0 +1,38 @@
+-- What is looked at without a read, and a look that passes over values.
+use Rattle.std.specs.Prelude.{◌≡◌, ℕ, Bool, true, false, List, Option, Some, None, map, option_map}
+use Rattle.engine_reference.specs.declared.data.Record.{Record}
+use Rattle.engine_reference.specs.Calls.{MaintainsIfDue, with_read}
+use Rattle.engine_reference.specs.Records.{held_entries}
+use Rattle.engine_reference.specs.State.{State, Answers}
+use Rattle.engine_reference.specs.Visible.{visible_record}
+
+-- a value that is not passed over
+abbrev pub past : {X : Type 0} → Bool → Option X → Option X
+past true o = None
+past false o = o
+
+-- the keys of all that is held, dead or covered ones too
+abbrev pub held_keys : {K V : Type 0} → List (Record K V) → List K
+held_keys rs = map (λ e. e.key) (held_entries rs)
+
+module _ {K V P S R : Type 0} (answers : Answers K V P R) where
+  -- a visible value is asked about, and one that is to be passed over is not found
+  pub record LooksPast (eq : K → K → Bool) (key : K) (now : ℕ) (Ignores : V → Bool → Type 0) (s : State K V P S R) (found : Option (ℕ × V)) : Type 0 where
+    pub ignored : Bool
+    pub asked : (r : Record K V) → visible_record answers eq s now key ≡ Some r → Ignores r.entry.value ignored
+    pub answer : found ≡ option_map (λ r. (r.number, r.entry.value)) (past ignored (visible_record answers eq s now key))
+
+  -- the second half of a look-up, which is not refused: maintenance comes where it is due, and then the read of what was visible, where it was not passed over
+  pub record NotesLookUp (eq : K → K → Bool) (key : K) (hash now : ℕ) (ignored : Bool) (old new : State K V P S R) : Type 0 where
+    pub mid : State K V P S R
+    pub maintains : MaintainsIfDue answers now old mid
+    pub reads : new ≡ with_read answers (past ignored (visible_record answers eq old now key)) hash now mid
+
+  -- such a look-up with its read: what is passed over counts as not found, and is not used
+  pub record LooksUpPast (eq : K → K → Bool) (key : K) (hash now : ℕ) (Ignores : V → Bool → Type 0) (old new : State K V P S R) (found : Option V) : Type 0 where
+    pub ignored : Bool
+    pub asked : (r : Record K V) → visible_record answers eq old now key ≡ Some r → Ignores r.entry.value ignored
+    pub answer : found ≡ option_map (λ r. r.entry.value) (past ignored (visible_record answers eq old now key))
+    pub mid : State K V P S R
+    pub maintains : MaintainsIfDue answers now old mid
+    pub reads : new ≡ with_read answers (past ignored (visible_record answers eq old now key)) hash now mid

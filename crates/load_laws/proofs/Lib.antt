@@ -1,4 +1,0 @@
-pub mod Counts
-pub mod Records
-pub mod Standing
-pub mod Turns

@@ -1,0 +1,26 @@
+//! A cache of one part: expiry, admission, eviction, invalidation, maintenance. Its owner hands in hashes, moments and steps, sends the tickets of its writes, and takes its notices.
+#![tactic(auto)]
+
+pub use engine_plain::{BaseCache, Refusal};
+pub use engine_reference::{
+    Entry, Notice, Read, Record, Registered, Settings, Unsent, Upsert, Write,
+};
+pub use engine_rules::{
+    Bundle, EvictionPolicy, Expiration, ExpirationPolicy, Expiry, NoExpiry, NoPredicate, Policy,
+    Predicate, PredicateError, RemovalCause, Rules, WeighOne, Weigher,
+};
+
+/// Functions whose contracts are laws of what the contracts speak of.
+pub mod laws {
+    pub use engine_laws::laws::{
+        calls_keep_apart, calls_stay_in_order, calls_stay_timely, looking_at_all_sweeps,
+        only_writes_show, run_tells_justly, runs_evict_shortest_front, runs_leave_order,
+        runs_stay_in_order, size_has_point, uncut_runs_leave_none_due, uncut_runs_stay_timely,
+    };
+    pub use engine_reference::laws::{
+        calls_stay_sound, counts_are_exact, counts_are_kept, cover_shows_nothing,
+        evicts_shortest_front, halves_are_whole, name_is_kept, nothing_taken_for_size,
+        runs_keep_rest, runs_keep_visible, runs_stay_sound, runs_tell, sending_keeps_visible,
+        steps_tell, unapplied_stay,
+    };
+}

@@ -1,6 +1,0 @@
-pub mod Steps
-pub mod Events
-pub mod Apart
-pub mod Closed
-pub mod Keys
-pub mod Sending

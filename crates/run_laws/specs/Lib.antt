@@ -1,5 +1,0 @@
-pub mod Alone
-pub mod Apart
-pub mod Closed
-pub mod Keys
-pub mod Sending

@@ -1,0 +1,33 @@
+#!/usr/bin/env bash
+# Examples of the documents that the gate runs elsewhere: their texts have to be the same, word for word.
+set -euo pipefail
+cd "$(dirname "$0")/.."
+
+# The text between the first fence of this kind behind a line, and its end.
+block() { # file, first line, fence
+    awk -v head="$2" -v fence="$3" '
+        !seen { seen = ($0 == head); next }
+        !open { open = ($0 == fence); next }
+        $0 == "```" { exit }
+        { print }' "$1"
+}
+
+same() { # what, one text, the other
+    if [ "$2" != "$3" ]; then
+        echo "tools/compare_examples.sh: $1 differ" >&2
+        diff <(printf '%s\n' "$2") <(printf '%s\n' "$3") >&2 || true
+        exit 1
+    fi
+}
+
+# README: the example of the library is the one that crates/cache_service_uses proves and runs.
+same "README.md's example and crates/cache_service_uses/src/example.rt" \
+    "$(block README.md '## Use as a library' '```rust')" \
+    "$(tail -n +2 crates/cache_service_uses/src/example.rt)"
+
+# The protocol's example is the stored run of the program.
+example=$(block docs/PROTOCOL.md '## Example' '```')
+same "docs/PROTOCOL.md's example and crates/cached/stdin" \
+    "$(sed -n 's/^> //p' <<<"$example")" "$(cat crates/cached/stdin)"
+same "docs/PROTOCOL.md's example and crates/cached/stdout" \
+    "$(sed -n 's/^< //p' <<<"$example")" "$(cat crates/cached/stdout)"
