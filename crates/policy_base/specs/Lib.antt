@@ -1,3 +1,4 @@
 pub mod Region
 pub mod Info
 pub mod Operations
+pub mod Cells

@@ -5,6 +5,7 @@ ghost use Rattle.policy_base.specs.Info.{kept_time};
 use crate::moment::{AccessTime, Instant};
 use crate::records::KeyHash;
 use std::marker::Model;
+use thiserror::Error;
 
 /// How many generations an own expiration has before they begin again.
 const EXPIRATION_GENERATIONS: u16 = 4096;
@@ -16,7 +17,8 @@ const EXPIRATION_STEP: u64 = 4096;
 const LAST_EXPIRATION: u64 = 0xFFFF_FFFF_FFFF_E000;
 
 /// A number is used up.
-#[derive(Clone, Copy, Debug, PartialEq, Eq)]
+#[derive(Clone, Copy, Debug, PartialEq, Eq, Drop, Error)]
+#[error("used up")]
 pub struct UsedUp;
 
 /// An entry: its key, its weight, its moments, and how far its writes are applied.

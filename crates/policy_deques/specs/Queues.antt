@@ -41,7 +41,7 @@ access_nodes MainProtected queues = queues.protected.nodes
 access_nodes Other queues = []
 
 -- an empty queue of a region
-pub record IsNew (region : CacheRegion) (queue : Entries) : Type 0 where
+pub record IsNewQueue (region : CacheRegion) (queue : Entries) : Type 0 where
   pub nodes : queue.nodes ≡ []
   pub region_is : queue.region ≡ region
   pub cursor : queue.cursor ≡ Unstarted

@@ -3,7 +3,7 @@ ghost use Rattle.std.specs.Prelude.{◌≡◌, ◌≢◌, ℕ, ◌+◌, ◌^◌,
 ghost use Rattle.std.specs.Borrow.{sem};
 ghost use Rattle.policy_queue.specs.Queue.{find, head, final, to_give, cursor_past, Leaves, Stays, MovesToBack, refused_element, RefusedWell};
 ghost use Rattle.policy_base.specs.declared.name.CacheRegion.{CacheRegion as TheRegion};
-ghost use Rattle.policy_deques.specs.Queues.{queue_of, with_queue, access_nodes, IsNew, Changes, HasNode, MovesNode, LosesNode, HasAccessNode, MovesAccessNode, LosesAccessNode, AllStay, HaveRoom, LackSerials};
+ghost use Rattle.policy_deques.specs.Queues.{queue_of, with_queue, access_nodes, IsNewQueue, Changes, HasNode, MovesNode, LosesNode, HasAccessNode, MovesAccessNode, LosesAccessNode, AllStay, HaveRoom, LackSerials};
 ghost use Rattle.policy_deques.specs.Nodes.{access_node, write_node, with_access_node, with_write_node, PushesEntry, forgets};
 
 use crate::nodes::{access_node, set_access_node, set_write_node, write_node};
@@ -37,7 +37,7 @@ impl<K> Deques<K> {
 
     /// Empty queues, which take no memory.
     pub fn default(alloc: Global) -> Self
-        ensures { (region : TheRegion) → IsNew region (queue_of region result) }
+        ensures { (region : TheRegion) → IsNewQueue region (queue_of region result) }
     {
         Deques {
             window: Deque::new(alloc, CacheRegion::Window),

@@ -6,7 +6,7 @@ use Rattle.policy_base.specs.declared.name.NodeId.{NodeId}
 use Rattle.policy_queue.specs.declared.places.Node.{Node}
 use Rattle.policy_base.specs.Region.{same_id}
 use Rattle.policy_base.proofs.Names.{same_id-refl}
-use Rattle.policy_queue.specs.Queue.{find, without, from_id, head, is_nonempty}
+use Rattle.policy_queue.specs.Queue.{find, without_node, from_id, head, is_nonempty}
 
 module _ {T : Type 0} where
   -- no node of the list has this name
@@ -22,7 +22,7 @@ module _ {T : Type 0} where
   find_at id [] n back h s = cond-true (same_id n.id id) _ _ s
   find_at id (m ∷ front) n back h s = cond-false (same_id m.id id) _ _ h.0 ∙ find_at id front n back h.1 s
 
-  pub without_at : (id : NodeId) (front : List (Node T)) (n : Node T) (back : List (Node T)) → NoneIs id front → same_id n.id id ≡ true → without id (front ++ n ∷ back) ≡ front ++ back
+  pub without_at : (id : NodeId) (front : List (Node T)) (n : Node T) (back : List (Node T)) → NoneIs id front → same_id n.id id ≡ true → without_node id (front ++ n ∷ back) ≡ front ++ back
   without_at id [] n back h s = cond-true (same_id n.id id) _ _ s
   without_at id (m ∷ front) n back h s = cond-false (same_id m.id id) _ _ h.0 ∙ ap (λ r. m ∷ r) (without_at id front n back h.1 s)
 

@@ -12,7 +12,7 @@ use Rattle.policy_queue.specs.declared.places.Node.{Node}
 use Rattle.policy_queue.specs.declared.places.Seat.{Seat}
 use Rattle.policy_queue.specs.declared.places.Cursor.{Cursor}
 use Rattle.policy_queue.specs.Places.{vacant, order, Lacks, Nodes, place_in, seat_in, node_of, with_node, nodes_of, IsStored, AreArranged, SameNodes, IsUnplaced, IsAt, Empties, IsQueue, places_for, nodes_for, room_of, Ends}
-use Rattle.policy_queue.specs.Queue.{Queue, Stays, find, without, from_id, tail, head, cursor_moved, cursor_without, cursor_at, cursor_past, final, moved_to_back, is_nonempty}
+use Rattle.policy_queue.specs.Queue.{Queue, Stays, find, without_node, from_id, tail, head, cursor_moved, cursor_without, cursor_at, cursor_past, final, with_node_at_back, is_nonempty}
 use Rattle.policy_queue.specs.declared.places.Cursor.TheVariants.{At, Done}
 use Rattle.policy_queue.proofs.Live.{NoneIs, find_at, without_at, from_id_at, empty_from}
 use Rattle.policy_queue.proofs.Order.{within, order_at, order_drop_some, order_drop_front, order_skip, Lacks-order, Lacks-at, Lacks-append}
@@ -113,8 +113,8 @@ module _ {T : Type 0} where
     pub found : find id (nodes_of r s (order ps)) ≡ Some the_node
     found = ap (find id) split ∙ find_at id front the_node back none_before (same_id-refl id)
 
-    pub found-without : without id (nodes_of r s (order ps)) ≡ front ++ back
-    found-without = ap (without id) split ∙ without_at id front the_node back none_before (same_id-refl id)
+    pub found-without : without_node id (nodes_of r s (order ps)) ≡ front ++ back
+    found-without = ap (without_node id) split ∙ without_at id front the_node back none_before (same_id-refl id)
 
     pub found-from : from_id id (nodes_of r s (order ps)) ≡ the_node ∷ back
     found-from = ap (from_id id) split ∙ from_id_at id front the_node back none_before (same_id-refl id)
@@ -125,7 +125,7 @@ module _ {T : Type 0} where
     pub found-cursor : (cursor : Cursor) → cursor_without cursor id (nodes_of r s (order ps)) ≡ cursor_moved cursor id back
     found-cursor cursor = ap (cursor_moved cursor id) found-behind
 
-    pub found-moved : moved_to_back id (nodes_of r s (order ps)) ≡ (front ++ back) ++ the_node ∷ []
+    pub found-moved : with_node_at_back id (nodes_of r s (order ps)) ≡ (front ++ back) ++ the_node ∷ []
     found-moved = ap (λ ns. ns ++ option_to_list (find id (nodes_of r s (order ps)))) found-without ∙ ap (λ o. (front ++ back) ++ option_to_list o) found
 
     pub found-next : is_nonempty (tail (from_id id (nodes_of r s (order ps)))) ≡ is_nonempty (order (drop (k + 1) ps))
@@ -135,7 +135,7 @@ module _ {T : Type 0} where
         Have-drop = Have-order (drop (k + 1) ps) s (λ j d. let e = get_or-drop (k + 1) ps j vacant in let h = seat_at ps s (k + 1 + j) stored (λ f. d (e ∙ f)) in (h.0, ap (seat_in s) e ∙ h.1))
 
     -- the last node is at the back already
-    pub found-last : is_nonempty (order (drop (k + 1) ps)) ≡ false → nodes_of r s (order ps) ≡ moved_to_back id (nodes_of r s (order ps))
+    pub found-last : is_nonempty (order (drop (k + 1) ps)) ≡ false → nodes_of r s (order ps) ≡ with_node_at_back id (nodes_of r s (order ps))
     found-last last =
         let none : back ≡ [] = ap (nodes_of r s) (empty_from (order (drop (k + 1) ps)) last) in
         let left = split ∙ ap (λ ns. front ++ the_node ∷ ns) none in

@@ -7,7 +7,7 @@ use Rattle.policy_base.specs.declared.name.CacheRegion.{CacheRegion}
 use Rattle.policy_base.specs.declared.name.NodeId.{NodeId}
 use Rattle.policy_queue.specs.declared.places.Node.{Node}
 use Rattle.policy_queue.specs.declared.places.Cursor.TheVariants.{Unstarted}
-use Rattle.policy_queue.specs.Queue.{find, without, StaysStale, head, cursor_at, cursor_past, to_give, given, walked, LacksSerial, AreNamed, WalksOnce}
+use Rattle.policy_queue.specs.Queue.{find, without_node, StaysStale, head, cursor_at, cursor_past, to_give, given, walked, LacksSerial, AreNamed, WalksOnce}
 use Rattle.policy_base.specs.Region.{same_id}
 use Rattle.policy_queue.proofs.Live.{NoneIs, find_none, from_id_at}
 use Rattle.policy_base.proofs.Names.{same_id-refl}
@@ -105,11 +105,11 @@ module _ {T : Type 0} where
       subst-named {ms} {ns} e h = subst (λ ks. AreNamed r x ks) e h
 
   -- a name that left is gone
-  pub find_gone : (r : CacheRegion) (x : ℕ) (id : NodeId) (ns : List (Node T)) → AreNamed r x ns → find id (without id ns) ≡ None
+  pub find_gone : (r : CacheRegion) (x : ℕ) (id : NodeId) (ns : List (Node T)) → AreNamed r x ns → find id (without_node id ns) ≡ None
   find_gone r x id [] h = refl
   find_gone r x id (n ∷ rest) h = go (same_id n.id id) refl (find_gone r x id rest h.3)
     where
-      go : (b : Bool) → same_id n.id id ≡ b → find id (without id rest) ≡ None → find id (without id (n ∷ rest)) ≡ None
+      go : (b : Bool) → same_id n.id id ≡ b → find id (without_node id rest) ≡ None → find id (without_node id (n ∷ rest)) ≡ None
       go true s more =
           let serial : n.id.serial ≡ id.serial = eqb-true _ _ (and_parts _ _ s).0 in
           ap (find id) (cond-true (same_id n.id id) _ _ s) ∙ find_none id rest (NoneIs-serial rest id (subst (λ (k : ℕ). LacksSerial k rest) serial h.2))

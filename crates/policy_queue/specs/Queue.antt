@@ -23,10 +23,10 @@ abbrev pub find : {T : Type 0} → NodeId → List (Node T) → Option (Node T)
 find id [] = None
 find id (n ∷ rest) = if same_id n.id id then Some n else find id rest
 
--- the list without the node of this name
-abbrev pub without : {T : Type 0} → NodeId → List (Node T) → List (Node T)
-without id [] = []
-without id (n ∷ rest) = if same_id n.id id then rest else n ∷ without id rest
+-- the list without_node the node of this name
+abbrev pub without_node : {T : Type 0} → NodeId → List (Node T) → List (Node T)
+without_node id [] = []
+without_node id (n ∷ rest) = if same_id n.id id then rest else n ∷ without_node id rest
 
 -- the nodes from the one of this name on
 abbrev pub from_id : {T : Type 0} → NodeId → List (Node T) → List (Node T)
@@ -71,7 +71,7 @@ cursor_without cursor id nodes = cursor_moved cursor id (tail (from_id id nodes)
 
 -- the node of this name left: the cursor moves on where it stood there, and no push lost its room
 pub record Leaves {T : Type 0} (old new : Queue T) (id : NodeId) : Type 0 where
-  pub nodes : new.nodes ≡ without id old.nodes
+  pub nodes : new.nodes ≡ without_node id old.nodes
   pub cursor : new.cursor ≡ cursor_without old.cursor id old.nodes
   pub region : new.region ≡ old.region
   pub next_serial : new.next_serial ≡ old.next_serial
@@ -109,12 +109,12 @@ is_nonempty [] = false
 is_nonempty (x ∷ rest) = true
 
 -- the list with the node of this name behind all others
-abbrev pub moved_to_back : {T : Type 0} → NodeId → List (Node T) → List (Node T)
-moved_to_back id nodes = without id nodes ++ option_to_list (find id nodes)
+abbrev pub with_node_at_back : {T : Type 0} → NodeId → List (Node T) → List (Node T)
+with_node_at_back id nodes = without_node id nodes ++ option_to_list (find id nodes)
 
 -- the node of this name went to the back: the cursor moves on where it stood there, but not from the last node
 pub record MovesToBack {T : Type 0} (old new : Queue T) (id : NodeId) : Type 0 where
-  pub nodes : new.nodes ≡ moved_to_back id old.nodes
+  pub nodes : new.nodes ≡ with_node_at_back id old.nodes
   pub cursor : new.cursor ≡ (if is_nonempty (tail (from_id id old.nodes)) then cursor_without old.cursor id old.nodes else old.cursor)
   pub region : new.region ≡ old.region
   pub next_serial : new.next_serial ≡ old.next_serial
@@ -153,7 +153,7 @@ pub record WalksOnce {T : Type 0} (nodes : List (Node T)) : Type 0 where
 
 -- a name that left is stale, and stays so: no push gives it again
 pub record StaysStale {T : Type 0} (id : NodeId) (next : ℕ) (nodes : List (Node T)) : Type 0 where
-  pub left : find id (without id nodes) ≡ None
+  pub left : find id (without_node id nodes) ≡ None
   pub pushed : (new : Node T) → id.serial < next → find id nodes ≡ None → new.id.serial ≡ next → find id (nodes ++ new ∷ []) ≡ None
 
 -- a node's name

@@ -8,26 +8,31 @@ use crate::places::{
     Cursor, Seat, attach, cursor_from, cursor_leaving, detach, element_at, has_next, id_from,
     make_room, place_of, walk_place,
 };
-use policy_base::{CacheRegion, NodeId};
-use policy_cells::Cells;
+use policy_base::{CacheRegion, Cells, NodeId};
 use std::alloc::Global;
 use std::marker::Model;
+use thiserror::Error;
 
 /// A call named a node that the queue does not have.
-#[derive(Clone, Copy, Debug, PartialEq, Eq)]
+#[derive(Clone, Copy, Debug, PartialEq, Eq, Drop, Error)]
+#[error("stale")]
 pub struct Stale;
 
 /// Why a push was refused, with the element.
-#[derive(Drop)]
+#[derive(Debug, Drop, Error)]
 pub enum PushError<T> {
+    #[error("out of memory")]
     OutOfMemory(T),
+    #[error("used up")]
     UsedUp(T),
 }
 
 /// Why room was refused.
-#[derive(Clone, Copy, Debug, PartialEq, Eq)]
+#[derive(Clone, Copy, Debug, PartialEq, Eq, Drop, Error)]
 pub enum ReserveError {
+    #[error("out of memory")]
     OutOfMemory,
+    #[error("used up")]
     UsedUp,
 }
 

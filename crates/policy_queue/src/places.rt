@@ -5,8 +5,7 @@ ghost use Rattle.slab.specs.Slab.{slab_len, get, HasRoomFor};
 ghost use Rattle.policy_queue.specs.Queue.{find, head, to_give, cursor_at, cursor_moved, is_nonempty};
 ghost use Rattle.policy_queue.specs.Places.{vacant, order, nodes_of, seat_in, IsStored, Ends, EndsBut, AreArranged, SameNodes, IsUnplaced, IsAt, Empties, places_for};
 
-use policy_base::{CacheRegion, NodeId};
-use policy_cells::Cells;
+use policy_base::{CacheRegion, Cells, NodeId};
 use std::alloc::AllocError;
 
 /// What an empty place has in place of a slot.

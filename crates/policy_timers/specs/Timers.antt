@@ -45,7 +45,7 @@ pub record Keeps (old new : Timers) : Type 0 where
   pub room : old.room ≤ new.room
 
 -- nothing changed, but that there may be more room
-pub record Stays (old new : Timers) : Type 0 where
+pub record OnlyGainsRoom (old new : Timers) : Type 0 where
   pub same : new ≡ record old { room = new.room }
   pub room : old.room ≤ new.room
 
@@ -66,12 +66,12 @@ ScheduledWell entries old new entry None = (due_of entries entry ≡ None) × (n
 ScheduledWell entries old new entry (Some id) = (d : Due) × (due_of entries entry ≡ Some d) × Schedules old new entry id d
 
 -- why a timer was refused: no memory and no room, or no serial
-abbrev pub RefusedWell : Timers → ScheduleError → Type 0
-RefusedWell w OutOfMemory = (w.room ≡ 0) × (w.next_serial < 2 ^ 64 - 1)
-RefusedWell w UsedUp = 2 ^ 64 - 1 ≤ w.next_serial
+abbrev pub TimerRefusedWell : Timers → ScheduleError → Type 0
+TimerRefusedWell w OutOfMemory = (w.room ≡ 0) × (w.next_serial < 2 ^ 64 - 1)
+TimerRefusedWell w UsedUp = 2 ^ 64 - 1 ≤ w.next_serial
 
 -- the timer of this name left, and nothing else changed
-pub record Leaves (old new : List Timer) (id : NodeId) (node : TimerNode) : Type 0 where
+pub record TimerLeaves (old new : List Timer) (id : NodeId) (node : TimerNode) : Type 0 where
   pub timer : Timer
   pub named : timer.id ≡ id
   pub recorded : timer.node ≡ node
@@ -98,4 +98,4 @@ pub record Replaces (old new : List Timer) (id : NodeId) (due : Due) : Type 0 wh
 -- what a call of `reschedule` did
 abbrev pub RescheduledWell : {K : Type 0} → Slab (Slot K) → List Timer → List Timer → NodeId → ReschedulingResult → Type 0
 RescheduledWell entries old new id Rescheduled = Moves entries old new id
-RescheduledWell entries old new id (Removed node) = (due_of entries node.entry_info ≡ None) × Leaves old new id node
+RescheduledWell entries old new id (Removed node) = (due_of entries node.entry_info ≡ None) × TimerLeaves old new id node

@@ -8,8 +8,7 @@ ghost use Rattle.policy_timers.specs.Array.{IsArranged, LacksSerial, MovesTo};
 
 use crate::places::{Place, key};
 use crate::row::Row;
-use policy_base::{Instant, NodeId};
-use policy_cells::Cells;
+use policy_base::{Cells, Instant, NodeId};
 
 /// A timer's record: its entry, and the generation of the entry's own expiration under which it was placed.
 #[derive(Clone, Copy, Debug, PartialEq, Eq)]

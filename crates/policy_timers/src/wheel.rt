@@ -4,17 +4,17 @@ ghost use Rattle.std.specs.List.{All};
 ghost use Rattle.std.specs.List.Sorted.{IsPermutation};
 ghost use Rattle.slab.specs.Slab.{get};
 ghost use Rattle.policy_timers.specs.Entries.{due_of};
-ghost use Rattle.policy_timers.specs.Timers.{TheTimer, moved, Keeps, Stays, ScheduledWell, RefusedWell, Leaves, RescheduledWell, Replaces, Schedules};
+ghost use Rattle.policy_timers.specs.Timers.{TheTimer, moved, Keeps, OnlyGainsRoom, ScheduledWell, TimerRefusedWell, TimerLeaves, RescheduledWell, Replaces, Schedules};
 
 use crate::array::{Due, Timer, TimerNode, add, find, move_timer, take};
 use crate::entries::due_of;
 use crate::places::Place;
 use crate::row::Row;
-use policy_base::{CacheRegion, Instant, NodeId, Slot};
-use policy_cells::Cells;
+use policy_base::{CacheRegion, Cells, Instant, NodeId, Slot};
 use slab::Slab;
 use std::alloc::{AllocError, Global};
 use std::marker::{Model, PhantomData};
+use thiserror::Error;
 
 /// What became of a timer whose entry's time may have changed.
 #[derive(Clone, Copy, Debug, PartialEq, Eq)]
@@ -26,14 +26,17 @@ pub enum ReschedulingResult {
 }
 
 /// Why a timer, or room for timers, was refused.
-#[derive(Clone, Copy, Debug, PartialEq, Eq)]
+#[derive(Clone, Copy, Debug, PartialEq, Eq, Drop, Error)]
 pub enum ScheduleError {
+    #[error("out of memory")]
     OutOfMemory,
+    #[error("used up")]
     UsedUp,
 }
 
 /// A call named a timer that the wheel does not have.
-#[derive(Clone, Copy, Debug, PartialEq, Eq)]
+#[derive(Clone, Copy, Debug, PartialEq, Eq, Drop, Error)]
+#[error("stale timer")]
 pub struct StaleTimer;
 
 /// Timers by rising time.
@@ -129,7 +132,7 @@ impl<K> TimerWheel<K> {
     pub fn reserve(&mut self, n: usize) -> Result<(), ScheduleError>
         ensures room { OnOk result (n ≤ self.new.room) }
         ensures had_room { n ≤ self.old.room → IsOk result }
-        ensures stays { Stays self.old self.new }
+        ensures stays { OnlyGainsRoom self.old self.new }
         ensures used_up { (result ≡ Err ScheduleError.UsedUp) ↔ (2 ^ 64 - 1 < self.old.next_serial + n) }
     {
         if u64::MAX - self.next_serial < n as u64 {
@@ -157,8 +160,8 @@ impl<K> TimerWheel<K> {
         ensures scheduled { IfOk result (ScheduledWell entries.now self.old self.new entry) }
         ensures had_room { 0 < self.old.room → IsOk result }
         ensures without_time { due_of entries.now entry ≡ None → IsOk result }
-        ensures stays { OnErr result (Stays self.old self.new) }
-        ensures why { IfErr result (RefusedWell self.old) }
+        ensures stays { OnErr result (OnlyGainsRoom self.old self.new) }
+        ensures why { IfErr result (TimerRefusedWell self.old) }
     {
         let due = match due_of(entries, entry) {
             Some(due) => due,
@@ -239,7 +242,7 @@ impl<K> TimerWheel<K> {
     /// Takes a timer out.
     pub fn deschedule(&mut self, id: NodeId) -> Result<TimerNode, StaleTimer>
         requires { self.old.is_enabled ≡ true }
-        ensures leaves { IfOk result (Leaves self.old.timers self.new.timers id) }
+        ensures leaves { IfOk result (TimerLeaves self.old.timers self.new.timers id) }
         ensures keeps { OnOk result (Keeps self.old self.new) }
         ensures stale { OnErr result (All (λ t. t.id ≢ id) self.old.timers) }
         ensures unchanged { OnErr result (self.new ≡ self.old) }

@@ -2,10 +2,10 @@ use Rattle.std.proofs.Common.{◌≡◌, ◌<◌, ◌≤◌, ◌+◌, ◌-◌, �
 use Rattle.std.proofs.lemmas.Bool.{cases_lt, true≢false}
 use Rattle.policy_timers.specs.declared.wheel.ScheduleError.{ScheduleError}
 use Rattle.policy_timers.specs.declared.wheel.ScheduleError.TheVariants.{OutOfMemory, UsedUp}
-use Rattle.policy_timers.specs.Timers.{Timers, RefusedWell}
+use Rattle.policy_timers.specs.Timers.{Timers, TimerRefusedWell}
 use Rattle.policy_timers.proofs.wheel.TimerWheel.schedule.Goals as goal
 
-refused : (w : Timers) (e : ScheduleError) → (1 ≤ w.room → false ≡ true) → ((let r : Result (Unit {0}) ScheduleError = Err e in let u : Result (Unit {0}) ScheduleError = Err UsedUp in r ≡ u) ↔ (2 ^ 64 - 1 < w.next_serial + 1)) → RefusedWell w e
+refused : (w : Timers) (e : ScheduleError) → (1 ≤ w.room → false ≡ true) → ((let r : Result (Unit {0}) ScheduleError = Err e in let u : Result (Unit {0}) ScheduleError = Err UsedUp in r ≡ u) ↔ (2 ^ 64 - 1 < w.next_serial + 1)) → TimerRefusedWell w e
 refused w OutOfMemory none used = (
   elim (cases_lt 0 w.room) [ inl some ↦ absurd (true≢false (sym (none (omega arith)))) | inr none_left ↦ omega arith ],
   elim (cases_lt w.next_serial (2 ^ 64 - 1)) [ inl lt ↦ lt | inr ge ↦ absurd (different (used.1 (omega arith))) ],

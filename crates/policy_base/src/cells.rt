@@ -2,8 +2,6 @@
 //!
 //! It does what `slab` does, and contracts see it as they see that. A cell has two parts, so that a first part of 32
 //! bits stands beside the cell's own mark: with eight bytes and eight more in the second part it takes 24.
-#![tactic(auto)]
-
 ghost use Rattle.std.specs.Prelude.{◌≡◌, ◌+◌, ◌-◌, ◌<◌, ◌≤◌, ◌^◌, [], length, IsSome, IsOk, OnOk, option_map, None, Some, vec_len, vec_capacity};
 ghost use Rattle.slab.specs.Slab.{get, ContainsKey, slab_len, HasRoomFor, Updates};
 
@@ -34,7 +32,7 @@ impl<A, B> Model for Cells<A, B> {
     ghost use Rattle.std.specs.Prelude.{map, vec_capacity, min, ◌-◌, ◌^◌};
     ghost use Rattle.slab.specs.Slab.{Slab as Slots};
     ghost use Rattle.slab.specs.Entry.{value_of};
-    ghost use Rattle.policy_cells.specs.Cells.{entry_of, IsSoundly};
+    ghost use Rattle.policy_base.specs.Cells.{entry_of, IsSoundly};
 
     ghost Value = { Slots (A × B) };
 

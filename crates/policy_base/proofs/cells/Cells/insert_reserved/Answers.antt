@@ -1,6 +1,6 @@
 use Rattle.std.proofs.Common.{refl, sym, ◌∙◌, arith}
-use Rattle.policy_cells.proofs.Sound.{full, before_end, next_not_taken, next_vacant, pushed, filled, filled_len, updated, added}
-use Rattle.policy_cells.proofs.Cells.insert_reserved.Goals as goal
+use Rattle.policy_base.proofs.Sound.{full, before_end, next_not_taken, next_vacant, pushed, filled, filled_len, updated, added}
+use Rattle.policy_base.proofs.cells.Cells.insert_reserved.Goals as goal
 
 pub push_reserved-requires : goal.push_reserved-requires
 push_reserved-requires g c =

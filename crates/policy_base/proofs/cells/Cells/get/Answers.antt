@@ -1,8 +1,8 @@
 use Rattle.std.proofs.Common.{sym, ap, ◌∙◌}
 use Rattle.slab.specs.Entry.{value_of}
-use Rattle.policy_cells.specs.Cells.{entry_of}
-use Rattle.policy_cells.proofs.Sound.{read_value, past}
-use Rattle.policy_cells.proofs.Cells.get.Goals as goal
+use Rattle.policy_base.specs.Cells.{entry_of}
+use Rattle.policy_base.proofs.Sound.{read_value, past}
+use Rattle.policy_base.proofs.cells.Cells.get.Goals as goal
 
 pub returns-in-Some-Taken-clause-value : goal.returns-in-Some-Taken-clause-value
 returns-in-Some-Taken-clause-value g c =

@@ -1,7 +1,7 @@
 use Rattle.std.proofs.Common.{◌≡◌, refl, sym, ◌∙◌, arith}
 use Rattle.slab.specs.Slab.{slab_len}
-use Rattle.policy_cells.proofs.Sound.{taken_within, no_more, not_vacant, value_at, vacated, vacated_len, updated}
-use Rattle.policy_cells.proofs.Cells.remove.Goals as goal
+use Rattle.policy_base.proofs.Sound.{taken_within, no_more, not_vacant, value_at, vacated, vacated_len, updated}
+use Rattle.policy_base.proofs.cells.Cells.remove.Goals as goal
 
 pub invariant_of-self : goal.invariant_of-self
 invariant_of-self g c = rw c.replace.ensures.after (vacated _ _ _ c.self.invariant c.args.key (rw (← c.self.view_is) at c.requires))

@@ -3,8 +3,8 @@ use Rattle.std.specs.Prelude.{ℕ, ◌-◌, ◌≤◌, ◌^◌, List, map, lengt
 use Rattle.slab.specs.declared.Entry.{Entry}
 use Rattle.slab.specs.declared.Entry.TheVariants.{Vacant, Occupied}
 use Rattle.slab.specs.Entry.{IsSound}
-use Rattle.policy_cells.specs.declared.Cell.{Cell}
-use Rattle.policy_cells.specs.declared.Cell.TheVariants as cell
+use Rattle.policy_base.specs.declared.cells.Cell.{Cell}
+use Rattle.policy_base.specs.declared.cells.Cell.TheVariants as cell
 
 module _ {A B : Type 0} where
   -- a cell, as a slab has its entries

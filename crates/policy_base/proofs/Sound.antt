@@ -9,9 +9,9 @@ use Rattle.slab.specs.declared.Entry.TheVariants.{Vacant, Occupied}
 use Rattle.slab.specs.Entry.{value_of}
 use Rattle.slab.proofs.EntryLemmas.{full_at_end, next_within, next_is_vacant, next_is_not_occupied, occupied_at, count-set, IsSound-push, IsSound-fill, IsSound-vacate, IsSound-rewrite}
 use Rattle.slab.proofs.SlabLemmas.{Updates-set}
-use Rattle.policy_cells.specs.declared.Cell.{Cell}
-use Rattle.policy_cells.specs.declared.Cell.TheVariants as cell
-use Rattle.policy_cells.specs.Cells.{entry_of, IsSoundly}
+use Rattle.policy_base.specs.declared.cells.Cell.{Cell}
+use Rattle.policy_base.specs.declared.cells.Cell.TheVariants as cell
+use Rattle.policy_base.specs.Cells.{entry_of, IsSoundly}
 
 module _ {A B : Type 0} (cs : List (Cell A B)) (len next : ℕ) (h : IsSoundly cs len next) where
   abbrev pub es : List (Entry (A × B))

@@ -1,6 +1,6 @@
 use Rattle.std.proofs.Common.{refl}
-use Rattle.policy_cells.proofs.Sound.{taken_within, not_vacant, value_at, rewritten, rewritten_len, updated}
-use Rattle.policy_cells.proofs.Cells.set_first.Goals as goal
+use Rattle.policy_base.proofs.Sound.{taken_within, not_vacant, value_at, rewritten, rewritten_len, updated}
+use Rattle.policy_base.proofs.cells.Cells.set_first.Goals as goal
 
 pub unreachable-requires : goal.unreachable-requires
 unreachable-requires g c = not_vacant _ _ _ c.self.invariant c.args.key (rw (← c.self.view_is) at c.requires) c.index_mut.result.now _ c.index_mut.ensures.value c.in-Vacant.is
