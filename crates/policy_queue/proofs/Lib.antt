@@ -5,3 +5,4 @@ pub mod Ends
 pub mod Closing
 pub mod Moves
 pub mod Names
+pub mod Seeking

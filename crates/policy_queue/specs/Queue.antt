@@ -1,5 +1,6 @@
 -- A queue as its callers see it: a list of nodes from front to back, and a cursor.
 use Rattle.std.specs.Prelude.{◌≡◌, ℕ, ◌+◌, ◌-◌, ◌≢◌, ◌<◌, ◌≤◌, ◌^◌, zero, suc, length, map, Bool, true, false, List, [], ◌∷◌, ◌++◌, Option, Some, None, if◌then◌else◌}
+use Rattle.std.specs.List.{All}
 use Rattle.std.specs.Option.{option_to_list}
 use Rattle.policy_base.specs.declared.name.CacheRegion.{CacheRegion}
 use Rattle.policy_base.specs.declared.name.NodeId.{NodeId}
@@ -155,6 +156,20 @@ pub record WalksOnce {T : Type 0} (nodes : List (Node T)) : Type 0 where
 pub record StaysStale {T : Type 0} (id : NodeId) (next : ℕ) (nodes : List (Node T)) : Type 0 where
   pub left : find id (without_node id nodes) ≡ None
   pub pushed : (new : Node T) → id.serial < next → find id nodes ≡ None → new.id.serial ≡ next → find id (nodes ++ new ∷ []) ≡ None
+
+-- no element of these nodes passes a test
+pub record NonePasses {T : Type 0} (Test : T → Bool → Type 0) (nodes : List (Node T)) : Type 0 where
+  pub fails : All (λ n. Test n.element false) nodes
+
+-- this element passes a test, and none before it does
+pub record IsFirstThat {T : Type 0} (Test : T → Bool → Type 0) (nodes : List (Node T)) (element : T) : Type 0 where
+  pub before : List (Node T)
+  pub first : Node T
+  pub behind : List (Node T)
+  pub is : nodes ≡ before ++ first ∷ behind
+  pub same : first.element ≡ element
+  pub passes : Test element true
+  pub passed_over : NonePasses Test before
 
 -- a node's name
 abbrev pub TheName : Type 0

@@ -1,12 +1,13 @@
 //! Queues of elements with stable names.
-ghost use Rattle.std.specs.Prelude.{◌≡◌, ◌≢◌, ℕ, ◌+◌, ◌-◌, ◌^◌, ◌<◌, ◌≤◌, ◌↔◌, true, false, List, [], ◌∷◌, ◌++◌, length, IsTrue, IsSome, IsOk, IsErr, IfOk, IfErr, OnOk, OnErr, MatchOption, MatchResult, option_map, option_copied, map, Some, None};
+ghost use Rattle.std.specs.Prelude.{◌≡◌, ◌≢◌, ℕ, ◌+◌, ◌-◌, ◌^◌, ◌<◌, ◌≤◌, ◌↔◌, true, false, List, [], ◌∷◌, ◌++◌, length, IsTrue, IsSome, IsOk, IsErr, IfOk, IfErr, OnOk, OnErr, MatchOption, MatchResult, IfSome, IfNone, option_map, option_copied, map, Some, None};
 ghost use Rattle.std.specs.Borrow.{sem};
-ghost use Rattle.policy_queue.specs.Queue.{find, from_id, head, final, tail, to_give, cursor_past, Leaves, Pushes, Stays, refused_element, RefusedWell, MovesToBack, AreNamed, StaysStale, TheName, WalksOnce};
+ghost use Rattle.std.specs.Fn.{FnReturnsAt};
+ghost use Rattle.policy_queue.specs.Queue.{find, from_id, head, final, tail, to_give, cursor_past, Leaves, Pushes, Stays, refused_element, RefusedWell, MovesToBack, AreNamed, StaysStale, TheName, WalksOnce, IsFirstThat, NonePasses};
 ghost use Rattle.policy_queue.specs.Places.{order};
 
 use crate::places::{
-    Cursor, Seat, attach, cursor_from, cursor_leaving, detach, element_at, has_next, id_from,
-    make_room, place_of, walk_place,
+    Cursor, Seat, attach, cursor_from, cursor_leaving, detach, element_at, first_live, has_next,
+    id_from, make_room, place_of, walk_place,
 };
 use policy_base::{CacheRegion, Cells, NodeId};
 use std::alloc::Global;
@@ -137,6 +138,24 @@ impl<T: Drop> Deque<T> {
             return None;
         }
         Some(element_at(self.places.as_slice(), &self.nodes, self.places.len() - 1))
+    }
+
+    /// The first element that passes a test, from the front on. It asks about no element behind that one.
+    pub fn first_where<F: Fn(&T) -> bool>(&self, passes: F) -> Option<&T>
+        requires { F.IsAlwaysCallable passes }
+        ensures found { IfSome result (λ element. IsFirstThat (FnReturnsAt F.Fn passes) self.now.nodes element.now) }
+        ensures none { IfNone result (NonePasses (FnReturnsAt F.Fn passes) self.now.nodes) }
+    {
+        let places = self.places.as_slice();
+        let mut k = first_live(places, self.front);
+        while k < places.len() {
+            let element = element_at(places, &self.nodes, k);
+            if passes(element) {
+                return Some(element);
+            }
+            k = first_live(places, k + 1);
+        }
+        None
     }
 
     /// Makes room for `n` pushes, which then need no memory.

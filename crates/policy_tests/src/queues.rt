@@ -38,6 +38,8 @@ enum Act {
     Front(Option<u64>),
     Back(Option<u64>),
     Len(usize),
+    /// The first element of at least so much.
+    FirstFrom(u64, Option<u64>),
     /// The node at a place of the array, if there is one, and nothing behind its end.
     Place(usize, Option<Option<usize>>),
 }
@@ -188,6 +190,11 @@ fn changes_so(queue: &mut Queue, act: Act) -> bool {
     }
 }
 
+/// The first element of at least so much.
+fn first_from(deque: &Deque<u64>, least: u64) -> Option<u64> {
+    deque.first_where(|element| *element >= least).copied()
+}
+
 /// Looks or walks, and answers whether it came out so.
 fn shows_so(deque: &mut Deque<u64>, act: Act) -> bool {
     match act {
@@ -197,6 +204,7 @@ fn shows_so(deque: &mut Deque<u64>, act: Act) -> bool {
         Act::Front(wanted) => deque.peek_front().copied() == wanted,
         Act::Back(wanted) => deque.peek_back().copied() == wanted,
         Act::Len(wanted) => deque.len() == wanted,
+        Act::FirstFrom(least, wanted) => first_from(deque, least) == wanted,
         _ => false,
     }
 }
@@ -278,6 +286,9 @@ const CASES: &[&[Act]] = &[
         Act::Push(1),
         Act::Push(2),
         Act::MoveFront(1),
+        Act::FirstFrom(0, Some(1)),
+        Act::FirstFrom(2, Some(2)),
+        Act::FirstFrom(3, None),
         Act::Place(0, Some(None)),
         Act::Place(1, Some(Some(1))),
         Act::Place(2, Some(Some(2))),
