@@ -3,7 +3,7 @@ use Rattle.std.specs.Prelude.{◌≡◌, ◌≤◌, ℕ, Bool, true, false, nat_
 use Rattle.engine_reference.specs.declared.data.Entry.{Entry}
 use Rattle.engine_reference.specs.declared.data.Record.{Record}
 use Rattle.engine_reference.specs.declared.data.Registered.{Registered}
-use Rattle.engine_reference.specs.Calls.{written, sent, removed_by, removal_told, with_read, cleared_by, with_predicate, with_room, without_notice}
+use Rattle.engine_reference.specs.Calls.{written, sent, removed_by, removal_told, with_read, cleared_by, with_predicate, with_room, without_room, without_notice}
 use Rattle.engine_reference.specs.Records.{record_at, admitted_in}
 use Rattle.engine_reference.specs.Runs.{Runs, first_of}
 use Rattle.engine_reference.specs.Soundness.{Each, IsIn, IsSound}
@@ -59,4 +59,5 @@ module _ (K V P S R : Type 0) where
     pub cleared : (moment step : ℕ) (order : List ℕ) (s : State K V P S R) (next : ℕ) → IsTimelyBy moment step order s → IsTimelyBy moment step order (cleared_by next s)
     pub covered : (moment step : ℕ) (order : List ℕ) (s : State K V P S R) (p : Registered P) → IsTimelyBy moment step order s → IsTimelyBy moment step order (with_predicate p s)
     pub room : (moment step : ℕ) (order : List ℕ) (s : State K V P S R) → IsTimelyBy moment step order s → IsTimelyBy moment step order (with_room s)
+    pub released : (moment step : ℕ) (order : List ℕ) (s : State K V P S R) → IsTimelyBy moment step order s → IsTimelyBy moment step order (without_room s)
     pub taken : (moment step : ℕ) (order : List ℕ) (s : State K V P S R) → IsTimelyBy moment step order s → IsTimelyBy moment step order (without_notice s)

@@ -340,6 +340,7 @@ module _ (K V P S R : Type 0) where
         cleared = λ step s h. order-same s _ (sound.cleared step s h.sound) refl refl refl h;
         covered = λ p s h. order-same s _ (sound.covered p s h.sound) refl refl refl h;
         room = λ s h. order-same s _ (sound.room s h.sound) refl refl refl h;
+        released = λ s h. order-same s _ (sound.released s h.sound) refl refl refl h;
         taken = λ s h. order-same s _ (sound.taken s h.sound) refl refl refl h;
       }
 

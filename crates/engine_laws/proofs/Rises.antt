@@ -591,5 +591,6 @@ module _ (K V P S R : Type 0) where
         cleared = λ moment step s next h. in-time moment step s _ (timely.cleared moment step s.order s next (by-own moment step s h)) (rises-same s _ refl refl refl refl h.rising);
         covered = λ moment step s p h. in-time moment step s _ (timely.covered moment step s.order s p (by-own moment step s h)) (rises-same s _ refl refl refl refl h.rising);
         room = λ moment step s h. in-time moment step s _ (timely.room moment step s.order s (by-own moment step s h)) (rises-same s _ refl refl refl refl h.rising);
+        released = λ moment step s h. in-time moment step s _ (timely.released moment step s.order s (by-own moment step s h)) (rises-same s _ refl refl refl refl h.rising);
         taken = λ moment step s h. in-time moment step s _ (timely.taken moment step s.order s (by-own moment step s h)) (rises-same s _ refl refl refl refl h.rising);
       }

@@ -296,6 +296,7 @@ module _ (K V P S R : Type 0) where
     read = λ eq answers s key hash now other sound. read-shows eq answers s key hash now other sound (visible_record answers eq s now key) refl;
     removal_told = λ eq answers s e now moment other. told-shows eq answers s now moment other e;
     room = λ eq answers s moment other. refl;
+    released = λ eq answers s moment other. refl;
     taken = λ eq answers s moment other. refl;
   }
 

@@ -562,6 +562,7 @@ module _ (K V P S R : Type 0) where
         cleared = λ moment step order s next h. timely-same moment step order s _ (sound.cleared next s h.sound) refl refl refl refl refl h;
         covered = λ moment step order s p h. timely-same moment step order s _ (sound.covered p s h.sound) refl refl refl refl refl h;
         room = λ moment step order s h. timely-same moment step order s _ (sound.room s h.sound) refl refl refl refl refl h;
+        released = λ moment step order s h. timely-same moment step order s _ (sound.released s h.sound) refl refl refl refl refl h;
         taken = λ moment step order s h. timely-same moment step order s _ (sound.taken s h.sound) refl refl refl refl refl h;
       }
 

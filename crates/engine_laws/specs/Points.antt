@@ -9,7 +9,7 @@ use Rattle.engine_reference.specs.declared.data.Upsert.{Upsert}
 use Rattle.engine_reference.specs.declared.data.Write.{Write}
 use Rattle.engine_reference.specs.declared.data.Write.TheVariants.{Put, Removed}
 use Rattle.engine_reference.specs.Admission.{is_above}
-use Rattle.engine_reference.specs.Calls.{written, sent, removed_by, removal_told, LooksUp, cleared_by, with_predicate, with_room, without_notice}
+use Rattle.engine_reference.specs.Calls.{written, sent, removed_by, removal_told, LooksUp, cleared_by, with_predicate, with_room, without_room, without_notice}
 use Rattle.engine_reference.specs.Records.{record_at, without_record, changed_at, admitted_weight}
 use Rattle.engine_reference.specs.Runs.{Runs, RunsToEnd}
 use Rattle.engine_reference.specs.Soundness.{Each, IsSound, number_of}
@@ -104,6 +104,7 @@ module _ (K V P S R : Type 0) where
     pub cleared : (step : ℕ) (s : State K V P S R) → IsInOrder s → IsInOrder (cleared_by step s)
     pub covered : (p : Registered P) (s : State K V P S R) → IsInOrder s → IsInOrder (with_predicate p s)
     pub room : (s : State K V P S R) → IsInOrder s → IsInOrder (with_room s)
+    pub released : (s : State K V P S R) → IsInOrder s → IsInOrder (without_room s)
     pub taken : (s : State K V P S R) → IsInOrder s → IsInOrder (without_notice s)
 
   abbrev pub RunsStayInOrder : Type 0

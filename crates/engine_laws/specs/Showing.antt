@@ -3,7 +3,7 @@ use Rattle.std.specs.Prelude.{◌≡◌, ◌⊎◌, ℕ, Bool, false, Option, No
 use Rattle.std.specs.Cmp.{IsEquivalence}
 use Rattle.engine_reference.specs.declared.data.Entry.{Entry}
 use Rattle.engine_reference.specs.declared.data.Record.{Record}
-use Rattle.engine_reference.specs.Calls.{written, removed_by, removal_told, with_read, with_room, without_notice}
+use Rattle.engine_reference.specs.Calls.{written, removed_by, removal_told, with_read, with_room, without_room, without_notice}
 use Rattle.engine_reference.specs.Records.{held_entries}
 use Rattle.engine_reference.specs.Soundness.{IsSound}
 use Rattle.engine_reference.specs.State.{State, Answers}
@@ -24,6 +24,7 @@ module _ (K V P S R : Type 0) where
         ⊎ (visible_value answers eq (with_read answers (visible_record answers eq s now key) hash now s) now other ≡ None)
     pub removal_told : (eq : K → K → Bool) (answers : Answers K V P R) (s : State K V P S R) (e : Entry K V) (now moment : ℕ) (other : K) → visible answers eq (removal_told answers e now s) moment other ≡ visible answers eq s moment other
     pub room : (eq : K → K → Bool) (answers : Answers K V P R) (s : State K V P S R) (moment : ℕ) (other : K) → visible answers eq (with_room s) moment other ≡ visible answers eq s moment other
+    pub released : (eq : K → K → Bool) (answers : Answers K V P R) (s : State K V P S R) (moment : ℕ) (other : K) → visible answers eq (without_room s) moment other ≡ visible answers eq s moment other
     pub taken : (eq : K → K → Bool) (answers : Answers K V P R) (s : State K V P S R) (moment : ℕ) (other : K) → visible answers eq (without_notice s) moment other ≡ visible answers eq s moment other
 
   -- no call makes two entries whose keys compare alike

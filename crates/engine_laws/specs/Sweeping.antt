@@ -120,4 +120,5 @@ module _ (K V P S R : Type 0) where
     pub cleared : (moment step : ℕ) (s : State K V P S R) (next : ℕ) → IsTimely moment step s → IsTimely moment step (cleared_by next s)
     pub covered : (moment step : ℕ) (s : State K V P S R) (p : Registered P) → IsTimely moment step s → IsTimely moment step (with_predicate p s)
     pub room : (moment step : ℕ) (s : State K V P S R) → IsTimely moment step s → IsTimely moment step (with_room s)
+    pub released : (moment step : ℕ) (s : State K V P S R) → IsTimely moment step s → IsTimely moment step (without_room s)
     pub taken : (moment step : ℕ) (s : State K V P S R) → IsTimely moment step s → IsTimely moment step (without_notice s)

@@ -4,7 +4,6 @@
 mod finding;
 mod lists;
 mod places;
-mod refusal;
 mod times;
 
 pub use finding::{
@@ -12,5 +11,4 @@ pub use finding::{
     place_of_ticket, weigh_admitted, weigh_held,
 };
 pub use lists::{Lists, MAX_READS, MAX_WRITES};
-pub use refusal::Refusal;
 pub use times::{is_dead, kept, own_expiration, time_left};

@@ -4,7 +4,7 @@ ghost use Rattle.std.specs.String.{string_bytes};
 ghost use Rattle.std.specs.Result.{IsErrOf};
 ghost use Rattle.std.specs.Int.{IsNextPowerOfTwo};
 ghost use Rattle.policy_sketch.specs.Counts.{incremented, grown};
-ghost use Rattle.engine_reference.specs.Calls.{IsNew, cleared_by, without_notice, with_name};
+ghost use Rattle.engine_reference.specs.Calls.{IsNew, cleared_by, without_notice};
 ghost use Rattle.engine_reference.specs.Visible.{is_covered, told};
 ghost use Rattle.engine_reference.specs.Records.{held_at, without, moved_to_back};
 ghost use Rattle.engine_reference.specs.Times.{has_come};
@@ -13,10 +13,9 @@ ghost use Rattle.engine_reference.specs.declared.data.Unsent.{Unsent};
 ghost use Rattle.engine_lists.specs.Asking.{answers_of};
 
 use crate::places::{is_any_over, move_to_back, place_of, take_out};
-use crate::refusal::Refusal;
 use crate::times::is_dead;
 use engine_reference::{Entry, Notice, Read, Record, Registered, Settings, Unsent, Write};
-use engine_rules::{RemovalCause, Rules};
+use engine_rules::{Names, Refusal, RemovalCause, Rules};
 use policy_base::{Instant, MAX_NANOS};
 use policy_sketch::FrequencySketch;
 use std::alloc::{AllocError, Global};
@@ -105,17 +104,25 @@ impl<K: Eq, V, S, R: Rules<K, V>> Model for Lists<K, V, S, R> {
 }
 
 impl<K: Eq, V, S, R: Rules<K, V>> Lists<K, V, S, R> {
-    /// Empty lists of a cache that was made at the moment of its settings.
-    pub fn new(alloc: Global, settings: Settings, hasher: S, rules: R) -> Result<Self, AllocError>
+    /// Empty lists of a cache that was made at the moment of its settings, with room for so many records.
+    pub fn new(
+        alloc: Global,
+        name: Option<String>,
+        initial_capacity: usize,
+        settings: Settings,
+        hasher: S,
+        rules: R,
+    ) -> Result<Self, AllocError>
     where
         S: Drop,
         R: Drop,
-        ensures { IfOk result (λ made. IsNew settings hasher rules made) }
+        ensures { IfOk result (λ made. IsNew (option_map string_bytes name) settings hasher rules made) }
     {
         let reads = Vec::with_capacity(alloc, MAX_READS)?;
         let writes = Vec::with_capacity(alloc, MAX_WRITES)?;
+        let records = Vec::with_capacity(alloc, initial_capacity)?;
         Ok(Lists {
-            records: Vec::new(alloc),
+            records,
             access: Vec::new(alloc),
             order: Vec::new(alloc),
             cleared: 0,
@@ -132,7 +139,7 @@ impl<K: Eq, V, S, R: Rules<K, V>> Lists<K, V, S, R> {
             next_number: 0,
             next_ticket: 0,
             reserved: 0,
-            name: None,
+            name,
             settings,
             hasher,
             rules,
@@ -254,13 +261,6 @@ impl<K: Eq, V, S, R: Rules<K, V>> Lists<K, V, S, R> {
         }
     }
 
-    /// Calls the cache so.
-    pub fn set_name(&mut self, name: String)
-        ensures { self.new ≡ with_name (string_bytes name) self.old }
-    {
-        self.name = Some(name);
-    }
-
     /// What hashes keys.
     pub fn hasher(&self) -> &S
         ensures { result.now ≡ self.now.hasher }
@@ -311,10 +311,10 @@ impl<K: Eq, V, S, R: Rules<K, V>> Lists<K, V, S, R> {
     }
 
     /// Where the record of a key is.
-    pub fn place_of(&self, key: &K) -> Option<usize>
-        ensures found { IfSome result (λ i. (r : Record K V) × (slice_get self.now.records i ≡ Some r) × (held_at K.eq self.now.records key.now ≡ Some r)) }
+    pub fn place_of<Q: Names<K>>(&self, key: &Q) -> Option<usize>
+        ensures found { IfSome result (λ i. (r : Record K V) × (slice_get self.now.records i ≡ Some r) × (held_at K.eq self.now.records (Q.named_key key.now) ≡ Some r)) }
         ensures within { IfSome result (λ i. i < length self.now.records) }
-        ensures none { IfNone result (held_at K.eq self.now.records key.now ≡ None) }
+        ensures none { IfNone result (held_at K.eq self.now.records (Q.named_key key.now) ≡ None) }
     {
         place_of(self.records.as_slice(), key)
     }

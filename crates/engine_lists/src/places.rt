@@ -7,20 +7,20 @@ ghost use Rattle.engine_reference.specs.declared.data.Record.{Record};
 ghost use Rattle.engine_lists.specs.Asking.{answers_of};
 
 use engine_reference::{Entry, Record, Registered};
-use engine_rules::Rules;
+use engine_rules::{Names, Rules};
 
 /// Whether a record is the one of a key, and held.
-fn is_of<K: Eq, V>(found: &Record<K, V>, key: &K) -> bool
-    ensures { result ≡ (found.now.is_held && K.eq key.now found.now.entry.key) }
+fn is_of<K: Eq, Q: Names<K>, V>(found: &Record<K, V>, key: &Q) -> bool
+    ensures { result ≡ (found.now.is_held && K.eq (Q.named_key key.now) found.now.entry.key) }
 {
-    found.is_held && *key == found.entry.key
+    found.is_held && key.is_name_of(&found.entry.key)
 }
 
 /// The place of a key's record, where it is held.
-pub fn place_of<K: Eq, V>(records: &[Record<K, V>], key: &K) -> Option<usize>
-    ensures found { IfSome result (λ i. (r : Record K V) × (slice_get records.now i ≡ Some r) × (held_at K.eq records.now key.now ≡ Some r)) }
+pub fn place_of<K: Eq, Q: Names<K>, V>(records: &[Record<K, V>], key: &Q) -> Option<usize>
+    ensures found { IfSome result (λ i. (r : Record K V) × (slice_get records.now i ≡ Some r) × (held_at K.eq records.now (Q.named_key key.now) ≡ Some r)) }
     ensures within { IfSome result (λ i. i < length records.now) }
-    ensures none { IfNone result (held_at K.eq records.now key.now ≡ None) }
+    ensures none { IfNone result (held_at K.eq records.now (Q.named_key key.now) ≡ None) }
 {
     for (i, r) in records.iter().enumerate() {
         if is_of(r, key) {

@@ -9,18 +9,18 @@ ghost use Rattle.engine_looks.specs.Chains.{is_admitted};
 use crate::due::record_in;
 use engine_lists::{Lists, place_at};
 use engine_reference::Write;
-use engine_rules::Rules;
+use engine_rules::{Names, Rules};
 use std::alloc::AllocError;
 
 /// Where the visible record of a key is.
-pub fn look_up<K: Eq, V, S, R: Rules<K, V>>(
+pub fn look_up<K: Eq, Q: Names<K>, V, S, R: Rules<K, V>>(
     lists: &Lists<K, V, S, R>,
-    key: &K,
+    key: &Q,
     now: u64,
 ) -> Option<usize>
-    ensures some { IfSome result (λ i. (r : Record K V) × (slice_get lists.now.records i ≡ Some r) × (visible_record (answers_of R.weight_of R.created R.read R.updated R.covers) K.eq lists.now now key.now ≡ Some r)) }
+    ensures some { IfSome result (λ i. (r : Record K V) × (slice_get lists.now.records i ≡ Some r) × (visible_record (answers_of R.weight_of R.created R.read R.updated R.covers) K.eq lists.now now (Q.named_key key.now) ≡ Some r)) }
     ensures within { IfSome result (λ i. i < length lists.now.records) }
-    ensures none { IfNone result (visible_record (answers_of R.weight_of R.created R.read R.updated R.covers) K.eq lists.now now key.now ≡ None) }
+    ensures none { IfNone result (visible_record (answers_of R.weight_of R.created R.read R.updated R.covers) K.eq lists.now now (Q.named_key key.now) ≡ None) }
 {
     let place = lists.place_of(key)?;
     if lists.is_dead(place, now) || lists.is_covered(place) {

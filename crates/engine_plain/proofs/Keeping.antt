@@ -1,5 +1,5 @@
 -- Each change of the cache keeps it sound.
-use Rattle.std.proofs.Common.{◌≡◌, ap, sym, ◌∙◌, subst, ℕ, Bool, true, [], ◌∷◌, ◌++◌, Some}
+use Rattle.std.proofs.Common.{◌≡◌, ap, sym, ◌∙◌, subst, ℕ, Bool, true, List, [], ◌∷◌, ◌++◌, Option, Some}
 use Rattle.std.specs.Prelude.{remove, is_some}
 use Rattle.std.proofs.Math.Logic.{∥∥₁_map}
 use Rattle.engine_reference.specs.declared.data.Settings.{Settings}
@@ -16,8 +16,8 @@ module _ {K V P S R : Type 0} where
   pub sound_as : (old new mid : State K V P S R) → new ≡ mid → (IsSound old → IsSound mid) → ∥ IsSound old ∥₁ → ∥ IsSound new ∥₁
   sound_as old new mid e keeps h = ∥∥₁_map h (λ k. subst (λ s. IsSound s) (sym e) (keeps k))
 
-  pub sound_empty : (settings : Settings) (hasher : S) (rules : R) (s : State K V P S R) → IsNew settings hasher rules s → IsSound s
-  sound_empty settings hasher rules s h = (calls_stay_sound K V P S R).empty s h.records h.access h.unsent h.writes
+  pub sound_empty : (name : Option (List ℕ)) (settings : Settings) (hasher : S) (rules : R) (s : State K V P S R) → IsNew name settings hasher rules s → IsSound s
+  sound_empty name settings hasher rules s h = (calls_stay_sound K V P S R).empty s h.records h.access h.unsent h.writes
 
   pub sent_at : (s : State K V P S R) (ticket place : ℕ) (u : Unsent) → unsent_at s.unsent ticket ≡ Some u.write → without_ticket ticket s.unsent ≡ remove s.unsent place
       → record s { unsent = remove s.unsent place; writes = s.writes ++ u.write ∷ [] } ≡ sent ticket s

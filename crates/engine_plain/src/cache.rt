@@ -2,6 +2,7 @@
 ghost use Rattle.std.specs.Prelude.{◌≡◌, ℕ, ◌+◌, ◌-◌, ◌<◌, ◌≤◌, ◌^◌, Bool, true, false, List, [], ◌∷◌, ◌⊎◌, ◌++◌, length, drop, min, remove, slice_get, slice_set, is_some, Some, None, IfSome, IfNone, IfOk, OnOk, OnErr, if◌then◌else◌, option_map};
 ghost use Rattle.std.specs.Duration.{as_nanos};
 ghost use Rattle.std.specs.Result.{IsErrOf};
+ghost use Rattle.std.specs.String.{string_bytes};
 ghost use Rattle.engine_reference.specs.Admission.{Verdict, admit, displace, refuse, verdict, is_above, shortest_front, wants_table};
 ghost use Rattle.engine_reference.specs.Calls.{without_ticket, IsNew, written, with_written, sent, unsent_at, is_full, removal_told, MaintainsIfDue, with_read, cleared_by, without_notice, with_room, used_entry};
 ghost use Rattle.engine_reference.specs.Laws.{CountsExactly};
@@ -14,6 +15,7 @@ ghost use Rattle.engine_reference.specs.declared.data.Unsent.{Unsent};
 ghost use Rattle.engine_reference.specs.declared.data.Upsert.{Upsert};
 ghost use Rattle.engine_reference.specs.declared.data.Write.{Write};
 ghost use Rattle.engine_reference.specs.declared.data.Write.TheVariants.{Put, Removed};
+ghost use Rattle.engine_rules.specs.Hashing.{hash_of_key};
 ghost use Rattle.engine_rules.specs.declared.causes.RemovalCause.TheVariants as cause;
 ghost use Rattle.engine_laws.specs.Sweeping.{IsTimely, LeavesNoneDue};
 ghost use Rattle.engine_lists.specs.Asking.{answers_of};
@@ -22,8 +24,8 @@ ghost use Rattle.engine_looks.specs.Displacing.{front_of, displaced};
 ghost use Rattle.engine_looks.specs.Tables.{LacksTableFor};
 
 use engine_lists::{
-    Lists, MAX_READS, MAX_WRITES, Refusal, count_admitted, place_at, place_of_ticket,
-    weigh_admitted, weigh_held,
+    Lists, MAX_READS, MAX_WRITES, count_admitted, place_at, place_of_ticket, weigh_admitted,
+    weigh_held,
 };
 use engine_looks::{
     Decision, beside, cause_of_removal, cause_of_write, clone_at, decide, displace_for,
@@ -32,11 +34,13 @@ use engine_looks::{
     upsert, use_found,
 };
 use engine_reference::{Entry, Notice, Read, Record, Settings, Upsert, Write};
-use engine_rules::{Policy, RemovalCause, Rules};
-use policy_base::Instant;
+use engine_rules::{Names, Policy, Refusal, RemovalCause, Rules};
+use policy_base::{HousekeeperConfig, Instant};
 use std::alloc::{AllocError, Global};
+use std::hash::{BuildHasher, Hash, Hasher};
 use std::marker::Model;
 
+mod housekeeping;
 mod lookups;
 mod predicates;
 mod removals;
@@ -45,11 +49,11 @@ mod settings;
 
 /// A cache of one part. Steps rise from call to call; moments may be any.
 #[derive(Drop)]
-pub struct BaseCache<K: Eq, V, S, R: Rules<K, V>> {
+pub struct BaseCache<K: Eq + Hash, V, S: BuildHasher, R: Rules<K, V>> {
     lists: Lists<K, V, S, R>,
 }
 
-impl<K: Eq, V, S, R: Rules<K, V>> Model for BaseCache<K, V, S, R> {
+impl<K: Eq + Hash, V, S: BuildHasher, R: Rules<K, V>> Model for BaseCache<K, V, S, R> {
     ghost use Rattle.engine_reference.specs.State.{State};
     ghost use Rattle.engine_reference.specs.Soundness.{IsSound};
 
@@ -60,15 +64,24 @@ impl<K: Eq, V, S, R: Rules<K, V>> Model for BaseCache<K, V, S, R> {
     ghost invariant = { λ c. ∥ IsSound c.lists ∥₁ };
 }
 
-impl<K: Eq, V, S, R: Rules<K, V>> BaseCache<K, V, S, R> {
-    /// An empty cache, made at the moment of its settings.
-    pub fn new(alloc: Global, settings: Settings, hasher: S, rules: R) -> Result<Self, AllocError>
+impl<K: Eq + Hash, V, S: BuildHasher, R: Rules<K, V>> BaseCache<K, V, S, R> {
+    /// An empty cache of this name, made at the moment of its settings, with room for so many entries.
+    /// Nothing comes of the housekeeper's configuration: a run goes to its end, and no contract shows the size of its batches.
+    pub fn new(
+        alloc: Global,
+        name: Option<String>,
+        initial_capacity: usize,
+        settings: Settings,
+        _housekeeper_config: HousekeeperConfig,
+        hasher: S,
+        rules: R,
+    ) -> Result<Self, AllocError>
     where
         S: Drop,
         R: Drop,
-        ensures { IfOk result (λ made. IsNew settings hasher rules made) }
+        ensures { IfOk result (λ made. IsNew (option_map string_bytes name) settings hasher rules made) }
     {
-        let lists = Lists::new(alloc, settings, hasher, rules)?;
+        let lists = Lists::new(alloc, name, initial_capacity, settings, hasher, rules)?;
         Ok(BaseCache { lists })
     }
 
@@ -130,23 +143,25 @@ impl<K: Eq, V, S, R: Rules<K, V>> BaseCache<K, V, S, R> {
     }
 
     /// Whether a key has a visible value. It is no use of it.
-    pub fn contains_key_with_hash(&self, key: &K, _hash: u64, now: Instant) -> bool
-        ensures { result ≡ is_some (visible_record (answers_of R.weight_of R.created R.read R.updated R.covers) K.eq self.now now key.now) }
+    pub fn contains_key_with_hash<Q: Names<K>>(&self, key: &Q, _hash: u64, now: Instant) -> bool
+        requires hashed { _hash ≡ hash_of_key S.Hasher.finish S.Hasher.write S.build_hasher K.hash_input self.now.hasher (Q.named_key key.now) }
+        ensures { result ≡ is_some (visible_record (answers_of R.weight_of R.created R.read R.updated R.covers) K.eq self.now now (Q.named_key key.now)) }
     {
         look_up(&self.lists, key, now.as_nanos()).is_some()
     }
 
     /// A clone of the visible value of a key. It is no use of it.
-    pub fn get_with_hash_without_recording(
+    pub fn get_with_hash_without_recording<Q: Names<K>>(
         &self,
-        key: &K,
+        key: &Q,
         _hash: u64,
         now: Instant,
     ) -> Result<Option<V>, AllocError>
     where
         V: Clone,
+        requires hashed { _hash ≡ hash_of_key S.Hasher.finish S.Hasher.write S.build_hasher K.hash_input self.now.hasher (Q.named_key key.now) }
         requires exact { (x y : V) → V.is_clone x y → y ≡ x }
-        ensures { IfOk result (λ found. found ≡ visible_value (answers_of R.weight_of R.created R.read R.updated R.covers) K.eq self.now now key.now) }
+        ensures { IfOk result (λ found. found ≡ visible_value (answers_of R.weight_of R.created R.read R.updated R.covers) K.eq self.now now (Q.named_key key.now)) }
     {
         match look_up(&self.lists, key, now.as_nanos()) {
             Some(place) => {
@@ -171,6 +186,7 @@ impl<K: Eq, V, S, R: Rules<K, V>> BaseCache<K, V, S, R> {
     where
         K: Drop,
         V: Drop,
+        requires hashed { hash ≡ hash_of_key S.Hasher.finish S.Hasher.write S.build_hasher K.hash_input self.old.hasher key }
         requires room { 0 < self.old.reserved }
         ensures ticket { result ≡ self.old.next_ticket }
         ensures written { self.new ≡ written (answers_of R.weight_of R.created R.read R.updated R.covers) K.eq self.old key hash value now step }
@@ -223,8 +239,8 @@ impl<K: Eq, V, S, R: Rules<K, V>> BaseCache<K, V, S, R> {
             .write_over(place, entry, cause, Write::Put(write));
     }
 
-    /// Tells an entry that was removed by its key.
-    pub fn notify_invalidate(&mut self, entry: Entry<K, V>, now: Instant)
+    /// Tells an entry that was removed by its key, which is named beside it.
+    pub fn notify_invalidate<Q: Names<K>>(&mut self, _key: &Q, entry: Entry<K, V>, now: Instant)
     where
         K: Drop,
         V: Drop,
@@ -723,7 +739,7 @@ impl<K: Eq, V, S, R: Rules<K, V>> BaseCache<K, V, S, R> {
         self.lists.finish_run(number, weight, now, table_refused);
     }
 
-    /// (answers_of R.weight_of R.created R.read R.updated R.covers) run of what has no read and no write to apply, once the sketch's table was tried.
+    /// A run of what has no read and no write to apply, once the sketch's table was tried.
     fn settle(&mut self, now: u64, table_refused: bool)
     where
         K: Drop,

@@ -4,4 +4,4 @@
 mod cache;
 
 pub use cache::BaseCache;
-pub use engine_lists::Refusal;
+pub use engine_rules::Refusal;

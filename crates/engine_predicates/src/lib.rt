@@ -7,9 +7,9 @@ ghost use Rattle.engine_identifiers.specs.Drawing.{Draws, AreInUse, is_registere
 ghost use Rattle.engine_reference.specs.Calls.{with_room, with_predicate, registered};
 
 use engine_identifiers::draw;
-use engine_lists::{Lists, Refusal};
+use engine_lists::Lists;
 use engine_reference::Registered;
-use engine_rules::Rules;
+use engine_rules::{Refusal, Rules};
 use rand_core::Rng;
 
 /// Makes room for a predicate, where predicates are taken.

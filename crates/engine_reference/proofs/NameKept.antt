@@ -47,5 +47,6 @@ module _ (K V P S R : Type 0) where
     cleared = λ step s. refl;
     covered = λ p s. refl;
     room = λ s. refl;
+    released = λ s. refl;
     taken = λ s. refl;
   }

@@ -334,6 +334,7 @@ module _ (K V P S R : Type 0) where
     cleared = λ step s h. record { records = h.records; named = h.named };
     covered = λ p s h. record { records = h.records; named = h.named };
     room = λ s h. record { records = h.records; named = h.named };
+    released = λ s h. record { records = h.records; named = h.named };
     taken = λ s h. record { records = h.records; named = h.named };
   }
     where

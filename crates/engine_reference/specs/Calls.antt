@@ -67,7 +67,7 @@ module _ {K V P S R : Type 0} where
   with_reserved_removal None s = s
   with_reserved_removal (Some r) s = with_removed (Some r) (record s { reserved = s.reserved - removal_rooms s.settings })
 
-  -- ---- clears, predicates, room, notices, the name
+  -- ---- clears, predicates, room, notices
 
   -- every entry of an earlier step is covered
   abbrev pub cleared_by : ℕ → State K V P S R → State K V P S R
@@ -89,10 +89,6 @@ module _ {K V P S R : Type 0} where
 
   abbrev pub without_notice : State K V P S R → State K V P S R
   without_notice s = record s { notices = drop 1 s.notices }
-
-  -- the cache is called so
-  abbrev pub with_name : List ℕ → State K V P S R → State K V P S R
-  with_name text s = record s { name = Some text }
 
 module _ {K V P S R : Type 0} (answers : Answers K V P R) where
   -- ---- writing
@@ -192,7 +188,7 @@ module _ {K V P S R : Type 0} (answers : Answers K V P R) where
 -- ---- making
 
 -- a cache that was just made
-pub record IsNew {K V P S R : Type 0} (settings : Settings) (hasher : S) (rules : R) (s : State K V P S R) : Type 0 where
+pub record IsNew {K V P S R : Type 0} (name : Option (List ℕ)) (settings : Settings) (hasher : S) (rules : R) (s : State K V P S R) : Type 0 where
   pub records : s.records ≡ []
   pub access : s.access ≡ []
   pub order : s.order ≡ []
@@ -210,7 +206,7 @@ pub record IsNew {K V P S R : Type 0} (settings : Settings) (hasher : S) (rules 
   pub next_number : s.next_number ≡ 0
   pub next_ticket : s.next_ticket ≡ 0
   pub reserved : s.reserved ≡ 0
-  pub name : s.name ≡ None
+  pub name_is : s.name ≡ name
   pub settings_are : s.settings ≡ settings
   pub hasher_is : s.hasher ≡ hasher
   pub rules_are : s.rules ≡ rules

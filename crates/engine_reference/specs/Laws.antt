@@ -120,7 +120,7 @@ module _ (K V P S R : Type 0) where
 
   -- ---- what the cache is called
 
-  -- no call changes it but the one that gives it, and no run does
+  -- no call changes it, and no run does
   pub record NameIsKept : Type 0 where
     pub runs : (answers : Answers K V P R) (now : ℕ) (old new : State K V P S R) → Runs answers now old new → new.name ≡ old.name
     pub written : (eq : K → K → Bool) (answers : Answers K V P R) (s : State K V P S R) (key : K) (hash : ℕ) (value : V) (now step : ℕ) → (written answers eq s key hash value now step).name ≡ s.name
@@ -131,6 +131,7 @@ module _ (K V P S R : Type 0) where
     pub cleared : (step : ℕ) (s : State K V P S R) → (cleared_by step s).name ≡ s.name
     pub covered : (p : Registered P) (s : State K V P S R) → (with_predicate p s).name ≡ s.name
     pub room : (s : State K V P S R) → (with_room s).name ≡ s.name
+    pub released : (s : State K V P S R) → (without_room s).name ≡ s.name
     pub taken : (s : State K V P S R) → (without_notice s).name ≡ s.name
 
   -- ---- calls in two halves
@@ -201,6 +202,7 @@ module _ (K V P S R : Type 0) where
     pub cleared : (step : ℕ) (s : State K V P S R) → IsSound s → IsSound (cleared_by step s)
     pub covered : (p : Registered P) (s : State K V P S R) → IsSound s → IsSound (with_predicate p s)
     pub room : (s : State K V P S R) → IsSound s → IsSound (with_room s)
+    pub released : (s : State K V P S R) → IsSound s → IsSound (without_room s)
     pub taken : (s : State K V P S R) → IsSound s → IsSound (without_notice s)
 
   -- ---- evictions

@@ -1,7 +1,7 @@
 //! Why a value left, and why a predicate is refused.
-ghost use Rattle.std.specs.Prelude.{◌≡◌, ◌↔◌, ◌⊎◌, IsTrue, Some, codes};
+ghost use Rattle.std.specs.Prelude.{◌≡◌, ◌↔◌, ◌⊎◌, IsTrue};
 
-use std::fmt;
+use thiserror::Error;
 
 /// Why a value left a cache.
 #[derive(Clone, Copy, Debug, PartialEq, Eq)]
@@ -29,16 +29,9 @@ impl RemovalCause {
 }
 
 /// Why a predicate is refused.
-#[derive(Clone, Copy, Debug, PartialEq, Eq)]
+#[derive(Clone, Copy, Debug, PartialEq, Eq, Drop, Error)]
 pub enum PredicateError {
     /// The cache was made without support for predicates.
+    #[error("invalidation closures are disabled")]
     InvalidationClosuresDisabled,
-}
-
-impl fmt::Display for PredicateError {
-    ghost output = { λ _. Some (codes "invalidation closures are disabled") };
-
-    fn fmt<W: fmt::Write>(&self, f: &mut fmt::Formatter<W>) -> fmt::Result {
-        f.write_str("invalidation closures are disabled")
-    }
 }

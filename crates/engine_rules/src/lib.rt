@@ -4,10 +4,14 @@
 
 mod causes;
 mod expiry;
+mod names;
+mod refusal;
 mod rules;
 mod settings;
 
 pub use causes::{PredicateError, RemovalCause};
 pub use expiry::{Expiration, Expiry, NoExpiry};
+pub use names::Names;
+pub use refusal::Refusal;
 pub use rules::{Bundle, NoPredicate, Predicate, Rules, WeighOne, Weigher};
 pub use settings::{EvictionPolicy, ExpirationPolicy, Policy};

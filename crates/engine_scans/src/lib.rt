@@ -11,7 +11,7 @@ ghost use Rattle.engine_reference.specs.Scanning.{held_keys, LooksPast};
 use engine_lists::Lists;
 use engine_looks::{clone_at, look_up, record_in};
 use engine_reference::Record;
-use engine_rules::Rules;
+use engine_rules::{Names, Rules};
 use std::alloc::AllocError;
 
 /// Adds a clone of a record's key, where it is held.
@@ -56,12 +56,12 @@ fn key_at<K: Eq + Clone, V, S, R: Rules<K, V>>(
 }
 
 /// A clone of the key that is stored for a key, whether its value is visible or not.
-pub fn stored_key<K: Eq + Clone + Drop, V, S, R: Rules<K, V>>(
+pub fn stored_key<K: Eq + Clone + Drop, Q: Names<K>, V, S, R: Rules<K, V>>(
     lists: &Lists<K, V, S, R>,
-    key: &K,
+    key: &Q,
 ) -> Result<Option<K>, AllocError>
     requires exact_key { (x y : K) → K.is_clone x y → y ≡ x }
-    ensures { IfOk result (λ found. found ≡ option_map (λ r. r.entry.key) (held_at K.eq lists.now.records key.now)) }
+    ensures { IfOk result (λ found. found ≡ option_map (λ r. r.entry.key) (held_at K.eq lists.now.records (Q.named_key key.now))) }
 {
     match lists.place_of(key) {
         Some(place) => {
@@ -95,15 +95,15 @@ fn is_ignored<K: Eq, V, S, R: Rules<K, V>, F: FnOnce(&V) -> bool>(
 }
 
 /// The number and a clone of the visible value of a key, where it is not one to pass over. What says so is asked of a visible value alone.
-pub fn look_past<K: Eq, V: Clone, S, R: Rules<K, V>, F: FnOnce(&V) -> bool + Drop>(
+pub fn look_past<K: Eq, Q: Names<K>, V: Clone, S, R: Rules<K, V>, F: FnOnce(&V) -> bool + Drop>(
     lists: &Lists<K, V, S, R>,
-    key: &K,
+    key: &Q,
     now: u64,
     ignore_if: F,
 ) -> Result<Option<(u64, V)>, AllocError>
     requires exact { (x y : V) → V.is_clone x y → y ≡ x }
     requires callable { F.IsAlwaysCallable ignore_if }
-    ensures { IfOk result (λ found. LooksPast (answers_of R.weight_of R.created R.read R.updated R.covers) K.eq key.now now (FnOnceReturnsAt F.FnOnce ignore_if) lists.now found) }
+    ensures { IfOk result (λ found. LooksPast (answers_of R.weight_of R.created R.read R.updated R.covers) K.eq (Q.named_key key.now) now (FnOnceReturnsAt F.FnOnce ignore_if) lists.now found) }
 {
     match look_up(lists, key, now) {
         Some(place) => {

@@ -6,15 +6,17 @@ use crate::values::Brittle;
 use engine_plain::{BaseCache, Refusal};
 use engine_reference::{Notice, Settings};
 use engine_rules::{Bundle, Policy};
-use policy_base::Instant;
+use policy_base::{HousekeeperConfig, Instant};
 use std::alloc::{AllocError, Global};
+use std::hash::{BuildHasherDefault, FoldHasher};
 use std::time::Duration;
 
-/// The calls of a cache of one part with keys and values of numbers, so that one row runs on each engine. A key is its hash. The cache holds each value as a `Brittle`, so it has no clone of one of them.
+/// The calls of a cache of one part with keys and values of numbers, so that one row runs on each engine. The cache holds each value as a `Brittle`, so it has no clone of one of them.
 pub trait Engine: Drop {
     /// An empty cache; `time` is how long a value lives from its creation on.
     fn make(
         alloc: Global,
+        name: Option<String>,
         settings: Settings,
         time: Option<Duration>,
         weighs: Weighs,
@@ -110,8 +112,6 @@ pub trait Engine: Drop {
 
     fn is_map_disabled(&self) -> bool;
 
-    fn set_name(&mut self, name: String);
-
     fn name(&self) -> Option<&str>;
 }
 
@@ -123,23 +123,39 @@ fn number_of(found: Option<Brittle>) -> Option<u32> {
     }
 }
 
+/// For how many entries a cache is made.
+const INITIAL_CAPACITY: usize = 2;
+
+/// A hasher of std without a key of its own.
+pub type Folding = BuildHasherDefault<FoldHasher>;
+
 /// The plain engine.
-pub type Plain = BaseCache<u32, Brittle, u8, RowRules>;
+pub type Plain = BaseCache<u32, Brittle, Folding, RowRules>;
 
 impl Engine for Plain {
     fn make(
         alloc: Global,
+        name: Option<String>,
         settings: Settings,
         time: Option<Duration>,
         weighs: Weighs,
     ) -> Result<Self, AllocError> {
-        BaseCache::new(alloc, settings, 0, Bundle::new(Lives { time }, weighs))
+        BaseCache::new(
+            alloc,
+            name,
+            INITIAL_CAPACITY,
+            settings,
+            HousekeeperConfig::default(),
+            Folding::new(),
+            Bundle::new(Lives { time }, weighs),
+        )
     }
 
     fn put(&mut self, key: u32, value: u32, now: Instant, step: u64) -> Result<u64, Refusal> {
         self.reserve_write()?;
         let value = Brittle { number: value };
-        Ok(self.do_insert_with_hash(key, u64::from(key), value, now, step))
+        let hash = self.hash(&key);
+        Ok(self.do_insert_with_hash(key, hash, value, now, step))
     }
 
     fn send(&mut self, ticket: u64) -> Result<(), Refusal> {
@@ -147,10 +163,11 @@ impl Engine for Plain {
     }
 
     fn remove(&mut self, key: u32, now: Instant) -> Result<Option<(u32, u64)>, Refusal> {
-        match self.remove_entry(&key, u64::from(key), 0)? {
+        let hash = self.hash(&key);
+        match self.remove_entry(&key, hash, 0)? {
             Some((entry, ticket)) => {
                 let value = entry.value.number;
-                self.notify_invalidate(entry, now);
+                self.notify_invalidate(&key, entry, now);
                 Ok(Some((value, ticket)))
             }
             None => Ok(None),
@@ -158,11 +175,12 @@ impl Engine for Plain {
     }
 
     fn remove_in_halves(&mut self, key: u32, now: Instant) -> Result<Option<(u32, u64)>, Refusal> {
-        match self.prepare_removal(&key, u64::from(key))? {
-            Some(parts) => match self.remove_reserved(&key, u64::from(key), parts) {
+        let hash = self.hash(&key);
+        match self.prepare_removal(&key, hash)? {
+            Some(parts) => match self.remove_reserved(&key, hash, parts) {
                 Some((entry, ticket)) => {
                     let value = entry.value.number;
-                    self.notify_invalidate(entry, now);
+                    self.notify_invalidate(&key, entry, now);
                     Ok(Some((value, ticket)))
                 }
                 None => Ok(None),
@@ -172,16 +190,19 @@ impl Engine for Plain {
     }
 
     fn get(&mut self, key: u32, now: Instant) -> Result<Option<u32>, AllocError> {
-        Ok(number_of(self.get_with_hash(&key, u64::from(key), now)?))
+        let hash = self.hash(&key);
+        Ok(number_of(self.get_with_hash(&key, hash, now)?))
     }
 
     fn get_past(&mut self, key: u32, now: Instant, past: u32) -> Result<Option<u32>, AllocError> {
         let is_past = |value: &Brittle| value.number == past;
-        Ok(number_of(self.get_with_hash_and_ignore_if(&key, u64::from(key), now, is_past)?))
+        let hash = self.hash(&key);
+        Ok(number_of(self.get_with_hash_and_ignore_if(&key, hash, now, is_past)?))
     }
 
     fn look(&self, key: u32, now: Instant) -> Result<Option<u32>, AllocError> {
-        Ok(number_of(self.get_with_hash_without_recording(&key, u64::from(key), now)?))
+        let hash = self.hash(&key);
+        Ok(number_of(self.get_with_hash_without_recording(&key, hash, now)?))
     }
 
     fn scanning_get(&self, key: u32, now: Instant) -> Result<Option<u32>, AllocError> {
@@ -189,28 +210,33 @@ impl Engine for Plain {
     }
 
     fn borrow(&self, key: u32, now: Instant) -> Option<u32> {
-        match self.peek(&key, u64::from(key), now) {
+        let hash = self.hash(&key);
+        match self.peek(&key, hash, now) {
             Some(value) => Some(value.number),
             None => None,
         }
     }
 
     fn get_in_halves(&mut self, key: u32, now: Instant) -> Option<u32> {
+        let hash = self.hash(&key);
         let found = self.borrow(key, now);
-        self.note_look_up(&key, u64::from(key), now, false);
+        self.note_look_up(&key, hash, now, false);
         found
     }
 
     fn held(&self, key: u32) -> Result<Option<u32>, AllocError> {
-        Ok(number_of(self.held_value_with_hash(&key, u64::from(key))?))
+        let hash = self.hash(&key);
+        Ok(number_of(self.held_value_with_hash(&key, hash)?))
     }
 
     fn contains_key(&self, key: u32, now: Instant) -> bool {
-        self.contains_key_with_hash(&key, u64::from(key), now)
+        let hash = self.hash(&key);
+        self.contains_key_with_hash(&key, hash, now)
     }
 
     fn get_key(&self, key: u32) -> Result<Option<u32>, AllocError> {
-        self.get_key_with_hash(&key, u64::from(key))
+        let hash = self.hash(&key);
+        self.get_key_with_hash(&key, hash)
     }
 
     fn keys(&self, segment: usize) -> Result<Option<Vec<u32>>, AllocError> {
@@ -315,10 +341,6 @@ impl Engine for Plain {
 
     fn is_map_disabled(&self) -> bool {
         self.is_map_disabled()
-    }
-
-    fn set_name(&mut self, name: String) {
-        self.set_name(name);
     }
 
     fn name(&self) -> Option<&str> {

@@ -1,25 +1,29 @@
 //! The hash of a key of the plain engine, by the hasher that a cache was made with.
+use crate::engine::Folding;
 use crate::script::SETTINGS;
 use engine_plain::BaseCache;
 use engine_rules::{Bundle, NoExpiry, NoPredicate, WeighOne};
+use policy_base::HousekeeperConfig;
 use std::alloc::{AllocError, Global};
-use std::hash::{BuildHasher, BuildHasherDefault, FoldHasher, Hash, Hasher};
+use std::hash::{BuildHasher, Hash, Hasher};
 
-type Folding = BuildHasherDefault<FoldHasher>;
-
-type Cache = BaseCache<u32, u32, Folding, Bundle<NoExpiry, WeighOne, NoPredicate, u8>>;
+/// A plain cache of numbers, without times or predicates.
+pub type Cache = BaseCache<u32, u32, Folding, Bundle<NoExpiry, WeighOne, NoPredicate, u8>>;
 
 fn made(alloc: Global) -> Result<Cache, AllocError> {
     BaseCache::new(
         alloc,
+        None,
+        0,
         SETTINGS,
+        HousekeeperConfig::default(),
         Folding::new(),
         Bundle::new(NoExpiry, WeighOne),
     )
 }
 
 /// An empty cache, at the second try where memory is refused.
-fn cache_of(alloc: Global) -> Result<Cache, AllocError> {
+pub fn cache_of(alloc: Global) -> Result<Cache, AllocError> {
     match made(alloc) {
         Ok(cache) => Ok(cache),
         Err(_) => made(alloc),

@@ -10,7 +10,11 @@ mod generators;
 #[cfg(test)]
 mod hashes;
 #[cfg(test)]
+mod housekeeping;
+#[cfg(test)]
 mod looks;
+#[cfg(test)]
+mod names;
 #[cfg(test)]
 mod predicates;
 #[cfg(test)]

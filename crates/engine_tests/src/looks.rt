@@ -91,24 +91,23 @@ const CASES: &[Case<'static>] = &[
             Row::RemovesInHalves(3, Ok(Some((30, 4)))),
             Row::RemovesInHalves(3, Ok(None)),
             Row::Keys(&[1]),
+            Row::Named(None),
         ],
         ..CASE
     },
-    // A name stays until another is given. A capacity of 0 says that nothing is to be held.
+    // A cache has the name that it was made with. A capacity of 0 says that nothing is to be held.
     Case {
+        name: Some("first"),
         settings: Settings {
             capacity: Some(0),
             ..SETTINGS
         },
         rows: &[
             Row::MapDisabled(true),
-            Row::Named(None),
-            Row::Names("first"),
+            Row::Named(Some("first")),
             Row::Puts(1, 10, 1),
             Row::Runs,
             Row::Named(Some("first")),
-            Row::Names("second"),
-            Row::Named(Some("second")),
         ],
         ..CASE
     },

@@ -66,8 +66,6 @@ pub enum Row<'a> {
     RunsWhole,
     /// A run if it is due.
     RunsIfDue,
-    /// A name is given.
-    Names(&'a str),
     /// What a look shows of a key.
     Shows(Look, u32, Option<u32>),
     /// A look at a key is refused.
@@ -103,6 +101,7 @@ pub enum Row<'a> {
 /// A cache, and what is asked of it.
 #[derive(Clone, Copy)]
 pub struct Case<'a> {
+    pub name: Option<&'a str>,
     pub settings: Settings,
     /// How long each value lives by its own time, in nanoseconds.
     pub own: Option<u64>,
@@ -123,8 +122,9 @@ pub const SETTINGS: Settings = Settings {
     made: 0,
 };
 
-/// A case with these settings and weights of one, of which nothing is asked.
+/// A case without a name, with these settings and weights of one, of which nothing is asked.
 pub const CASE: Case<'static> = Case {
+    name: None,
     settings: SETTINGS,
     own: None,
     weighs: ONE,
@@ -250,24 +250,6 @@ fn runs_whole<E: Engine>(cache: &mut E, now: Instant) -> bool {
     cache.try_run_pending_tasks(now).is_ok() || cache.try_run_pending_tasks(now).is_ok()
 }
 
-/// A text, at the second try where memory is refused.
-fn text(alloc: Global, of: &str) -> Result<String, AllocError> {
-    match String::from_str(alloc, of) {
-        Ok(made) => Ok(made),
-        Err(_) => String::from_str(alloc, of),
-    }
-}
-
-fn names<E: Engine>(alloc: Global, cache: &mut E, name: &str) -> bool {
-    match text(alloc, name) {
-        Ok(name) => {
-            cache.set_name(name);
-            true
-        }
-        Err(_) => false,
-    }
-}
-
 fn shown<E: Engine>(
     cache: &mut E,
     by: Look,
@@ -355,7 +337,7 @@ fn has_times<E: Engine>(cache: &E, live: Option<u64>, idle: Option<u64>) -> bool
 }
 
 /// Writes, sends, removes or clears, and answers whether it came out so.
-fn writes_so<E: Engine>(alloc: Global, cache: &mut E, now: Instant, row: Row<'_>) -> bool {
+fn writes_so<E: Engine>(cache: &mut E, now: Instant, row: Row<'_>) -> bool {
     match row {
         Row::At(_) => true,
         Row::Puts(key, value, step) => puts(cache, key, value, now, step),
@@ -370,12 +352,12 @@ fn writes_so<E: Engine>(alloc: Global, cache: &mut E, now: Instant, row: Row<'_>
             cache.invalidate_all(step);
             true
         }
-        row => runs_so(alloc, cache, now, row),
+        row => runs_so(cache, now, row),
     }
 }
 
-/// Registers a predicate, runs or names, and answers whether it came out so.
-fn runs_so<E: Engine>(alloc: Global, cache: &mut E, now: Instant, row: Row<'_>) -> bool {
+/// Registers a predicate or runs, and answers whether it came out so.
+fn runs_so<E: Engine>(cache: &mut E, now: Instant, row: Row<'_>) -> bool {
     match row {
         Row::Invalidates(value, step, word, wanted) => {
             invalidate(cache, value, step, word) == wanted
@@ -396,7 +378,6 @@ fn runs_so<E: Engine>(alloc: Global, cache: &mut E, now: Instant, row: Row<'_>) 
             cache.apply_reads_writes_if_needed(now);
             true
         }
-        Row::Names(name) => names(alloc, cache, name),
         row => looks_so(cache, now, row),
     }
 }
@@ -443,28 +424,44 @@ fn moment_from(row: Row<'_>, now: Instant) -> Instant {
 }
 
 /// Asks one row after another from moment 0 on, and answers the place of the first that did not come out so, counted from the first of those before.
-fn wrong_row<E: Engine>(alloc: Global, cache: &mut E, case: &Case<'_>) -> Option<usize> {
+fn wrong_row<E: Engine>(cache: &mut E, case: &Case<'_>) -> Option<usize> {
     let mut now = at(0);
     for (place, row) in case.before.iter().chain(case.rows.iter()).enumerate() {
         now = moment_from(*row, now);
-        if !writes_so(alloc, cache, now, *row) {
+        if !writes_so(cache, now, *row) {
             return Some(place);
         }
     }
     None
 }
 
-/// The empty cache of a case, at the second try where memory is refused.
+fn text(alloc: Global, of: Option<&str>) -> Result<Option<String>, AllocError> {
+    match of {
+        Some(of) => {
+            let made = String::from_str(alloc, of)?;
+            Ok(Some(made))
+        }
+        None => Ok(None),
+    }
+}
+
+/// The empty cache of a case.
+fn made_once<E: Engine>(alloc: Global, case: &Case<'_>) -> Result<E, AllocError> {
+    let name = text(alloc, case.name)?;
+    E::make(alloc, name, case.settings, duration(case.own), case.weighs)
+}
+
+/// The same, at the second try where memory is refused.
 fn made<E: Engine>(alloc: Global, case: &Case<'_>) -> Result<E, AllocError> {
-    match E::make(alloc, case.settings, duration(case.own), case.weighs) {
+    match made_once(alloc, case) {
         Ok(cache) => Ok(cache),
-        Err(_) => E::make(alloc, case.settings, duration(case.own), case.weighs),
+        Err(_) => made_once(alloc, case),
     }
 }
 
 fn wrong_row_of<E: Engine>(alloc: Global, case: &Case<'_>) -> Result<Option<usize>, AllocError> {
     let mut cache: E = made(alloc, case)?;
-    Ok(wrong_row(alloc, &mut cache, case))
+    Ok(wrong_row(&mut cache, case))
 }
 
 /// Plays these cases on an engine, and answers the first that did not come out so, and the place of its first row that did not.

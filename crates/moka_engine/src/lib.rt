@@ -1,14 +1,16 @@
 //! A cache of one part: expiry, admission, eviction, invalidation, maintenance. Its owner hands in hashes, moments and steps, sends the tickets of its writes, and takes its notices.
 #![tactic(auto)]
 
-pub use engine_plain::{BaseCache, Refusal};
+pub use engine_housekeeper::{Housekeeper, InnerSync};
+pub use engine_plain::BaseCache;
 pub use engine_reference::{
     Entry, Notice, Read, Record, Registered, Settings, Unsent, Upsert, Write,
 };
 pub use engine_rules::{
-    Bundle, EvictionPolicy, Expiration, ExpirationPolicy, Expiry, NoExpiry, NoPredicate, Policy,
-    Predicate, PredicateError, RemovalCause, Rules, WeighOne, Weigher,
+    Bundle, EvictionPolicy, Expiration, ExpirationPolicy, Expiry, Names, NoExpiry, NoPredicate,
+    Policy, Predicate, PredicateError, Refusal, RemovalCause, Rules, WeighOne, Weigher,
 };
+pub use policy_base::{HousekeeperConfig, Instant};
 
 /// Functions whose contracts are laws of what the contracts speak of.
 pub mod laws {

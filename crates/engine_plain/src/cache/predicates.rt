@@ -5,12 +5,12 @@ ghost use Rattle.engine_identifiers.specs.Drawing.{Draws, AreInUse, is_registere
 ghost use Rattle.engine_reference.specs.Calls.{with_room, with_predicate, without_room, registered};
 
 use crate::cache::BaseCache;
-use engine_lists::Refusal;
 use engine_predicates::{commit, draw_id, invalidate, prepare, reserve};
-use engine_rules::Rules;
+use engine_rules::{Refusal, Rules};
 use rand_core::Rng;
+use std::hash::{BuildHasher, Hash};
 
-impl<K: Eq, V, S, R: Rules<K, V>> BaseCache<K, V, S, R> {
+impl<K: Eq + Hash, V, S: BuildHasher, R: Rules<K, V>> BaseCache<K, V, S, R> {
     /// Registers a predicate under an identifier that is drawn, and answers the identifier. It covers what was written at earlier steps.
     pub fn invalidate_entries_if<G: Rng>(
         &mut self,

@@ -7,7 +7,7 @@ use Rattle.engine_lists.proofs.places.place_of.Goals as goal
 pub returns-then-is_of-clause-found : goal.returns-then-is_of-clause-found
 returns-then-is_of-clause-found g c =
     let rs = c.args.records.now in
-    let key = c.args.key.now in
+    let key = g.Q.Names.named_key c.args.key.now in
     let i = c.loop-i.i in
     let r = c.index-records-i.result in
     let eq = g.K.PartialEq.eq in

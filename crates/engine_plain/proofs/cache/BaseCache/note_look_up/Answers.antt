@@ -9,5 +9,5 @@ returns g c =
     record {
       mid = c.apply_reads_writes_if_needed.new.self;
       maintains = c.apply_reads_writes_if_needed.ensures.due;
-      reads = c.note_read.ensures (past c.args.ignored (visible_record a g.K.PartialEq.eq c.args.self.now c.args.now c.args.key.now)) c.number_found-number.ensures;
+      reads = c.note_read.ensures (past c.args.ignored (visible_record a g.K.PartialEq.eq c.args.self.now c.args.now (g.Q.Names.named_key c.args.key.now))) c.number_found-number.ensures;
     }

@@ -1,4 +1,4 @@
-use Rattle.std.proofs.Common.{ap, sym, ◌∙◌}
+use Rattle.std.proofs.Common.{sym, ◌∙◌}
 use Rattle.engine_plain.proofs.Passing.{numbered_some}
 use Rattle.engine_plain.proofs.cache.BaseCache.note_read.Goals as goal
 

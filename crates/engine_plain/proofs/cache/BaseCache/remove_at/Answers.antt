@@ -1,4 +1,4 @@
-use Rattle.std.proofs.Common.{◌≡◌, ◌+◌, ◌-◌, ◌≤◌, ap, sym, ◌∙◌, subst}
+use Rattle.std.proofs.Common.{◌≡◌, ◌-◌, ◌≤◌, ap, sym, ◌∙◌, subst}
 use Rattle.std.specs.Prelude.{slice_get, slice_set}
 use Rattle.std.proofs.lemmas.Option.{same_Some}
 use Rattle.engine_reference.specs.Calls.{removal_rooms, with_reserved_removal}
@@ -15,12 +15,12 @@ invariant_of-self g c =
     let h = c.requires.found in
     let r = h.0 in
     let there = ap (λ s. slice_get s.records c.args.place) c.self.view_is ∙ h.1 in
-    let held = ap (λ s. held_at eq s.records c.args._key.now) c.self.view_is ∙ h.2 in
+    let held = ap (λ s. held_at eq s.records (g.Q.Names.named_key c.args._key.now)) c.self.view_is ∙ h.2 in
     let l = c.mark_removed.ensures in
     let same : l.0 ≡ r = same_Some _ _ (sym l.1 ∙ there) in
     let lists = l.2 ∙ ap (λ x. taken old (slice_set old.records c.args.place (marked x)) x.number (old.reserved - 1)) same in
-    let whole = removed_at eq old c.args._key.now c.args.place r (numbered_from old c.self.invariant) there held (subst (λ s. removal_rooms s.settings ≤ s.reserved) (sym c.self.view_is) c.requires.room) in
-    sound_as old c.mark_removed.new.self (with_reserved_removal (held_at eq old.records c.args._key.now) old) (lists ∙ whole) (removed_sound eq c.args._key.now old) c.self.invariant
+    let whole = removed_at eq old (g.Q.Names.named_key c.args._key.now) c.args.place r (numbered_from old c.self.invariant) there held (subst (λ s. removal_rooms s.settings ≤ s.reserved) (sym c.self.view_is) c.requires.room) in
+    sound_as old c.mark_removed.new.self (with_reserved_removal (held_at eq old.records (g.Q.Names.named_key c.args._key.now)) old) (lists ∙ whole) (removed_sound eq (g.Q.Names.named_key c.args._key.now) old) c.self.invariant
 
 pub returns : goal.returns
 returns g c =
@@ -29,9 +29,9 @@ returns g c =
     let h = c.requires.found in
     let r = h.0 in
     let there = ap (λ s. slice_get s.records c.args.place) c.self.view_is ∙ h.1 in
-    let held = ap (λ s. held_at eq s.records c.args._key.now) c.self.view_is ∙ h.2 in
+    let held = ap (λ s. held_at eq s.records (g.Q.Names.named_key c.args._key.now)) c.self.view_is ∙ h.2 in
     let l = c.mark_removed.ensures in
     let same : l.0 ≡ r = same_Some _ _ (sym l.1 ∙ there) in
     let lists = l.2 ∙ ap (λ x. taken old (slice_set old.records c.args.place (marked x)) x.number (old.reserved - 1)) same in
-    let whole = removed_at eq old c.args._key.now c.args.place r (numbered_from old c.self.invariant) there held (subst (λ s. removal_rooms s.settings ≤ s.reserved) (sym c.self.view_is) c.requires.room) in
-    lists ∙ whole ∙ ap (λ s. with_reserved_removal (held_at eq s.records c.args._key.now) s) c.self.view_is
+    let whole = removed_at eq old (g.Q.Names.named_key c.args._key.now) c.args.place r (numbered_from old c.self.invariant) there held (subst (λ s. removal_rooms s.settings ≤ s.reserved) (sym c.self.view_is) c.requires.room) in
+    lists ∙ whole ∙ ap (λ s. with_reserved_removal (held_at eq s.records (g.Q.Names.named_key c.args._key.now)) s) c.self.view_is

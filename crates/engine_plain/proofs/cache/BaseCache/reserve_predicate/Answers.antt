@@ -1,4 +1,3 @@
-use Rattle.std.proofs.Common.{sym, subst}
 use Rattle.engine_reference.specs.Calls.{with_room}
 use Rattle.engine_plain.proofs.Registering.{sound_either}
 use Rattle.engine_plain.proofs.cache.BaseCache.reserve_predicate.Goals as goal

@@ -1,5 +1,4 @@
-use Rattle.std.proofs.Common.{◌≡◌, ap, sym, ◌∙◌, subst, true, false}
-use Rattle.engine_reference.specs.Runs.{RunsToEnd}
+use Rattle.std.proofs.Common.{◌≡◌, sym, ◌∙◌, subst, true}
 use Rattle.engine_reference.specs.Soundness.{IsSound}
 use Rattle.engine_laws.proofs.Rises.{uncut_runs_leave_none_due}
 use Rattle.engine_lists.specs.Asking.{answers_of}

@@ -1,0 +1,46 @@
+//! A housekeeper of the plain engine.
+use crate::hashes::{Cache, cache_of};
+use engine_housekeeper::Housekeeper;
+use policy_base::{HousekeeperConfig, Instant};
+use std::alloc::{AllocError, Global};
+
+const MADE: u64 = 7;
+
+const LATER: u64 = 300_000_007;
+
+/// Whether runs are due where so many reads, then so many writes wait.
+fn dues(housekeeper: &Housekeeper, waiting: usize, nanos: u64) -> (bool, bool) {
+    let now = Instant::from_nanos(nanos.min(1_000_000_000_000));
+    (
+        housekeeper.should_apply_reads(waiting, now),
+        housekeeper.should_apply_writes(waiting, now),
+    )
+}
+
+fn at(nanos: u64) -> Instant {
+    Instant::from_nanos(nanos.min(1_000_000_000_000))
+}
+
+/// Whether runs are due before a run, and after one that comes later.
+fn runs(cache: &mut Cache, housekeeper: &mut Housekeeper) -> bool {
+    housekeeper.run_pending_tasks(cache, at(LATER));
+    let ran = dues(housekeeper, 0, LATER) == (false, false);
+    housekeeper.try_run_pending_tasks(cache, at(MADE)) && ran
+}
+
+fn housekept(alloc: Global) -> Result<bool, AllocError> {
+    let mut cache = cache_of(alloc)?;
+    let mut housekeeper = Housekeeper::new(HousekeeperConfig::default(), at(MADE));
+    Ok(
+        runs(&mut cache, &mut housekeeper)
+            && housekeeper.config() == HousekeeperConfig::default()
+            && dues(&housekeeper, 63, LATER - 1) == (false, false)
+            && dues(&housekeeper, 64, MADE) == (true, true)
+            && dues(&housekeeper, 0, LATER) == (true, true),
+    )
+}
+
+#[test]
+fn runs_are_due_by_number_and_time(rt: HostRuntime) {
+    assert_eq!(rt; housekept(rt.alloc()), Ok(true));
+}
