@@ -1,0 +1,12 @@
+pub mod Placed
+pub mod Listed
+pub mod Access
+pub mod Views
+pub mod Changes
+pub mod Held
+pub mod Pointing
+pub mod Counting
+pub mod Totals
+pub mod Turned
+pub mod Walking
+pub mod Settling

@@ -1,0 +1,285 @@
+-- Running totals: a sum over the records is a sum over the cells, and changes with one cell.
+use Rattle.std.proofs.Common.{◌≡◌, ◌≢◌, refl, ap, sym, subst, ◌∙◌, ℕ, zero, suc, ◌+◌, ◌-◌, ◌*◌, ◌^◌, ◌<◌, ◌≤◌, arith, inl, inr, is_some, Bool, true, false, cond, List, [], ◌∷◌, Option, Some, None}
+use Rattle.std.specs.Prelude.{nat_lt, sum_by, count_by, slice_set}
+use Rattle.std.proofs.lemmas.List.Sums.{sum_by-cons}
+use Rattle.engine_reference.specs.declared.data.Record.{Record}
+use Rattle.engine_reference.specs.Records.{held_entries, held_weight, weight_at, admitted_weight, admitted_number}
+use Rattle.engine_cells.specs.declared.cell.Cell.{Cell}
+use Rattle.engine_cells.specs.declared.tally.Tally.{Tally}
+use Rattle.engine_cells.specs.Cells.{cell_at, put_among, records_by_number, turned, all_turned}
+use Rattle.engine_cells.specs.Fitting.{unqueued}
+use Rattle.engine_cells.specs.Tallying.{held_part, admitted_part, sum_over, IsLightly, IsTallied}
+use Rattle.engine_cells.proofs.Changes.{Loses, Gets, was, place_of}
+use Rattle.engine_cells.proofs.Counting.{gets-set}
+
+-- what is known of totals where there are fewer than 2^64 records
+pub record IsFitting (t : Tally) : Type 0 where
+  pub held : t.held < 2 ^ 100
+  pub weight : t.weight < 2 ^ 100
+  pub number : t.number < 2 ^ 64
+
+either : (b : Bool) → cond {A = ℕ} b 0 1 + cond {A = ℕ} b 1 0 ≡ 1
+either true = omega arith
+either false = omega arith
+
+module _ {K V : Type 0} where
+  pub held-sum : (rs : List (Record K V)) → held_weight rs ≡ sum_by held_part rs
+  held-sum [] = refl
+  held-sum (r ∷ rs) = go r.is_held refl (held-sum rs)
+    where
+      go : (b : Bool) → r.is_held ≡ b → sum_by (λ e. e.weight) (held_entries rs) ≡ sum_by held_part rs → sum_by (λ e. e.weight) (cond r.is_held (r.entry ∷ held_entries rs) (held_entries rs)) ≡ sum_by held_part (r ∷ rs)
+      go true e later =
+          ap (λ b. sum_by (λ x. x.weight) (cond b (r.entry ∷ held_entries rs) (held_entries rs))) e
+          ∙ sum_by-cons (λ x. x.weight) r.entry (held_entries rs)
+          ∙ ap (λ n. r.entry.weight + n) later
+          ∙ sym (sum_by-cons held_part r rs ∙ ap (λ b. cond b r.entry.weight 0 + sum_by held_part rs) e)
+      go false e later =
+          ap (λ b. sum_by (λ x. x.weight) (cond b (r.entry ∷ held_entries rs) (held_entries rs))) e
+          ∙ later
+          ∙ (let z : sum_by held_part rs ≡ 0 + sum_by held_part rs = omega arith in z)
+          ∙ sym (sum_by-cons held_part r rs ∙ ap (λ b. cond b r.entry.weight 0 + sum_by held_part rs) e)
+
+  sum-put_among : (f : Record K V → ℕ) (r : Record K V) (xs : List (Record K V)) → sum_by f (put_among r xs) ≡ f r + sum_by f xs
+  sum-put_among f r [] = sum_by-cons f r []
+  sum-put_among f r (x ∷ xs) = go (nat_lt r.number x.number) (sum-put_among f r xs)
+    where
+      go : (b : Bool) → sum_by f (put_among r xs) ≡ f r + sum_by f xs → sum_by f (cond b (r ∷ x ∷ xs) (x ∷ put_among r xs)) ≡ f r + sum_by f (x ∷ xs)
+      go true later = sum_by-cons f r (x ∷ xs)
+      go false later =
+          let a = sum_by-cons f x (put_among r xs) in
+          let b = sum_by-cons f x xs in
+          omega arith
+
+  -- in whatever order
+  pub sum_over-is : (f : Record K V → ℕ) (cells : List (Option (Cell K V))) → sum_by f (records_by_number cells) ≡ sum_over f cells
+  sum_over-is f [] = refl
+  sum_over-is f (None ∷ cells) = sum_over-is f cells
+  sum_over-is f (Some c ∷ cells) = sum-put_among f c.item (records_by_number cells) ∙ ap (λ n. f c.item + n) (sum_over-is f cells)
+
+  -- one cell changes
+  pub sum_over-set : (f : Record K V → ℕ) (cells : List (Option (Cell K V))) (i : ℕ) (c d : Cell K V) → cell_at cells i ≡ Some c → sum_over f (slice_set cells i (Some d)) + f c.item ≡ sum_over f cells + f d.item
+  sum_over-set f [] i c d there = absurd (cc)
+  sum_over-set f (None ∷ cells) zero c d there = absurd (cc)
+  sum_over-set f (Some x ∷ cells) zero c d there = let is : x ≡ c = cc in let same : f x.item ≡ f c.item = ap (λ y. f y.item) is in omega arith
+  sum_over-set f (None ∷ cells) (suc i) c d there = sum_over-set f cells i c d there
+  sum_over-set f (Some x ∷ cells) (suc i) c d there = let later : sum_over f (slice_set cells i (Some d)) + f c.item ≡ sum_over f cells + f d.item = sum_over-set f cells i c d there in omega arith
+
+  -- one goes
+  pub sum_over-remove : (f : Record K V → ℕ) (cells : List (Option (Cell K V))) (i : ℕ) (c : Cell K V) → cell_at cells i ≡ Some c → sum_over f (slice_set cells i None) + f c.item ≡ sum_over f cells
+  sum_over-remove f [] i c there = absurd (cc)
+  sum_over-remove f (None ∷ cells) zero c there = absurd (cc)
+  sum_over-remove f (Some x ∷ cells) zero c there = let is : x ≡ c = cc in let same : f x.item ≡ f c.item = ap (λ y. f y.item) is in omega arith
+  sum_over-remove f (None ∷ cells) (suc i) c there = sum_over-remove f cells i c there
+  sum_over-remove f (Some x ∷ cells) (suc i) c there = let later : sum_over f (slice_set cells i None) + f c.item ≡ sum_over f cells = sum_over-remove f cells i c there in omega arith
+
+  sum_over-none : (f : Record K V → ℕ) (cells : List (Option (Cell K V))) → ((i : ℕ) → cell_at cells i ≡ None) → sum_over f cells ≡ 0
+  sum_over-none f [] h = refl
+  sum_over-none f (None ∷ cells) h = sum_over-none f cells (λ i. h (suc i))
+  sum_over-none f (Some x ∷ cells) h = absurd (let e : Some x ≡ None = h zero in cc)
+
+  sum_over-same : (f : Record K V → ℕ) (old new : List (Option (Cell K V))) → ((i : ℕ) → cell_at new i ≡ cell_at old i) → sum_over f new ≡ sum_over f old
+  sum_over-same f [] new h = sum_over-none f new h
+  sum_over-same f (o ∷ old) [] h = sym (sum_over-none f (o ∷ old) (λ i. sym (h i)))
+  sum_over-same f (None ∷ old) (None ∷ new) h = sum_over-same f old new (λ i. h (suc i))
+  sum_over-same f (None ∷ old) (Some y ∷ new) h = absurd (let e : Some y ≡ None = h zero in cc)
+  sum_over-same f (Some x ∷ old) (None ∷ new) h = absurd (let e : None ≡ Some x = h zero in cc)
+  sum_over-same f (Some x ∷ old) (Some y ∷ new) h =
+      let same : y ≡ x = (let e : Some y ≡ Some x = h zero in cc) in
+      ap (λ c. f c.item + sum_over f new) same ∙ ap (λ n. f x.item + n) (sum_over-same f old new (λ i. h (suc i)))
+
+  -- a cell comes
+  sum_over-insert : (f : Record K V → ℕ) (old new : List (Option (Cell K V))) (i : ℕ) (c : Cell K V) → cell_at old i ≡ None → cell_at new i ≡ Some c → ((j : ℕ) → j ≢ i → cell_at new j ≡ cell_at old j) → sum_over f new ≡ sum_over f old + f c.item
+  sum_over-insert f old [] i c vacant there others = absurd (cc)
+  sum_over-insert f [] (None ∷ new) zero c vacant there others = absurd (cc)
+  sum_over-insert f [] (Some y ∷ new) zero c vacant there others =
+      let same : f y.item ≡ f c.item = (let is : y ≡ c = cc in ap (λ x. f x.item) is) in
+      let rest : sum_over f new ≡ 0 = sum_over-none f new (λ j. others (suc j) (λ e. absurd (omega arith))) in omega arith
+  sum_over-insert f [] (None ∷ new) (suc i) c vacant there others = sum_over-insert f [] new i c vacant there (λ j d. others (suc j) (λ e. d (omega arith)))
+  sum_over-insert f [] (Some y ∷ new) (suc i) c vacant there others = absurd (let e : Some y ≡ None = others zero (λ e. absurd (omega arith)) in cc)
+  sum_over-insert f (None ∷ old) (None ∷ new) zero c vacant there others = absurd (cc)
+  sum_over-insert f (None ∷ old) (Some y ∷ new) zero c vacant there others =
+      let same : f y.item ≡ f c.item = (let is : y ≡ c = cc in ap (λ x. f x.item) is) in
+      let rest : sum_over f new ≡ sum_over f old = sum_over-same f old new (λ j. others (suc j) (λ e. absurd (omega arith))) in omega arith
+  sum_over-insert f (Some x ∷ old) new zero c vacant there others = absurd (cc)
+  sum_over-insert f (None ∷ old) (None ∷ new) (suc i) c vacant there others = sum_over-insert f old new i c vacant there (λ j d. others (suc j) (λ e. d (omega arith)))
+  sum_over-insert f (None ∷ old) (Some y ∷ new) (suc i) c vacant there others = absurd (let e : Some y ≡ None = others zero (λ e. absurd (omega arith)) in cc)
+  sum_over-insert f (Some x ∷ old) (None ∷ new) (suc i) c vacant there others = absurd (let e : None ≡ Some x = others zero (λ e. absurd (omega arith)) in cc)
+  sum_over-insert f (Some x ∷ old) (Some y ∷ new) (suc i) c vacant there others =
+      let same : f y.item ≡ f x.item = (let is : y ≡ x = (let e : Some y ≡ Some x = others zero (λ e. absurd (omega arith)) in cc) in ap (λ z. f z.item) is) in
+      let rest : sum_over f new ≡ sum_over f old + f c.item = sum_over-insert f old new i c vacant there (λ j d. others (suc j) (λ e. d (omega arith))) in omega arith
+
+  -- a cell's part is within the sum
+  pub part-within : (f : Record K V → ℕ) (cells : List (Option (Cell K V))) (i : ℕ) (c : Cell K V) → cell_at cells i ≡ Some c → f c.item ≤ sum_over f cells
+  part-within f cells i c there = let e = sum_over-remove f cells i c there in omega (arith, e)
+
+  abbrev none_of : Option (Cell K V)
+  none_of = None
+
+  -- a sum of parts that are small
+  sum_over-below : (f : Record K V → ℕ) (most : ℕ) (cells : List (Option (Cell K V))) → ((i : ℕ) (c : Cell K V) → cell_at cells i ≡ Some c → f c.item ≤ most) → sum_over f cells ≤ most * count_by is_some cells
+  sum_over-below f most [] h = omega arith
+  sum_over-below f most (None ∷ cells) h =
+      let rest = sum_over-below f most cells (λ i. h (suc i)) in
+      let many = sum_by-cons (λ p. cond (is_some p) 1 0) none_of cells in
+      let same : count_by is_some (none_of ∷ cells) ≡ count_by is_some cells = omega (arith, many) in
+      subst (λ n. sum_over f cells ≤ most * n) (sym same) rest
+  sum_over-below f most (Some x ∷ cells) h =
+      let rest = sum_over-below f most cells (λ i. h (suc i)) in
+      let first = h zero x refl in
+      let many = sum_by-cons (λ p. cond (is_some p) 1 0) (Some x) cells in
+      let same : count_by is_some (Some x ∷ cells) ≡ 1 + count_by is_some cells = many in
+      subst (λ n. f x.item + sum_over f cells ≤ most * n) (sym same) (omega (arith, rest, first))
+
+  pub tally-fits : (cells : List (Option (Cell K V))) (t : Tally) → IsTallied cells t → count_by is_some cells < 2 ^ 64 → IsFitting t
+  tally-fits cells t h few =
+      let held : sum_over held_part cells ≤ 4294967295 * count_by is_some cells = sum_over-below held_part 4294967295 cells (λ i c there. held-small c.item c.item.is_held refl (h.light i c there).entry) in
+      let weight : sum_over weight_at cells ≤ 4294967295 * count_by is_some cells = sum_over-below weight_at 4294967295 cells (λ i c there. let l = (h.light i c there).counted in omega (arith, l)) in
+      let number : sum_over admitted_part cells ≤ 1 * count_by is_some cells = sum_over-below admitted_part 1 cells (λ i c there. one (is_some c.item.counts)) in
+      record { held = omega (arith, held, h.held); weight = omega (arith, weight, h.weight); number = omega (arith, number, h.number) }
+    where
+      held-small : (r : Record K V) (b : Bool) → r.is_held ≡ b → r.entry.weight < 2 ^ 32 → cond b r.entry.weight 0 ≤ 4294967295
+      held-small r true e l = omega (arith, l)
+      held-small r false e l = omega arith
+
+      one : (b : Bool) → cond b 1 0 ≤ 1
+      one true = omega arith
+      one false = omega arith
+
+  -- the same totals where a cell's parts stay, other ones where they change
+  pub tally-set : (cells : List (Option (Cell K V))) (i : ℕ) (c d : Cell K V) (t u : Tally) → cell_at cells i ≡ Some c → IsLightly d.item → IsTallied cells t
+      → u.held + held_part c.item ≡ t.held + held_part d.item → u.weight + weight_at c.item ≡ t.weight + weight_at d.item → u.number + admitted_part c.item ≡ t.number + admitted_part d.item
+      → IsTallied (slice_set cells i (Some d)) u
+  tally-set cells i c d t u there light h held weight number =
+      let gets = gets-set cells i c d there in
+      let a = sum_over-set held_part cells i c d there in
+      let b = sum_over-set weight_at cells i c d there in
+      let e = sum_over-set admitted_part cells i c d there in
+      record {
+        held = omega (arith, a, held, h.held);
+        weight = omega (arith, b, weight, h.weight);
+        number = omega (arith, e, number, h.number);
+        light = λ j x at. elim (place_of cells (slice_set cells i (Some d)) i j d x gets at) [
+          | inl p ↦ subst (λ (y : Cell K V). IsLightly y.item) (sym p.1) light
+          | inr f ↦ h.light j x f
+        ];
+      }
+
+  pub tally-insert : (old new : List (Option (Cell K V))) (i : ℕ) (d : Cell K V) (t u : Tally) → cell_at old i ≡ None → Gets old new i d → IsLightly d.item → IsTallied old t
+      → u ≡ record { held = t.held + held_part d.item; weight = t.weight + weight_at d.item; number = t.number + admitted_part d.item } → IsTallied new u
+  tally-insert old new i d t u vacant gets light h is = record {
+    held = sum_over-insert held_part old new i d vacant gets.there gets.others ∙ ap (λ n. n + held_part d.item) h.held ∙ sym (ap (λ v. v.held) is);
+    weight = sum_over-insert weight_at old new i d vacant gets.there gets.others ∙ ap (λ n. n + weight_at d.item) h.weight ∙ sym (ap (λ v. v.weight) is);
+    number = sum_over-insert admitted_part old new i d vacant gets.there gets.others ∙ ap (λ n. n + admitted_part d.item) h.number ∙ sym (ap (λ v. v.number) is);
+    light = λ j x at. elim (place_of old new i j d x gets at) [
+      | inl p ↦ subst (λ (y : Cell K V). IsLightly y.item) (sym p.1) light
+      | inr f ↦ h.light j x f
+    ];
+  }
+
+  pub tally-remove : (old new : List (Option (Cell K V))) (i : ℕ) (c : Cell K V) (t u : Tally) → cell_at old i ≡ Some c → Loses old new i → new ≡ slice_set old i None → IsTallied old t
+      → u ≡ record { held = t.held - held_part c.item; weight = t.weight - weight_at c.item; number = t.number - admitted_part c.item } → IsTallied new u
+  tally-remove old new i c t u there loses is h less =
+      let a = sum_over-remove held_part old i c there in
+      let b = sum_over-remove weight_at old i c there in
+      let e = sum_over-remove admitted_part old i c there in
+      let held : sum_over held_part (slice_set old i None) ≡ t.held - held_part c.item = omega (arith, a, h.held) in
+      let weight : sum_over weight_at (slice_set old i None) ≡ t.weight - weight_at c.item = omega (arith, b, h.weight) in
+      let number : sum_over admitted_part (slice_set old i None) ≡ t.number - admitted_part c.item = omega (arith, e, h.number) in
+      record {
+        held = ap (λ l. sum_over held_part l) is ∙ held ∙ sym (ap (λ v. v.held) less);
+        weight = ap (λ l. sum_over weight_at l) is ∙ weight ∙ sym (ap (λ v. v.weight) less);
+        number = ap (λ l. sum_over admitted_part l) is ∙ number ∙ sym (ap (λ v. v.number) less);
+        light = λ j x at. h.light j x (was old new i j x loses at);
+      }
+
+  -- a record of the cells has its parts in the totals
+  pub record Has (t : Tally) (r : Record K V) : Type 0 where
+    pub held : held_part r ≤ t.held
+    pub weight : weight_at r ≤ t.weight
+    pub number : admitted_part r ≤ t.number
+
+  pub tally-has : (cells : List (Option (Cell K V))) (i : ℕ) (c : Cell K V) (t : Tally) → cell_at cells i ≡ Some c → IsTallied cells t → Has t c.item
+  tally-has cells i c t there h =
+      let a = part-within held_part cells i c there in
+      let b = part-within weight_at cells i c there in
+      let e = part-within admitted_part cells i c there in
+      record { held = omega (arith, a, h.held); weight = omega (arith, b, h.weight); number = omega (arith, e, h.number) }
+
+  -- totals without a record
+  abbrev pub less_one : Tally → Record K V → Tally
+  less_one t r = record { held = t.held - held_part r; weight = t.weight - weight_at r; number = t.number - admitted_part r }
+
+  abbrev pub plus_one : Tally → Record K V → Tally
+  plus_one t r = record { held = t.held + held_part r; weight = t.weight + weight_at r; number = t.number + admitted_part r }
+
+  pub fits-less : (t u : Tally) (r : Record K V) → IsFitting t → u ≡ less_one t r → IsFitting u
+  fits-less t u r h is =
+      let a = ap (λ v. v.held) is in
+      let b = ap (λ v. v.weight) is in
+      let e = ap (λ v. v.number) is in
+      let held = h.held in
+      let weight = h.weight in
+      let number = h.number in
+      record { held = omega (arith, a, held); weight = omega (arith, b, weight); number = omega (arith, e, number) }
+
+  -- a record in the place of another
+  pub tally-replaced : (cells : List (Option (Cell K V))) (i : ℕ) (c d : Cell K V) (t mid u : Tally) → cell_at cells i ≡ Some c → IsLightly d.item → IsTallied cells t
+      → mid ≡ less_one t c.item → u ≡ plus_one mid d.item → IsTallied (slice_set cells i (Some d)) u
+  tally-replaced cells i c d t mid u there light h less more =
+      let has = tally-has cells i c t there h in
+      let a = has.held in
+      let b = has.weight in
+      let e = has.number in
+      tally-set cells i c d t u there light h
+      (let x = ap (λ v. v.held) less in let y = ap (λ v. v.held) more in omega (arith, x, y, a))
+      (let x = ap (λ v. v.weight) less in let y = ap (λ v. v.weight) more in omega (arith, x, y, b))
+      (let x = ap (λ v. v.number) less in let y = ap (λ v. v.number) more in omega (arith, x, y, e))
+
+  -- what totals are of the records
+  pub held-is : (cells : List (Option (Cell K V))) (t : Tally) → IsTallied cells t → held_weight (records_by_number cells) ≡ t.held
+  held-is cells t h = held-sum (records_by_number cells) ∙ sum_over-is held_part cells ∙ h.held
+
+  pub weight-is : (cells : List (Option (Cell K V))) (t : Tally) → IsTallied cells t → admitted_weight (records_by_number cells) ≡ t.weight
+  weight-is cells t h = sum_over-is weight_at cells ∙ h.weight
+
+  pub number-is : (cells : List (Option (Cell K V))) (t : Tally) → IsTallied cells t → admitted_number (records_by_number cells) ≡ t.number
+  number-is cells t h = sum_over-is admitted_part cells ∙ h.number
+
+  -- records that stand in no queue are those that are not admitted
+  one_more : (x : Cell K V) (cells : List (Option (Cell K V))) → count_by is_some (Some x ∷ cells) ≡ 1 + count_by is_some cells
+  one_more x cells = sum_by-cons (λ p. cond (is_some p) 1 0) (Some x) cells
+
+  no_more : (cells : List (Option (Cell K V))) → count_by is_some (none_of ∷ cells) ≡ count_by is_some cells
+  no_more cells = let e = sum_by-cons (λ p. cond (is_some p) 1 0) none_of cells in omega (arith, e)
+
+  pub waiting-is : (cells : List (Option (Cell K V))) → ((i : ℕ) (c : Cell K V) → cell_at cells i ≡ Some c → is_some c.nodes.access_queue ≡ is_some c.item.counts) → unqueued cells + sum_over admitted_part cells ≡ count_by is_some cells
+  waiting-is [] h = refl
+  waiting-is (None ∷ cells) h = waiting-is cells (λ i. h (suc i)) ∙ sym (no_more cells)
+  waiting-is (Some x ∷ cells) h =
+      let later = waiting-is cells (λ i. h (suc i)) in
+      let first : cond {A = ℕ} (is_some x.nodes.access_queue) 0 1 + cond {A = ℕ} (is_some x.item.counts) 1 0 ≡ 1 = ap (λ b. cond {A = ℕ} b 0 1 + cond {A = ℕ} (is_some x.item.counts) 1 0) (h zero x refl) ∙ either (is_some x.item.counts) in
+      let more = one_more x cells in
+      omega (arith, later, first, more)
+
+  sum_over-turned : (cells : List (Option (Cell K V))) → sum_over admitted_part (all_turned cells) ≡ sum_over admitted_part cells
+  sum_over-turned [] = refl
+  sum_over-turned (None ∷ cells) = sum_over-turned cells
+  sum_over-turned (Some x ∷ cells) = ap (λ n. admitted_part x.item + n) (sum_over-turned cells)
+
+  count-turned : (cells : List (Option (Cell K V))) → count_by is_some (all_turned cells) ≡ count_by is_some cells
+  count-turned [] = refl
+  count-turned (None ∷ cells) = no_more (all_turned cells) ∙ count-turned cells ∙ sym (no_more cells)
+  count-turned (Some x ∷ cells) = one_more (turned x) (all_turned cells) ∙ ap (λ n. 1 + n) (count-turned cells) ∙ sym (one_more x cells)
+
+  pub order_waiting-is : (cells : List (Option (Cell K V))) → ((i : ℕ) (c : Cell K V) → cell_at (all_turned cells) i ≡ Some c → is_some c.nodes.access_queue ≡ is_some c.item.counts) → unqueued (all_turned cells) + sum_over admitted_part cells ≡ count_by is_some cells
+  order_waiting-is cells h = ap (λ n. unqueued (all_turned cells) + n) (sym (sum_over-turned cells)) ∙ waiting-is (all_turned cells) h ∙ count-turned cells
+
+  -- there are no more admitted records than records
+  pub number-below : (cells : List (Option (Cell K V))) (t : Tally) → IsTallied cells t → t.number ≤ count_by is_some cells
+  number-below cells t h =
+      let number : sum_over admitted_part cells ≤ 1 * count_by is_some cells = sum_over-below admitted_part 1 cells (λ i c there. one (is_some c.item.counts)) in
+      omega (arith, number, h.number)
+    where
+      one : (b : Bool) → cond b 1 0 ≤ 1
+      one true = omega arith
+      one false = omega arith

@@ -1,0 +1,38 @@
+-- Walks over cells and queues.
+use Rattle.std.proofs.Common.{◌≡◌, refl, sym, ◌∙◌, ℕ, zero, suc, Bool, true, false, cond, eqb, List, [], ◌∷◌, Option, Some, None}
+use Rattle.std.specs.Prelude.{IfSome, IfNone}
+use Rattle.engine_reference.specs.declared.data.Record.{Record}
+use Rattle.engine_reference.specs.Records.{record_at}
+use Rattle.engine_cells.specs.declared.cell.Cell.{Cell}
+use Rattle.engine_cells.specs.Cells.{cell_at, records_by_number, HaveOwnNumbers}
+use Rattle.engine_cells.proofs.Listed.{apart-later, first-alone}
+use Rattle.engine_cells.proofs.Placed.{record_at-put_among}
+
+-- what is told of an answer, told otherwise
+pub found-map : (P Q : ℕ → Type 0) → ((i : ℕ) → P i → Q i) → (o : Option ℕ) → IfSome o P → IfSome o Q
+found-map P Q f None h = tt
+found-map P Q f (Some i) h = f i h
+
+pub none-map : (P Q : Type 0) → (P → Q) → (o : Option ℕ) → IfNone o P → IfNone o Q
+none-map P Q f None h = f h
+none-map P Q f (Some i) h = tt
+
+module _ {K V : Type 0} where
+  -- a record among the records of cells stands in a place
+  pub record Stands (cells : List (Option (Cell K V))) (r : Record K V) : Type 0 where
+    pub place : ℕ
+    pub cell : Cell K V
+    pub there : cell_at cells place ≡ Some cell
+    pub is : cell.item ≡ r
+
+  later_place : (o : Option (Cell K V)) (cells : List (Option (Cell K V))) (r : Record K V) → Stands cells r → Stands (o ∷ cells) r
+  later_place o cells r p = record { place = suc p.place; cell = p.cell; there = p.there; is = p.is }
+
+  pub place-there : (cells : List (Option (Cell K V))) (n : ℕ) (r : Record K V) → HaveOwnNumbers cells → record_at (records_by_number cells) n ≡ Some r → Stands cells r
+  place-there [] n r apart h = absurd (cc)
+  place-there (None ∷ cells) n r apart h = later_place None cells r (place-there cells n r (apart-later None cells apart) h)
+  place-there (Some c ∷ cells) n r apart h = go (eqb c.item.number n) (sym (record_at-put_among c.item (records_by_number cells) n (first-alone c cells apart)) ∙ h) (place-there cells n r (apart-later (Some c) cells apart))
+    where
+      go : (b : Bool) → cond b (Some c.item) (record_at (records_by_number cells) n) ≡ Some r → (record_at (records_by_number cells) n ≡ Some r → Stands cells r) → Stands (Some c ∷ cells) r
+      go true e later = record { place = zero; cell = c; there = refl; is = cc }
+      go false e later = later_place (Some c) cells r (later e)

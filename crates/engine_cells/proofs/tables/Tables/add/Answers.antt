@@ -1,0 +1,85 @@
+use Rattle.std.proofs.Common.{◌≡◌, refl, ap, sym, ◌∙◌, subst, ◌<◌, arith}
+use Rattle.std.specs.Prelude.{option_map}
+use Rattle.engine_cells.specs.declared.cell.Cell.{Cell}
+use Rattle.engine_cells.specs.Kept.{numbered_at}
+use Rattle.engine_cells.proofs.Views.{number-in, unqueued-insert, kept-in, there-record}
+use Rattle.engine_cells.proofs.Listed.{records-insert}
+use Rattle.engine_cells.proofs.Changes.{Gets, kept-inserted, access-inserted}
+use Rattle.engine_cells.proofs.Pointing.{pointed-gets}
+use Rattle.engine_cells.proofs.Turned.{order-kept_inserted, order-inserted, order_waiting-insert}
+use Rattle.engine_cells.proofs.Totals.{tally-fits, tally-insert}
+use Rattle.engine_cells.proofs.tables.Tables.add.Goals as goal
+
+pub invariant_of-self : goal.invariant_of-self
+invariant_of-self g c =
+    let x : Cell g.row.K.Denot g.row.V.Denot = record { item = c.args.added; nodes = c.new-nodes.result } in
+    let i = c.insert_reserved-place.result in
+    let old = c.self.inside.cells.slots in
+    let new = c.insert_reserved-place.new.self.slots in
+    let vacant = c.insert_reserved-place.ensures.was_vacant in
+    let gets : Gets old new i x = record { there = c.insert_reserved-place.ensures.updates.changed; others = c.insert_reserved-place.ensures.updates.others } in
+    let room : 0 < c.self.inside.reserved = omega (arith, ap (λ t. t.state.reserved) c.self.view_is) in
+    let is : c.args.added.number ≡ c.self.inside.next_number = c.requires.numbered ∙ sym (ap (λ t. t.state.next_number) c.self.view_is) in
+    let order_more = order_waiting-insert old new i x c.new-nodes.ensures.write_queue vacant gets in
+    let more = unqueued-insert old new i x c.new-nodes.ensures.access_queue vacant gets.there gets.others in
+    record {
+      kept = kept-inserted old new c.self.inside.access.nodes c.self.inside.next_number i x c.self.invariant.kept vacant gets is c.new-nodes.ensures.access_queue c.requires.uncounted;
+      listed = order-kept_inserted old new c.self.inside.order.nodes c.self.inside.next_number i x c.self.invariant.listed vacant gets is c.new-nodes.ensures.write_queue c.requires.uncounted;
+      order = omega arith;
+      cells = omega arith;
+      access = omega arith;
+      notices = omega arith;
+      unsent = omega arith;
+      tallied = tally-insert old new i x c.self.inside.tally c.with-self-inside.result vacant gets c.with-self-inside.ensures.light c.self.invariant.tallied c.with-self-inside.ensures.more;
+      reads = pointed-gets old new c.self.inside.next_number i x c.self.inside.reads.items gets is c.self.invariant.reads;
+      tickets = omega arith;
+      numbers = omega arith;
+    }
+
+pub returns-clause-place : goal.returns-clause-place
+returns-clause-place g c =
+    let x : Cell g.row.K.Denot g.row.V.Denot = record { item = c.args.added; nodes = c.new-nodes.result } in
+    let i = c.insert_reserved-place.result in
+    let old = c.self.inside.cells.slots in
+    let new = c.insert_reserved-place.new.self.slots in
+    let vacant = c.insert_reserved-place.ensures.was_vacant in
+    let gets : Gets old new i x = record { there = c.insert_reserved-place.ensures.updates.changed; others = c.insert_reserved-place.ensures.updates.others } in
+    let is : c.args.added.number ≡ c.self.inside.next_number = c.requires.numbered ∙ sym (ap (λ t. t.state.next_number) c.self.view_is) in
+    let kept = kept-inserted old new c.self.inside.access.nodes c.self.inside.next_number i x c.self.invariant.kept vacant gets is c.new-nodes.ensures.access_queue c.requires.uncounted in
+    kept-in new i kept.apart ∙ there-record new i x gets.there
+
+pub returns-clause-others : goal.returns-clause-others
+returns-clause-others g c = λ i other.
+    number-in c.insert_reserved-place.new.self.slots i
+    ∙ ap (λ o. option_map (λ x. x.item.number) o) (c.insert_reserved-place.ensures.updates.others i other)
+    ∙ sym (number-in c.self.inside.cells.slots i)
+    ∙ ap (λ t. numbered_at t.numbers i) c.self.view_is
+
+pub returns-clause-state : goal.returns-clause-state
+returns-clause-state g c =
+    let x : Cell g.row.K.Denot g.row.V.Denot = record { item = c.args.added; nodes = c.new-nodes.result } in
+    let i = c.insert_reserved-place.result in
+    let old = c.self.inside.cells.slots in
+    let new = c.insert_reserved-place.new.self.slots in
+    let vacant = c.insert_reserved-place.ensures.was_vacant in
+    let gets : Gets old new i x = record { there = c.insert_reserved-place.ensures.updates.changed; others = c.insert_reserved-place.ensures.updates.others } in
+    let is : c.args.added.number ≡ c.self.inside.next_number = c.requires.numbered ∙ sym (ap (λ t. t.state.next_number) c.self.view_is) in
+    rw (
+      ← c.self.view_is,
+      access-inserted old new c.self.inside.access.nodes c.self.inside.next_number i x c.self.invariant.kept vacant gets,
+      order-inserted old new c.self.inside.order.nodes c.self.inside.next_number i x c.self.invariant.listed vacant gets,
+      c.push_reserved.ensures.items,
+      records-insert old new i x (λ j d e. subst (λ n. d.item.number < n) (sym is) (c.self.invariant.kept.below j d e)) vacant gets.there gets.others,
+    ) refl
+
+pub returns-clause-vacant : goal.returns-clause-vacant
+returns-clause-vacant g c =
+    ap (λ t. numbered_at t.numbers c.insert_reserved-place.result) (sym c.self.view_is)
+    ∙ number-in c.self.inside.cells.slots c.insert_reserved-place.result
+    ∙ ap (λ o. option_map (λ x. x.item.number) o) c.insert_reserved-place.ensures.was_vacant
+
+pub with-self-inside-requires : goal.with-self-inside-requires
+with-self-inside-requires g c =
+    let fits = tally-fits c.self.inside.cells.slots c.self.inside.tally c.self.invariant.tallied (omega (arith, c.len-many.ensures, c.len-many.type_inv)) in
+    let number = fits.number in
+    record { held = fits.held; weight = fits.weight; number = omega (arith, number) }

@@ -1,0 +1,28 @@
+-- What a contract sees of the tables: the state of the reference cache, and the number of the record in each place.
+use Rattle.std.specs.Prelude.{ℕ, Bool, false, not, ◌==◌, ◌&&◌, List, Option, Some, None, is_some, slice_index_or}
+use Rattle.std.specs.Option.{option_and_then}
+use Rattle.engine_reference.specs.declared.data.Record.{Record}
+use Rattle.engine_reference.specs.Records.{record_at}
+use Rattle.engine_reference.specs.State.{State}
+
+pub record Kept (K V P S R : Type 0) : Type 0 where
+  pub state : State K V P S R
+  pub numbers : List (Option ℕ)
+
+-- the number of the record in a place
+abbrev pub numbered_at : List (Option ℕ) → ℕ → Option ℕ
+numbered_at numbers place = slice_index_or numbers place None
+
+-- the record in a place
+abbrev pub kept_at : {K V P S R : Type 0} → Kept K V P S R → ℕ → Option (Record K V)
+kept_at t place = option_and_then (λ n. record_at t.state.records n) (numbered_at t.numbers place)
+
+-- there is a record, of this number, and it is admitted
+abbrev pub is_admitted_as : {K V : Type 0} → ℕ → Option (Record K V) → Bool
+is_admitted_as number None = false
+is_admitted_as number (Some r) = (r.number == number) && is_some r.counts
+
+-- there is a record, of this number, and it is not held
+abbrev pub is_removed_as : {K V : Type 0} → ℕ → Option (Record K V) → Bool
+is_removed_as number None = false
+is_removed_as number (Some r) = (r.number == number) && not r.is_held

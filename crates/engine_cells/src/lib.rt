@@ -1,0 +1,15 @@
+//! The fast tables of a cache of one part: records in a slab, the access list in a queue. Contracts speak of the reference cache's state.
+#![tactic(auto)]
+
+mod cell;
+mod finding;
+mod looking;
+mod rooms;
+mod tables;
+mod tally;
+
+pub use cell::Cell;
+pub use finding::find_held;
+pub use rooms::RoomError;
+pub use tables::Tables;
+pub use tally::Tally;

@@ -1,0 +1,59 @@
+//! Walks over cells and the access queue.
+ghost use Rattle.std.specs.Prelude.{◌≡◌, ◌≤◌, ℕ, true, false, [], Some, None, IfSome, IfNone, is_some, if◌then◌else◌};
+ghost use Rattle.engine_reference.specs.Records.{settled_in};
+ghost use Rattle.engine_reference.specs.Runs.{first_of};
+ghost use Rattle.engine_reference.specs.declared.data.Record.{Record};
+ghost use Rattle.engine_cells.specs.Cells.{cell_at, record_in, records_by_number, numbers_in, HaveOwnNumbers, AreLinked};
+ghost use Rattle.engine_cells.specs.Looking.{is_expired, is_settled_as};
+
+use crate::cell::Cell;
+use engine_reference::Record;
+use policy_base::KeyHashDate;
+use policy_queue::Deque;
+use slab::Slab;
+
+/// Whether a record is held, and its own expiration was reached.
+fn is_expired<K, V>(found: &Record<K, V>, now: u64) -> bool
+    ensures { result ≡ is_expired now found.now }
+{
+    match found.entry.expires {
+        Some(moment) => found.is_held && moment <= now,
+        None => false,
+    }
+}
+
+/// The place of a held record whose own expiration was reached. A stand-in for the first timer: it looks at every record.
+pub fn first_due<K, V>(cells: &Slab<Cell<K, V>>, now: u64) -> Option<usize>
+    ensures found { IfSome result (λ i. (c : Cell K V) × (cell_at cells.now.slots i ≡ Some c) × (is_expired now c.item ≡ true)) }
+    ensures none { IfNone result ((i : ℕ) (c : Cell K V) → cell_at cells.now.slots i ≡ Some c → is_expired now c.item ≡ false) }
+{
+    for (place, cell) in cells.iter() {
+        if is_expired(&cell.item, now) {
+            return Some(place);
+        }
+    }
+    None
+}
+
+/// Whether the record in a place is settled.
+fn is_settled_at<K, V>(cells: &Slab<Cell<K, V>>, place: usize) -> bool
+    ensures { result ≡ is_settled_as (record_in cells.now.slots place) }
+{
+    match cells.get(place) {
+        Some(cell) => cell.item.writes == cell.item.applied,
+        None => false,
+    }
+}
+
+/// The place of the first settled record of the access list, whose nodes stand in this queue.
+pub fn first_settled<K, V>(cells: &Slab<Cell<K, V>>, queue: &Deque<KeyHashDate>) -> Option<usize>
+    requires apart { HaveOwnNumbers cells.now.slots }
+    requires linked { AreLinked cells.now.slots queue.now.nodes }
+    ensures found { IfSome result (λ i. (r : Record K V) × (record_in cells.now.slots i ≡ Some r) × (first_of (settled_in (records_by_number cells.now.slots) (numbers_in cells.now.slots queue.now.nodes)) ≡ Some r)) }
+    ensures none { IfNone result (settled_in (records_by_number cells.now.slots) (numbers_in cells.now.slots queue.now.nodes) ≡ []) }
+{
+    match queue.first_where(|date| is_settled_at(cells, date.entry)) {
+        Some(date) => Some(date.entry),
+        None => None,
+    }
+}

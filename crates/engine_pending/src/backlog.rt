@@ -1,0 +1,509 @@
+//! What waits, and one change of it for each method.
+ghost use Rattle.std.specs.Prelude.{◌≡◌, ℕ, ◌+◌, ◌-◌, ◌<◌, ◌≤◌, ◌^◌, ◌&&◌, ◌||◌, true, false, [], ◌∷◌, ◌⊎◌, ◌++◌, length, vec_len, vec_capacity, drop, min, max, remove, slice_get, is_some, Some, None, IfSome, IfNone, IfOk, OnOk, OnErr, option_map, option_copied, nat_le, nat_lt};
+ghost use Rattle.std.specs.String.{string_bytes};
+ghost use Rattle.std.specs.Result.{IsErrOf};
+ghost use Rattle.std.specs.Int.{IsNextPowerOfTwo};
+ghost use Rattle.policy_sketch.specs.Counts.{incremented, grown};
+ghost use Rattle.engine_pending.specs.Pending.{IsUntouched, MakesRoom, is_run_due, notice_taken, stands_over, ticket_sent, ticketed_at, told_if, with_ticketed, without_ticketed};
+ghost use Rattle.engine_pending.specs.declared.tickets.Ticketed.{Ticketed};
+
+use crate::covering::is_any_over;
+use crate::tickets::{Ticketed, place_of_ticket};
+use circular_buffer::HeapCircularBuffer;
+use engine_reference::{Entry, Notice, Registered, Settings};
+use engine_rules::{Refusal, RemovalCause, Rules};
+use policy_base::MAX_NANOS;
+use policy_sketch::FrequencySketch;
+use std::alloc::{AllocError, Global};
+use std::marker::Model;
+
+/// How many writes may wait for maintenance.
+pub const MAX_WRITES: usize = 128;
+
+/// How many reads may wait for maintenance.
+pub const MAX_READS: usize = 64;
+
+/// How many reads, or how many writes, make a run due.
+const FLUSH_POINT: usize = 64;
+
+/// How long after a run the next one is due, in nanoseconds.
+const RUN_INTERVAL: u64 = 300_000_000;
+
+/// All that a cache of one part keeps beside its records and their lists. `O` is what is kept of a read, `W` of a write: the owner says where the record of each stands.
+/// Each method that changes it makes one change, for which there is room.
+#[derive(Drop)]
+pub struct Backlog<K, V, O, W, S, R: Rules<K, V>> {
+    cleared: u64,
+    predicates: Vec<Registered<R::Predicate>>,
+    unsent: Vec<Ticketed<W>>,
+    reads: HeapCircularBuffer<O>,
+    writes: HeapCircularBuffer<W>,
+    notices: HeapCircularBuffer<Notice<K, V>>,
+    sketch: FrequencySketch,
+    number: u64,
+    weight: u64,
+    ran: u64,
+    table_refused: bool,
+    next_ticket: u64,
+    reserved: u64,
+    name: Option<String>,
+    settings: Settings,
+    hasher: S,
+    rules: R,
+}
+
+impl<K, V, O, W, S, R: Rules<K, V>> Model for Backlog<K, V, O, W, S, R> {
+    ghost use Rattle.std.specs.Prelude.{ℕ, ◌≡◌, ◌+◌, ◌-◌, ◌≤◌, ◌<◌, ◌^◌, length, vec_len, vec_capacity, option_map};
+    ghost use Rattle.std.specs.String.{string_bytes};
+    ghost use Rattle.engine_pending.specs.Pending.{Pending};
+
+    ghost Value = { Pending K V O W R.Predicate S R };
+
+    ghost view = { λ c. record {
+      cleared = c.cleared;
+      predicates = c.predicates.items;
+      unsent = c.unsent.items;
+      reads = c.reads.items;
+      writes = c.writes.items;
+      notices = c.notices.items;
+      notice_room = c.notices.capacity - length c.notices.items;
+      sketch = c.sketch;
+      number = c.number;
+      weight = c.weight;
+      ran = c.ran;
+      table_refused = c.table_refused;
+      next_ticket = c.next_ticket;
+      reserved = c.reserved;
+      name = option_map string_bytes c.name;
+      settings = c.settings;
+      hasher = c.hasher;
+      rules = c.rules;
+    } };
+
+    // what is reserved serves a write or a predicate, and there are tickets for it
+    ghost invariant = { λ c. record {
+      unsent : vec_len c.unsent + c.reserved ≤ vec_capacity c.unsent;
+      predicates : vec_len c.predicates + c.reserved ≤ vec_capacity c.predicates;
+      reads : c.reads.capacity ≡ 64;
+      writes : c.writes.capacity ≡ 128;
+      notices : length c.notices.items ≤ c.notices.capacity;
+      tickets : c.next_ticket + c.reserved < 2 ^ 64;
+    } };
+}
+
+impl<K, V, O, W, S, R: Rules<K, V>> Backlog<K, V, O, W, S, R> {
+    /// That of a cache that was made at the moment of its settings.
+    pub fn new(
+        alloc: Global,
+        name: Option<String>,
+        settings: Settings,
+        hasher: S,
+        rules: R,
+    ) -> Result<Self, AllocError>
+    where
+        O: Drop,
+        W: Drop,
+        S: Drop,
+        R: Drop,
+        ensures { IfOk result (λ made. IsUntouched (option_map string_bytes name) settings hasher rules made) }
+    {
+        let reads = HeapCircularBuffer::with_capacity(alloc, MAX_READS)?;
+        let writes = HeapCircularBuffer::with_capacity(alloc, MAX_WRITES)?;
+        let notices = HeapCircularBuffer::with_capacity(alloc, 0)?;
+        Ok(Backlog {
+            cleared: 0,
+            predicates: Vec::new(alloc),
+            unsent: Vec::new(alloc),
+            reads,
+            writes,
+            notices,
+            sketch: FrequencySketch::default(alloc),
+            number: 0,
+            weight: 0,
+            ran: settings.made,
+            table_refused: false,
+            next_ticket: 0,
+            reserved: 0,
+            name,
+            settings,
+            hasher,
+            rules,
+        })
+    }
+
+    // ---- what is there
+
+    /// The step of the last clear, or 0.
+    pub fn cleared(&self) -> u64
+        ensures { result ≡ self.now.cleared }
+    {
+        self.cleared
+    }
+
+    /// The predicates.
+    pub fn predicates(&self) -> &[Registered<R::Predicate>]
+        ensures { result.now ≡ self.now.predicates }
+    {
+        self.predicates.as_slice()
+    }
+
+    /// How many reads wait to be counted.
+    pub fn number_of_reads(&self) -> usize
+        ensures { result ≡ length self.now.reads }
+    {
+        self.reads.len()
+    }
+
+    /// How many writes wait to be applied.
+    pub fn number_of_writes(&self) -> usize
+        ensures { result ≡ length self.now.writes }
+    {
+        self.writes.len()
+    }
+
+    /// The write that waits longest.
+    pub fn first_write(&self) -> Option<&W>
+        ensures { option_copied result ≡ slice_get self.now.writes 0 }
+    {
+        self.writes.front()
+    }
+
+    /// How often hashes were asked for.
+    pub fn sketch(&self) -> &FrequencySketch
+        ensures { result.now ≡ self.now.sketch }
+    {
+        &self.sketch
+    }
+
+    /// How many records were admitted at the end of the last run.
+    pub fn number(&self) -> u64
+        ensures { result ≡ self.now.number }
+    {
+        self.number
+    }
+
+    /// What they weighed.
+    pub fn weight(&self) -> u64
+        ensures { result ≡ self.now.weight }
+    {
+        self.weight
+    }
+
+    /// The moment of the last run.
+    pub fn ran(&self) -> u64
+        ensures { result ≡ self.now.ran }
+    {
+        self.ran
+    }
+
+    /// Whether the last run wanted the sketch's table and there was no memory for it.
+    pub fn table_refused(&self) -> bool
+        ensures { result ≡ self.now.table_refused }
+    {
+        self.table_refused
+    }
+
+    /// The next ticket.
+    pub fn next_ticket(&self) -> u64
+        ensures { result ≡ self.now.next_ticket }
+    {
+        self.next_ticket
+    }
+
+    /// For how many writes or predicates there is room.
+    pub fn reserved(&self) -> u64
+        ensures { result ≡ self.now.reserved }
+    {
+        self.reserved
+    }
+
+    /// What the cache was made with.
+    pub fn settings(&self) -> Settings
+        ensures { result ≡ self.now.settings }
+    {
+        self.settings
+    }
+
+    /// What the cache is called.
+    pub fn name(&self) -> Option<&str>
+        ensures { option_map (λ text. text.now) result ≡ self.now.name }
+    {
+        match &self.name {
+            Some(name) => Some(name.as_str()),
+            None => None,
+        }
+    }
+
+    /// What hashes keys.
+    pub fn hasher(&self) -> &S
+        ensures { result.now ≡ self.now.hasher }
+    {
+        &self.hasher
+    }
+
+    /// What says weights, expirations, and what predicates cover.
+    pub fn rules(&self) -> &R
+        ensures { result.now ≡ self.now.rules }
+    {
+        &self.rules
+    }
+
+    /// Whether a run is due: 64 writes or 64 reads wait, or the last run is 300 milliseconds old.
+    pub fn is_due(&self, now: u64) -> bool
+        ensures { result ≡ is_run_due self.now now }
+    {
+        let ends = self.ran.saturating_add(RUN_INTERVAL).min(MAX_NANOS);
+        FLUSH_POINT <= self.writes.len() || FLUSH_POINT <= self.reads.len() || ends <= now
+    }
+
+    /// Whether a later clear or predicate stands over an entry.
+    pub fn is_over(&self, entry: &Entry<K, V>) -> bool
+        ensures { result ≡ stands_over R.covers self.now entry.now }
+    {
+        entry.step < self.cleared || is_any_over(&self.rules, self.predicates.as_slice(), entry)
+    }
+
+    // ---- clears and predicates
+
+    /// Covers every value that was written at an earlier step.
+    pub fn clear(&mut self, step: u64)
+        ensures { self.new ≡ record self.old { cleared = max self.old.cleared step } }
+    {
+        self.cleared = self.cleared.max(step);
+    }
+
+    /// Registers a predicate, for which there is room.
+    pub fn register(&mut self, registered: Registered<R::Predicate>)
+        requires { 0 < self.old.reserved }
+        ensures { self.new ≡ record self.old { predicates = self.old.predicates ++ registered ∷ []; reserved = self.old.reserved - 1 } }
+    {
+        self.predicates.push_reserved(registered);
+        self.reserved -= 1;
+    }
+
+    /// The predicate at a place goes.
+    pub fn end_predicate(&mut self, place: usize)
+        requires { place < length self.old.predicates }
+        ensures { self.new ≡ record self.old { predicates = remove self.old.predicates place } }
+    {
+        self.predicates.remove(place);
+    }
+
+    // ---- notices
+
+    /// The oldest notice that was not taken.
+    pub fn next_notice(&mut self) -> Option<Notice<K, V>>
+        ensures notice { result ≡ slice_get self.old.notices 0 }
+        ensures taken { self.new ≡ notice_taken self.old }
+    {
+        self.notices.pop_front()
+    }
+
+    /// Tells an entry that left, where it is to be told and removals are, and there is room for its notice.
+    pub fn tell(&mut self, is_told: bool, cause: RemovalCause, entry: Entry<K, V>)
+    where
+        K: Drop,
+        V: Drop,
+        requires { 0 < self.old.notice_room }
+        ensures { self.new ≡ told_if (is_told && self.old.settings.tells) cause entry self.old }
+    {
+        if is_told && self.settings.tells {
+            self.push_notice(cause, entry);
+        }
+    }
+
+    fn push_notice(&mut self, cause: RemovalCause, entry: Entry<K, V>)
+    where
+        K: Drop,
+        V: Drop,
+        requires { 0 < self.old.notice_room }
+        ensures { self.new ≡ told_if true cause entry self.old }
+    {
+        let Entry {
+            key,
+            value,
+            step: _,
+            written: _,
+            used: _,
+            expires: _,
+            weight: _,
+        } = entry;
+        match self.notices.try_push_back(Notice { cause, key, value }) {
+            Ok(()) => {}
+            Err(_) => unreachable!(),
+        }
+    }
+
+    /// Tells an entry that was removed by its key, in the room that its removal left, where removals are told.
+    pub fn tell_removed(&mut self, cause: RemovalCause, entry: Entry<K, V>)
+    where
+        K: Drop,
+        V: Drop,
+        requires room { 0 < self.old.notice_room }
+        requires reserved { 0 < self.old.reserved }
+        ensures { self.new ≡ told_if self.old.settings.tells cause entry (record self.old { reserved = self.old.reserved - 1 }) }
+    {
+        self.reserved -= 1;
+        self.tell(true, cause, entry);
+    }
+
+    // ---- room
+
+    /// Makes room for so many more writes or predicates, and for a notice of each of so many records and of those to come.
+    pub fn make_room(&mut self, by: u64, records: usize) -> Result<(), Refusal>
+        ensures ok { OnOk result (MakesRoom by records self.old self.new) }
+        ensures err { OnErr result (self.new ≡ self.old) }
+        ensures used_up { IsErrOf result Refusal.UsedUp → 2 ^ 64 ≤ self.old.next_ticket + self.old.reserved + by }
+        ensures only { OnErr result ((IsErrOf result Refusal.OutOfMemory) ⊎ (IsErrOf result Refusal.UsedUp)) }
+    {
+        let free = (u64::MAX - self.next_ticket).saturating_sub(self.reserved);
+        if free < by {
+            return Err(Refusal::UsedUp);
+        }
+        let more = self.reserved + by;
+        match records.checked_add(more as usize) {
+            Some(told) => {
+                self.unsent.reserve(more as usize)?;
+                self.predicates.reserve(more as usize)?;
+                grow(&mut self.notices, told)?;
+                self.reserved = more;
+                Ok(())
+            }
+            None => Err(Refusal::OutOfMemory),
+        }
+    }
+
+    /// Gives up the room for one write or predicate.
+    pub fn release_room(&mut self)
+        requires { 0 < self.old.reserved }
+        ensures { self.new ≡ record self.old { reserved = self.old.reserved - 1 } }
+    {
+        self.reserved -= 1;
+    }
+
+    // ---- writes
+
+    /// Adds a write, for which there is room, and answers the ticket under which it waits.
+    pub fn add_write(&mut self, write: W) -> u64
+        requires { 0 < self.old.reserved }
+        ensures ticket { result ≡ self.old.next_ticket }
+        ensures added { self.new ≡ with_ticketed write self.old }
+    {
+        let ticket = self.next_ticket;
+        self.unsent.push_reserved(Ticketed { ticket, write });
+        self.next_ticket += 1;
+        self.reserved -= 1;
+        ticket
+    }
+
+    /// Moves the write of a ticket into the queue. An unknown ticket is refused before a full queue.
+    pub fn send(&mut self, ticket: u64) -> Result<(), Refusal>
+        ensures ok { OnOk result (self.new ≡ ticket_sent ticket self.old) }
+        ensures known { OnOk result (is_some (ticketed_at self.old.unsent ticket) ≡ true) }
+        ensures err { OnErr result (self.new ≡ self.old) }
+        ensures unknown { IsErrOf result Refusal.UnknownTicket → ticketed_at self.old.unsent ticket ≡ None }
+        ensures full { IsErrOf result Refusal.QueueFull → (is_some (ticketed_at self.old.unsent ticket) ≡ true) × (128 ≤ length self.old.writes) }
+        ensures only { OnErr result ((IsErrOf result Refusal.UnknownTicket) ⊎ (IsErrOf result Refusal.QueueFull)) }
+    {
+        match place_of_ticket(self.unsent.as_slice(), ticket) {
+            Some(place) => {
+                if MAX_WRITES <= self.writes.len() {
+                    return Err(Refusal::QueueFull);
+                }
+                self.send_at(place, ticket);
+                Ok(())
+            }
+            None => Err(Refusal::UnknownTicket),
+        }
+    }
+
+    /// Moves the write at a place of those that were not sent into the queue, which has room.
+    fn send_at(&mut self, place: usize, _ticket: u64)
+        requires within { place < length self.old.unsent }
+        requires room { length self.old.writes < 128 }
+        requires found { (u : Ticketed W) × (slice_get self.old.unsent place ≡ Some u) × (ticketed_at self.old.unsent _ticket ≡ Some u.write) × (without_ticketed _ticket self.old.unsent ≡ remove self.old.unsent place) }
+        ensures { self.new ≡ ticket_sent _ticket self.old }
+    {
+        let sent = self.unsent.remove(place);
+        match self.writes.try_push_back(sent.write) {
+            Ok(()) => {}
+            Err(_) => unreachable!(),
+        }
+    }
+
+    /// Takes off the write that waits longest.
+    pub fn pop_write(&mut self) -> Option<W>
+        ensures first { result ≡ slice_get self.old.writes 0 }
+        ensures rest { self.new ≡ record self.old { writes = drop 1 self.old.writes } }
+    {
+        self.writes.pop_front()
+    }
+
+    // ---- reads
+
+    /// Adds a read, for which there is room.
+    pub fn push_read(&mut self, read: O)
+        requires { length self.old.reads < 64 }
+        ensures { self.new ≡ record self.old { reads = self.old.reads ++ read ∷ [] } }
+    {
+        match self.reads.try_push_back(read) {
+            Ok(()) => {}
+            Err(_) => unreachable!(),
+        }
+    }
+
+    /// Takes off the read that waits longest.
+    pub fn pop_read(&mut self) -> Option<O>
+        ensures first { result ≡ slice_get self.old.reads 0 }
+        ensures rest { self.new ≡ record self.old { reads = drop 1 self.old.reads } }
+    {
+        self.reads.pop_front()
+    }
+
+    /// Counts a hash as asked for.
+    pub fn count_hash(&mut self, hash: u64)
+        ensures { self.new ≡ record self.old { sketch = incremented self.old.sketch hash } }
+    {
+        self.sketch.increment(hash);
+    }
+
+    // ---- runs
+
+    /// Makes the sketch's table for so many hashes.
+    pub fn make_table(&mut self, hashes: u32) -> Result<(), AllocError>
+        ensures made { OnOk result ((words : ℕ) × IsNextPowerOfTwo (min hashes (2 ^ 24)) words × (self.new ≡ record self.old { sketch = grown self.old.sketch words hashes })) }
+        ensures err { OnErr result (self.new ≡ self.old) }
+    {
+        self.sketch.ensure_capacity(hashes)?;
+        Ok(())
+    }
+
+    /// Takes down the counts at the end of a run, and whether there was no memory for the sketch's table.
+    pub fn finish_run(&mut self, number: u64, weight: u64, now: u64, table_refused: bool)
+        ensures { self.new ≡ record self.old { number = number; weight = weight; ran = now; table_refused = table_refused } }
+    {
+        self.number = number;
+        self.weight = weight;
+        self.ran = now;
+        self.table_refused = table_refused;
+    }
+}
+
+/// Makes room for so many more items. What is there at least doubles, where it grows.
+fn grow<T>(items: &mut HeapCircularBuffer<T>, more: usize) -> Result<(), AllocError>
+    ensures items { items.new.items ≡ items.old.items }
+    ensures within { length items.new.items ≤ items.new.capacity }
+    ensures room { OnOk result (length items.new.items + more ≤ items.new.capacity) }
+    ensures err { OnErr result (items.new ≡ items.old) }
+{
+    match items.len().checked_add(more) {
+        Some(needed) => {
+            let there = items.capacity();
+            if needed <= there {
+                return Ok(());
+            }
+            items.resize(needed.max(there * 2))
+        }
+        None => Err(AllocError),
+    }
+}

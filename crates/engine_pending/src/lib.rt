@@ -1,0 +1,10 @@
+//! What a cache of one part keeps beside its records: what waits for maintenance, what was told, predicates, the sketch, counts and settings.
+#![tactic(auto)]
+
+mod backlog;
+mod covering;
+pub mod laws;
+mod tickets;
+
+pub use backlog::{Backlog, MAX_READS, MAX_WRITES};
+pub use tickets::Ticketed;
