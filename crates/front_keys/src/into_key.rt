@@ -1,0 +1,66 @@
+//! Keys that are made only where one is to be kept.
+ghost use Rattle.std.specs.Prelude.{◌≡◌, IfOk};
+
+use crate::shared::Shared;
+use engine_rules::Names;
+use std::alloc::{AllocError, Global};
+
+/// What names a key, and becomes it where one is to be kept. So a look-up that finds its value makes no key.
+pub trait IntoKey<K: PartialEq>: Names<K> + Drop {
+    /// What is asked before it becomes the key.
+    ghost can_become: { Self → Type 0 };
+
+    /// The key that it names, to be kept.
+    fn into_key(self) -> Result<K, AllocError>
+        requires { can_become self }
+        ensures { IfOk result (λ key. key ≡ Self.named_key self) };
+}
+
+/// A key that is owned, and moved to where it can be shared only where it is to be kept.
+#[derive(Drop)]
+pub struct OwnedKey<K> {
+    pub key: K,
+    pub alloc: Global,
+}
+
+impl<K: PartialEq> Names<Shared<K>> for OwnedKey<K> {
+    ghost named_key = { λ name. name.key };
+
+    fn is_name_of(&self, key: &Shared<K>) -> bool {
+        self.key == **key
+    }
+}
+
+impl<K: PartialEq + Drop> IntoKey<Shared<K>> for OwnedKey<K> {
+    ghost can_become = { λ _. Unit {0} };
+
+    fn into_key(self) -> Result<Shared<K>, AllocError> {
+        let OwnedKey { key, alloc } = self;
+        Shared::new(alloc, key)
+    }
+}
+
+/// A key that is lent, and cloned only where it is to be kept. Its clone is asked to equal it.
+#[derive(Drop)]
+pub struct ClonedKey<'a, K> {
+    pub key: &'a K,
+    pub alloc: Global,
+}
+
+impl<'a, K: PartialEq> Names<Shared<K>> for ClonedKey<'a, K> {
+    ghost named_key = { λ name. name.key.now };
+
+    fn is_name_of(&self, key: &Shared<K>) -> bool {
+        *self.key == **key
+    }
+}
+
+impl<'a, K: PartialEq + Clone + Drop> IntoKey<Shared<K>> for ClonedKey<'a, K> {
+    ghost can_become = { λ _. (x y : K) → K.is_clone x y → y ≡ x };
+
+    fn into_key(self) -> Result<Shared<K>, AllocError> {
+        let ClonedKey { key, alloc } = self;
+        let own = key.clone()?;
+        Shared::new(alloc, own)
+    }
+}

@@ -1,0 +1,19 @@
+//! Shared keys named by what is lent.
+ghost use Rattle.std.specs.Prelude.{◌≡◌};
+
+use crate::shared::Shared;
+use engine_rules::Names;
+
+/// A key that is lent for a look-up: it names the shared key that equals it, so that a look-up by `&K` makes no shared key and takes no memory.
+#[derive(Clone, Copy)]
+pub struct LentKey<'a, K> {
+    pub key: &'a K,
+}
+
+impl<'a, K: PartialEq> Names<Shared<K>> for LentKey<'a, K> {
+    ghost named_key = { λ name. name.key.now };
+
+    fn is_name_of(&self, key: &Shared<K>) -> bool {
+        *self.key == **key
+    }
+}

@@ -1,0 +1,29 @@
+//! Laws of the reference front: what its calls keep of each part. Each function does nothing: its contract is the law.
+#![tactic(auto)]
+
+ghost use Rattle.front_laws.specs.Laws.{CallsKeep, CallsStayClose, CoalescesKeep, ComputesKeep, RunsLeaveNoneIdle};
+
+/// Each call of the front keeps of its part what the laws of the reference cache ask for; fewer than 64 writes are unapplied after it.
+pub fn calls_keep<K, V, P, S, R>()
+    ensures { CallsKeep K V P S R }
+{}
+
+/// A coalesced call keeps it too, whatever its closures answer.
+pub fn coalesces_keep<K, V, P, S, R, F>()
+    ensures { CoalescesKeep K V P S R F }
+{}
+
+/// So does a compute call.
+pub fn computes_keep<K, V, P, S, R, E>()
+    ensures { ComputesKeep K V P S R E }
+{}
+
+/// Single calls and runs keep a part close.
+pub fn calls_stay_close<K, V, P, S, R>()
+    ensures { CallsStayClose K V P S R }
+{}
+
+/// After a run no record was used 300 milliseconds or more before one that stands in front of it on the access list, and after an uncut one none is so long past its idle time.
+pub fn runs_leave_none_idle<K, V, P, S, R>()
+    ensures { RunsLeaveNoneIdle K V P S R }
+{}

@@ -1,0 +1,3 @@
+pub mod Looked
+pub mod HeldAfter
+pub mod Answered

@@ -1,0 +1,42 @@
+use Rattle.std.proofs.Common.{ap, sym, ◌∙◌, arith}
+use Rattle.engine_rules.specs.Hashing.{hash_of_key}
+use Rattle.engine_lists.specs.Asking.{answers_of}
+use Rattle.engine_reference.specs.Records.{held_at}
+use Rattle.front_parts.proofs.HeldAfter.{finds, removes-some, removes-none, removal_room-hasher}
+use Rattle.front_parts.proofs.computed.note_and_remove.Goals as goal
+
+pub note_look_up-requires : goal.note_look_up-requires
+note_look_up-requires g c = record {
+  hashed = c.requires.hashed ∙ ap (λ h. hash_of_key g.S.Hasher.Hasher.finish g.S.Hasher.Hasher.write g.S.BuildHasher.build_hasher g.K.Hash.hash_input h (g.Q.Names.named_key c.args.key.now))
+      (sym (ap (λ s. s.hasher) c.in_ok-prepared.ensures.ok ∙ removal_room-hasher (held_at g.K.PartialEq.eq c.args.part.now.records (g.Q.Names.named_key c.args.key.now)) c.args.part.now));
+}
+
+pub take_out-requires : goal.take_out-requires
+take_out-requires g c =
+    let a = answers_of g.R.Rules.weight_of g.R.Rules.created g.R.Rules.read g.R.Rules.updated g.R.Rules.covers in
+    let key = g.Q.Names.named_key c.args.key.now in
+    let f = finds a g.K.PartialEq.eq g.met.K.Eq.laws key c.args.hash c.args.at.now c.args.at.step c.args.part.now c.prepare.new.part c.note_look_up.new.self c.requires.apart
+    c.in-Some.parts c.in_ok-shown.shown c.in_ok-prepared.ensures.ok (sym c.in-Some.is ∙ c.in_ok-prepared.ensures.parts) c.in_ok-shown.ensures c.note_look_up.ensures in
+    record {
+      hashed = c.requires.hashed ∙ ap (λ h. hash_of_key g.S.Hasher.Hasher.finish g.S.Hasher.Hasher.write g.S.BuildHasher.build_hasher g.K.Hash.hash_input h key) (sym f.hasher);
+      ready = record { sent = f.unsent ∙ c.requires.ready.sent; room = let low = c.requires.ready.room in let few = f.few in omega (arith, low, few) };
+      reserved = f.reserved;
+      parts = f.own;
+      shown = f.told;
+    }
+
+pub returns-in-Some-clause-removes : goal.returns-in-Some-clause-removes
+returns-in-Some-clause-removes g c =
+    let a = answers_of g.R.Rules.weight_of g.R.Rules.created g.R.Rules.read g.R.Rules.updated g.R.Rules.covers in
+    let key = g.Q.Names.named_key c.args.key.now in
+    let f = finds a g.K.PartialEq.eq g.met.K.Eq.laws key c.args.hash c.args.at.now c.args.at.step c.args.part.now c.prepare.new.part c.note_look_up.new.self c.requires.apart
+    c.in-Some.parts c.in_ok-shown.shown c.in_ok-prepared.ensures.ok (sym c.in-Some.is ∙ c.in_ok-prepared.ensures.parts) c.in_ok-shown.ensures c.note_look_up.ensures in
+    removes-some a g.K.PartialEq.eq g.met.K.Eq.laws key c.args.hash c.args.at.now c.args.at.step c.args.part.now c.prepare.new.part c.note_look_up.new.self c.requires.apart
+    c.in-Some.parts c.in_ok-shown.shown c.take_out.new.part c.take_out.result f c.take_out.ensures.takes_out c.take_out.ensures.value
+
+pub returns-in-None-clause-removes : goal.returns-in-None-clause-removes
+returns-in-None-clause-removes g c =
+    let a = answers_of g.R.Rules.weight_of g.R.Rules.created g.R.Rules.read g.R.Rules.updated g.R.Rules.covers in
+    let key = g.Q.Names.named_key c.args.key.now in
+    removes-none a g.K.PartialEq.eq g.met.K.Eq.laws key c.args.hash c.args.at.now c.args.at.step c.args.part.now c.prepare.new.part c.note_look_up.new.self c.requires.apart
+    c.in_ok-prepared.ensures.ok (sym c.in-None.is ∙ c.in_ok-prepared.ensures.parts) c.note_look_up.ensures

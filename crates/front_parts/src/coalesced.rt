@@ -1,0 +1,174 @@
+//! Coalesced calls.
+ghost use Rattle.std.specs.Prelude.{◌≡◌, ℕ, ◌<◌, ◌⊎◌, Some, None, [], length, IfOk, OnOk, OnErr, IfErr};
+ghost use Rattle.std.specs.Fn.{FnOnceReturnsAt};
+ghost use Rattle.std.specs.Result.{IsErrOf};
+ghost use Rattle.engine_reference.specs.Scanning.{past};
+ghost use Rattle.engine_reference.specs.Visible.{visible_value};
+ghost use Rattle.engine_lists.specs.Asking.{answers_of};
+ghost use Rattle.engine_rules.specs.Hashing.{hash_of_key};
+ghost use Rattle.front_reference.specs.Parts.{IsCause, IsReady, Acts, Coalesces, op_of_made};
+ghost use Rattle.front_reference.specs.declared.data.Op.TheVariants as op;
+ghost use Rattle.front_reference.specs.declared.data.Made.TheVariants as made;
+
+use crate::part::{insert_reserved, reserve_insert};
+use engine_rules::{Names, Rules};
+use front_keys::IntoKey;
+use front_reference::{At, CacheError, Made};
+use moka_engine::BaseCache;
+use policy_base::Instant;
+use std::alloc::AllocError;
+use std::hash::{BuildHasher, Hash, Hasher};
+
+/// A clone of the visible value of a key, unless `replace_if` says yes of it; then it is passed over, which the first of the two answers. No other value is asked about.
+fn look<
+    K: Eq + Hash,
+    V: Clone,
+    S: BuildHasher,
+    R: Rules<K, V>,
+    Q: Names<K>,
+    P: FnOnce(&V) -> bool + Drop,
+>(
+    part: &BaseCache<K, V, S, R>,
+    key: &Q,
+    hash: u64,
+    now: Instant,
+    replace_if: P,
+) -> Result<(bool, Option<V>), AllocError>
+    requires hashed { hash ≡ hash_of_key S.Hasher.finish S.Hasher.write S.build_hasher K.hash_input part.now.hasher (Q.named_key key.now) }
+    requires exact { (x y : V) → V.is_clone x y → y ≡ x }
+    requires callable { P.IsAlwaysCallable replace_if }
+    ensures asked { IfOk result (λ looked. (value : V) → visible_value (answers_of R.weight_of R.created R.read R.updated R.covers) K.eq part.now now (Q.named_key key.now) ≡ Some value → FnOnceReturnsAt P.FnOnce replace_if value looked.0) }
+    ensures found { IfOk result (λ looked. looked.1 ≡ past looked.0 (visible_value (answers_of R.weight_of R.created R.read R.updated R.covers) K.eq part.now now (Q.named_key key.now))) }
+{
+    match part.peek(key, hash, now) {
+        Some(value) => {
+            if replace_if(value) {
+                Ok((true, None))
+            } else {
+                let found = value.clone()?;
+                Ok((false, Some(found)))
+            }
+        }
+        None => Ok((false, None)),
+    }
+}
+
+/// Notes a look-up, and inserts a value after it, for which all room is made before.
+pub(crate) fn note_and_insert<K: Eq + Hash + Drop, V: Drop, S: BuildHasher, R: Rules<K, V>>(
+    part: &mut BaseCache<K, V, S, R>,
+    key: K,
+    hash: u64,
+    value: V,
+    at: At,
+    ignored: bool,
+) -> Result<(), CacheError>
+    requires hashed { hash ≡ hash_of_key S.Hasher.finish S.Hasher.write S.build_hasher K.hash_input part.old.hasher key }
+    requires ready { IsReady part.old }
+    ensures acts { OnOk result (Acts (answers_of R.weight_of R.created R.read R.updated R.covers) K.eq key hash at.now at.step ignored (op.Put value) part.old part.new) }
+    ensures err { OnErr result (part.new ≡ part.old) }
+    ensures cause { IfErr result (IsCause 1 part.old) }
+{
+    reserve_insert(part)?;
+    part.note_look_up(&key, hash, at.now, ignored);
+    insert_reserved(part, key, hash, value, at);
+    Ok(())
+}
+
+/// Notes a look-up, and nothing more.
+pub(crate) fn note<K: Eq + Hash + Drop, V: Drop, S: BuildHasher, R: Rules<K, V>, Q: Names<K>>(
+    part: &mut BaseCache<K, V, S, R>,
+    key: &Q,
+    hash: u64,
+    at: At,
+    ignored: bool,
+)
+    requires hashed { hash ≡ hash_of_key S.Hasher.finish S.Hasher.write S.build_hasher K.hash_input part.old.hasher (Q.named_key key.now) }
+    ensures { Acts (answers_of R.weight_of R.created R.read R.updated R.covers) K.eq (Q.named_key key.now) hash at.now at.step ignored op.Nop part.old part.new }
+{
+    part.note_look_up(key, hash, at.now, ignored);
+}
+
+/// Notes a look-up that found nothing, and inserts what was made for its key, if that is a value. Answers what was made.
+fn settle<
+    K: Eq + Hash + Drop,
+    V: Clone + Drop,
+    S: BuildHasher,
+    R: Rules<K, V>,
+    F: Drop,
+    Q: IntoKey<K>,
+>(
+    part: &mut BaseCache<K, V, S, R>,
+    name: Q,
+    hash: u64,
+    made: Made<V, F>,
+    at: At,
+    ignored: bool,
+) -> Result<Made<V, F>, CacheError>
+    requires hashed { hash ≡ hash_of_key S.Hasher.finish S.Hasher.write S.build_hasher K.hash_input part.old.hasher (Q.named_key name) }
+    requires becomes { Q.can_become name }
+    requires exact { (x y : V) → V.is_clone x y → y ≡ x }
+    requires ready { IsReady part.old }
+    ensures same { IfOk result (λ answer. answer ≡ made) }
+    ensures acts { OnOk result (Acts (answers_of R.weight_of R.created R.read R.updated R.covers) K.eq (Q.named_key name) hash at.now at.step ignored (op_of_made made) part.old part.new) }
+    ensures err { OnErr result (part.new ≡ part.old) }
+    ensures cause { IfErr result (IsCause 1 part.old) }
+{
+    match made {
+        Made::Value(value) => {
+            let kept = value.clone()?;
+            let key = name.into_key()?;
+            note_and_insert(part, key, hash, kept, at, ignored)?;
+            Ok(Made::Value(value))
+        }
+        Made::Nothing => {
+            note(part, &name, hash, at, ignored);
+            Ok(Made::Nothing)
+        }
+        Made::Fault(fault) => {
+            note(part, &name, hash, at, ignored);
+            Ok(Made::Fault(fault))
+        }
+    }
+}
+
+/// The visible value of a key, of which it is a use, and false; or what `make` makes, and true: a value is then inserted. A visible value of which `replace_if` says yes counts as none.
+/// Closures run before anything changes, and the key is made only where a value is inserted. `make` may be refused for memory, and then so is the call.
+pub fn coalesce<
+    K: Eq + Hash + Drop,
+    V: Clone + Drop,
+    S: BuildHasher,
+    R: Rules<K, V>,
+    F: Drop,
+    Q: IntoKey<K>,
+    P: FnOnce(&V) -> bool + Drop,
+    M: FnOnce() -> Result<Made<V, F>, AllocError> + Drop,
+>(
+    part: &mut BaseCache<K, V, S, R>,
+    name: Q,
+    hash: u64,
+    at: At,
+    replace_if: P,
+    make: M,
+) -> Result<(Made<V, F>, bool), CacheError>
+    requires hashed { hash ≡ hash_of_key S.Hasher.finish S.Hasher.write S.build_hasher K.hash_input part.old.hasher (Q.named_key name) }
+    requires becomes { Q.can_become name }
+    requires exact { (x y : V) → V.is_clone x y → y ≡ x }
+    requires callable { P.IsAlwaysCallable replace_if × M.IsAlwaysCallable make }
+    requires ready { IsReady part.old }
+    ensures answer { IfOk result (λ answer. Coalesces (answers_of R.weight_of R.created R.read R.updated R.covers) K.eq (Q.named_key name) hash at.now at.step (FnOnceReturnsAt P.FnOnce replace_if) (λ made. M.post make (Ok made)) part.old part.new answer.0 answer.1) }
+    ensures err { OnErr result (part.new ≡ part.old) }
+    ensures cause { IfErr result (IsCause 1 part.old) }
+{
+    let (ignored, found) = look(part, &name, hash, at.now, replace_if)?;
+    match found {
+        Some(value) => {
+            part.note_look_up(&name, hash, at.now, ignored);
+            Ok((Made::Value(value), false))
+        }
+        None => {
+            let made = make()?;
+            let answer = settle(part, name, hash, made, at, ignored)?;
+            Ok((answer, true))
+        }
+    }
+}

@@ -1,0 +1,164 @@
+//! Compute calls.
+ghost use Rattle.std.specs.Prelude.{◌≡◌, ℕ, ◌<◌, ◌⊎◌, Option, Some, None, [], length, IfOk, OnOk, OnErr, IfErr, is_some};
+ghost use Rattle.std.specs.Result.{IsErrOf};
+ghost use Rattle.engine_reference.specs.Calls.{removal_rooms};
+ghost use Rattle.engine_reference.specs.Records.{held_entries};
+ghost use Rattle.engine_reference.specs.Telling.{AreApart};
+ghost use Rattle.engine_reference.specs.Visible.{visible_value};
+ghost use Rattle.engine_lists.specs.Asking.{answers_of};
+ghost use Rattle.engine_rules.specs.Hashing.{hash_of_key};
+ghost use Rattle.front_reference.specs.Parts.{IsCause, IsReady, Computes, computed_as};
+ghost use Rattle.front_reference.specs.declared.data.Op.TheVariants as op;
+ghost use Rattle.front_parts.specs.Looking.{OperatesAfterLook, RemovesAfterLook};
+
+use crate::coalesced::{note, note_and_insert};
+use crate::removals::{clone_shown, prepare, take_out};
+use engine_rules::{Names, Rules};
+use front_keys::IntoKey;
+use front_reference::{At, CacheError, Computed, Op};
+use moka_engine::BaseCache;
+use std::hash::{BuildHasher, Hash, Hasher};
+
+/// Notes a look-up, and removes the key after it, for which all room is made before. Answers the value that is held then.
+fn note_and_remove<
+    K: Eq + Hash + Clone + Drop,
+    V: Clone + Drop,
+    S: BuildHasher,
+    R: Rules<K, V>,
+    Q: Names<K>,
+>(part: &mut BaseCache<K, V, S, R>, key: &Q, hash: u64, at: At) -> Result<Option<V>, CacheError>
+    requires hashed { hash ≡ hash_of_key S.Hasher.finish S.Hasher.write S.build_hasher K.hash_input part.old.hasher (Q.named_key key.now) }
+    requires exact_key { (x y : K) → K.is_clone x y → y ≡ x }
+    requires exact { (x y : V) → V.is_clone x y → y ≡ x }
+    requires ready { IsReady part.old }
+    requires apart { AreApart K.eq (held_entries part.old.records) }
+    ensures removes { IfOk result (λ removed. RemovesAfterLook (answers_of R.weight_of R.created R.read R.updated R.covers) K.eq (Q.named_key key.now) hash at.now at.step part.old part.new removed) }
+    ensures err { OnErr result (part.new ≡ part.old) }
+    ensures cause { IfErr result (IsCause (removal_rooms part.old.settings) part.old) }
+{
+    let shown = clone_shown(part, key, hash)?;
+    let prepared = prepare(part, key, hash)?;
+    part.note_look_up(key, hash, at.now, false);
+    match prepared {
+        Some(parts) => Ok(take_out(part, key, hash, parts, shown, at.now)),
+        None => Ok(None),
+    }
+}
+
+/// Notes a look-up, and does what a closure decided after it, for which all room is made before. `was_seen` says whether a value was visible.
+fn operate<
+    K: Eq + Hash + Clone + Drop,
+    V: Clone + Drop,
+    S: BuildHasher,
+    R: Rules<K, V>,
+    Q: IntoKey<K>,
+>(
+    part: &mut BaseCache<K, V, S, R>,
+    name: Q,
+    hash: u64,
+    does: Op<V>,
+    at: At,
+    was_seen: bool,
+) -> Result<Computed<V>, CacheError>
+    requires hashed { hash ≡ hash_of_key S.Hasher.finish S.Hasher.write S.build_hasher K.hash_input part.old.hasher (Q.named_key name) }
+    requires becomes { Q.can_become name }
+    requires exact_key { (x y : K) → K.is_clone x y → y ≡ x }
+    requires exact { (x y : V) → V.is_clone x y → y ≡ x }
+    requires ready { IsReady part.old }
+    requires apart { AreApart K.eq (held_entries part.old.records) }
+    requires seen { was_seen ≡ is_some (visible_value (answers_of R.weight_of R.created R.read R.updated R.covers) K.eq part.old at.now (Q.named_key name)) }
+    ensures operates { IfOk result (λ done. OperatesAfterLook (answers_of R.weight_of R.created R.read R.updated R.covers) K.eq (Q.named_key name) hash at.now at.step does part.old part.new done) }
+    ensures err { OnErr result (part.new ≡ part.old) }
+    ensures cause { IfErr result (IsCause (removal_rooms part.old.settings) part.old) }
+{
+    match does {
+        Op::Nop => {
+            let seen = part.get_with_hash_without_recording(&name, hash, at.now)?;
+            note(part, &name, hash, at, false);
+            Ok(shown_unchanged(seen))
+        }
+        Op::Put(value) => {
+            let kept = value.clone()?;
+            let key = name.into_key()?;
+            note_and_insert(part, key, hash, kept, at, false)?;
+            Ok(shown_put(value, was_seen))
+        }
+        Op::Remove => {
+            let removed = note_and_remove(part, &name, hash, at)?;
+            Ok(shown_removed(removed))
+        }
+    }
+}
+
+/// What is answered where nothing was to be done.
+fn shown_unchanged<V>(seen: Option<V>) -> Computed<V>
+    ensures { (held : Option V) → result ≡ computed_as op.Nop seen held }
+{
+    match seen {
+        Some(value) => Computed::Unchanged(value),
+        None => Computed::StillNone,
+    }
+}
+
+/// What is answered where a value was put.
+fn shown_put<V>(value: V, was_seen: bool) -> Computed<V>
+    ensures { (seen held : Option V) → was_seen ≡ is_some seen → result ≡ computed_as (op.Put value) seen held }
+{
+    if was_seen {
+        Computed::ReplacedWith(value)
+    } else {
+        Computed::Inserted(value)
+    }
+}
+
+/// What is answered where the key was removed.
+fn shown_removed<V>(removed: Option<V>) -> Computed<V>
+    ensures { (seen : Option V) → result ≡ computed_as op.Remove seen removed }
+{
+    match removed {
+        Some(value) => Computed::Removed(value),
+        None => Computed::StillNone,
+    }
+}
+
+/// Lets a closure decide by the visible value of a key what is to be done with it, and does so after the look-up's read. Where the closure fails nothing is done but that read, and its error is answered.
+/// The closure runs before anything changes, and the key is made only where a value is put.
+pub fn compute<
+    K: Eq + Hash + Clone + Drop,
+    V: Clone + Drop,
+    S: BuildHasher,
+    R: Rules<K, V>,
+    E: Drop,
+    Q: IntoKey<K>,
+    D: FnOnce(Option<V>) -> Result<Op<V>, E> + Drop,
+>(
+    part: &mut BaseCache<K, V, S, R>,
+    name: Q,
+    hash: u64,
+    at: At,
+    decide: D,
+) -> Result<Result<Computed<V>, E>, CacheError>
+    requires hashed { hash ≡ hash_of_key S.Hasher.finish S.Hasher.write S.build_hasher K.hash_input part.old.hasher (Q.named_key name) }
+    requires becomes { Q.can_become name }
+    requires exact_key { (x y : K) → K.is_clone x y → y ≡ x }
+    requires exact { (x y : V) → V.is_clone x y → y ≡ x }
+    requires decides { D.IsAlwaysCallable decide }
+    requires ready { IsReady part.old }
+    requires apart { AreApart K.eq (held_entries part.old.records) }
+    ensures computes { IfOk result (λ answer. Computes (answers_of R.weight_of R.created R.read R.updated R.covers) K.eq (Q.named_key name) hash at.now at.step (λ seen decided. D.post decide seen decided) part.old part.new answer) }
+    ensures err { OnErr result (part.new ≡ part.old) }
+    ensures cause { IfErr result (IsCause (removal_rooms part.old.settings) part.old) }
+{
+    let seen = part.get_with_hash_without_recording(&name, hash, at.now)?;
+    let was_seen = seen.is_some();
+    match decide(seen) {
+        Ok(does) => {
+            let done = operate(part, name, hash, does, at, was_seen)?;
+            Ok(Ok(done))
+        }
+        Err(fault) => {
+            note(part, &name, hash, at, false);
+            Ok(Err(fault))
+        }
+    }
+}

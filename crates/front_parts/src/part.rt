@@ -1,0 +1,158 @@
+//! Inserting, looking up, running.
+ghost use Rattle.std.specs.Prelude.{◌≡◌, ℕ, ◌+◌, ◌<◌, ◌≤◌, ◌^◌, ◌⊎◌, true, false, [], length, IfOk, OnOk, OnErr, IfErr, is_some};
+ghost use Rattle.std.specs.Result.{IsErrOf};
+ghost use Rattle.engine_reference.specs.Calls.{LooksUp, written, sent, unsent_at, with_room};
+ghost use Rattle.engine_reference.specs.Visible.{visible_record, visible_value};
+ghost use Rattle.engine_lists.specs.Asking.{answers_of};
+ghost use Rattle.engine_rules.specs.Hashing.{hash_of_key};
+ghost use Rattle.front_reference.specs.Parts.{IsCause, IsReady, Inserts, InsertsReserved, put_sent, takes_nothing, with_put_room};
+ghost use Rattle.front_reference.specs.Wholes.{RunsPart};
+
+use engine_rules::{Names, Rules};
+use front_reference::{At, CacheError};
+use moka_engine::{BaseCache, Refusal};
+use policy_base::Instant;
+use std::alloc::AllocError;
+use std::hash::{BuildHasher, Hash, Hasher};
+
+/// Sends a ticket that waits, for which there is room.
+pub(crate) fn send_now<K: Eq + Hash, V, S: BuildHasher, R: Rules<K, V>>(
+    part: &mut BaseCache<K, V, S, R>,
+    ticket: u64,
+)
+    requires waits { is_some (unsent_at part.old.unsent ticket) ≡ true }
+    requires room { length part.old.writes < 128 }
+    ensures { part.new ≡ sent ticket part.old }
+{
+    match part.send(ticket) {
+        Ok(()) => {}
+        Err(_) => unreachable!(),
+    }
+}
+
+/// Makes room for one write.
+fn make_room<K: Eq + Hash, V, S: BuildHasher, R: Rules<K, V>>(
+    part: &mut BaseCache<K, V, S, R>,
+) -> Result<(), CacheError>
+    ensures ok { OnOk result (part.new ≡ with_room part.old) }
+    ensures err { OnErr result (part.new ≡ part.old) }
+    ensures cause { IfErr result (IsCause 1 part.old) }
+{
+    match part.reserve_write() {
+        Ok(()) => Ok(()),
+        Err(Refusal::UsedUp) => Err(CacheError::UsedUp),
+        Err(_) => Err(CacheError::OutOfMemory),
+    }
+}
+
+/// Makes room for a value, unless none is taken, as the capacity is 0. `insert_reserved` takes it.
+pub fn reserve_insert<K: Eq + Hash, V, S: BuildHasher, R: Rules<K, V>>(
+    part: &mut BaseCache<K, V, S, R>,
+) -> Result<(), CacheError>
+    ensures ok { OnOk result (part.new ≡ with_put_room part.old) }
+    ensures err { OnErr result (part.new ≡ part.old) }
+    ensures cause { IfErr result (IsCause 1 part.old) }
+{
+    if part.is_map_disabled() {
+        Ok(())
+    } else {
+        make_room(part)
+    }
+}
+
+/// Writes a value for which room was made, and sends its write.
+fn put_reserved<K: Eq + Hash + Drop, V: Drop, S: BuildHasher, R: Rules<K, V>>(
+    part: &mut BaseCache<K, V, S, R>,
+    key: K,
+    hash: u64,
+    value: V,
+    now: Instant,
+    step: u64,
+)
+    requires hashed { hash ≡ hash_of_key S.Hasher.finish S.Hasher.write S.build_hasher K.hash_input part.old.hasher key }
+    requires ready { IsReady part.old }
+    requires reserved { 0 < part.old.reserved }
+    ensures { part.new ≡ put_sent (answers_of R.weight_of R.created R.read R.updated R.covers) K.eq key hash value now step part.old }
+{
+    let ticket = part.do_insert_with_hash(key, hash, value, now, step);
+    send_now(part, ticket);
+}
+
+/// Inserts a value in the room that `reserve_insert` made. It is not refused.
+pub fn insert_reserved<K: Eq + Hash + Drop, V: Drop, S: BuildHasher, R: Rules<K, V>>(
+    part: &mut BaseCache<K, V, S, R>,
+    key: K,
+    hash: u64,
+    value: V,
+    at: At,
+)
+    requires hashed { hash ≡ hash_of_key S.Hasher.finish S.Hasher.write S.build_hasher K.hash_input part.old.hasher key }
+    requires ready { IsReady part.old }
+    requires reserved { takes_nothing part.old.settings.capacity ≡ false → 0 < part.old.reserved }
+    ensures { InsertsReserved (answers_of R.weight_of R.created R.read R.updated R.covers) K.eq key hash value at.now at.step part.old part.new }
+{
+    let At { now, step } = at;
+    if !part.is_map_disabled() {
+        put_reserved(part, key, hash, value, now, step);
+        part.apply_reads_writes_if_needed(now);
+    }
+}
+
+/// Inserts a value. A part of capacity 0 takes none, and nothing happens.
+pub fn insert<K: Eq + Hash + Drop, V: Drop, S: BuildHasher, R: Rules<K, V>>(
+    part: &mut BaseCache<K, V, S, R>,
+    key: K,
+    hash: u64,
+    value: V,
+    at: At,
+) -> Result<(), CacheError>
+    requires hashed { hash ≡ hash_of_key S.Hasher.finish S.Hasher.write S.build_hasher K.hash_input part.old.hasher key }
+    requires ready { IsReady part.old }
+    ensures inserts { OnOk result (Inserts (answers_of R.weight_of R.created R.read R.updated R.covers) K.eq key hash value at.now at.step part.old part.new) }
+    ensures err { OnErr result (part.new ≡ part.old) }
+    ensures cause { IfErr result (IsCause 1 part.old) }
+{
+    reserve_insert(part)?;
+    insert_reserved(part, key, hash, value, at);
+    Ok(())
+}
+
+/// A clone of the visible value of a key, of which it is a use.
+pub fn get<K: Eq + Hash + Drop, V: Clone + Drop, S: BuildHasher, R: Rules<K, V>, Q: Names<K>>(
+    part: &mut BaseCache<K, V, S, R>,
+    key: &Q,
+    hash: u64,
+    now: Instant,
+) -> Result<Option<V>, AllocError>
+    requires hashed { hash ≡ hash_of_key S.Hasher.finish S.Hasher.write S.build_hasher K.hash_input part.old.hasher (Q.named_key key.now) }
+    requires exact { (x y : V) → V.is_clone x y → y ≡ x }
+    ensures found { IfOk result (λ found. found ≡ visible_value (answers_of R.weight_of R.created R.read R.updated R.covers) K.eq part.old now (Q.named_key key.now)) }
+    ensures used { OnOk result (LooksUp (answers_of R.weight_of R.created R.read R.updated R.covers) K.eq (Q.named_key key.now) hash now part.old part.new) }
+    ensures err { OnErr result (part.new ≡ part.old) }
+{
+    part.get_with_hash(key, hash, now)
+}
+
+/// Whether a key has a visible value. It is no use of it.
+pub fn contains_key<K: Eq + Hash, V, S: BuildHasher, R: Rules<K, V>, Q: Names<K>>(
+    part: &BaseCache<K, V, S, R>,
+    key: &Q,
+    hash: u64,
+    now: Instant,
+) -> bool
+    requires hashed { hash ≡ hash_of_key S.Hasher.finish S.Hasher.write S.build_hasher K.hash_input part.now.hasher (Q.named_key key.now) }
+    ensures { result ≡ is_some (visible_record (answers_of R.weight_of R.created R.read R.updated R.covers) K.eq part.now now (Q.named_key key.now)) }
+{
+    part.contains_key_with_hash(key, hash, now)
+}
+
+/// Runs maintenance to its end.
+pub fn run_pending_tasks<K: Eq + Hash + Drop, V: Drop, S: BuildHasher, R: Rules<K, V>>(
+    part: &mut BaseCache<K, V, S, R>,
+    now: Instant,
+)
+    requires sent { part.old.unsent ≡ [] }
+    ensures { RunsPart (answers_of R.weight_of R.created R.read R.updated R.covers) now part.old part.new }
+{
+    part.run_pending_tasks(now);
+}
