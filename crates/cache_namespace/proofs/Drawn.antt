@@ -12,10 +12,11 @@ use Rattle.audit_model.specs.declared.transcript.Note.{Note}
 use Rattle.audit_model.specs.declared.transcript.Step.{Step}
 use Rattle.rand_core.specs.Stream.{Stream}
 use Rattle.cache_store.specs.Identifiers.{Register, KeepsIdentifiers, AreUsedUp, drawn, stream_after}
-use Rattle.cache_steps.specs.Drawing.{DrawsForParts}
-use Rattle.cache_steps.specs.Right.{step_saying}
-use Rattle.cache_steps.proofs.Drawn.{draws-none, spends-none}
-use Rattle.cache_namespace.specs.Drawing.{Identifiers, Spends, StepDraws, StepsDraw, says_drop}
+use Rattle.cache_commands.specs.Drawing.{DrawsForParts}
+use Rattle.cache_commands.specs.Right.{step_saying}
+use Rattle.cache_commands.proofs.Drawn.{draws-none, spends-none}
+use Rattle.cache_namespace.specs.Drawing.{Identifiers, Spends, StepDraws, StepsDraw}
+use Rattle.cache_commands.specs.Answered.{says_drop}
 use Rattle.cache_namespace.specs.Lines.{held_step}
 
 pub keeps-more : (a b c : Stream) (x y z : Register) → KeepsIdentifiers a b x y → KeepsIdentifiers b c y z → KeepsIdentifiers a c x z

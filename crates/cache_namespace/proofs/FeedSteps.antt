@@ -23,8 +23,8 @@ use Rattle.audit_model.specs.declared.transcript.Note.{Note}
 use Rattle.audit_model.specs.declared.transcript.Step.{Step}
 use Rattle.audit_lines.specs.Next.{IsLine, IsPartial}
 use Rattle.audit_lines.proofs.Lines.{IsLine-first_line, IsPartial-first_line, IsPartial-not_long}
-use Rattle.cache_steps.specs.Right.{step_saying, placed_doing, held_when_run}
-use Rattle.cache_steps.proofs.Answering.{same-refl, none_succeeded}
+use Rattle.cache_commands.specs.Right.{step_saying, placed_doing, held_when_run}
+use Rattle.cache_commands.proofs.Answering.{same-refl, none_succeeded}
 use Rattle.cache_store.specs.Promises.{no_deed}
 use Rattle.cache_namespace.specs.Drawing.{Workings, identifiers_in}
 use Rattle.cache_namespace.specs.Making.{Making}
@@ -34,7 +34,7 @@ use Rattle.cache_namespace.specs.Ran.{RanOne, RanLines, RanReady, RanFeed, ends_
 use Rattle.cache_namespace.specs.Waiting.{holding_load}
 use Rattle.cache_namespace.proofs.Drawn.{draws-first, draws-more, held-draws, spends-same}
 use Rattle.cache_namespace.specs.Ordered.{HasKeys, HaveKeys}
-use Rattle.cache_steps.specs.Order.{AgreesWith, order_by}
+use Rattle.cache_commands.specs.Order.{AgreesWith, order_by}
 use Rattle.cache_namespace.proofs.Knowing.{keys-in-turn, order-behind-more, runs-keys-more}
 use Rattle.cache_namespace.proofs.Placing.{found-there}
 use Rattle.cache_namespace.specs.Whole.{held_line}

@@ -10,7 +10,7 @@ use Rattle.audit_model.specs.Steps.{Task, RunLines}
 use Rattle.audit_model.specs.declared.command.Command.TheVariants as says
 use Rattle.audit_model.specs.declared.config.Config.{Config}
 use Rattle.audit_model.specs.declared.transcript.Step.{Step}
-use Rattle.cache_steps.specs.Order.{Order, Settled, Used, Unknown, AgreesWith, order_by}
+use Rattle.cache_commands.specs.Order.{Order, Settled, Used, Unknown, AgreesWith, order_by}
 use Rattle.cache_store.specs.Recency.{AreKeysOf}
 use Rattle.cache_namespace.specs.Lines.{Runs, situation_behind, effect_of_step}
 use Rattle.cache_namespace.specs.Making.{Making}

@@ -23,13 +23,14 @@ use Rattle.audit_lines.specs.Next.{IsLine}
 use Rattle.audit_lines.proofs.Lines.{IsLine-first_line}
 use Rattle.cache_loads.specs.Pending.{SameLoads, number_to_send, loads_pending, sent_of, when_joined, when_sent}
 use Rattle.cache_loads.specs.declared.loads.Loads.{Loads}
-use Rattle.cache_steps.specs.Loading.{Waits, step_silent}
-use Rattle.cache_steps.specs.Order.{AgreesWith, order_by}
-use Rattle.cache_steps.specs.Right.{DoesRight, held_when_run}
-use Rattle.cache_steps.proofs.Drawn.{draws-none}
-use Rattle.cache_steps.proofs.LoadSteps as loading
+use Rattle.cache_commands.specs.Loading.{Waits, step_silent}
+use Rattle.cache_commands.specs.Order.{AgreesWith, order_by}
+use Rattle.cache_commands.specs.Right.{DoesRight, held_when_run}
+use Rattle.cache_commands.proofs.Drawn.{draws-none}
+use Rattle.cache_commands.proofs.LoadSteps as loading
 use Rattle.cache_store.specs.Promises.{no_deed}
-use Rattle.cache_namespace.specs.Drawing.{Identifiers, StepDraws, Workings, identifiers_in, says_drop}
+use Rattle.cache_namespace.specs.Drawing.{Identifiers, StepDraws, Workings, identifiers_in}
+use Rattle.cache_commands.specs.Answered.{says_drop}
 use Rattle.cache_namespace.specs.Gathered.{Gathered, gather}
 use Rattle.cache_namespace.specs.Lines.{IsThere, Runs, situation_behind, has_its_part, is_timely_after, effect_of_step, ready, says_quit, set_in, with_drops}
 use Rattle.cache_namespace.specs.Making.{Making}

@@ -21,9 +21,9 @@ use Rattle.audit_model.specs.declared.event.Outcome.{Outcome}
 use Rattle.audit_model.specs.declared.transcript.Note.{Note}
 use Rattle.audit_model.specs.declared.transcript.Step.{Step}
 use Rattle.cache_loads.specs.Pending.{number_to_send, when_joined, when_sent}
-use Rattle.cache_steps.proofs.Answering.{same-refl}
-use Rattle.cache_steps.specs.Loading.{step_silent}
-use Rattle.cache_steps.specs.Right.{DoesRight, placed_doing, step_saying}
+use Rattle.cache_commands.proofs.Answering.{same-refl}
+use Rattle.cache_commands.specs.Loading.{step_silent}
+use Rattle.cache_commands.specs.Right.{DoesRight, placed_doing, step_saying}
 use Rattle.cache_namespace.specs.Lines.{IsThere, held_step, ready, set_in, with_drops}
 use Rattle.cache_namespace.specs.Waiting.{holding_load, waiting, with_loads}
 use Rattle.cache_namespace.proofs.FeedSteps.{find-dropped}

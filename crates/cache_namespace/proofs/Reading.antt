@@ -1,12 +1,17 @@
 -- What a line did, by how it is read.
-use Rattle.std.proofs.Common.{◌≡◌, ℕ, Bool, true, false, not, ◌||◌, List, Option, None, Ok, refl, sym, ap, ◌∙◌, subst, true≢false}
-use Rattle.std.specs.Prelude.{IsTrue}
+use Rattle.std.proofs.Common.{◌≡◌, ℕ, ◌≤◌, Bool, true, false, not, ◌||◌, List, length, Option, Some, None, Ok, Err, refl, sym, ap, ◌∙◌, subst, arith}
+use Rattle.std.specs.Prelude.{IsTrue, IfSome, decimal}
+use Rattle.std.proofs.lemmas.Bool.{eq-eqb}
 use Rattle.std.specs.List.{list_all}
 use Rattle.std.specs.Option.{option_map, option_map_or}
 use Rattle.audit_laws.specs.Leading.{is_parted}
 use Rattle.audit_model.specs.Commands.{is_sync}
+use Rattle.audit_lines.specs.Request.{IsFit}
+use Rattle.audit_lines.specs.declared.request.Request.{Request}
+use Rattle.audit_lines.specs.declared.request.Request.TheVariants as asks
 use Rattle.audit_model.specs.Grammar.{Reading, reading}
-use Rattle.audit_model.specs.Replies.{offer_of, value_from}
+use Rattle.audit_model.specs.History.{accepts_values}
+use Rattle.audit_model.specs.Replies.{Offer, offer_of, sum_with, taken_where, value_from}
 use Rattle.audit_model.specs.Situation.{Situation, HeldValue, view_in}
 use Rattle.audit_model.specs.Steps.{action_by, effect_in}
 use Rattle.audit_model.specs.declared.command.Command.TheVariants as says
@@ -14,10 +19,12 @@ use Rattle.audit_model.specs.declared.config.Config.{Config}
 use Rattle.audit_model.specs.declared.transcript.Accepted.{Accepted}
 use Rattle.audit_model.specs.declared.transcript.Note.{Note}
 use Rattle.cache_store.specs.Running.{is_timely}
-use Rattle.cache_steps.specs.Order.{MovesOrder}
-use Rattle.cache_steps.specs.Right.{RepliesRightly, step_saying}
-use Rattle.cache_namespace.specs.Drawing.{says_drop}
-use Rattle.cache_namespace.specs.Lines.{IsPlain}
+use Rattle.cache_commands.specs.Answered.{key_written}
+use Rattle.cache_commands.specs.Order.{MovesOrder}
+use Rattle.cache_commands.specs.Ran.{FitsStore}
+use Rattle.cache_commands.specs.Right.{RepliesRightly, step_saying}
+use Rattle.cache_commands.specs.Answered.{says_drop}
+use Rattle.cache_namespace.specs.Lines.{IsPlain, says_quit}
 use Rattle.cache_namespace.specs.Ran.{HasItsPart, IsPlainLine}
 
 pub answers-as : (was config : Config) (line : List ℕ) (r : Reading) (s : Situation) (accepted : Option Accepted) (Stands : List HeldValue → Type 0) (dropped : Bool) (Handed : List Note → Type 0) (old new : List ℕ)
@@ -33,20 +40,82 @@ pub plain-as : (config : Config) (line : List ℕ) (r : Reading) (quit : Bool) �
     → IsPlainLine config line quit
 plain-as config line r quit read plain = λ s conn reply accepted told. subst (λ t. IsPlain (effect_in config (view_in config s) (action_by t) (step_saying conn line reply accepted told)) quit) (sym read) (plain s conn reply accepted told)
 
+-- a step with a reply does nothing but to values, and closes its connection where it is a `QUIT`
+pub plain-reading : (config : Config) (s : Situation) (r : Reading) (conn : ℕ) (line reply : List ℕ) (accepted : Option Accepted) (told : List Note) → IsPlain (effect_in config (view_in config s) (action_by r) (step_saying conn line reply accepted told)) (says_quit r)
+plain-reading config s (Ok (says.Set key ms value)) conn line reply accepted told = record { stays = refl; quits = refl; loads = λ conn s. refl }
+plain-reading config s (Ok (says.Get key)) conn line reply accepted told = record { stays = refl; quits = refl; loads = λ conn s. refl }
+plain-reading config s (Ok (says.Has key)) conn line reply accepted told = record { stays = refl; quits = refl; loads = λ conn s. refl }
+plain-reading config s (Ok (says.Load key)) conn line reply accepted told = record { stays = refl; quits = refl; loads = λ conn s. refl }
+plain-reading config s (Ok (says.Del key)) conn line reply accepted told = record { stays = refl; quits = refl; loads = λ conn s. refl }
+plain-reading config s (Ok (says.Add key ms number)) conn line reply accepted told = record { stays = refl; quits = refl; loads = λ conn s. refl }
+plain-reading config s (Ok says.Clear) conn line reply accepted told = record { stays = refl; quits = refl; loads = λ conn s. refl }
+plain-reading config s (Ok (says.DropIf prefix)) conn line reply accepted told = record { stays = refl; quits = refl; loads = λ conn s. refl }
+plain-reading config s (Ok says.Keys) conn line reply accepted told = record { stays = refl; quits = refl; loads = λ conn s. refl }
+plain-reading config s (Ok says.Sync) conn line reply accepted told = record { stays = refl; quits = refl; loads = λ conn s. refl }
+plain-reading config s (Ok says.Quit) conn line reply accepted told = record { stays = refl; quits = refl; loads = λ conn s. refl }
+plain-reading config s (Err error) conn line reply accepted told = record { stays = refl; quits = refl; loads = λ conn s. refl }
+
 -- no value is accepted
 pub part-none : (config : Config) (part_of : List ℕ → ℕ) (line : List ℕ) → HasItsPart config part_of line None
 part-none config part_of line = λ s step is.
     subst (λ a. IsTrue (option_map_or (is_parted part_of) (value_from config (view_in config s).now (offer_of config (view_in config s) (action_by (reading config line))) (option_map (λ x. x.part) a)) true)) (sym is) refl
+
+-- the part that took a value is its key's
+module _ (config : Config) (part_of : List ℕ → ℕ) (now : ℕ) where
+  abbrev Parted : Option Offer → ℕ → Type 0
+  Parted offer part = option_map_or (is_parted part_of) (value_from config now offer (Some part)) true ≡ true
+
+  one-parted : (takes : Bool) (key bytes : List ℕ) (ms : Option ℕ) (part : ℕ) → part ≡ part_of key → Parted (taken_where takes (Some (record { key = key; bytes = bytes; ms = ms }))) part
+  one-parted true key bytes ms part e = eq-eqb part (part_of key) e
+  one-parted false key bytes ms part e = refl
+
+  sum-parted : (takes : Bool) (key : List ℕ) (ms sum : Option ℕ) (part : ℕ) → part ≡ part_of key → Parted (taken_where takes (option_map (λ n. record { key = key; bytes = decimal n; ms = ms }) sum)) part
+  sum-parted takes key ms None part e = refl
+  sum-parted takes key ms (Some n) part e = one-parted takes key (decimal n) ms part e
+
+parted-reading : (config : Config) (part_of : List ℕ → ℕ) (s : Situation) (r : Reading) (accepted : Option Accepted) → IfSome accepted (λ a. IfSome (key_written r) (λ key. a.part ≡ part_of key))
+    → option_map_or (is_parted part_of) (value_from config (view_in config s).now (offer_of config (view_in config s) (action_by r)) (option_map (λ (x : Accepted). x.part) accepted)) true ≡ true
+parted-reading config part_of s r None h = refl
+parted-reading config part_of s (Ok (says.Set key ms value)) (Some a) h = one-parted config part_of (view_in config s).now (accepts_values config.capacity) key value ms a.part h
+parted-reading config part_of s (Ok (says.Add key ms number)) (Some a) h = sum-parted config part_of (view_in config s).now (accepts_values config.capacity) key ms (sum_with ((view_in config s).live key) number) a.part h
+parted-reading config part_of s (Ok (says.Get key)) (Some a) h = refl
+parted-reading config part_of s (Ok (says.Has key)) (Some a) h = refl
+parted-reading config part_of s (Ok (says.Load key)) (Some a) h = refl
+parted-reading config part_of s (Ok (says.Del key)) (Some a) h = refl
+parted-reading config part_of s (Ok says.Clear) (Some a) h = refl
+parted-reading config part_of s (Ok (says.DropIf prefix)) (Some a) h = refl
+parted-reading config part_of s (Ok says.Keys) (Some a) h = refl
+parted-reading config part_of s (Ok says.Sync) (Some a) h = refl
+parted-reading config part_of s (Ok says.Quit) (Some a) h = refl
+parted-reading config part_of s (Err error) (Some a) h = refl
+
+pub parted-as : (config : Config) (part_of : List ℕ → ℕ) (line : List ℕ) (r : Reading) (accepted : Option Accepted) → reading config line ≡ r → IfSome accepted (λ a. IfSome (key_written r) (λ key. a.part ≡ part_of key))
+    → HasItsPart config part_of line accepted
+parted-as config part_of line r accepted read h = λ s step is.
+    subst (λ t. IsTrue (option_map_or (is_parted part_of) (value_from config (view_in config s).now (offer_of config (view_in config s) (action_by t)) (option_map (λ (x : Accepted). x.part) step.accepted)) true)) (sym read)
+    (subst (λ o. IsTrue (option_map_or (is_parted part_of) (value_from config (view_in config s).now (offer_of config (view_in config s) (action_by r)) (option_map (λ (x : Accepted). x.part) o)) true)) (sym is) (parted-reading config part_of s r accepted h))
 
 pub timely-as : (config : Config) (line : List ℕ) (r : Reading) (made now : ℕ) (held : List HeldValue) → reading config line ≡ r
     → IsTrue (not (is_sync (action_by r)) || list_all (is_timely config made now) held)
     → IsTrue (not (is_sync (action_by (reading config line))) || list_all (is_timely config made now) held)
 timely-as config line r made now held read timely = subst (λ t. IsTrue (not (is_sync (action_by t)) || list_all (is_timely config made now) held)) (sym read) timely
 
-pub no-drop : (config : Config) (line : List ℕ) (r : Reading) → reading config line ≡ r → says_drop r ≡ false → says_drop (reading config line) ≡ true → {X : Type 0} → X
-no-drop config line r read spares drops = absurd (true≢false (sym drops ∙ ap says_drop read ∙ spares))
+-- a `SYNC` leaves timely values
+pub synced-where : (b x : Bool) → (b ≡ true → x ≡ true) → (not b || x) ≡ true
+synced-where true x h = h refl
+synced-where false x h = refl
 
-pub synced-as : (was config : Config) (line : List ℕ) (made now : ℕ) (held : List HeldValue) → was ≡ config → reading config line ≡ Ok says.Sync
-    → IsTrue (list_all (is_timely was made now) held)
-    → IsTrue (not (is_sync (action_by (reading config line))) || list_all (is_timely config made now) held)
-synced-as was config line made now held same read timely = timely-as config line (Ok says.Sync) made now held read (subst (λ k. IsTrue (list_all (is_timely k made now) held)) same timely)
+-- the words of a request are such as a store takes
+pub fits-store : (config : Config) (line : List ℕ) (request : Request) → length line ≤ 8192 → IsFit config line request → FitsStore config request
+fits-store config line (asks.Set key deadline value) short f = record { short = let v = f.short in omega (arith, v, short); own = f.own }
+fits-store config line (asks.Add key deadline number) short f = f.1
+fits-store config line (asks.Get key) short f = tt
+fits-store config line (asks.Has key) short f = tt
+fits-store config line (asks.Load key) short f = tt
+fits-store config line (asks.Del key) short f = tt
+fits-store config line asks.Clear short f = tt
+fits-store config line (asks.DropIf prefix) short f = tt
+fits-store config line asks.Keys short f = tt
+fits-store config line asks.Sync short f = tt
+fits-store config line asks.Quit short f = tt
+fits-store config line (asks.Fault error) short f = tt

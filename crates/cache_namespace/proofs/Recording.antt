@@ -9,20 +9,21 @@ use Rattle.audit_model.specs.declared.transcript.Accepted.{Accepted}
 use Rattle.audit_model.specs.declared.transcript.Note.{Note}
 use Rattle.audit_model.specs.declared.transcript.Step.{Step}
 use Rattle.cache_store.specs.Handing.{AppendsNotes}
-use Rattle.cache_steps.specs.Right.{RepliesRightly, step_saying}
+use Rattle.cache_commands.specs.Right.{RepliesRightly, step_saying}
 use Rattle.std.specs.Prelude.{IsTrue, codes, not, ◌||◌}
 use Rattle.std.specs.List.{list_all}
 use Rattle.audit_model.specs.Commands.{is_sync}
 use Rattle.cache_store.specs.Running.{is_timely}
 use Rattle.audit_model.specs.History.{part_count}
 use Rattle.cache_store.specs.Identifiers.{KeepsIdentifiers, AreUsedUp}
-use Rattle.cache_steps.specs.Drawing.{DrawsForParts}
-use Rattle.cache_namespace.specs.Drawing.{Workings, identifiers_in, says_drop}
+use Rattle.cache_commands.specs.Drawing.{DrawsForParts}
+use Rattle.cache_namespace.specs.Drawing.{Workings, identifiers_in}
+use Rattle.cache_commands.specs.Answered.{says_drop}
 use Rattle.cache_namespace.specs.Lines.{says_quit}
 use Rattle.cache_namespace.proofs.Drawn.{step-drawn, step-kept}
 use Rattle.cache_namespace.specs.Ran.{RanOne, IsPlainLine, HasItsPart}
-use Rattle.cache_steps.specs.Order.{MovesOrder, order_by}
-use Rattle.cache_steps.proofs.Ordering.{agrees-kept}
+use Rattle.cache_commands.specs.Order.{MovesOrder, order_by}
+use Rattle.cache_commands.proofs.Ordering.{agrees-kept}
 use Rattle.cache_store.specs.Recency.{AreKeysOf, KeepsRecency}
 use Rattle.cache_namespace.proofs.Knowing.{keys-known}
 

@@ -21,15 +21,15 @@ use Rattle.audit_model.specs.declared.config.Config.{Config}
 use Rattle.audit_model.specs.declared.transcript.Step.{Step}
 use Rattle.audit_lines.specs.Next.{IsLine}
 use Rattle.audit_lines.proofs.Lines.{IsLine-first_line, IsLine-behind_lines, IsLine-not_long}
-use Rattle.cache_steps.specs.Right.{step_saying, placed_doing, held_when_run}
+use Rattle.cache_commands.specs.Right.{step_saying, placed_doing, held_when_run}
 use Rattle.cache_namespace.specs.Drawing.{Workings, identifiers_in, Spends}
 use Rattle.cache_namespace.specs.Making.{Making}
 use Rattle.cache_namespace.specs.Gathered.{Gathered, IsFresh, gather, reply_in}
 use Rattle.cache_namespace.specs.Lines.{Runs, IsThere, situation_behind, ends_quit, has_its_part, is_timely_after, effect_of_step, ready, says_quit, set_in, with_drops}
 use Rattle.cache_namespace.specs.Ran.{RanOne, RanLines}
 use Rattle.cache_namespace.specs.Ordered.{HasKeys, order_behind}
-use Rattle.cache_steps.specs.Order.{AgreesWith, order_by}
-use Rattle.cache_steps.proofs.Ordering.{agrees-kept}
+use Rattle.cache_commands.specs.Order.{AgreesWith, order_by}
+use Rattle.cache_commands.proofs.Ordering.{agrees-kept}
 use Rattle.cache_store.specs.Recency.{KeepsRecency}
 use Rattle.cache_namespace.proofs.Knowing.{has-ended, order-behind-more, runs-keys-more}
 use Rattle.cache_namespace.proofs.Drawn.{draws-more, draws-spend, spends-same}

@@ -12,8 +12,8 @@ use Rattle.audit_model.specs.Stream.{behind_lines}
 use Rattle.audit_model.specs.declared.config.Config.{Config}
 use Rattle.audit_model.specs.declared.transcript.Accepted.{Accepted}
 use Rattle.audit_model.specs.declared.transcript.Note.{Note}
-use Rattle.cache_steps.specs.Right.{DoesRight, step_saying, placed_doing, held_when_run}
-use Rattle.cache_steps.proofs.Answering.{same-refl}
+use Rattle.cache_commands.specs.Right.{DoesRight, step_saying, placed_doing, held_when_run}
+use Rattle.cache_commands.proofs.Answering.{same-refl}
 use Rattle.cache_namespace.specs.Lines.{IsPlain, IsThere, situation_behind, set_in, with_drops}
 use Rattle.cache_namespace.proofs.Placing.{found-there, ended-again, numbered}
 

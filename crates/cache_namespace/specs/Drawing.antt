@@ -9,7 +9,8 @@ use Rattle.audit_model.specs.declared.config.Config.{Config}
 use Rattle.audit_model.specs.declared.transcript.Step.{Step}
 use Rattle.rand_core.specs.Stream.{Stream}
 use Rattle.cache_store.specs.Identifiers.{Register, DrawsAlone, AreUsedUp}
-use Rattle.cache_steps.specs.Drawing.{DrawsForParts}
+use Rattle.cache_commands.specs.Answered.{says_drop}
+use Rattle.cache_commands.specs.Drawing.{DrawsForParts}
 
 -- what a generator of identifiers will give, and which of them are registered in each part
 pub record Identifiers : Type 0 where
@@ -30,11 +31,6 @@ workings stream registered recency = record { stream = stream; registered = regi
 
 abbrev pub identifiers_in : Workings → Identifiers
 identifiers_in w = identifiers w.stream w.registered
-
--- the line is a `DROPIF`
-abbrev pub says_drop : Reading → Bool
-says_drop (Ok (says.DropIf prefix)) = true
-says_drop other = false
 
 -- a `DROPIF` that is refused with `ERR id`
 abbrev pub refuses_id : Config → Step → Bool

@@ -8,7 +8,7 @@ use Rattle.audit_model.specs.Situation.{Situation, HeldValue, may_run_in}
 use Rattle.audit_model.specs.Steps.{Task, RunLines}
 use Rattle.audit_model.specs.declared.config.Config.{Config}
 use Rattle.audit_model.specs.declared.transcript.Step.{Step}
-use Rattle.cache_steps.specs.Order.{Order, Settled, Unknown, AgreesWith, order_by}
+use Rattle.cache_commands.specs.Order.{Order, Settled, Unknown, AgreesWith, order_by}
 use Rattle.cache_namespace.specs.Lines.{effect_of_step}
 use Rattle.cache_store.specs.Recency.{AreKeysOf, IsPlainLru}
 

@@ -14,13 +14,13 @@ use Rattle.audit_model.specs.declared.config.Config.{Config}
 use Rattle.audit_model.specs.declared.transcript.Accepted.{Accepted}
 use Rattle.audit_model.specs.declared.transcript.Note.{Note}
 use Rattle.audit_model.specs.declared.transcript.Step.{Step}
-use Rattle.cache_steps.specs.Right.{DoesRight, step_saying, held_when_run, dropped_when_run}
+use Rattle.cache_commands.specs.Right.{DoesRight, step_saying, held_when_run, dropped_when_run}
 use Rattle.cache_namespace.specs.Drawing.{Workings, StepDraws, StepsDraw, identifiers_in}
 use Rattle.cache_namespace.specs.Gathered.{Gathered, gather}
 use Rattle.cache_store.specs.Running.{is_timely}
 use Rattle.cache_namespace.specs.Making.{Making}
 use Rattle.cache_namespace.specs.Ordered.{HasKeys, OrdersLines, OrdersSteps}
-use Rattle.cache_steps.specs.Order.{Order, AgreesWith, order_by}
+use Rattle.cache_commands.specs.Order.{Order, AgreesWith, order_by}
 use Rattle.cache_store.specs.Recency.{IsPlainLru}
 use Rattle.cache_namespace.specs.Lines.{ArePartedIn, IsPlain, are_timely, Runs, situation_behind, ends_quit, has_its_part, ready, says_quit, set_in, with_drops}
 

@@ -6,7 +6,7 @@ ghost use Rattle.cache_store.specs.Identifiers.{DrawsAlone};
 ghost use Rattle.cache_store.specs.Promises.{IsUnchanged};
 ghost use Rattle.cache_store.specs.Recency.{KeepsRecency};
 ghost use Rattle.cache_namespace.specs.Drawing.{workings};
-ghost use Rattle.cache_steps.specs.Right.{KeepsFrame, step_saying};
+ghost use Rattle.cache_commands.specs.Right.{KeepsFrame, step_saying};
 ghost use Rattle.cache_namespace.specs.Gathered.{IsFresh, gather};
 ghost use Rattle.cache_namespace.specs.Kept.{IsReadyToHold, KeepsRoom, gathered, more_in, kept_steps};
 ghost use Rattle.cache_namespace.specs.Making.{making_of};
@@ -24,6 +24,7 @@ use crate::kept::Kept;
 use crate::lines::{Done, Stop, release, run_lines};
 use audit_lines::{Buffer, Next};
 use audit_model::Config;
+use cache_commands::Keyed;
 use cache_loads::Loads;
 use cache_store::Store;
 use std::alloc::Global;
@@ -119,7 +120,7 @@ pub fn say_first(
 /// Takes a piece for a connection that is ready and runs its lines, and holds the line back for which memory was wanted. A `LOAD` of a
 /// key that has no live value waits.
 pub fn run_ready<S: Store>(
-    store: &mut S,
+    store: &mut Keyed<S>,
     alloc: Global,
     config: &Config,
     now: u64,
@@ -131,23 +132,25 @@ pub fn run_ready<S: Store>(
     piece: &[u8],
     kept: &mut Option<Kept>,
 ) -> End
-    requires config { (S.frame store.old).config ≡ config.now }
-    requires in_time { (S.frame store.old).latest ≤ now }
+    requires config { (S.view store.old).frame.config ≡ config.now }
+    requires in_time { (S.view store.old).frame.latest ≤ now }
     requires moment { now < 2 ^ 63 }
-    requires fresh { IsFresh (gathered text.old.items kept.old (S.untaken store.old)) }
+    requires fresh { IsFresh (gathered text.old.items kept.old (S.view store.old).untaken) }
     requires ready { IsReadyToHold kept.old }
     requires room { length piece.now ≤ unread.old.room }
-    ensures ran { (base : Situation) (held : List HeldValue) → base.latest ≡ now → base.dropped ≡ (S.frame store.old).dropped → loads_in base ≡ under_way loads.old → IsThere number base → S.stands store.old held → RanReady config.now base number (making_of (S.frame store.old)) held (unread.old.bytes ++ piece.now) (ends_by_quit result) (holds_back result) (situation_left number base (S.frame store.new).dropped (under_way loads.new) result unread.new.bytes) (S.stands store.new) (workings (S.stream store.old) (S.registered store.old) (S.recency store.old)) (workings (S.stream store.new) (S.registered store.new) (S.recency store.new)) (gathered text.old.items kept.old (S.untaken store.old)) (gathered text.new.items kept.new (S.untaken store.new)) }
+    ensures ran { (base : Situation) (held : List HeldValue) → base.latest ≡ now → base.dropped ≡ (S.view store.old).frame.dropped → loads_in base ≡ under_way loads.old → IsThere number base → (S.view store.old).Stands held → RanReady config.now base number (making_of (S.view store.old).frame) held (unread.old.bytes ++ piece.now) (ends_by_quit result) (holds_back result) (situation_left number base (S.view store.new).frame.dropped (under_way loads.new) result unread.new.bytes) (S.view store.new).Stands (workings (S.view store.old).stream (S.view store.old).registered (S.view store.old).Used) (workings (S.view store.new).stream (S.view store.new).registered (S.view store.new).Used) (gathered text.old.items kept.old (S.view store.old).untaken) (gathered text.new.items kept.new (S.view store.new).untaken) }
     ensures ends { EndsFor result unread.new.bytes }
     ensures room { waits_for_load (standing_at result) ≡ true → IsTrue (has_room (vec_len text.new) (vec_capacity text.new) (vec_len spare.new) (vec_capacity spare.new)) }
-    ensures frame { KeepsFrame (S.frame store.old) (S.frame store.new) now }
-    ensures fresh { IsFresh (gathered text.new.items kept.new (S.untaken store.new)) }
+    ensures frame { KeepsFrame (S.view store.old).frame (S.view store.new).frame now }
+    ensures fresh { IsFresh (gathered text.new.items kept.new (S.view store.new).untaken) }
     ensures keeps_room { KeepsRoom kept.new }
     ensures more { more_in kept.new ≡ more_in kept.old }
     ensures goes { SameTaken loads.old loads.new }
 {
     unread.append(piece);
-    match run_lines(store, alloc, config, now, number, unread, text, kept) {
+    let stop = run_lines(store, alloc, config, now, number, unread, text, kept);
+    store.sound();
+    match stop {
         Stop::More => End::More,
         Stop::TooLong => End::TooLong,
         Stop::Quit => End::Quit,
@@ -169,7 +172,7 @@ pub fn run_ready<S: Store>(
 
 /// Takes a piece: a command that is held back runs first, then the lines that are whole. An `Err` changes nothing.
 pub fn feed_lines<S: Store>(
-    store: &mut S,
+    store: &mut Keyed<S>,
     alloc: Global,
     config: &Config,
     now: u64,
@@ -183,27 +186,28 @@ pub fn feed_lines<S: Store>(
     piece: &[u8],
     kept: &mut Option<Kept>,
 ) -> Result<End, FeedError>
-    requires config { (S.frame store.old).config ≡ config.now }
-    requires in_time { (S.frame store.old).latest ≤ now }
+    requires config { (S.view store.old).frame.config ≡ config.now }
+    requires in_time { (S.view store.old).frame.latest ≤ now }
     requires moment { now < 2 ^ 63 }
-    requires fresh { IsFresh (gathered text.old.items kept.old (S.untaken store.old)) }
+    requires fresh { IsFresh (gathered text.old.items kept.old (S.view store.old).untaken) }
     requires ready { IsReadyToHold kept.old }
     requires whole { IsTrue (not held || has_line unread.old.bytes) }
     requires few { waited < 200 }
-    ensures ran { IfOk result (λ end. (base : Situation) (values : List HeldValue) → base.latest ≡ now → base.dropped ≡ (S.frame store.old).dropped → loads_in base ≡ under_way loads.old → IsThere number base → S.stands store.old values → RanFeed config.now base number (making_of (S.frame store.old)) values held waited unread.old.bytes piece.now (ends_by_quit end) (holds_back end) (situation_left number base (S.frame store.new).dropped (under_way loads.new) end unread.new.bytes) (S.stands store.new) (workings (S.stream store.old) (S.registered store.old) (S.recency store.old)) (workings (S.stream store.new) (S.registered store.new) (S.recency store.new)) (gathered text.old.items kept.old (S.untaken store.old)) (gathered text.new.items kept.new (S.untaken store.new))) }
+    ensures ran { IfOk result (λ end. (base : Situation) (values : List HeldValue) → base.latest ≡ now → base.dropped ≡ (S.view store.old).frame.dropped → loads_in base ≡ under_way loads.old → IsThere number base → (S.view store.old).Stands values → RanFeed config.now base number (making_of (S.view store.old).frame) values held waited unread.old.bytes piece.now (ends_by_quit end) (holds_back end) (situation_left number base (S.view store.new).frame.dropped (under_way loads.new) end unread.new.bytes) (S.view store.new).Stands (workings (S.view store.old).stream (S.view store.old).registered (S.view store.old).Used) (workings (S.view store.new).stream (S.view store.new).registered (S.view store.new).Used) (gathered text.old.items kept.old (S.view store.old).untaken) (gathered text.new.items kept.new (S.view store.new).untaken)) }
     ensures ends { IfOk result (λ end. EndsFor end unread.new.bytes) }
     ensures room { IfOk result (λ end. waits_for_load (standing_at end) ≡ true → IsTrue (has_room (vec_len text.new) (vec_capacity text.new) (vec_len spare.new) (vec_capacity spare.new))) }
-    ensures frame { KeepsFrame (S.frame store.old) (S.frame store.new) now }
-    ensures fresh { IsFresh (gathered text.new.items kept.new (S.untaken store.new)) }
+    ensures frame { KeepsFrame (S.view store.old).frame (S.view store.new).frame now }
+    ensures fresh { IsFresh (gathered text.new.items kept.new (S.view store.new).untaken) }
     ensures unread { OnErr result (unread.new.bytes ≡ unread.old.bytes) }
-    ensures unmoved { OnErr result (KeepsRecency (S.recency store.old) (S.recency store.new)) }
-    ensures unchanged { OnErr result (IsUnchanged (S.stands store.old) (S.stands store.new) (S.frame store.old) (S.frame store.new) (S.untaken store.old) (S.untaken store.new)) }
-    ensures spends { OnErr result (DrawsAlone (S.stream store.old) (S.stream store.new) (S.registered store.old) (S.registered store.new)) }
-    ensures ungathered { OnErr result (gathered text.new.items kept.new (S.untaken store.new) ≡ gathered text.old.items kept.old (S.untaken store.old)) }
+    ensures unmoved { OnErr result (KeepsRecency (S.view store.old).Used (S.view store.new).Used) }
+    ensures unchanged { OnErr result (IsUnchanged (S.view store.old).Stands (S.view store.new).Stands (S.view store.old).frame (S.view store.new).frame (S.view store.old).untaken (S.view store.new).untaken) }
+    ensures spends { OnErr result (DrawsAlone (S.view store.old).stream (S.view store.new).stream (S.view store.old).registered (S.view store.new).registered) }
+    ensures ungathered { OnErr result (gathered text.new.items kept.new (S.view store.new).untaken ≡ gathered text.old.items kept.old (S.view store.old).untaken) }
     ensures same { OnErr result (SameLoads loads.old loads.new) }
     ensures again { IsErrOf result FeedError.HeldAgain → held ≡ true }
     ensures goes { SameTaken loads.old loads.new }
 {
+    store.sound();
     if unread.reserve(piece.len()).is_err() {
         return Err(FeedError::OutOfMemory);
     }

@@ -8,7 +8,7 @@ ghost use Rattle.cache_namespace.specs.Gathered.{gather};
 ghost use Rattle.cache_namespace.specs.Kept.{IsReadyToHold, gathered, more_in, kept_steps};
 ghost use Rattle.cache_namespace.specs.Waiting.{is_load, load_sent_for, under_way, when_waiting};
 ghost use Rattle.cache_namespace.specs.Whole.{has_line, has_room, held_line};
-ghost use Rattle.cache_steps.specs.Loading.{step_silent};
+ghost use Rattle.cache_commands.specs.Loading.{step_silent};
 
 use crate::kept::Kept;
 use audit_lines::{Buffer, Next, Request, read_line};

@@ -3,8 +3,8 @@ ghost use Rattle.std.specs.Prelude.{◌≡◌, ◌<◌, ◌≤◌, ◌+◌, ◌+
 ghost use Rattle.audit_model.specs.declared.transcript.Step.{Step as Ran};
 ghost use Rattle.cache_namespace.specs.Kept.{HasRoomForStep, IsRoomy};
 ghost use Rattle.cache_namespace.specs.Lines.{held_step};
-ghost use Rattle.cache_steps.specs.Loading.{step_silent};
-ghost use Rattle.cache_steps.specs.Right.{step_saying};
+ghost use Rattle.cache_commands.specs.Loading.{step_silent};
+ghost use Rattle.cache_commands.specs.Right.{step_saying};
 
 use crate::spare::{Spare, new_spare};
 use audit_lines::MAX_LINE;

@@ -15,7 +15,7 @@ pub use connection::Connection;
 pub use feeding::{End, hold_first, run_ready, say_first};
 pub use joining::join_first;
 pub use kept::Kept;
-pub use lines::{Done, drain, release};
+pub use lines::{Done, drain, most_notes, release};
 pub use namespace::Namespace;
 pub use spare::Spare;
 pub use waiting::close_where_behind;

@@ -9,7 +9,7 @@ ghost use Rattle.cache_store.specs.Promises.{IsUnchanged};
 ghost use Rattle.cache_store.specs.Recency.{KeepsRecency};
 ghost use Rattle.cache_store.specs.Running.{is_bounded};
 ghost use Rattle.cache_namespace.specs.Drawing.{workings};
-ghost use Rattle.cache_steps.specs.Right.{KeepsFrame};
+ghost use Rattle.cache_commands.specs.Right.{KeepsFrame};
 ghost use Rattle.cache_namespace.specs.Gathered.{Gathered, IsFresh};
 ghost use Rattle.cache_namespace.specs.Kept.{IsReadyToHold, gathered, kept_steps};
 ghost use Rattle.cache_namespace.specs.Making.{making_of};
@@ -26,6 +26,7 @@ use crate::feeding::{End, FeedError, feed_lines};
 use crate::kept::Kept;
 use crate::waiting::{close_where_behind, receive, take_keeping_room};
 use audit_model::{Closing, Config, ServiceError};
+use cache_commands::Keyed;
 use cache_loads::{Loads, Standing, is_holding, is_waiting};
 use cache_store::Store;
 use std::alloc::{AllocError, Global};
@@ -36,7 +37,7 @@ const MAX_MOMENT: u64 = (1 << 63) - 1;
 
 /// Takes a piece of the bytes of a connection of which no `LOAD` waits, and answers whether its last command is held back. An `Err` changes nothing.
 fn feed_ready<S: Store>(
-    store: &mut S,
+    store: &mut Keyed<S>,
     alloc: Global,
     config: &Config,
     now: u64,
@@ -46,21 +47,21 @@ fn feed_ready<S: Store>(
     piece: &[u8],
     kept: &mut Option<Kept>,
 ) -> Result<bool, FeedError>
-    requires config { (S.frame store.old).config ≡ config.now }
-    requires in_time { (S.frame store.old).latest ≤ now }
+    requires config { (S.view store.old).frame.config ≡ config.now }
+    requires in_time { (S.view store.old).frame.latest ≤ now }
     requires moment { now < 2 ^ 63 }
-    requires fresh { IsFresh (gathered connection.old.output.items kept.old (S.untaken store.old)) }
+    requires fresh { IsFresh (gathered connection.old.output.items kept.old (S.view store.old).untaken) }
     requires ready { IsReadyToHold kept.old }
     requires open { connection.old.closing ≡ None }
     requires runs { waits_for_load connection.old.standing ≡ false }
-    ensures ran { IfOk result (λ is_held. (base : Situation) (values : List HeldValue) → base.latest ≡ now → base.dropped ≡ (S.frame store.old).dropped → loads_in base ≡ under_way loads.old → IsThere number base → S.stands store.old values → FeedsConnection config.now base number (making_of (S.frame store.old)) values connection.old piece.now connection.new is_held (S.stands store.new) (S.frame store.new).dropped (under_way loads.new) (workings (S.stream store.old) (S.registered store.old) (S.recency store.old)) (workings (S.stream store.new) (S.registered store.new) (S.recency store.new)) (gathered connection.old.output.items kept.old (S.untaken store.old)) (gathered connection.new.output.items kept.new (S.untaken store.new))) }
-    ensures frame { KeepsFrame (S.frame store.old) (S.frame store.new) now }
-    ensures fresh { IsFresh (gathered connection.new.output.items kept.new (S.untaken store.new)) }
+    ensures ran { IfOk result (λ is_held. (base : Situation) (values : List HeldValue) → base.latest ≡ now → base.dropped ≡ (S.view store.old).frame.dropped → loads_in base ≡ under_way loads.old → IsThere number base → (S.view store.old).Stands values → FeedsConnection config.now base number (making_of (S.view store.old).frame) values connection.old piece.now connection.new is_held (S.view store.new).Stands (S.view store.new).frame.dropped (under_way loads.new) (workings (S.view store.old).stream (S.view store.old).registered (S.view store.old).Used) (workings (S.view store.new).stream (S.view store.new).registered (S.view store.new).Used) (gathered connection.old.output.items kept.old (S.view store.old).untaken) (gathered connection.new.output.items kept.new (S.view store.new).untaken)) }
+    ensures frame { KeepsFrame (S.view store.old).frame (S.view store.new).frame now }
+    ensures fresh { IsFresh (gathered connection.new.output.items kept.new (S.view store.new).untaken) }
     ensures same { OnErr result (LooksSame connection.old connection.new) }
-    ensures unmoved { OnErr result (KeepsRecency (S.recency store.old) (S.recency store.new)) }
-    ensures unchanged { OnErr result (IsUnchanged (S.stands store.old) (S.stands store.new) (S.frame store.old) (S.frame store.new) (S.untaken store.old) (S.untaken store.new)) }
-    ensures spends { OnErr result (DrawsAlone (S.stream store.old) (S.stream store.new) (S.registered store.old) (S.registered store.new)) }
-    ensures ungathered { OnErr result (gathered connection.new.output.items kept.new (S.untaken store.new) ≡ gathered connection.old.output.items kept.old (S.untaken store.old)) }
+    ensures unmoved { OnErr result (KeepsRecency (S.view store.old).Used (S.view store.new).Used) }
+    ensures unchanged { OnErr result (IsUnchanged (S.view store.old).Stands (S.view store.new).Stands (S.view store.old).frame (S.view store.new).frame (S.view store.old).untaken (S.view store.new).untaken) }
+    ensures spends { OnErr result (DrawsAlone (S.view store.old).stream (S.view store.new).stream (S.view store.old).registered (S.view store.new).registered) }
+    ensures ungathered { OnErr result (gathered connection.new.output.items kept.new (S.view store.new).untaken ≡ gathered connection.old.output.items kept.old (S.view store.old).untaken) }
     ensures again { IsErrOf result FeedError.HeldAgain → holds_line connection.old.standing ≡ true }
     ensures loads { OnErr result (SameLoads loads.old loads.new) }
     ensures closing { OnOk result (IsOpenOrEnded connection.new.closing) }
@@ -123,7 +124,7 @@ fn feed_ready<S: Store>(
 
 /// Takes a piece of a connection's bytes, and answers whether its last command is held back. An `Err` changes nothing.
 fn feed_connection<S: Store>(
-    store: &mut S,
+    store: &mut Keyed<S>,
     alloc: Global,
     config: &Config,
     now: u64,
@@ -133,20 +134,20 @@ fn feed_connection<S: Store>(
     piece: &[u8],
     kept: &mut Option<Kept>,
 ) -> Result<bool, FeedError>
-    requires config { (S.frame store.old).config ≡ config.now }
-    requires in_time { (S.frame store.old).latest ≤ now }
+    requires config { (S.view store.old).frame.config ≡ config.now }
+    requires in_time { (S.view store.old).frame.latest ≤ now }
     requires moment { now < 2 ^ 63 }
-    requires fresh { IsFresh (gathered connection.old.output.items kept.old (S.untaken store.old)) }
+    requires fresh { IsFresh (gathered connection.old.output.items kept.old (S.view store.old).untaken) }
     requires ready { IsReadyToHold kept.old }
     requires open { connection.old.closing ≡ None }
-    ensures ran { IfOk result (λ is_held. (base : Situation) (values : List HeldValue) → base.latest ≡ now → base.dropped ≡ (S.frame store.old).dropped → loads_in base ≡ under_way loads.old → IsThere number base → S.stands store.old values → FeedsConnection config.now base number (making_of (S.frame store.old)) values connection.old piece.now connection.new is_held (S.stands store.new) (S.frame store.new).dropped (under_way loads.new) (workings (S.stream store.old) (S.registered store.old) (S.recency store.old)) (workings (S.stream store.new) (S.registered store.new) (S.recency store.new)) (gathered connection.old.output.items kept.old (S.untaken store.old)) (gathered connection.new.output.items kept.new (S.untaken store.new))) }
-    ensures frame { KeepsFrame (S.frame store.old) (S.frame store.new) now }
-    ensures fresh { IsFresh (gathered connection.new.output.items kept.new (S.untaken store.new)) }
+    ensures ran { IfOk result (λ is_held. (base : Situation) (values : List HeldValue) → base.latest ≡ now → base.dropped ≡ (S.view store.old).frame.dropped → loads_in base ≡ under_way loads.old → IsThere number base → (S.view store.old).Stands values → FeedsConnection config.now base number (making_of (S.view store.old).frame) values connection.old piece.now connection.new is_held (S.view store.new).Stands (S.view store.new).frame.dropped (under_way loads.new) (workings (S.view store.old).stream (S.view store.old).registered (S.view store.old).Used) (workings (S.view store.new).stream (S.view store.new).registered (S.view store.new).Used) (gathered connection.old.output.items kept.old (S.view store.old).untaken) (gathered connection.new.output.items kept.new (S.view store.new).untaken)) }
+    ensures frame { KeepsFrame (S.view store.old).frame (S.view store.new).frame now }
+    ensures fresh { IsFresh (gathered connection.new.output.items kept.new (S.view store.new).untaken) }
     ensures same { OnErr result (LooksSame connection.old connection.new) }
-    ensures unmoved { OnErr result (KeepsRecency (S.recency store.old) (S.recency store.new)) }
-    ensures unchanged { OnErr result (IsUnchanged (S.stands store.old) (S.stands store.new) (S.frame store.old) (S.frame store.new) (S.untaken store.old) (S.untaken store.new)) }
-    ensures spends { OnErr result (DrawsAlone (S.stream store.old) (S.stream store.new) (S.registered store.old) (S.registered store.new)) }
-    ensures ungathered { OnErr result (gathered connection.new.output.items kept.new (S.untaken store.new) ≡ gathered connection.old.output.items kept.old (S.untaken store.old)) }
+    ensures unmoved { OnErr result (KeepsRecency (S.view store.old).Used (S.view store.new).Used) }
+    ensures unchanged { OnErr result (IsUnchanged (S.view store.old).Stands (S.view store.new).Stands (S.view store.old).frame (S.view store.new).frame (S.view store.old).untaken (S.view store.new).untaken) }
+    ensures spends { OnErr result (DrawsAlone (S.view store.old).stream (S.view store.new).stream (S.view store.old).registered (S.view store.new).registered) }
+    ensures ungathered { OnErr result (gathered connection.new.output.items kept.new (S.view store.new).untaken ≡ gathered connection.old.output.items kept.old (S.view store.old).untaken) }
     ensures again { IsErrOf result FeedError.HeldAgain → holds_line connection.old.standing ≡ true }
     ensures loads { OnErr result (SameLoads loads.old loads.new) }
     ensures closing { OnOk result (IsOpenOrEnded connection.new.closing) }
@@ -165,7 +166,7 @@ fn feed_connection<S: Store>(
 
 /// Takes a piece of the bytes of the connection at a place. An `Err` changes nothing.
 fn feed_at<S: Store>(
-    store: &mut S,
+    store: &mut Keyed<S>,
     alloc: Global,
     config: &Config,
     now: u64,
@@ -176,21 +177,21 @@ fn feed_at<S: Store>(
     piece: &[u8],
     kept: &mut Option<Kept>,
 ) -> Result<bool, FeedError>
-    requires config { (S.frame store.old).config ≡ config.now }
-    requires in_time { (S.frame store.old).latest ≤ now }
+    requires config { (S.view store.old).frame.config ≡ config.now }
+    requires in_time { (S.view store.old).frame.latest ≤ now }
     requires moment { now < 2 ^ 63 }
-    requires fresh { IsFresh (gathered (text_at connections.old.items index) kept.old (S.untaken store.old)) }
+    requires fresh { IsFresh (gathered (text_at connections.old.items index) kept.old (S.view store.old).untaken) }
     requires ready { IsReadyToHold kept.old }
     requires inside { index < length connections.old.items }
     requires open { closing_at connections.old.items index ≡ None }
-    ensures ran { IfOk result (λ is_held. (p : ReplacedAt connections.old.items connections.new.items index) × ((base : Situation) (values : List HeldValue) → base.latest ≡ now → base.dropped ≡ (S.frame store.old).dropped → loads_in base ≡ under_way loads.old → IsThere number base → S.stands store.old values → FeedsConnection config.now base number (making_of (S.frame store.old)) values p.was piece.now p.is is_held (S.stands store.new) (S.frame store.new).dropped (under_way loads.new) (workings (S.stream store.old) (S.registered store.old) (S.recency store.old)) (workings (S.stream store.new) (S.registered store.new) (S.recency store.new)) (gathered (text_at connections.old.items index) kept.old (S.untaken store.old)) (gathered (text_at connections.new.items index) kept.new (S.untaken store.new)))) }
-    ensures frame { KeepsFrame (S.frame store.old) (S.frame store.new) now }
-    ensures fresh { IsFresh (gathered (text_at connections.new.items index) kept.new (S.untaken store.new)) }
+    ensures ran { IfOk result (λ is_held. (p : ReplacedAt connections.old.items connections.new.items index) × ((base : Situation) (values : List HeldValue) → base.latest ≡ now → base.dropped ≡ (S.view store.old).frame.dropped → loads_in base ≡ under_way loads.old → IsThere number base → (S.view store.old).Stands values → FeedsConnection config.now base number (making_of (S.view store.old).frame) values p.was piece.now p.is is_held (S.view store.new).Stands (S.view store.new).frame.dropped (under_way loads.new) (workings (S.view store.old).stream (S.view store.old).registered (S.view store.old).Used) (workings (S.view store.new).stream (S.view store.new).registered (S.view store.new).Used) (gathered (text_at connections.old.items index) kept.old (S.view store.old).untaken) (gathered (text_at connections.new.items index) kept.new (S.view store.new).untaken))) }
+    ensures frame { KeepsFrame (S.view store.old).frame (S.view store.new).frame now }
+    ensures fresh { IsFresh (gathered (text_at connections.new.items index) kept.new (S.view store.new).untaken) }
     ensures same { OnErr result ((p : ReplacedAt connections.old.items connections.new.items index) × LooksSame p.was p.is) }
-    ensures unmoved { OnErr result (KeepsRecency (S.recency store.old) (S.recency store.new)) }
-    ensures unchanged { OnErr result (IsUnchanged (S.stands store.old) (S.stands store.new) (S.frame store.old) (S.frame store.new) (S.untaken store.old) (S.untaken store.new)) }
-    ensures spends { OnErr result (DrawsAlone (S.stream store.old) (S.stream store.new) (S.registered store.old) (S.registered store.new)) }
-    ensures ungathered { OnErr result (gathered (text_at connections.new.items index) kept.new (S.untaken store.new) ≡ gathered (text_at connections.old.items index) kept.old (S.untaken store.old)) }
+    ensures unmoved { OnErr result (KeepsRecency (S.view store.old).Used (S.view store.new).Used) }
+    ensures unchanged { OnErr result (IsUnchanged (S.view store.old).Stands (S.view store.new).Stands (S.view store.old).frame (S.view store.new).frame (S.view store.old).untaken (S.view store.new).untaken) }
+    ensures spends { OnErr result (DrawsAlone (S.view store.old).stream (S.view store.new).stream (S.view store.old).registered (S.view store.new).registered) }
+    ensures ungathered { OnErr result (gathered (text_at connections.new.items index) kept.new (S.view store.new).untaken ≡ gathered (text_at connections.old.items index) kept.old (S.view store.old).untaken) }
     ensures again { IsErrOf result FeedError.HeldAgain → (c : Open) → slice_get connections.old.items index ≡ Some c → holds_line c.standing ≡ true }
     ensures closing { OnOk result (IsOpenOrEnded (closing_at connections.new.items index)) }
     ensures loads { OnErr result (SameLoads loads.old loads.new) }
@@ -233,8 +234,8 @@ fn find_open(connections: &[Connection], number: u64) -> Result<usize, ServiceEr
 
 /// A namespace: its store, and its connections in the order in which they were opened.
 #[derive(Drop)]
-pub struct Namespace<S: Drop> {
-    pub store: S,
+pub struct Namespace<S: Store> {
+    pub store: Keyed<S>,
     pub config: Config,
     pub latest: u64,
     pub connections: Vec<Connection>,
@@ -245,14 +246,15 @@ pub struct Namespace<S: Drop> {
 impl<S: Store> Namespace<S> {
     /// Opens a connection, and answers its number. An `Err` changes nothing.
     pub fn open(&mut self, alloc: Global) -> Result<u64, AllocError>
-        requires sound { KnowsStore self.old.config (S.frame self.old.store) self.old.latest }
+        requires sound { KnowsStore self.old.config (S.view self.old.store).frame self.old.latest }
         ensures number { IfOk result (λ number. number ≡ length self.old.connections.items + 1) }
-        ensures ran { IfOk result (λ number. (values : List HeldValue) (was : Gathered) → S.stands self.old.store values → FollowsEvent self.old.config (making_of (S.frame self.old.store)) (situation self.old.latest (under_way self.old.loads) self.old.connections.items (S.frame self.old.store).dropped values) (event.Open number) false false (S.stands self.new.store) (situation self.new.latest (under_way self.new.loads) self.new.connections.items (S.frame self.new.store).dropped) (workings (S.stream self.old.store) (S.registered self.old.store) (S.recency self.old.store)) (workings (S.stream self.new.store) (S.registered self.new.store) (S.recency self.new.store)) was was) }
+        ensures ran { IfOk result (λ number. (values : List HeldValue) (was : Gathered) → (S.view self.old.store).Stands values → FollowsEvent self.old.config (making_of (S.view self.old.store).frame) (situation self.old.latest (under_way self.old.loads) self.old.connections.items (S.view self.old.store).frame.dropped values) (event.Open number) false false (S.view self.new.store).Stands (situation self.new.latest (under_way self.new.loads) self.new.connections.items (S.view self.new.store).frame.dropped) (workings (S.view self.old.store).stream (S.view self.old.store).registered (S.view self.old.store).Used) (workings (S.view self.new.store).stream (S.view self.new.store).registered (S.view self.new.store).Used) was was) }
         ensures rest { self.new ≡ record self.old { connections = self.new.connections } }
-        ensures bounded { OnOk result ((values : List HeldValue) → S.stands self.new.store values → IsTrue (is_bounded self.old.config values)) }
+        ensures bounded { OnOk result ((values : List HeldValue) → (S.view self.new.store).Stands values → IsTrue (is_bounded self.old.config values)) }
         ensures connections { OnOk result ((c : Open) × (c.output.items ≡ []) × (c.closing ≡ None) × (self.new.connections.items ≡ self.old.connections.items ++ c ∷ [])) }
         ensures err { OnErr result (self.new.connections.items ≡ self.old.connections.items) }
     {
+        self.store.sound();
         let connection = new_connection(alloc);
         self.connections.push(connection)?;
         Ok(self.connections.len() as u64)
@@ -268,21 +270,21 @@ impl<S: Store> Namespace<S> {
         moment: u64,
         kept: &mut Option<Kept>,
     ) -> Result<bool, ServiceError>
-        requires sound { KnowsStore self.old.config (S.frame self.old.store) self.old.latest }
-        requires fresh { IsFresh (gathered (text_at self.old.connections.items (number - 1)) kept.old (S.untaken self.old.store)) }
+        requires sound { KnowsStore self.old.config (S.view self.old.store).frame self.old.latest }
+        requires fresh { IsFresh (gathered (text_at self.old.connections.items (number - 1)) kept.old (S.view self.old.store).untaken) }
         requires ready { IsReadyToHold kept.old }
-        ensures ran { IfOk result (λ is_held. (values : List HeldValue) → S.stands self.old.store values → FollowsEvent self.old.config (making_of (S.frame self.old.store)) (situation self.old.latest (under_way self.old.loads) self.old.connections.items (S.frame self.old.store).dropped values) (feed_event number piece.now moment) is_held (is_quit (closing_at self.new.connections.items (number - 1))) (S.stands self.new.store) (situation self.new.latest (under_way self.new.loads) self.new.connections.items (S.frame self.new.store).dropped) (workings (S.stream self.old.store) (S.registered self.old.store) (S.recency self.old.store)) (workings (S.stream self.new.store) (S.registered self.new.store) (S.recency self.new.store)) (gathered (text_at self.old.connections.items (number - 1)) kept.old (S.untaken self.old.store)) (gathered (text_at self.new.connections.items (number - 1)) kept.new (S.untaken self.new.store))) }
+        ensures ran { IfOk result (λ is_held. (values : List HeldValue) → (S.view self.old.store).Stands values → FollowsEvent self.old.config (making_of (S.view self.old.store).frame) (situation self.old.latest (under_way self.old.loads) self.old.connections.items (S.view self.old.store).frame.dropped values) (feed_event number piece.now moment) is_held (is_quit (closing_at self.new.connections.items (number - 1))) (S.view self.new.store).Stands (situation self.new.latest (under_way self.new.loads) self.new.connections.items (S.view self.new.store).frame.dropped) (workings (S.view self.old.store).stream (S.view self.old.store).registered (S.view self.old.store).Used) (workings (S.view self.new.store).stream (S.view self.new.store).registered (S.view self.new.store).Used) (gathered (text_at self.old.connections.items (number - 1)) kept.old (S.view self.old.store).untaken) (gathered (text_at self.new.connections.items (number - 1)) kept.new (S.view self.new.store).untaken)) }
         ensures others { OnOk result ((place : ℕ) → place ≢ number - 1 → slice_get self.new.connections.items place ≡ slice_get self.old.connections.items place) }
-        ensures bounded { OnOk result ((values : List HeldValue) → S.stands self.new.store values → IsTrue (is_bounded self.old.config values)) }
-        ensures made { (S.frame self.new.store).made ≡ (S.frame self.old.store).made }
-        ensures part_of { (S.frame self.new.store).part_of ≡ (S.frame self.old.store).part_of }
-        ensures sound { KnowsStore self.new.config (S.frame self.new.store) self.new.latest }
+        ensures bounded { OnOk result ((values : List HeldValue) → (S.view self.new.store).Stands values → IsTrue (is_bounded self.old.config values)) }
+        ensures made { (S.view self.new.store).frame.made ≡ (S.view self.old.store).frame.made }
+        ensures part_of { (S.view self.new.store).frame.part_of ≡ (S.view self.old.store).frame.part_of }
+        ensures sound { KnowsStore self.new.config (S.view self.new.store).frame self.new.latest }
         ensures config { self.new.config ≡ self.old.config }
-        ensures fresh { IsFresh (gathered (text_at self.new.connections.items (number - 1)) kept.new (S.untaken self.new.store)) }
+        ensures fresh { IsFresh (gathered (text_at self.new.connections.items (number - 1)) kept.new (S.view self.new.store).untaken) }
         ensures refused { IfErr result (RefusedFor self.old.config self.old.connections.items (feed_event number piece.now moment) (holds_at self.old.connections.items number)) }
-        ensures unmoved { OnErr result (KeepsRecency (S.recency self.old.store) (S.recency self.new.store)) }
-        ensures unchanged { OnErr result (IsUnchanged (S.stands self.old.store) (S.stands self.new.store) (S.frame self.old.store) (S.frame self.new.store) (S.untaken self.old.store) (S.untaken self.new.store)) }
-        ensures spends { OnErr result (DrawsAlone (S.stream self.old.store) (S.stream self.new.store) (S.registered self.old.store) (S.registered self.new.store)) }
+        ensures unmoved { OnErr result (KeepsRecency (S.view self.old.store).Used (S.view self.new.store).Used) }
+        ensures unchanged { OnErr result (IsUnchanged (S.view self.old.store).Stands (S.view self.new.store).Stands (S.view self.old.store).frame (S.view self.new.store).frame (S.view self.old.store).untaken (S.view self.new.store).untaken) }
+        ensures spends { OnErr result (DrawsAlone (S.view self.old.store).stream (S.view self.new.store).stream (S.view self.old.store).registered (S.view self.new.store).registered) }
         ensures same { OnErr result (SameConnections self.old.connections.items self.new.connections.items) }
         ensures latest { OnErr result (self.new.latest ≡ self.old.latest) }
         ensures loads { OnErr result (SameLoads self.old.loads self.new.loads) }
@@ -312,6 +314,7 @@ impl<S: Store> Namespace<S> {
             kept,
         ) {
             Ok(is_held) => {
+                self.store.sound();
                 self.latest = now;
                 leave_closed(&mut self.loads, number, &self.connections, index);
                 Ok(is_held)
@@ -323,11 +326,11 @@ impl<S: Store> Namespace<S> {
 
     /// Closes a connection, and drops what came and was not used.
     pub fn close(&mut self, number: u64) -> Result<(), ServiceError>
-        requires sound { KnowsStore self.old.config (S.frame self.old.store) self.old.latest }
-        ensures ran { OnOk result ((values : List HeldValue) (was : Gathered) → S.stands self.old.store values → FollowsEvent self.old.config (making_of (S.frame self.old.store)) (situation self.old.latest (under_way self.old.loads) self.old.connections.items (S.frame self.old.store).dropped values) (event.Close number) false false (S.stands self.new.store) (situation self.new.latest (under_way self.new.loads) self.new.connections.items (S.frame self.new.store).dropped) (workings (S.stream self.old.store) (S.registered self.old.store) (S.recency self.old.store)) (workings (S.stream self.new.store) (S.registered self.new.store) (S.recency self.new.store)) was was) }
+        requires sound { KnowsStore self.old.config (S.view self.old.store).frame self.old.latest }
+        ensures ran { OnOk result ((values : List HeldValue) (was : Gathered) → (S.view self.old.store).Stands values → FollowsEvent self.old.config (making_of (S.view self.old.store).frame) (situation self.old.latest (under_way self.old.loads) self.old.connections.items (S.view self.old.store).frame.dropped values) (event.Close number) false false (S.view self.new.store).Stands (situation self.new.latest (under_way self.new.loads) self.new.connections.items (S.view self.new.store).frame.dropped) (workings (S.view self.old.store).stream (S.view self.old.store).registered (S.view self.old.store).Used) (workings (S.view self.new.store).stream (S.view self.new.store).registered (S.view self.new.store).Used) was was) }
         ensures texts { (place : ℕ) → text_at self.new.connections.items place ≡ text_at self.old.connections.items place }
         ensures others { (place : ℕ) → place ≢ number - 1 → slice_get self.new.connections.items place ≡ slice_get self.old.connections.items place }
-        ensures bounded { OnOk result ((values : List HeldValue) → S.stands self.new.store values → IsTrue (is_bounded self.old.config values)) }
+        ensures bounded { OnOk result ((values : List HeldValue) → (S.view self.new.store).Stands values → IsTrue (is_bounded self.old.config values)) }
         ensures closed { OnOk result (closing_at self.new.connections.items (number - 1) ≡ Some Closing.Asked) }
         ensures open { OnOk result (closing_at self.old.connections.items (number - 1) ≡ None) }
         ensures count { length self.new.connections.items ≡ length self.old.connections.items }
@@ -336,6 +339,7 @@ impl<S: Store> Namespace<S> {
         ensures err { OnErr result (self.new ≡ self.old) }
         ensures goes { SameTaken self.old.loads self.new.loads }
     {
+        self.store.sound();
         let index = match find_open(&self.connections, number) {
             Ok(index) => index,
             Err(error) => return Err(error),

@@ -19,9 +19,9 @@ use Rattle.audit_model.specs.declared.transcript.Note.{Note}
 use Rattle.audit_model.specs.declared.transcript.Step.{Step}
 use Rattle.cache_store.specs.Handing.{AppendsNotes}
 use Rattle.cache_store.specs.Identifiers.{KeepsIdentifiers}
-use Rattle.cache_steps.proofs.Drawn.{spends-kept}
-use Rattle.cache_steps.specs.Loading.{Stores, step_silent}
-use Rattle.cache_steps.specs.Right.{held_when_run}
+use Rattle.cache_commands.proofs.Drawn.{spends-kept}
+use Rattle.cache_commands.specs.Loading.{Stores, step_silent}
+use Rattle.cache_commands.specs.Right.{held_when_run}
 use Rattle.cache_namespace.specs.Drawing.{Identifiers, Spends, StepDraws}
 use Rattle.cache_namespace.proofs.Drawn.{draws-first}
 use Rattle.cache_namespace.specs.Lines.{has_its_part}

@@ -15,7 +15,7 @@ use Rattle.audit_model.specs.Stream.{behind_lines}
 use Rattle.audit_model.specs.declared.config.Config.{Config}
 use Rattle.audit_model.specs.declared.event.Outcome.{Outcome}
 use Rattle.audit_model.specs.declared.transcript.Step.{Step}
-use Rattle.cache_steps.specs.Right.{step_saying}
+use Rattle.cache_commands.specs.Right.{step_saying}
 use Rattle.cache_namespace.specs.Drawing.{Identifiers}
 use Rattle.cache_namespace.specs.Gathered.{reply_in}
 use Rattle.cache_namespace.specs.Making.{Making}

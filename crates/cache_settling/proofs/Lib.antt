@@ -6,7 +6,6 @@ pub mod Leading
 pub mod Noting
 pub mod Outcomes
 pub mod Placed
-pub mod Stored
 pub mod Turns
 pub mod Reruns
 pub mod Resumes

@@ -16,8 +16,8 @@ use Rattle.audit_model.specs.declared.command.Closing.{Closing}
 use Rattle.audit_model.specs.declared.config.Config.{Config}
 use Rattle.audit_model.specs.declared.event.Outcome.{Outcome}
 use Rattle.audit_lines.proofs.Cuts.{Cut, cut_at-here, cut_at-other}
-use Rattle.cache_steps.proofs.LoadSteps.{delivers}
-use Rattle.cache_steps.specs.Right.{step_saying}
+use Rattle.cache_commands.proofs.LoadSteps.{delivers}
+use Rattle.cache_commands.specs.Right.{step_saying}
 use Rattle.cache_store.specs.Promises.{no_deed}
 use Rattle.cache_namespace.specs.Drawing.{Identifiers}
 use Rattle.cache_namespace.specs.Lines.{ready, set_in}

@@ -18,10 +18,10 @@ use Rattle.audit_model.specs.declared.transcript.Note.{Note}
 use Rattle.audit_model.specs.declared.transcript.Step.{Step}
 use Rattle.cache_loads.specs.Pending.{number_to_send}
 use Rattle.cache_store.specs.Promises.{no_deed}
-use Rattle.cache_steps.proofs.LoadSteps.{abandons, waits}
-use Rattle.cache_steps.specs.Loading.{step_silent, step_waiting}
-use Rattle.cache_steps.specs.Order.{Order, Unknown, order_by}
-use Rattle.cache_steps.specs.Right.{DoesRight, dropped_when_run, held_when_run, step_saying}
+use Rattle.cache_commands.proofs.LoadSteps.{abandons, waits}
+use Rattle.cache_commands.specs.Loading.{step_silent, step_waiting}
+use Rattle.cache_commands.specs.Order.{Order, Unknown, order_by}
+use Rattle.cache_commands.specs.Right.{DoesRight, dropped_when_run, held_when_run, step_saying}
 use Rattle.cache_namespace.specs.Drawing.{Identifiers, Spends, StepDraws, Workings, identifiers_in}
 use Rattle.cache_namespace.specs.Gathered.{IsFresh, gather}
 use Rattle.cache_namespace.specs.Kept.{gathered, more_in, kept_steps}

@@ -21,9 +21,9 @@ use Rattle.audit_model.specs.declared.transcript.Accepted.{Accepted}
 use Rattle.audit_model.specs.declared.transcript.Note.{Note}
 use Rattle.audit_model.specs.declared.transcript.Record.{Record}
 use Rattle.audit_model.specs.declared.transcript.Step.{Step}
-use Rattle.cache_steps.specs.Loading.{step_silent}
-use Rattle.cache_steps.specs.Order.{Order}
-use Rattle.cache_steps.specs.Right.{DoesRight, placed_doing, held_when_run}
+use Rattle.cache_commands.specs.Loading.{step_silent}
+use Rattle.cache_commands.specs.Order.{Order}
+use Rattle.cache_commands.specs.Right.{DoesRight, placed_doing, held_when_run}
 use Rattle.cache_namespace.specs.Drawing.{Identifiers, StepsDraw}
 use Rattle.cache_namespace.specs.Lines.{are_timely, has_its_part}
 use Rattle.cache_namespace.specs.Making.{Making}

@@ -21,11 +21,12 @@ use Rattle.audit_model.specs.declared.event.Outcome.TheVariants as came
 use Rattle.audit_model.specs.declared.transcript.Note.{Note}
 use Rattle.audit_model.specs.declared.transcript.Step.{Step}
 use Rattle.cache_loads.specs.Pending.{number_to_send, when_joined, when_sent}
-use Rattle.cache_steps.proofs.Drawn.{draws-none}
-use Rattle.cache_steps.proofs.Answering.{none_succeeded, same-refl}
-use Rattle.cache_steps.specs.Loading.{step_silent, step_waiting}
-use Rattle.cache_steps.specs.Right.{DoesRight, held_when_run, placed_doing, step_saying}
-use Rattle.cache_namespace.specs.Drawing.{Identifiers, StepDraws, refuses_id, says_drop}
+use Rattle.cache_commands.proofs.Drawn.{draws-none}
+use Rattle.cache_commands.proofs.Answering.{none_succeeded, same-refl}
+use Rattle.cache_commands.specs.Loading.{step_silent, step_waiting}
+use Rattle.cache_commands.specs.Right.{DoesRight, held_when_run, placed_doing, step_saying}
+use Rattle.cache_namespace.specs.Drawing.{Identifiers, StepDraws, refuses_id}
+use Rattle.cache_commands.specs.Answered.{says_drop}
 use Rattle.cache_namespace.specs.Lines.{has_its_part, held_step, is_timely_after, ready, set_in}
 use Rattle.cache_namespace.specs.Making.{Making}
 use Rattle.cache_namespace.specs.Waiting.{holding_load, waiting, with_loads}

@@ -11,7 +11,7 @@ use Rattle.audit_model.specs.declared.config.Config.{Config}
 use Rattle.audit_model.specs.declared.transcript.Note.{Note}
 use Rattle.audit_model.specs.declared.transcript.Record.{Record}
 use Rattle.audit_model.specs.declared.transcript.Step.{Step}
-use Rattle.cache_steps.specs.Order.{Order, Unknown}
+use Rattle.cache_commands.specs.Order.{Order, Unknown}
 use Rattle.cache_namespace.specs.Drawing.{Identifiers}
 use Rattle.cache_namespace.specs.Gathered.{gather}
 use Rattle.cache_namespace.specs.Lines.{with_drops}

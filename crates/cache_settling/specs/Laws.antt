@@ -22,8 +22,8 @@ use Rattle.cache_namespace.specs.Drawing.{Identifiers, StepsDraw}
 use Rattle.cache_namespace.specs.Lines.{ArePartedIn, are_timely, has_its_part, held_step, ready, set_in}
 use Rattle.cache_namespace.specs.Making.{Making}
 use Rattle.cache_namespace.specs.Waiting.{holding_load, waiting, with_loads}
-use Rattle.cache_steps.specs.Loading.{step_silent, step_waiting}
-use Rattle.cache_steps.specs.Right.{DoesRight, held_when_run, step_saying}
+use Rattle.cache_commands.specs.Loading.{step_silent, step_waiting}
+use Rattle.cache_commands.specs.Right.{DoesRight, held_when_run, step_saying}
 use Rattle.audit_waiting_laws.specs.Tidy.{Tidy}
 use Rattle.cache_settling.specs.Leads.{BeginsUnknown, TasksLead, SettlingLeads, still_told}
 

@@ -14,7 +14,7 @@ use Rattle.cache_namespace.specs.Drawing.{Identifiers, StepsDraw}
 use Rattle.cache_namespace.specs.Lines.{ArePartedIn, are_timely}
 use Rattle.cache_namespace.specs.Making.{Making}
 use Rattle.cache_namespace.specs.Ordered.{HaveKeys, order_behind_step, order_behind}
-use Rattle.cache_steps.specs.Order.{Order, Unknown}
+use Rattle.cache_commands.specs.Order.{Order, Unknown}
 use Rattle.audit_waiting_laws.specs.Tidy.{Tidy, told_of_load}
 
 -- those whom the tasks still tell of their load

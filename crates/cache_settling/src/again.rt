@@ -6,8 +6,8 @@ ghost use Rattle.audit_model.specs.Situation.{Situation, connection_in};
 ghost use Rattle.audit_model.specs.Stream.{behind_lines};
 ghost use Rattle.cache_store.specs.Identifiers.{DrawsAlone};
 ghost use Rattle.cache_store.specs.Promises.{IsUnchanged};
-ghost use Rattle.cache_steps.specs.Loading.{step_silent};
-ghost use Rattle.cache_steps.specs.Right.{KeepsFrame};
+ghost use Rattle.cache_commands.specs.Loading.{step_silent};
+ghost use Rattle.cache_commands.specs.Right.{KeepsFrame};
 ghost use Rattle.cache_namespace.specs.Drawing.{identifiers, workings};
 ghost use Rattle.cache_namespace.specs.Gathered.{IsFresh, gather};
 ghost use Rattle.cache_namespace.specs.Kept.{IsReadyToHold, KeepsRoom, gathered, more_in};
@@ -24,11 +24,11 @@ ghost use Rattle.cache_settling.specs.Noted.{noted_in};
 use crate::telling::pass_line;
 use audit_lines::Buffer;
 use audit_model::Config;
+use cache_commands::{Keyed, write_abandoned};
 use cache_loads::Loads;
 use cache_namespace::{
     Connection, Done, Kept, Standing, hold_first, join_first, release, say_first,
 };
-use cache_steps::write_abandoned;
 use cache_store::Store;
 use std::alloc::Global;
 
@@ -49,7 +49,7 @@ enum Again {
 /// Runs the `LOAD` again that is the first unread line, as a command that was held back: it is answered where it finds a live value, and
 /// its line is taken; else it waits for the key's load or for one that it sends, and it is held back where memory is wanted.
 fn load_first<S: Store>(
-    store: &mut S,
+    store: &mut Keyed<S>,
     alloc: Global,
     config: &Config,
     now: u64,
@@ -60,26 +60,26 @@ fn load_first<S: Store>(
     spare: &mut Vec<u8>,
     kept: &mut Option<Kept>,
 ) -> Again
-    requires config { (S.frame store.old).config ≡ config.now }
-    requires in_time { (S.frame store.old).latest ≤ now }
+    requires config { (S.view store.old).frame.config ≡ config.now }
+    requires in_time { (S.view store.old).frame.latest ≤ now }
     requires moment { now < 2 ^ 63 }
-    requires fresh { IsFresh (gathered output.old.items kept.old (S.untaken store.old)) }
+    requires fresh { IsFresh (gathered output.old.items kept.old (S.view store.old).untaken) }
     requires ready { IsReadyToHold kept.old }
     requires whole { IsTrue (has_line unread.old.bytes) }
     requires load { is_load (reading config.now (held_line unread.old.bytes)) ≡ true }
-    ensures answered { result ≡ Again.Answered → (s : Situation) → s.latest ≡ now → s.dropped ≡ (S.frame store.old).dropped → S.stands store.old s.held → (quit : Bool) × RanOne config.now s number (making_of (S.frame store.old)) (held_line unread.old.bytes) quit (S.stands store.new) (S.frame store.new).dropped (workings (S.stream store.old) (S.registered store.old) (S.recency store.old)) (workings (S.stream store.new) (S.registered store.new) (S.recency store.new)) (gathered output.old.items kept.old (S.untaken store.old)) (gathered output.new.items kept.new (S.untaken store.new)) }
+    ensures answered { result ≡ Again.Answered → (s : Situation) → s.latest ≡ now → s.dropped ≡ (S.view store.old).frame.dropped → (S.view store.old).Stands s.held → (quit : Bool) × RanOne config.now s number (making_of (S.view store.old).frame) (held_line unread.old.bytes) quit (S.view store.new).Stands (S.view store.new).frame.dropped (workings (S.view store.old).stream (S.view store.old).registered (S.view store.old).Used) (workings (S.view store.new).stream (S.view store.new).registered (S.view store.new).Used) (gathered output.old.items kept.old (S.view store.old).untaken) (gathered output.new.items kept.new (S.view store.new).untaken) }
     ensures passed { result ≡ Again.Answered → unread.new.bytes ≡ behind_lines 1 unread.old.bytes }
     ensures alone { result ≡ Again.Answered → under_way loads.new ≡ under_way loads.old }
-    ensures waits { result ≡ Again.Waits → (store.new ≡ store.old) × ((x : Misses config.now now (held_line unread.old.bytes) (S.stands store.old)) × (under_way loads.new ≡ when_waiting number x.key (under_way loads.old)) × (gathered output.new.items kept.new (S.untaken store.new) ≡ gather (gathered output.old.items kept.old (S.untaken store.old)) (step_silent number (held_line unread.old.bytes) (load_sent_for x.key (under_way loads.old)) None [] ∷ []))) }
+    ensures waits { result ≡ Again.Waits → (store.new ≡ store.old) × ((x : Misses config.now now (held_line unread.old.bytes) (S.view store.old).Stands) × (under_way loads.new ≡ when_waiting number x.key (under_way loads.old)) × (gathered output.new.items kept.new (S.view store.new).untaken ≡ gather (gathered output.old.items kept.old (S.view store.old).untaken) (step_silent number (held_line unread.old.bytes) (load_sent_for x.key (under_way loads.old)) None [] ∷ []))) }
     ensures stays { result ≡ Again.Waits → unread.new.bytes ≡ unread.old.bytes }
     ensures room { result ≡ Again.Waits → IsTrue (has_room (vec_len output.new) (vec_capacity output.new) (vec_len spare.new) (vec_capacity spare.new)) }
-    ensures held { result ≡ Again.Held → gathered output.new.items kept.new (S.untaken store.new) ≡ gather (gathered output.old.items kept.old (S.untaken store.old)) (held_step number (held_line unread.old.bytes) ∷ []) }
-    ensures unchanged { result ≡ Again.Held → IsUnchanged (S.stands store.old) (S.stands store.new) (S.frame store.old) (S.frame store.new) (S.untaken store.old) (S.untaken store.new) }
-    ensures spends { result ≡ Again.Held → DrawsAlone (S.stream store.old) (S.stream store.new) (S.registered store.old) (S.registered store.new) }
+    ensures held { result ≡ Again.Held → gathered output.new.items kept.new (S.view store.new).untaken ≡ gather (gathered output.old.items kept.old (S.view store.old).untaken) (held_step number (held_line unread.old.bytes) ∷ []) }
+    ensures unchanged { result ≡ Again.Held → IsUnchanged (S.view store.old).Stands (S.view store.new).Stands (S.view store.old).frame (S.view store.new).frame (S.view store.old).untaken (S.view store.new).untaken }
+    ensures spends { result ≡ Again.Held → DrawsAlone (S.view store.old).stream (S.view store.new).stream (S.view store.old).registered (S.view store.new).registered }
     ensures unread { result ≡ Again.Held → unread.new.bytes ≡ unread.old.bytes }
     ensures loads { result ≡ Again.Held → under_way loads.new ≡ under_way loads.old }
-    ensures frame { KeepsFrame (S.frame store.old) (S.frame store.new) now }
-    ensures fresh { IsFresh (gathered output.new.items kept.new (S.untaken store.new)) }
+    ensures frame { KeepsFrame (S.view store.old).frame (S.view store.new).frame now }
+    ensures fresh { IsFresh (gathered output.new.items kept.new (S.view store.new).untaken) }
     ensures keeps_room { KeepsRoom kept.new }
     ensures more { more_in kept.new ≡ more_in kept.old }
     ensures goes { SameTaken loads.old loads.new }
@@ -106,7 +106,7 @@ fn load_first<S: Store>(
 /// Runs the waiting `LOAD` of an open connection again, in one step; at its 200th give-up it is answered so. It takes no memory that it
 /// cannot do without.
 pub fn run_again<S: Store>(
-    store: &mut S,
+    store: &mut Keyed<S>,
     alloc: Global,
     config: &Config,
     now: u64,
@@ -115,22 +115,23 @@ pub fn run_again<S: Store>(
     connection: &mut Connection,
     kept: &mut Option<Kept>,
 )
-    requires config { (S.frame store.old).config ≡ config.now }
-    requires in_time { (S.frame store.old).latest ≤ now }
+    requires config { (S.view store.old).frame.config ≡ config.now }
+    requires in_time { (S.view store.old).frame.latest ≤ now }
     requires moment { now < 2 ^ 63 }
     requires waits { connection.old.standing ≡ stands.Waiting }
     requires open { connection.old.closing ≡ None }
     requires load { is_load (reading config.now (held_line connection.old.unread.bytes)) ≡ true }
-    requires fresh { IsFresh (gathered connection.old.output.items kept.old (S.untaken store.old)) }
+    requires fresh { IsFresh (gathered connection.old.output.items kept.old (S.view store.old).untaken) }
     requires room { IsReadyToHold kept.old }
-    ensures ran { (s : Situation) → s.latest ≡ now → s.dropped ≡ (S.frame store.old).dropped → loads_in s ≡ under_way loads.old → connection_in number s ≡ Some (shown number connection.old) → S.stands store.old s.held → RunsAgain config.now (making_of (S.frame store.old)) s number (S.stands store.new) (under_way loads.new) (S.frame store.new).dropped (identifiers (S.stream store.old) (S.registered store.old)) (identifiers (S.stream store.new) (S.registered store.new)) connection.old connection.new (noted_in kept.old (S.untaken store.old)) (noted_in kept.new (S.untaken store.new)) }
+    ensures ran { (s : Situation) → s.latest ≡ now → s.dropped ≡ (S.view store.old).frame.dropped → loads_in s ≡ under_way loads.old → connection_in number s ≡ Some (shown number connection.old) → (S.view store.old).Stands s.held → RunsAgain config.now (making_of (S.view store.old).frame) s number (S.view store.new).Stands (under_way loads.new) (S.view store.new).frame.dropped (identifiers (S.view store.old).stream (S.view store.old).registered) (identifiers (S.view store.new).stream (S.view store.new).registered) connection.old connection.new (noted_in kept.old (S.view store.old).untaken) (noted_in kept.new (S.view store.new).untaken) }
     ensures open { connection.new.closing ≡ None }
-    ensures frame { KeepsFrame (S.frame store.old) (S.frame store.new) now }
-    ensures fresh { IsFresh (gathered connection.new.output.items kept.new (S.untaken store.new)) }
+    ensures frame { KeepsFrame (S.view store.old).frame (S.view store.new).frame now }
+    ensures fresh { IsFresh (gathered connection.new.output.items kept.new (S.view store.new).untaken) }
     ensures keeps_room { KeepsRoom kept.new }
     ensures more { more_in kept.new ≡ more_in kept.old }
     ensures goes { SameTaken loads.old loads.new }
 {
+    store.sound();
     if connection.waited >= MAX_WAITS {
         connection.standing = Standing::Ready;
         connection.waited = 0;

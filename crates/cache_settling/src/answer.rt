@@ -9,8 +9,8 @@ ghost use Rattle.cache_store.specs.Handing.{AppendsNotes};
 ghost use Rattle.cache_store.specs.Identifiers.{KeepsIdentifiers};
 ghost use Rattle.cache_store.specs.Promises.{IsUnchanged};
 ghost use Rattle.cache_store.specs.Recency.{KeepsRecency};
-ghost use Rattle.cache_steps.specs.Loading.{Stores};
-ghost use Rattle.cache_steps.specs.Right.{KeepsFrame};
+ghost use Rattle.cache_commands.specs.Loading.{Stores};
+ghost use Rattle.cache_commands.specs.Right.{KeepsFrame};
 ghost use Rattle.cache_namespace.specs.Taken.{SameConnections};
 ghost use Rattle.cache_namespace.specs.Waiting.{under_way};
 ghost use Rattle.cache_settling.specs.Answered.{waiting_on};
@@ -19,6 +19,7 @@ ghost use Rattle.cache_settling.specs.Told.{HaveReplyRoom};
 use crate::reserving::reserve_all;
 use crate::storing::store_answer;
 use audit_model::{Accepted, Outcome};
+use cache_commands::Keyed;
 use cache_loads::Loads;
 use cache_namespace::Connection;
 use cache_store::Store;
@@ -43,25 +44,25 @@ pub fn reserve_for(
 /// Stores the value of an answer to a load under way, and says which part took it: none at capacity 0, and where the outcome is no value,
 /// and then nothing is told.
 pub fn store_for<S: Store>(
-    store: &mut S,
+    store: &mut Keyed<S>,
     capacity: Option<u64>,
     loads: &Loads,
     load: u64,
     outcome: &Outcome,
     now: u64,
 ) -> Result<Option<Accepted>, AllocError>
-    requires in_time { (S.frame store.old).latest ≤ now }
-    requires capacity { (S.frame store.old).config.capacity ≡ capacity }
+    requires in_time { (S.view store.old).frame.latest ≤ now }
+    requires capacity { (S.view store.old).frame.config.capacity ≡ capacity }
     requires moment { now < 2 ^ 63 }
-    requires fit { refusal_of_outcome (S.frame store.old).config outcome.now ≡ None }
+    requires fit { refusal_of_outcome (S.view store.old).frame.config outcome.now ≡ None }
     requires under { is_some (load_numbered load (loads_pending loads.now)) ≡ true }
-    ensures ok { IfOk result (λ accepted. (key : List ℕ) × (option_map (λ l. l.key) (load_numbered load (loads_pending loads.now)) ≡ Some key) × IfSome accepted (λ a. a.part ≡ (S.frame store.old).part_of key) × ((s : Situation) → s.latest ≡ now → S.stands store.old s.held → (x : Stores (S.frame store.old).config s key outcome.now accepted (S.stands store.new) (AppendsNotes (S.untaken store.old) (S.untaken store.new))) × ((is_some accepted || is_empty x.told) ≡ true))) }
-    ensures few { length (S.untaken store.new) ≤ length (S.untaken store.old) + S.count store.old + 1 }
-    ensures frame { OnOk result (KeepsFrame (S.frame store.old) (S.frame store.new) now) }
-    ensures dropped { (S.frame store.new).dropped ≡ (S.frame store.old).dropped }
-    ensures identifiers { KeepsIdentifiers (S.stream store.old) (S.stream store.new) (S.registered store.old) (S.registered store.new) }
-    ensures unchanged { OnErr result (IsUnchanged (S.stands store.old) (S.stands store.new) (S.frame store.old) (S.frame store.new) (S.untaken store.old) (S.untaken store.new)) }
-    ensures unmoved { OnErr result (KeepsRecency (S.recency store.old) (S.recency store.new)) }
+    ensures ok { IfOk result (λ accepted. (key : List ℕ) × (option_map (λ l. l.key) (load_numbered load (loads_pending loads.now)) ≡ Some key) × IfSome accepted (λ a. a.part ≡ (S.view store.old).frame.part_of key) × ((s : Situation) → s.latest ≡ now → (S.view store.old).Stands s.held → (x : Stores (S.view store.old).frame.config s key outcome.now accepted (S.view store.new).Stands (AppendsNotes (S.view store.old).untaken (S.view store.new).untaken)) × ((is_some accepted || is_empty x.told) ≡ true))) }
+    ensures few { length (S.view store.new).untaken ≤ length (S.view store.old).untaken + (S.view store.old).count + 1 }
+    ensures frame { OnOk result (KeepsFrame (S.view store.old).frame (S.view store.new).frame now) }
+    ensures dropped { (S.view store.new).frame.dropped ≡ (S.view store.old).frame.dropped }
+    ensures identifiers { KeepsIdentifiers (S.view store.old).stream (S.view store.new).stream (S.view store.old).registered (S.view store.new).registered }
+    ensures unchanged { OnErr result (IsUnchanged (S.view store.old).Stands (S.view store.new).Stands (S.view store.old).frame (S.view store.new).frame (S.view store.old).untaken (S.view store.new).untaken) }
+    ensures unmoved { OnErr result (KeepsRecency (S.view store.old).Used (S.view store.new).Used) }
 {
     let Some(found) = loads.get(load) else {
         unreachable!();

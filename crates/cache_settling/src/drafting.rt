@@ -2,7 +2,7 @@
 ghost use Rattle.std.specs.Prelude.{◌≡◌, ◌-◌, ◌+◌, [], IfOk, IsTrue, None, Some, length};
 ghost use Rattle.std.specs.List.{slice_get};
 ghost use Rattle.audit_model.specs.Replies.{outcome_text};
-ghost use Rattle.cache_steps.specs.Right.{step_saying};
+ghost use Rattle.cache_commands.specs.Right.{step_saying};
 ghost use Rattle.cache_namespace.specs.Kept.{HasMore};
 ghost use Rattle.cache_namespace.specs.Waiting.{under_way};
 ghost use Rattle.cache_namespace.specs.Whole.{has_line, held_line};
@@ -12,9 +12,9 @@ ghost use Rattle.cache_settling.specs.Told.{HaveLines, line_of, steps_told};
 
 use audit_lines::{Buffer, Next};
 use audit_model::{Outcome, Seq, Step};
+use cache_commands::write_outcome;
 use cache_loads::Loads;
 use cache_namespace::{Connection, Kept};
-use cache_steps::write_outcome;
 use std::alloc::{AllocError, Global};
 
 /// A copy of the first line.

@@ -6,7 +6,7 @@ ghost use Rattle.audit_model.specs.Situation.{HeldValue};
 ghost use Rattle.cache_store.specs.Identifiers.{KeepsIdentifiers};
 ghost use Rattle.cache_store.specs.Promises.{IsUnchanged};
 ghost use Rattle.cache_store.specs.Recency.{KeepsRecency};
-ghost use Rattle.cache_steps.specs.Right.{KeepsFrame};
+ghost use Rattle.cache_commands.specs.Right.{KeepsFrame};
 ghost use Rattle.cache_namespace.specs.Drawing.{identifiers};
 ghost use Rattle.cache_namespace.specs.Making.{making_of};
 ghost use Rattle.cache_namespace.specs.Shown.{situation};
@@ -32,28 +32,28 @@ pub fn answer_kept<S: Store>(
     outcome: Outcome,
     moment: u64,
 ) -> Result<Record, (ServiceError, Outcome)>
-    requires sound { KnowsStore namespace.old.config (S.frame namespace.old.store) namespace.old.latest }
+    requires sound { KnowsStore namespace.old.config (S.view namespace.old.store).frame namespace.old.latest }
     requires tidy { Tidy [] (situation 0 (under_way namespace.old.loads) namespace.old.connections.items false []) }
     requires untold { (place : ℕ) → text_at namespace.old.connections.items place ≡ [] }
-    requires untaken { S.untaken namespace.old.store ≡ [] }
-    ensures ran { IfOk result (λ entry. (values : List HeldValue) → S.stands namespace.old.store values → KeepsRecord namespace.old.config (making_of (S.frame namespace.old.store)) entry namespace.old.latest moment values (S.stands namespace.new.store) (under_way namespace.old.loads) (under_way namespace.new.loads) (S.frame namespace.old.store).dropped (S.frame namespace.new.store).dropped (identifiers (S.stream namespace.old.store) (S.registered namespace.old.store)) (identifiers (S.stream namespace.new.store) (S.registered namespace.new.store)) namespace.old.connections.items namespace.new.connections.items) }
+    requires untaken { (S.view namespace.old.store).untaken ≡ [] }
+    ensures ran { IfOk result (λ entry. (values : List HeldValue) → (S.view namespace.old.store).Stands values → KeepsRecord namespace.old.config (making_of (S.view namespace.old.store).frame) entry namespace.old.latest moment values (S.view namespace.new.store).Stands (under_way namespace.old.loads) (under_way namespace.new.loads) (S.view namespace.old.store).frame.dropped (S.view namespace.new.store).frame.dropped (identifiers (S.view namespace.old.store).stream (S.view namespace.old.store).registered) (identifiers (S.view namespace.new.store).stream (S.view namespace.new.store).registered) namespace.old.connections.items namespace.new.connections.items) }
     ensures happened { IfOk result (λ entry. entry.event ≡ answering load outcome moment) }
     ensures untold { (place : ℕ) → text_at namespace.new.connections.items place ≡ [] }
-    ensures untaken { S.untaken namespace.new.store ≡ [] }
+    ensures untaken { (S.view namespace.new.store).untaken ≡ [] }
     ensures latest { OnOk result (namespace.new.latest ≡ max moment namespace.old.latest) }
-    ensures tidy { OnOk result ((values : List HeldValue) → S.stands namespace.old.store values → Tidy [] (situation 0 (under_way namespace.new.loads) namespace.new.connections.items false [])) }
+    ensures tidy { OnOk result ((values : List HeldValue) → (S.view namespace.old.store).Stands values → Tidy [] (situation 0 (under_way namespace.new.loads) namespace.new.connections.items false [])) }
     ensures count { OnOk result (length namespace.new.connections.items ≡ length namespace.old.connections.items) }
-    ensures sound { KnowsStore namespace.new.config (S.frame namespace.new.store) namespace.new.latest }
+    ensures sound { KnowsStore namespace.new.config (S.view namespace.new.store).frame namespace.new.latest }
     ensures config { namespace.new.config ≡ namespace.old.config }
-    ensures made { OnOk result (KeepsFrame (S.frame namespace.old.store) (S.frame namespace.new.store) namespace.new.latest) }
+    ensures made { OnOk result (KeepsFrame (S.view namespace.old.store).frame (S.view namespace.new.store).frame namespace.new.latest) }
     ensures admitted { OnOk result (refusal_of namespace.old.config (knows_loads (under_way namespace.old.loads)) (answering load outcome moment) ≡ None) }
     ensures refused { IfErr result (λ e. MatchOption (refusal_of namespace.old.config (knows_loads (under_way namespace.old.loads)) (answering load outcome moment)) (e.0 ≡ ServiceError.OutOfMemory) (λ refusal. e.0 ≡ refusal)) }
     ensures back { IfErr result (λ e. e.1 ≡ outcome) }
     ensures same { OnErr result (namespace.new.connections ≡ namespace.old.connections) }
     ensures loads { OnErr result (namespace.new.loads ≡ namespace.old.loads) }
-    ensures unmoved { OnErr result (KeepsRecency (S.recency namespace.old.store) (S.recency namespace.new.store)) }
-    ensures identifiers { OnErr result (KeepsIdentifiers (S.stream namespace.old.store) (S.stream namespace.new.store) (S.registered namespace.old.store) (S.registered namespace.new.store)) }
-    ensures unchanged { OnErr result (IsUnchanged (S.stands namespace.old.store) (S.stands namespace.new.store) (S.frame namespace.old.store) (S.frame namespace.new.store) (S.untaken namespace.old.store) (S.untaken namespace.new.store)) }
+    ensures unmoved { OnErr result (KeepsRecency (S.view namespace.old.store).Used (S.view namespace.new.store).Used) }
+    ensures identifiers { OnErr result (KeepsIdentifiers (S.view namespace.old.store).stream (S.view namespace.new.store).stream (S.view namespace.old.store).registered (S.view namespace.new.store).registered) }
+    ensures unchanged { OnErr result (IsUnchanged (S.view namespace.old.store).Stands (S.view namespace.new.store).Stands (S.view namespace.old.store).frame (S.view namespace.new.store).frame (S.view namespace.old.store).untaken (S.view namespace.new.store).untaken) }
     ensures timeless { OnErr result (namespace.new.latest ≡ namespace.old.latest) }
     ensures goes { SameTaken namespace.old.loads namespace.new.loads }
 {
@@ -97,21 +97,21 @@ pub fn give_up_kept<S: Store>(
     load: u64,
     moment: u64,
 ) -> Result<Record, ServiceError>
-    requires sound { KnowsStore namespace.old.config (S.frame namespace.old.store) namespace.old.latest }
+    requires sound { KnowsStore namespace.old.config (S.view namespace.old.store).frame namespace.old.latest }
     requires tidy { Tidy [] (situation 0 (under_way namespace.old.loads) namespace.old.connections.items false []) }
     requires reads { WaitForLoads namespace.old.config (situation 0 (under_way namespace.old.loads) namespace.old.connections.items false []) }
     requires untold { (place : ℕ) → text_at namespace.old.connections.items place ≡ [] }
-    requires untaken { S.untaken namespace.old.store ≡ [] }
-    ensures ran { IfOk result (λ entry. (values : List HeldValue) → S.stands namespace.old.store values → KeepsRecord namespace.old.config (making_of (S.frame namespace.old.store)) entry namespace.old.latest moment values (S.stands namespace.new.store) (under_way namespace.old.loads) (under_way namespace.new.loads) (S.frame namespace.old.store).dropped (S.frame namespace.new.store).dropped (identifiers (S.stream namespace.old.store) (S.registered namespace.old.store)) (identifiers (S.stream namespace.new.store) (S.registered namespace.new.store)) namespace.old.connections.items namespace.new.connections.items) }
+    requires untaken { (S.view namespace.old.store).untaken ≡ [] }
+    ensures ran { IfOk result (λ entry. (values : List HeldValue) → (S.view namespace.old.store).Stands values → KeepsRecord namespace.old.config (making_of (S.view namespace.old.store).frame) entry namespace.old.latest moment values (S.view namespace.new.store).Stands (under_way namespace.old.loads) (under_way namespace.new.loads) (S.view namespace.old.store).frame.dropped (S.view namespace.new.store).frame.dropped (identifiers (S.view namespace.old.store).stream (S.view namespace.old.store).registered) (identifiers (S.view namespace.new.store).stream (S.view namespace.new.store).registered) namespace.old.connections.items namespace.new.connections.items) }
     ensures happened { IfOk result (λ entry. entry.event ≡ giving_up load moment) }
     ensures untold { (place : ℕ) → text_at namespace.new.connections.items place ≡ [] }
-    ensures untaken { S.untaken namespace.new.store ≡ [] }
+    ensures untaken { (S.view namespace.new.store).untaken ≡ [] }
     ensures latest { OnOk result (namespace.new.latest ≡ max moment namespace.old.latest) }
-    ensures tidy { OnOk result ((values : List HeldValue) → S.stands namespace.old.store values → Tidy [] (situation 0 (under_way namespace.new.loads) namespace.new.connections.items false [])) }
+    ensures tidy { OnOk result ((values : List HeldValue) → (S.view namespace.old.store).Stands values → Tidy [] (situation 0 (under_way namespace.new.loads) namespace.new.connections.items false [])) }
     ensures count { length namespace.new.connections.items ≡ length namespace.old.connections.items }
-    ensures sound { KnowsStore namespace.new.config (S.frame namespace.new.store) namespace.new.latest }
+    ensures sound { KnowsStore namespace.new.config (S.view namespace.new.store).frame namespace.new.latest }
     ensures config { namespace.new.config ≡ namespace.old.config }
-    ensures made { OnOk result (KeepsFrame (S.frame namespace.old.store) (S.frame namespace.new.store) namespace.new.latest) }
+    ensures made { OnOk result (KeepsFrame (S.view namespace.old.store).frame (S.view namespace.new.store).frame namespace.new.latest) }
     ensures admitted { OnOk result (refusal_of namespace.old.config (knows_loads (under_way namespace.old.loads)) (giving_up load moment) ≡ None) }
     ensures refused { IfErr result (λ e. MatchOption (refusal_of namespace.old.config (knows_loads (under_way namespace.old.loads)) (giving_up load moment)) (e ≡ ServiceError.OutOfMemory) (λ refusal. e ≡ refusal)) }
     ensures err { OnErr result (namespace.new ≡ namespace.old) }

@@ -3,7 +3,7 @@ ghost use Rattle.std.specs.Prelude.{◌≡◌, ℕ, max, [], IfOk, None, OnErr, 
 ghost use Rattle.cache_loads.specs.Pending.{SameTaken};
 ghost use Rattle.audit_model.specs.Belongs.{refusal_of};
 ghost use Rattle.audit_model.specs.Situation.{HeldValue};
-ghost use Rattle.cache_steps.specs.Right.{KeepsFrame};
+ghost use Rattle.cache_commands.specs.Right.{KeepsFrame};
 ghost use Rattle.cache_store.specs.Identifiers.{KeepsIdentifiers};
 ghost use Rattle.cache_store.specs.Promises.{IsUnchanged};
 ghost use Rattle.cache_store.specs.Recency.{KeepsRecency};
@@ -24,8 +24,9 @@ use crate::drafting::{draft_answer, draft_give_up};
 use crate::giving_up::settle_give_up;
 use crate::loading::reply_len;
 use audit_model::{Accepted, Config, Note, Outcome, Seq, Step};
+use cache_commands::Keyed;
 use cache_loads::Loads;
-use cache_namespace::{Connection, Kept, drain};
+use cache_namespace::{Connection, Kept, drain, most_notes};
 use cache_store::Store;
 use std::alloc::{AllocError, Global};
 
@@ -53,7 +54,7 @@ fn steps_kept(alloc: Global, kept: Option<Kept>) -> Seq<Step>
 /// Answers a load that is under way, as `answer_load` does, but keeps its record: replies and notes stand in its steps, and what storing
 /// told beside them. There is memory for all of it, or an `Err`, which changes nothing.
 pub fn record_answer<S: Store>(
-    store: &mut S,
+    store: &mut Keyed<S>,
     alloc: Global,
     config: &Config,
     latest: u64,
@@ -63,27 +64,27 @@ pub fn record_answer<S: Store>(
     outcome: &Outcome,
     moment: u64,
 ) -> Result<Settled, AllocError>
-    requires sound { KnowsStore config.now (S.frame store.old) latest }
+    requires sound { KnowsStore config.now (S.view store.old).frame latest }
     requires admitted { refusal_of config.now (knows_loads (under_way loads.old)) (answering load outcome.now moment) ≡ None }
     requires tidy { Tidy [] (situation 0 (under_way loads.old) connections.old.items false []) }
     requires untold { (place : ℕ) → text_at connections.old.items place ≡ [] }
-    requires untaken { S.untaken store.old ≡ [] }
-    ensures ran { IfOk result (λ settled. (values : List HeldValue) → S.stands store.old values → KeepsRecord config.now (making_of (S.frame store.old)) (record_answered load outcome.now moment settled.accepted settled.notices settled.steps) latest moment values (S.stands store.new) (under_way loads.old) (under_way loads.new) (S.frame store.old).dropped (S.frame store.new).dropped (identifiers (S.stream store.old) (S.registered store.old)) (identifiers (S.stream store.new) (S.registered store.new)) connections.old.items connections.new.items) }
+    requires untaken { (S.view store.old).untaken ≡ [] }
+    ensures ran { IfOk result (λ settled. (values : List HeldValue) → (S.view store.old).Stands values → KeepsRecord config.now (making_of (S.view store.old).frame) (record_answered load outcome.now moment settled.accepted settled.notices settled.steps) latest moment values (S.view store.new).Stands (under_way loads.old) (under_way loads.new) (S.view store.old).frame.dropped (S.view store.new).frame.dropped (identifiers (S.view store.old).stream (S.view store.old).registered) (identifiers (S.view store.new).stream (S.view store.new).registered) connections.old.items connections.new.items) }
     ensures untold { OnOk result ((place : ℕ) → text_at connections.new.items place ≡ []) }
-    ensures untaken { OnOk result (S.untaken store.new ≡ []) }
-    ensures frame { OnOk result (KeepsFrame (S.frame store.old) (S.frame store.new) (max moment latest)) }
+    ensures untaken { OnOk result ((S.view store.new).untaken ≡ []) }
+    ensures frame { OnOk result (KeepsFrame (S.view store.old).frame (S.view store.new).frame (max moment latest)) }
     ensures count { OnOk result (length connections.new.items ≡ length connections.old.items) }
     ensures same { OnErr result (connections.new ≡ connections.old) }
     ensures loads { OnErr result (loads.new ≡ loads.old) }
-    ensures identifiers { OnErr result (KeepsIdentifiers (S.stream store.old) (S.stream store.new) (S.registered store.old) (S.registered store.new)) }
-    ensures unchanged { OnErr result (IsUnchanged (S.stands store.old) (S.stands store.new) (S.frame store.old) (S.frame store.new) (S.untaken store.old) (S.untaken store.new)) }
-    ensures unmoved { OnErr result (KeepsRecency (S.recency store.old) (S.recency store.new)) }
+    ensures identifiers { OnErr result (KeepsIdentifiers (S.view store.old).stream (S.view store.new).stream (S.view store.old).registered (S.view store.new).registered) }
+    ensures unchanged { OnErr result (IsUnchanged (S.view store.old).Stands (S.view store.new).Stands (S.view store.old).frame (S.view store.new).frame (S.view store.old).untaken (S.view store.new).untaken) }
+    ensures unmoved { OnErr result (KeepsRecency (S.view store.old).Used (S.view store.new).Used) }
     ensures goes { SameTaken loads.old loads.new }
 {
     let size = reply_len(outcome);
     let now = moment.max(latest);
     let kept = draft_answer(alloc, loads, connections, load, outcome, size)?;
-    let mut notices = Vec::with_capacity(alloc, store.len() + 1)?;
+    let mut notices = Vec::with_capacity(alloc, most_notes(store))?;
     let accepted = store_for(store, config.capacity, loads, load, outcome, now)?;
     drain(store, &mut notices);
     let mut kept = Some(kept);
@@ -108,7 +109,7 @@ pub fn record_answer<S: Store>(
 /// Gives up a load that is under way, as `give_up_load` does, but keeps the steps of its record. There is memory for what it cannot do
 /// without, or an `Err`, which changes nothing.
 pub fn record_give_up<S: Store>(
-    store: &mut S,
+    store: &mut Keyed<S>,
     alloc: Global,
     config: &Config,
     latest: u64,
@@ -117,16 +118,16 @@ pub fn record_give_up<S: Store>(
     load: u64,
     moment: u64,
 ) -> Result<Seq<Step>, AllocError>
-    requires sound { KnowsStore config.now (S.frame store.old) latest }
+    requires sound { KnowsStore config.now (S.view store.old).frame latest }
     requires admitted { refusal_of config.now (knows_loads (under_way loads.old)) (giving_up load moment) ≡ None }
     requires tidy { Tidy [] (situation 0 (under_way loads.old) connections.old.items false []) }
     requires reads { WaitForLoads config.now (situation 0 (under_way loads.old) connections.old.items false []) }
     requires untold { (place : ℕ) → text_at connections.old.items place ≡ [] }
-    requires untaken { S.untaken store.old ≡ [] }
-    ensures ran { IfOk result (λ steps. (values : List HeldValue) → S.stands store.old values → KeepsRecord config.now (making_of (S.frame store.old)) (record_given_up load moment steps) latest moment values (S.stands store.new) (under_way loads.old) (under_way loads.new) (S.frame store.old).dropped (S.frame store.new).dropped (identifiers (S.stream store.old) (S.registered store.old)) (identifiers (S.stream store.new) (S.registered store.new)) connections.old.items connections.new.items) }
+    requires untaken { (S.view store.old).untaken ≡ [] }
+    ensures ran { IfOk result (λ steps. (values : List HeldValue) → (S.view store.old).Stands values → KeepsRecord config.now (making_of (S.view store.old).frame) (record_given_up load moment steps) latest moment values (S.view store.new).Stands (under_way loads.old) (under_way loads.new) (S.view store.old).frame.dropped (S.view store.new).frame.dropped (identifiers (S.view store.old).stream (S.view store.old).registered) (identifiers (S.view store.new).stream (S.view store.new).registered) connections.old.items connections.new.items) }
     ensures untold { OnOk result ((place : ℕ) → text_at connections.new.items place ≡ []) }
-    ensures untaken { OnOk result (S.untaken store.new ≡ []) }
-    ensures frame { OnOk result (KeepsFrame (S.frame store.old) (S.frame store.new) (max moment latest)) }
+    ensures untaken { OnOk result ((S.view store.new).untaken ≡ []) }
+    ensures frame { OnOk result (KeepsFrame (S.view store.old).frame (S.view store.new).frame (max moment latest)) }
     ensures count { OnOk result (length connections.new.items ≡ length connections.old.items) }
     ensures store { OnErr result (store.new ≡ store.old) }
     ensures same { OnErr result (connections.new ≡ connections.old) }

@@ -3,7 +3,7 @@ ghost use Rattle.std.specs.Prelude.{◌≡◌, ◌≢◌, ◌-◌, ◌<◌, ◌�
 ghost use Rattle.cache_loads.specs.Pending.{SameTaken};
 ghost use Rattle.std.specs.List.{slice_get};
 ghost use Rattle.audit_model.specs.Situation.{Situation, HeldValue};
-ghost use Rattle.cache_steps.specs.Right.{KeepsFrame};
+ghost use Rattle.cache_commands.specs.Right.{KeepsFrame};
 ghost use Rattle.cache_namespace.specs.Drawing.{identifiers, workings};
 ghost use Rattle.cache_namespace.specs.Kept.{HasMore, IsReadyToHold, KeepsRoom, gathered, more_in, kept_steps};
 ghost use Rattle.cache_namespace.specs.Gathered.{IsFresh};
@@ -16,6 +16,7 @@ ghost use Rattle.cache_settling.specs.Noted.{NothingWaits, noted_in};
 ghost use Rattle.cache_settling.specs.Resumed.{RunsThem, runs_at};
 
 use audit_model::{Closing, Config};
+use cache_commands::Keyed;
 use cache_loads::Loads;
 use cache_namespace::{Connection, End, Kept, Standing, close_where_behind, run_ready};
 use cache_store::Store;
@@ -23,7 +24,7 @@ use std::alloc::Global;
 
 /// Runs the lines of an open connection that runs lines, and answers whether it closed.
 fn resume<S: Store>(
-    store: &mut S,
+    store: &mut Keyed<S>,
     alloc: Global,
     config: &Config,
     now: u64,
@@ -32,18 +33,18 @@ fn resume<S: Store>(
     connection: &mut Connection,
     kept: &mut Option<Kept>,
 ) -> bool
-    requires config { (S.frame store.old).config ≡ config.now }
-    requires in_time { (S.frame store.old).latest ≤ now }
+    requires config { (S.view store.old).frame.config ≡ config.now }
+    requires in_time { (S.view store.old).frame.latest ≤ now }
     requires moment { now < 2 ^ 63 }
     requires ready { connection.old.standing ≡ stands.Ready }
     requires open { connection.old.closing ≡ None }
-    requires fresh { IsFresh (gathered connection.old.output.items kept.old (S.untaken store.old)) }
+    requires fresh { IsFresh (gathered connection.old.output.items kept.old (S.view store.old).untaken) }
     requires room { IsReadyToHold kept.old }
-    ensures ran { (base : Situation) (values : List HeldValue) → base.latest ≡ now → base.dropped ≡ (S.frame store.old).dropped → loads_in base ≡ under_way loads.old → IsThere number base → S.stands store.old values → (is_held : Bool) × FeedsConnection config.now base number (making_of (S.frame store.old)) values connection.old [] connection.new is_held (S.stands store.new) (S.frame store.new).dropped (under_way loads.new) (workings (S.stream store.old) (S.registered store.old) (S.recency store.old)) (workings (S.stream store.new) (S.registered store.new) (S.recency store.new)) (gathered connection.old.output.items kept.old (S.untaken store.old)) (gathered connection.new.output.items kept.new (S.untaken store.new)) }
-    ensures frame { KeepsFrame (S.frame store.old) (S.frame store.new) now }
+    ensures ran { (base : Situation) (values : List HeldValue) → base.latest ≡ now → base.dropped ≡ (S.view store.old).frame.dropped → loads_in base ≡ under_way loads.old → IsThere number base → (S.view store.old).Stands values → (is_held : Bool) × FeedsConnection config.now base number (making_of (S.view store.old).frame) values connection.old [] connection.new is_held (S.view store.new).Stands (S.view store.new).frame.dropped (under_way loads.new) (workings (S.view store.old).stream (S.view store.old).registered (S.view store.old).Used) (workings (S.view store.new).stream (S.view store.new).registered (S.view store.new).Used) (gathered connection.old.output.items kept.old (S.view store.old).untaken) (gathered connection.new.output.items kept.new (S.view store.new).untaken) }
+    ensures frame { KeepsFrame (S.view store.old).frame (S.view store.new).frame now }
     ensures closes { result ≡ is_some connection.new.closing }
     ensures ended { IsOpenOrEnded connection.new.closing }
-    ensures fresh { IsFresh (gathered connection.new.output.items kept.new (S.untaken store.new)) }
+    ensures fresh { IsFresh (gathered connection.new.output.items kept.new (S.view store.new).untaken) }
     ensures keeps_room { KeepsRoom kept.new }
     ensures more { more_in kept.new ≡ more_in kept.old }
     ensures goes { SameTaken loads.old loads.new }
@@ -124,7 +125,7 @@ fn runs_there(connections: &[Connection], index: usize) -> bool
 
 /// Runs the lines of the connection at a place, and answers whether it closed.
 fn resume_there<S: Store>(
-    store: &mut S,
+    store: &mut Keyed<S>,
     alloc: Global,
     config: &Config,
     now: u64,
@@ -134,15 +135,15 @@ fn resume_there<S: Store>(
     index: usize,
     kept: &mut Option<Kept>,
 ) -> bool
-    requires config { (S.frame store.old).config ≡ config.now }
-    requires in_time { (S.frame store.old).latest ≤ now }
+    requires config { (S.view store.old).frame.config ≡ config.now }
+    requires in_time { (S.view store.old).frame.latest ≤ now }
     requires moment { now < 2 ^ 63 }
     requires inside { index < length connections.old.items }
     requires runs { runs_at (slice_get connections.old.items index) ≡ true }
-    requires fresh { IsFresh (gathered (text_at connections.old.items index) kept.old (S.untaken store.old)) }
+    requires fresh { IsFresh (gathered (text_at connections.old.items index) kept.old (S.view store.old).untaken) }
     requires room { IsReadyToHold kept.old }
-    ensures ran { (p : ReplacedAt connections.old.items connections.new.items index) × (result ≡ is_some p.is.closing) × ((base : Situation) (values : List HeldValue) → base.latest ≡ now → base.dropped ≡ (S.frame store.old).dropped → loads_in base ≡ under_way loads.old → IsThere number base → S.stands store.old values → (is_held : Bool) × FeedsConnection config.now base number (making_of (S.frame store.old)) values p.was [] p.is is_held (S.stands store.new) (S.frame store.new).dropped (under_way loads.new) (workings (S.stream store.old) (S.registered store.old) (S.recency store.old)) (workings (S.stream store.new) (S.registered store.new) (S.recency store.new)) (gathered p.was.output.items kept.old (S.untaken store.old)) (gathered p.is.output.items kept.new (S.untaken store.new))) × IsFresh (gathered p.is.output.items kept.new (S.untaken store.new)) × IsOpenOrEnded p.is.closing }
-    ensures frame { KeepsFrame (S.frame store.old) (S.frame store.new) now }
+    ensures ran { (p : ReplacedAt connections.old.items connections.new.items index) × (result ≡ is_some p.is.closing) × ((base : Situation) (values : List HeldValue) → base.latest ≡ now → base.dropped ≡ (S.view store.old).frame.dropped → loads_in base ≡ under_way loads.old → IsThere number base → (S.view store.old).Stands values → (is_held : Bool) × FeedsConnection config.now base number (making_of (S.view store.old).frame) values p.was [] p.is is_held (S.view store.new).Stands (S.view store.new).frame.dropped (under_way loads.new) (workings (S.view store.old).stream (S.view store.old).registered (S.view store.old).Used) (workings (S.view store.new).stream (S.view store.new).registered (S.view store.new).Used) (gathered p.was.output.items kept.old (S.view store.old).untaken) (gathered p.is.output.items kept.new (S.view store.new).untaken)) × IsFresh (gathered p.is.output.items kept.new (S.view store.new).untaken) × IsOpenOrEnded p.is.closing }
+    ensures frame { KeepsFrame (S.view store.old).frame (S.view store.new).frame now }
     ensures keeps_room { KeepsRoom kept.new }
     ensures more { more_in kept.new ≡ more_in kept.old }
     ensures goes { SameTaken loads.old loads.new }
@@ -177,7 +178,7 @@ pub fn restock_where(kept: &mut Option<Kept>)
 
 /// Runs the lines of a connection, where it is open and runs lines.
 pub fn resume_at<S: Store>(
-    store: &mut S,
+    store: &mut Keyed<S>,
     alloc: Global,
     config: &Config,
     now: u64,
@@ -186,16 +187,16 @@ pub fn resume_at<S: Store>(
     connections: &mut Vec<Connection>,
     kept: &mut Option<Kept>,
 )
-    requires config { (S.frame store.old).config ≡ config.now }
-    requires in_time { (S.frame store.old).latest ≤ now }
+    requires config { (S.view store.old).frame.config ≡ config.now }
+    requires in_time { (S.view store.old).frame.latest ≤ now }
     requires moment { now < 2 ^ 63 }
-    requires fresh { NothingWaits (noted_in kept.old (S.untaken store.old)) connections.old.items }
+    requires fresh { NothingWaits (noted_in kept.old (S.view store.old).untaken) connections.old.items }
     requires stocked { HasMore 1 kept.old }
-    ensures ran { (values : List HeldValue) → S.stands store.old values → RunsThem config.now (making_of (S.frame store.old)) now values (number ∷ []) [] (S.stands store.new) (under_way loads.old) (under_way loads.new) (S.frame store.old).dropped (S.frame store.new).dropped (identifiers (S.stream store.old) (S.registered store.old)) (identifiers (S.stream store.new) (S.registered store.new)) connections.old.items connections.new.items (noted_in kept.old (S.untaken store.old)) (noted_in kept.new (S.untaken store.new)) }
+    ensures ran { (values : List HeldValue) → (S.view store.old).Stands values → RunsThem config.now (making_of (S.view store.old).frame) now values (number ∷ []) [] (S.view store.new).Stands (under_way loads.old) (under_way loads.new) (S.view store.old).frame.dropped (S.view store.new).frame.dropped (identifiers (S.view store.old).stream (S.view store.old).registered) (identifiers (S.view store.new).stream (S.view store.new).registered) connections.old.items connections.new.items (noted_in kept.old (S.view store.old).untaken) (noted_in kept.new (S.view store.new).untaken) }
     ensures others { (place : ℕ) → place ≢ number - 1 → slice_get connections.new.items place ≡ slice_get connections.old.items place }
-    ensures frame { KeepsFrame (S.frame store.old) (S.frame store.new) now }
+    ensures frame { KeepsFrame (S.view store.old).frame (S.view store.new).frame now }
     ensures count { length connections.new.items ≡ length connections.old.items }
-    ensures fresh { NothingWaits (noted_in kept.new (S.untaken store.new)) connections.new.items }
+    ensures fresh { NothingWaits (noted_in kept.new (S.view store.new).untaken) connections.new.items }
     ensures made { is_some kept.new ≡ is_some kept.old }
     ensures stocked { (count : ℕ) → HasMore (suc count) kept.old → HasMore count kept.new }
     ensures goes { SameTaken loads.old loads.new }
@@ -224,7 +225,7 @@ pub fn resume_at<S: Store>(
 
 /// Runs the lines of those connections, one after another, as far as they are open and run lines.
 pub fn resume_all<S: Store>(
-    store: &mut S,
+    store: &mut Keyed<S>,
     alloc: Global,
     config: &Config,
     now: u64,
@@ -233,15 +234,15 @@ pub fn resume_all<S: Store>(
     told: &[u64],
     kept: &mut Option<Kept>,
 )
-    requires config { (S.frame store.old).config ≡ config.now }
-    requires in_time { (S.frame store.old).latest ≤ now }
+    requires config { (S.view store.old).frame.config ≡ config.now }
+    requires in_time { (S.view store.old).frame.latest ≤ now }
     requires moment { now < 2 ^ 63 }
-    requires fresh { NothingWaits (noted_in kept.old (S.untaken store.old)) connections.old.items }
+    requires fresh { NothingWaits (noted_in kept.old (S.view store.old).untaken) connections.old.items }
     requires stocked { HasMore (length told.now) kept.old }
-    ensures ran { (values : List HeldValue) → S.stands store.old values → RunsThem config.now (making_of (S.frame store.old)) now values told.now [] (S.stands store.new) (under_way loads.old) (under_way loads.new) (S.frame store.old).dropped (S.frame store.new).dropped (identifiers (S.stream store.old) (S.registered store.old)) (identifiers (S.stream store.new) (S.registered store.new)) connections.old.items connections.new.items (noted_in kept.old (S.untaken store.old)) (noted_in kept.new (S.untaken store.new)) }
-    ensures frame { KeepsFrame (S.frame store.old) (S.frame store.new) now }
+    ensures ran { (values : List HeldValue) → (S.view store.old).Stands values → RunsThem config.now (making_of (S.view store.old).frame) now values told.now [] (S.view store.new).Stands (under_way loads.old) (under_way loads.new) (S.view store.old).frame.dropped (S.view store.new).frame.dropped (identifiers (S.view store.old).stream (S.view store.old).registered) (identifiers (S.view store.new).stream (S.view store.new).registered) connections.old.items connections.new.items (noted_in kept.old (S.view store.old).untaken) (noted_in kept.new (S.view store.new).untaken) }
+    ensures frame { KeepsFrame (S.view store.old).frame (S.view store.new).frame now }
     ensures count { length connections.new.items ≡ length connections.old.items }
-    ensures fresh { NothingWaits (noted_in kept.new (S.untaken store.new)) connections.new.items }
+    ensures fresh { NothingWaits (noted_in kept.new (S.view store.new).untaken) connections.new.items }
     ensures made { is_some kept.new ≡ is_some kept.old }
     ensures goes { SameTaken loads.old loads.new }
 {

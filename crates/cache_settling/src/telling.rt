@@ -18,8 +18,8 @@ ghost use Rattle.cache_settling.specs.Told.{HaveReplyRoom, TellsThem, WritesTo, 
 
 use audit_lines::{Buffer, Next};
 use audit_model::{Config, Outcome};
+use cache_commands::write_outcome;
 use cache_namespace::{Connection, Standing};
-use cache_steps::write_outcome;
 
 /// Writes the reply, in reserved room, where no record is made.
 fn reply_where(writes: bool, outcome: &Outcome, output: &mut Vec<u8>)

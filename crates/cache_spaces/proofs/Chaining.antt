@@ -10,7 +10,7 @@ use Rattle.audit_model.specs.Situation.{Situation}
 use Rattle.audit_model.specs.declared.config.Config.{Config}
 use Rattle.audit_model.specs.declared.transcript.Record.{Record}
 use Rattle.cache_namespace.specs.Ordered.{HaveKeys, order_behind}
-use Rattle.cache_steps.specs.Order.{Order}
+use Rattle.cache_commands.specs.Order.{Order}
 use Rattle.cache_spaces.specs.Throughout.{HaveKeysFrom, is_so_of_each, order_at_end}
 
 -- the fact of one record, where those behind it are so from the situation to which it leads

@@ -36,8 +36,8 @@ use Rattle.cache_spaces.proofs.Listing.{keeps-list}
 use Rattle.cache_spaces.specs.Recent.{KeepsList}
 use Rattle.cache_spaces.proofs.Chaining.{keys-one-more, order-at-end-more, so-of-one-more}
 use Rattle.cache_namespace.specs.Ordered.{OrdersSteps}
-use Rattle.cache_steps.specs.Order.{AgreesWith, Settled}
-use Rattle.cache_steps.proofs.Ordering.{agrees-kept}
+use Rattle.cache_commands.specs.Order.{AgreesWith, Settled}
+use Rattle.cache_commands.proofs.Ordering.{agrees-kept}
 use Rattle.cache_store.specs.Recency.{IsPlainLru, KeepsRecency}
 use Rattle.cache_store.specs.Running.{is_bounded}
 

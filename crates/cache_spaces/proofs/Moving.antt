@@ -159,7 +159,7 @@ same-connected was is rest same = record {
   made = ap (λ n. n.store.made) rest;
   outputs = λ number. ap (λ cs. text_at cs (number - 1)) same;
   closings = λ number. ap (λ cs. closing_at cs (number - 1)) same;
-  notices = ap (λ n. n.store.notes.items) rest;
+  notices = ap (λ n. n.store.notes) rest;
   count = ap length same;
   goes = record { taken = ap (λ n. loads_taken n.loads) rest; namespace = ap (λ n. namespace_of_loads n.loads) rest };
 }

@@ -32,8 +32,8 @@ use Rattle.cache_settling.specs.Laws.{record_given_up}
 use Rattle.cache_settling.specs.Leads as settling
 use Rattle.cache_settling.specs.Leads.{TasksLead, LeavesUnknown}
 use Rattle.cache_settling.specs.Told.{ClosesByLines, WritesTo, own_steps, replies_to}
-use Rattle.cache_steps.proofs.Ordering.{agrees-kept}
-use Rattle.cache_steps.specs.Order.{AgreesWith}
+use Rattle.cache_commands.proofs.Ordering.{agrees-kept}
+use Rattle.cache_commands.specs.Order.{AgreesWith}
 use Rattle.cache_store.specs.Recency.{KeepsRecency}
 use Rattle.cache_store.specs.Running.{is_bounded}
 use Rattle.cache_spaces.specs.Moves.{are_parted_in, are_timely_in, hashed_part}
@@ -188,7 +188,7 @@ drops-load was is load moment admitted none same left bounded parts s stands =
     let connections = ap (λ n. n.connections.items) same in
     settles-by was is making entry now stands.values stands.values s parts refl (ap (λ n. n.latest) same) stands.same
     (subst (λ st. plain.Stands st.config st.table stands.values) (sym store) stands.held)
-    (subst (λ st. settling.SettlingLeads config making here entry (situation now (loads_of is) (connections_of is) st.dropped stands.values) drawn (identifiers (stream_of (steps_u64_high plus_plus) st.generator) (is_registered st.register.items))) (sym store)
+    (subst (λ st. settling.SettlingLeads config making here entry (situation now (loads_of is) (connections_of is) st.dropped stands.values) drawn (identifiers (stream_of (steps_u64_high plus_plus) st.generator) (is_registered st.register))) (sym store)
     (subst (λ cs. settling.SettlingLeads config making here entry (situation now (loads_of is) cs was.inner.store.dropped stands.values) drawn drawn) (sym connections)
     (subst (λ l. settling.SettlingLeads config making here entry (situation now l (connections_of was) was.inner.store.dropped stands.values) drawn drawn) (sym left) x)))
     (bounded stands.values stands.held)

@@ -11,7 +11,7 @@ use Rattle.audit_model.specs.declared.config.Config.{Config}
 use Rattle.audit_model.specs.declared.event.Instant.{Instant}
 use Rattle.audit_model.specs.declared.input.Input.{Input}
 use Rattle.audit_model.specs.declared.transcript.Transcript.{Transcript}
-use Rattle.cache_steps.specs.Order.{AgreesWith, Settled}
+use Rattle.cache_commands.specs.Order.{AgreesWith, Settled}
 use Rattle.cache_store.specs.Recency.{IsPlainLru}
 use Rattle.cache_spaces.specs.Served.{is_served}
 use Rattle.cache_spaces.specs.Recent.{KeepsList}

@@ -57,7 +57,7 @@ TakesNoLoads was is = table.SameTaken was.inner.loads is.inner.loads
 
 -- the notes that were told and not taken
 abbrev pub notices_of : Space → List Note
-notices_of space = space.inner.store.notes.items
+notices_of space = space.inner.store.notes
 
 -- the reply bytes of a connection that were not taken
 abbrev pub untaken_output : Space → ℕ → List ℕ
@@ -72,7 +72,7 @@ gathered_in space number kept = gathered (untaken_output space number) kept (not
 
 -- what its generator will give for identifiers, and which are registered
 abbrev pub identifiers_of : Space → Identifiers
-identifiers_of space = identifiers (stream_of (steps_u64_high plus_plus) (generator_of space)) (is_registered space.inner.store.register.items)
+identifiers_of space = identifiers (stream_of (steps_u64_high plus_plus) (generator_of space)) (is_registered space.inner.store.register)
 
 -- the keys that it holds, the last used first: after a `SYNC`, or at most one call later
 abbrev pub recency_of : Space → Bool → List (List ℕ) → Type 0

@@ -8,7 +8,7 @@ use Rattle.audit_model.specs.declared.config.Config.{Config}
 use Rattle.audit_model.specs.declared.transcript.Record.{Record}
 use Rattle.audit_model.specs.declared.transcript.Transcript.{Transcript}
 use Rattle.cache_namespace.specs.Ordered.{HaveKeys, order_behind}
-use Rattle.cache_steps.specs.Order.{Order, Settled}
+use Rattle.cache_commands.specs.Order.{Order, Settled}
 use Rattle.cache_store.specs.Running.{is_bounded}
 use Rattle.cache_spaces.specs.Moves.{are_timely_in}
 

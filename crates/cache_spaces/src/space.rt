@@ -1,5 +1,6 @@
 //! One namespace of a service.
 ghost use Rattle.std.specs.Prelude.{◌-◌, ◌≡◌, ◌≢◌, ◌≤◌, ◌<◌, ◌^◌, ◌+◌, ◌++◌, ◌∷◌, [], None, Some, ℕ, Bool, true, false, IfOk, IfErr, OnOk, OnErr, IsErr, IfNone, IfSome, IsTrue, length, ◌↔◌};
+ghost use Rattle.audit_model.specs.History.{part_count};
 ghost use Rattle.plain_store.specs.Hashing.{hashed};
 ghost use Rattle.plain_store.specs.Parting.{part_by};
 ghost use Rattle.plain_store.specs.Standing.{frame_of, Stands as AreHeld};
@@ -10,13 +11,21 @@ ghost use Rattle.cache_namespace.specs.Waiting.{under_way};
 
 use crate::settling::{given_up, is_waited_for};
 use audit_model::{Bytes, Closing, Config, LoadId, Note, Outcome, Record, ServiceError};
+use cache_commands::Keyed;
 use cache_loads::Loads;
 use cache_namespace::{Kept, Namespace};
 use cache_settling::{answer_in, answer_kept, give_up_in, give_up_kept, refuse_load};
-use cache_store::Store;
 use plain_store::{FixedHasher, PlainStore};
 use rand_xoshiro::Xoshiro256PlusPlus;
 use std::alloc::{AllocError, Global};
+
+/// How many parts a store has.
+fn parts_of(store: &Keyed<PlainStore<Xoshiro256PlusPlus, FixedHasher>>) -> u64
+    ensures counted { result ≡ part_count store.now.config }
+    ensures parts { result ≡ store.now.parts }
+{
+    store.store().parts()
+}
 
 /// A namespace: its connections over its values.
 #[derive(Drop)]
@@ -64,7 +73,8 @@ impl Space {
         ensures place { IfOk result (λ space. place_of space ≡ namespace) }
         ensures untaken { IfOk result (λ space. taken_of space ≡ 0) }
     {
-        let store = PlainStore::new(alloc, config, made, generator, FixedHasher)?;
+        let values = PlainStore::new(alloc, config, made, generator, FixedHasher)?;
+        let store = Keyed::new(alloc, values)?;
         let inner = Namespace {
             store,
             config,
@@ -102,6 +112,7 @@ impl Space {
         ensures count { length (connections_of self.new) ≡ length (connections_of self.old) }
         ensures goes { TakesNoLoads self.old self.new }
     {
+        let _parts = parts_of(&self.inner.store);
         match self.inner.feed(alloc, number, piece, moment, kept) {
             Ok(is_held) => Ok(is_held),
             Err(error) => Err(error),
@@ -117,6 +128,7 @@ impl Space {
         ensures notices { notices_of self.new ≡ notices_of self.old }
         ensures same { OnErr result (SameSpace self.old self.new) }
     {
+        let _parts = parts_of(&self.inner.store);
         match self.inner.open(alloc) {
             Ok(number) => Ok(number),
             Err(error) => Err(error),
@@ -134,6 +146,7 @@ impl Space {
         ensures refused { IfErr result (λ e. refusal_of (config_of self.old) (known (connections_of self.old)) (event.Close number) ≡ Some e) }
         ensures err { OnErr result (self.new ≡ self.old) }
     {
+        let _parts = parts_of(&self.inner.store);
         match self.inner.close(number) {
             Ok(()) => Ok(()),
             Err(error) => Err(error),
@@ -254,8 +267,12 @@ impl Space {
         ensures back { IfErr result (λ e. e.1 ≡ outcome) }
         ensures same { OnErr result (SameSpace self.old self.new) }
     {
+        let _parts = parts_of(&self.inner.store);
         match answer_in(&mut self.inner, alloc, load, outcome, moment) {
-            Ok(_) => Ok(()),
+            Ok(_) => {
+                self.inner.store.sound();
+                Ok(())
+            }
             Err(refused) => Err(refused),
         }
     }
@@ -266,11 +283,15 @@ impl Space {
         ensures refused { IfErr result (λ e. refusal_of (config_of self.old) (known_of self.old) (giving_up load moment) ≡ Some e) }
         ensures err { OnErr result (self.new ≡ self.old) }
     {
+        let _parts = parts_of(&self.inner.store);
         if !is_waited_for(&self.inner.loads, load) {
             return self.drop_load(load, moment);
         }
         match give_up_in(&mut self.inner, alloc, load, moment) {
-            Ok(()) => Ok(()),
+            Ok(()) => {
+                self.inner.store.sound();
+                Ok(())
+            }
             Err(error) => Err(error),
         }
     }
@@ -285,6 +306,8 @@ impl Space {
         ensures refused { IfErr result (λ e. refusal_of (config_of self.old) (known_of self.old) (giving_up load moment) ≡ Some e) }
         ensures err { OnErr result (self.new ≡ self.old) }
     {
+        let _parts = parts_of(&self.inner.store);
+        self.inner.store.sound();
         match refuse_load(&self.inner.config, &self.inner.loads, load, moment) {
             Some(error) => return Err(error),
             None => {}
@@ -310,8 +333,12 @@ impl Space {
         ensures refused { IfErr result (λ e. RefusedAnswer self.old (answering load outcome moment) e.0) }
         ensures same { OnErr result (SameSpace self.old self.new) }
     {
+        let _parts = parts_of(&self.inner.store);
         match answer_kept(&mut self.inner, alloc, load, outcome, moment) {
-            Ok(entry) => Ok(entry),
+            Ok(entry) => {
+                self.inner.store.sound();
+                Ok(entry)
+            }
             Err(refused) => Err(refused),
         }
     }
@@ -331,6 +358,7 @@ impl Space {
         ensures refused { IfErr result (λ e. RefusedAnswer self.old (giving_up load moment) e) }
         ensures err { OnErr result (self.new ≡ self.old) }
     {
+        let _parts = parts_of(&self.inner.store);
         if !is_waited_for(&self.inner.loads, load) {
             return match self.drop_load(load, moment) {
                 Ok(()) => Ok(given_up(alloc, load, moment)),
@@ -338,7 +366,10 @@ impl Space {
             };
         }
         match give_up_kept(&mut self.inner, alloc, load, moment) {
-            Ok(entry) => Ok(entry),
+            Ok(entry) => {
+                self.inner.store.sound();
+                Ok(entry)
+            }
             Err(error) => Err(error),
         }
     }

@@ -3,3 +3,5 @@ pub mod Handing
 pub mod Running
 pub mod Recency
 pub mod Identifiers
+pub mod Keys
+pub mod Values

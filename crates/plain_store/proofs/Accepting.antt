@@ -1,5 +1,6 @@
 -- What accepting a value does.
-use Rattle.std.proofs.Common.{◌≡◌, ℕ, ◌≤◌, Bool, cond, true, false, not, ◌&&◌, ◌||◌, List, [], ◌∷◌, ◌++◌, map, length, Option, option_map, Some, None, is_none, IsSome, IsTrue, if◌then◌else◌, refl, sym, ap, ◌∙◌, subst, arith}
+use Rattle.std.specs.Prelude.{IfSome}
+use Rattle.std.proofs.Common.{◌≡◌, ℕ, ◌≤◌, Bool, cond, true, false, not, ◌&&◌, ◌||◌, List, [], ◌∷◌, ◌++◌, map, length, Option, option_map, Some, None, is_none, IsTrue, if◌then◌else◌, refl, sym, ap, ◌∙◌, subst, arith}
 use Rattle.std.specs.List.{list_all, find}
 use Rattle.std.specs.Option.{option_or}
 use Rattle.std.proofs.lemmas.Bool.{and_from, and_parts, not-true, eqb-true, eq-eqb}
@@ -272,18 +273,18 @@ put_is now key key' bytes bytes' part part' weight weight' own own' items table 
     ∙ ap (λ x. new_item now key' bytes' part' x own ∷ without key' items) c ∙ ap (λ x. new_item now key' bytes' part' weight' x ∷ without key' items) d
 
 -- it is proper, if it has an own deadline only where such are taken
-pub new_proper : (config : Config) (part_of : List ℕ → ℕ) (now : ℕ) (key bytes : List ℕ) (ms : Option ℕ) → (IsSome ms → IsTrue config.own_deadlines)
+pub new_proper : (config : Config) (part_of : List ℕ → ℕ) (now : ℕ) (key bytes : List ℕ) (ms : Option ℕ) → IfSome ms (λ m. (m ≤ 999999999999) × IsTrue config.own_deadlines)
     → is_proper config part_of (new_item now key bytes (part_of key) (weight_of config.weight bytes) (own_deadline_from now ms)) ≡ true
 new_proper config part_of now key bytes ms timed =
     and_from _ _ (and_from _ _ (eq-eqb (part_of key) (part_of key) refl) (eq-eqb (weight_of config.weight bytes) (weight_of config.weight bytes) refl)) (go ms timed)
   where
-    go : (m : Option ℕ) → (IsSome m → IsTrue config.own_deadlines) → (config.own_deadlines || is_none (own_deadline_from now m)) ≡ true
+    go : (m : Option ℕ) → IfSome m (λ m. (m ≤ 999999999999) × IsTrue config.own_deadlines) → (config.own_deadlines || is_none (own_deadline_from now m)) ≡ true
     go None t = or_true config.own_deadlines
       where
         or_true : (b : Bool) → (b || true) ≡ true
         or_true true = refl
         or_true false = refl
-    go (Some m) t = ap (λ b. b || false) (t refl)
+    go (Some m) t = ap (λ b. b || false) t.1
 
 -- a value of at most 8192 bytes weighs no more than that
 pub weight_light : (weight : Weight) (bytes : List ℕ) → length bytes ≤ 8192 → weight_of weight bytes ≤ 8192

@@ -16,7 +16,7 @@ use Rattle.audit_model.specs.declared.transcript.Note.{Note}
 use Rattle.audit_model.specs.declared.transcript.RemovalCause.{RemovalCause}
 use Rattle.audit_model.specs.declared.transcript.RemovalCause.TheVariants.{Expired, Explicit, Replaced, Size}
 use Rattle.cache_store.specs.Handing.{AppendsNotes, TakesFirstNote, TellsNone}
-use Rattle.cache_store.specs.Promises.{Done, Finds, using, deleting, syncing, covering}
+use Rattle.cache_store.specs.Promises.{Done, using, deleting, syncing, covering}
 use Rattle.plain_table.specs.Items.{value_at, without, is_absent, are_apart, used_at}
 use Rattle.plain_table.proofs.Keys.{same-refl, same-flip_false, equal_from_same, same_from_equal}
 use Rattle.plain_table.proofs.Held.{key_from_some, length-without, absent_from_none, without-absent, absent-without}
@@ -76,15 +76,6 @@ bytes_are config now key items held c = sym (ap (option_map (λ (h : HeldValue).
     go : (o : Option HeldValue) → option_map (λ (h : HeldValue). h.value.bytes) (option_map plain o) ≡ option_map (λ (v : Value). v.bytes) (option_map (λ (h : HeldValue). h.value) o)
     go None = refl
     go (Some h) = refl
-
-pub finds_from : (config : Config) (now : ℕ) (key : List ℕ) (items held : List HeldValue) (is_found : Bool) (old new : List ℕ) → Corresponds items held
-    → Writes (live_in config now items key) is_found old new → Finds (live_at config now held key) is_found old new
-finds_from config now key items held is_found old new c w =
-    go (find (λ h. same key h.value.key && is_live_at config now h) held) (subst (λ o. Writes o is_found old new) (sym (live_is config now key items held c)) w)
-  where
-    go : (o : Option HeldValue) → Writes (option_map plain o) is_found old new → Finds (option_map (λ h. h.value) o) is_found old new
-    go None w = w
-    go (Some h) w = w
 
 -- the items after a look-up
 abbrev pub looked_up : Config → ℕ → List ℕ → List HeldValue → List HeldValue
@@ -283,14 +274,6 @@ remove_does config now key items held old new a same_notes s = go (value_at held
               (subst (λ k. Corresponds (without key items) (without k held)) (sym is_key) (corresponds-without key items held a s.same)));
           handed = record { added = same_notes ∙ ap (λ o. old ++ deleted_note config now o) there };
         }
-
-starts_with_none : (key : List ℕ) → true ≡ starts_with nat_eq key []
-starts_with_none [] = refl
-starts_with_none (k ∷ key) = refl
-
--- each key begins with nothing
-pub covers_all : covers_by [] Everything
-covers_all = starts_with_none
 
 -- ---- notes that are taken
 

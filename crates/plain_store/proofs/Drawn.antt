@@ -7,7 +7,7 @@ use Rattle.plain_table.proofs.Keys.{same_from_equal, equal_from_same}
 use Rattle.rand_core.specs.Stream.{Stream, fill_bytes}
 use Rattle.uuid.specs.Parts.{v4_of_fill}
 use Rattle.cache_store.specs.Identifiers.{drawn, stream_after, identifier_at, Registers, DrawsAlone, AreUsedUp}
-use Rattle.plain_store.specs.Drawing.{Draws, DrawsSome, DrawsNone, DrawsOn, Entries, is_registered}
+use Rattle.plain_store.specs.Drawing.{Draws, DrawsSome, DrawsNone, Entries, is_registered}
 
 pub draws_none_yet : (old : Stream) (registered : List ℕ → Bool) → DrawsSome 0 old old registered
 draws_none_yet old registered = record { stream = refl; each = λ n lt. absurd (omega arith) }
@@ -201,10 +201,6 @@ used_up parts part old mid new before now there a d = record {
       ∙ d.drawn.each (n - a.number) (omega arith);
 }
 
-pub on_from : (part : ℕ) (old mid new : Stream) (before now : Entries) (registered : List ℕ → Bool) → Adding part old mid before now → DrawsNone mid new registered → DrawsOn old new
-on_from part old mid new before now registered a d =
-    record { number = d.number + a.number; stream = d.drawn.stream ∙ ap (stream_after d.number) a.stream_is ∙ after-after d.number a.number old }
-
 -- where none is registered, none is in use
 pub dropped_from : (dropped : Bool) (parts : ℕ) (old new : Stream) (register : Entries) → (dropped ≡ false → register ≡ []) → AreUsedUp parts old new (is_registered register) → dropped ≡ true
 dropped_from true parts old new register none u = refl
@@ -213,9 +209,6 @@ dropped_from false parts old new register none u =
     let first : is_registered register u.part (identifier_at u.first old) ≡ true = u.each u.first (omega arith) (omega arith) in
     let no : false ≡ true = sym (ap (λ xs. is_registered xs u.part (identifier_at u.first old)) (none refl)) ∙ first in
     cc
-
-pub alone_from : (old new : Stream) (before after : Entries) → DrawsOn old new → after ≡ before → DrawsAlone old new (is_registered before) (is_registered after)
-alone_from old new before after d e = record { number = d.number; stream = d.stream; registered = λ part id r. sym (ap (λ xs. is_registered xs part id) e) ∙ r }
 
 -- cut down to those that were there before
 pub put_back : (n : ℕ) (before added now left : Entries) → n ≡ length before → now ≡ before ++ added → left ≡ take n now → left ≡ before

@@ -1,12 +1,12 @@
 //! Identifiers of predicates.
-ghost use Rattle.std.specs.Prelude.{◌≡◌, ◌<◌, ◌≤◌, ◌+◌, ◌==◌, ◌&&◌, ◌++◌, ◌∷◌, [], IfSome, None, OnOk, OnErr, vec_len, vec_capacity};
+ghost use Rattle.std.specs.Prelude.{◌≡◌, ◌<◌, ◌≤◌, ◌+◌, ◌==◌, ◌&&◌, ◌++◌, ◌∷◌, [], IfSome, None, OnErr, IfOk, true, false, vec_len, vec_capacity};
 ghost use Rattle.std.specs.Result.{IsErrOf};
 ghost use Rattle.audit_model.specs.Bytewise.{same};
 ghost use Rattle.cache_store.specs.Identifiers.{Registers, AreUsedUp};
-ghost use Rattle.plain_store.specs.Drawing.{Draws, DrawsNone, DrawsOn, is_registered};
+ghost use Rattle.plain_store.specs.Drawing.{Draws, DrawsNone, is_registered};
 
-use cache_store::StoreError;
 use rand_core::Rng;
+use std::alloc::AllocError;
 use uuid::Uuid;
 
 /// Whether a part has that identifier.
@@ -42,33 +42,35 @@ fn draw<R: Rng>(generator: &mut R, register: &Vec<(u64, Uuid)>, part: u64) -> Op
     None
 }
 
-/// Draws an identifier for each part, in the order of the parts, and registers them. After an error the register is as it was.
+/// Draws an identifier for each part, in the order of the parts, registers them, and answers true; or, where one part drew a thousand that
+/// are each registered there, registers none, and answers false. After an error nothing was drawn.
 pub fn register_all<R: Rng>(
     generator: &mut R,
     register: &mut Vec<(u64, Uuid)>,
     parts: u64,
-) -> Result<(), StoreError>
+) -> Result<bool, AllocError>
     requires some { 0 < parts }
     requires few { parts ≤ 256 }
-    ensures ok { OnOk result (Registers (R.stream generator.old) (R.stream generator.new) (is_registered register.old.items) (is_registered register.new.items)) }
-    ensures in_use { IsErrOf result StoreError.IdsInUse → AreUsedUp parts (R.stream generator.old) (R.stream generator.new) (is_registered register.old.items) }
-    ensures draws { OnErr result (DrawsOn (R.stream generator.old) (R.stream generator.new)) }
+    ensures ok { IfOk result (λ registers. registers ≡ true → Registers (R.stream generator.old) (R.stream generator.new) (is_registered register.old.items) (is_registered register.new.items)) }
+    ensures in_use { IfOk result (λ registers. registers ≡ false → AreUsedUp parts (R.stream generator.old) (R.stream generator.new) (is_registered register.old.items)) }
+    ensures kept { IfOk result (λ registers. registers ≡ false → register.new.items ≡ register.old.items) }
+    ensures undrawn { OnErr result (generator.new ≡ generator.old) }
     ensures unchanged { OnErr result (register.new.items ≡ register.old.items) }
 {
     let before = register.len();
     let Ok(()) = register.try_reserve(parts as usize) else {
-        return Err(StoreError::OutOfMemory);
+        return Err(AllocError);
     };
     for part in 0..parts {
         match draw(generator, register, part) {
             Some(id) => push_within(register, part, id),
             None => {
                 register.truncate(before);
-                return Err(StoreError::IdsInUse);
+                return Ok(false);
             }
         }
     }
-    Ok(())
+    Ok(true)
 }
 
 /// Registers an identifier for which there is room.

@@ -29,29 +29,6 @@ pub fn live_bytes<'a>(table: &'a Table, config: &Config, key: &[u8], now: u64) -
     }
 }
 
-/// Writes the bytes of a key's live value behind `found`, with room for one more, and answers whether there are any.
-pub fn write_found(
-    table: &Table,
-    config: &Config,
-    key: &[u8],
-    now: u64,
-    found: &mut Vec<u8>,
-) -> Result<bool, AllocError>
-    ensures ok { IfOk result (λ is_found. Writes (live_in config.now now table.now key.now) is_found found.old.items found.new.items) }
-    ensures err { OnErr result (found.new.items ≡ found.old.items) }
-    ensures room { vec_capacity found.old ≤ vec_capacity found.new }
-    ensures spare { IfOk result (λ is_found. is_found ≡ true → vec_len found.new < vec_capacity found.new) }
-{
-    match live_bytes(table, config, key, now) {
-        Some(bytes) => {
-            found.try_reserve(bytes.len() + 1)?;
-            found.extend_from_slice(bytes).unwrap();
-            Ok(true)
-        }
-        None => Ok(false),
-    }
-}
-
 /// Uses the value of a key, where it was found.
 pub fn use_found(table: &mut Table, is_found: bool, key: &[u8], now: u64)
     ensures { table.new ≡ (if is_found then to_front (used_at now) key.now table.old else table.old) }

@@ -5,21 +5,23 @@ ghost use Rattle.audit_model.specs.History.{weight_of, part_count};
 ghost use Rattle.audit_model.specs.Values.{own_deadline_from};
 ghost use Rattle.plain_store.specs.Drawing.{is_registered};
 ghost use Rattle.plain_store.specs.Parting.{part_by};
+ghost use Rattle.plain_store.specs.State.{values_of};
 ghost use Rattle.plain_store.specs.Standing.{frame_of, limit_of, Stands, AreKept, AreInOrder, WeighEach};
 
 use crate::drawing::register_all;
 use crate::hashing::{KeyHasher, count_parts, part_of};
 use crate::listing::write_keys;
-use crate::putting::{copies_of, live_bytes, put, take, use_found, write_found};
+use crate::putting::{copies_of, live_bytes, put, take, use_found};
 use crate::valuing::{own_deadline, weight_of};
 use crate::weights::{no_weights, set_weight, share_of, weigh_parts, weight_at};
 use audit_model::{Config, Note};
-use cache_store::{Counts, Store, StoreError};
+use cache_store::{Counts, Key, Store, StoreError};
 use plain_sweep::{count_live, cover, evict, sweep, weigh_all};
 use plain_table::{Kept, Table};
 use rand_core::Rng;
 use std::alloc::{AllocError, Global};
 use std::collections::VecDeque;
+use std::marker::Model;
 use uuid::Uuid;
 
 /// The values of a namespace, those of all its parts in one table.
@@ -42,12 +44,19 @@ pub struct PlainStore<R: Rng + Drop, H: KeyHasher> {
     generator: R,
     // each identifier that is registered, with its part
     register: Vec<(u64, Uuid)>,
-    ghost kept: { AreKept config (part_by parts (H.number_of hasher)) table },
-    ghost counted: { parts ≡ part_count config },
-    ghost shared: { share ≡ limit_of config },
-    ghost weighed: { WeighEach parts weights.items table },
-    ghost room: { deque_len notes + length table ≤ deque_capacity notes },
-    ghost unused: { dropped ≡ false → register.items ≡ [] },
+}
+
+impl<R: Rng + Drop, H: KeyHasher> Model for PlainStore<R, H> {
+    ghost use Rattle.std.specs.Prelude.{◌≤◌, ◌+◌, length};
+    ghost use Rattle.std.specs.VecDeque.{deque_capacity, deque_len};
+    ghost use Rattle.plain_store.specs.Parting.{part_by};
+    ghost use Rattle.plain_store.specs.State.{IsFit, State};
+
+    ghost Value = { State R H };
+
+    ghost view = { λ s. record { config = s.config; made = s.made; latest = s.latest; dropped = s.dropped; hasher = s.hasher; parts = s.parts; share = s.share; table = s.table; weights = s.weights.items; notes = s.notes.items; generator = s.generator; register = s.register.items } };
+
+    ghost invariant = { λ s. IsFit s.config (part_by s.parts (H.number_of s.hasher)) s.parts s.share s.table s.weights.items s.dropped s.register.items × (deque_len s.notes + length s.table ≤ deque_capacity s.notes) };
 }
 
 impl<R: Rng + Drop, H: KeyHasher> PlainStore<R, H> {
@@ -61,7 +70,7 @@ impl<R: Rng + Drop, H: KeyHasher> PlainStore<R, H> {
     ) -> Result<PlainStore<R, H>, AllocError>
         ensures frame { IfOk result (λ s. frame_of s.config (part_by s.parts (H.number_of s.hasher)) s.made s.dropped s.latest ≡ frame_of config (part_by (part_count config) (H.number_of hasher)) made false made) }
         ensures nothing_held { IfOk result (λ s. Stands s.config s.table []) }
-        ensures nothing_told { IfOk result (λ s. s.notes.items ≡ []) }
+        ensures nothing_told { IfOk result (λ s. s.notes ≡ []) }
         ensures recency { IfOk result (λ s. AreInOrder s.config s.table true []) }
         ensures generator { IfOk result (λ s. s.generator ≡ generator) }
     {
@@ -82,29 +91,33 @@ impl<R: Rng + Drop, H: KeyHasher> PlainStore<R, H> {
             register: Vec::new(alloc),
         })
     }
+
+    /// How many parts it has.
+    pub fn parts(&self) -> u64
+        ensures counted { result ≡ part_count self.now.config }
+        ensures parts { result ≡ self.now.parts }
+    {
+        self.parts
+    }
 }
 
 impl<R: Rng + Drop, H: KeyHasher> Store for PlainStore<R, H> {
-    ghost frame = { λ s. frame_of s.config (part_by s.parts (H.number_of s.hasher)) s.made s.dropped s.latest };
+    ghost view = { λ s. values_of (R.stream s.generator) (H.number_of s.hasher) s };
 
-    ghost stands = { λ s. Stands s.config s.table };
+    fn config(&self) -> &Config {
+        &self.config
+    }
 
-    ghost count = { λ s. length s.table };
-
-    ghost untaken = { λ s. s.notes.items };
-
-    ghost recency = { λ s. AreInOrder s.config s.table };
-
-    ghost stream = { λ s. R.stream s.generator };
-
-    ghost registered = { λ s. is_registered s.register.items };
+    fn sound(&self) {
+        let _count = self.table.len();
+    }
 
     fn len(&self) -> usize {
         self.table.len()
     }
 
-    fn find(&self, key: &[u8], now: u64) -> Option<&[u8]> {
-        live_bytes(&self.table, &self.config, key, now)
+    fn peek(&self, key: &Key, now: u64) -> Option<&[u8]> {
+        live_bytes(&self.table, &self.config, key.as_bytes(), now)
     }
 
     fn count_live(&self, now: u64) -> usize {
@@ -115,25 +128,26 @@ impl<R: Rng + Drop, H: KeyHasher> Store for PlainStore<R, H> {
         write_keys(self.alloc, &self.table, &self.config, now, output)
     }
 
-    fn look_up(&mut self, key: &[u8], now: u64, found: &mut Vec<u8>) -> Result<bool, AllocError> {
-        let is_found = write_found(&self.table, &self.config, key, now, found)?;
-        use_found(&mut self.table, is_found, key, now);
+    fn touch(&mut self, key: &Key, now: u64) {
+        let bytes = key.as_bytes();
+        let is_found = live_bytes(&self.table, &self.config, bytes, now).is_some();
+        use_found(&mut self.table, is_found, bytes, now);
         self.latest = now;
-        Ok(is_found)
     }
 
     fn accept(
         &mut self,
-        key: &[u8],
+        key: &Key,
         bytes: &[u8],
         milliseconds: Option<u64>,
         looked_up: bool,
         now: u64,
-    ) -> Result<u64, AllocError> {
-        let part = part_of(&self.hasher, self.parts, key);
+    ) -> Result<u64, StoreError> {
+        let name = key.as_bytes();
+        let part = part_of(&self.hasher, self.parts, name);
         let weight = weight_of(self.config.weight, bytes);
         let own_deadline = own_deadline(now, milliseconds);
-        let (key, bytes) = copies_of(self.alloc, key, bytes)?;
+        let (key, bytes) = copies_of(self.alloc, name, bytes)?;
         let kept = Kept {
             bytes,
             part,
@@ -167,7 +181,8 @@ impl<R: Rng + Drop, H: KeyHasher> Store for PlainStore<R, H> {
         Ok(part)
     }
 
-    fn remove(&mut self, key: &[u8], now: u64) -> Result<(), AllocError> {
+    fn remove(&mut self, key: &Key, now: u64) -> Result<(), StoreError> {
+        let key = key.as_bytes();
         let part = part_of(&self.hasher, self.parts, key);
         let gone = take(&mut self.table, &mut self.notes, &self.config, key, now);
         let left = weight_at(&self.weights, part) - gone;
@@ -176,21 +191,23 @@ impl<R: Rng + Drop, H: KeyHasher> Store for PlainStore<R, H> {
         Ok(())
     }
 
-    fn clear(&mut self, now: u64) {
+    fn clear(&mut self, now: u64) -> Result<(), StoreError> {
         cover(&mut self.table, &[]);
         self.latest = now;
+        Ok(())
     }
 
-    fn drop_prefix(&mut self, prefix: &[u8], now: u64) -> Result<(), StoreError> {
-        match register_all(&mut self.generator, &mut self.register, self.parts) {
-            Ok(()) => {
-                cover(&mut self.table, prefix);
-                self.dropped = true;
-                self.latest = now;
-                Ok(())
-            }
-            Err(error) => Err(error),
+    fn drop_prefix(&mut self, prefix: &[u8], now: u64) -> Result<bool, StoreError> {
+        let Ok(registers) = register_all(&mut self.generator, &mut self.register, self.parts) else {
+            return Err(StoreError::OutOfMemory);
+        };
+        if !registers {
+            return Ok(false);
         }
+        cover(&mut self.table, prefix);
+        self.dropped = true;
+        self.latest = now;
+        Ok(true)
     }
 
     fn run_all(&mut self, now: u64) -> Counts {
@@ -207,16 +224,4 @@ impl<R: Rng + Drop, H: KeyHasher> Store for PlainStore<R, H> {
     fn next_notice(&mut self) -> Option<Note> {
         self.notes.pop_front()
     }
-
-    ghost use Rattle.plain_store.specs.Laws.{stands_idle, bounded_from, ordered_from};
-
-    ghost counted = { λ s held h. h.same.number };
-
-    ghost parted = { λ s key. s.kept.served key };
-
-    ghost idle = { λ s held now h. stands_idle s.config now s.table held h };
-
-    ghost bounded = { λ s held h. bounded_from s.config (part_by s.parts (H.number_of s.hasher)) s.table s.kept held h };
-
-    ghost ordered = { λ s held keys h o. ordered_from s.config s.table held keys s.kept.apart h o };
 }

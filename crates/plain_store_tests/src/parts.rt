@@ -3,7 +3,7 @@ use crate::lengths::ByLength;
 use crate::script::{Row, first_wrong, none_wrong};
 use crate::turning::Turning;
 use audit_model::{Config, EvictionPolicy, RemovalCause, Weight};
-use cache_store::Store;
+use cache_store::{Key, Store, StoreError};
 use plain_store::{FixedHasher, PlainStore};
 use rand_core::SeedableRng;
 use rand_xoshiro::SplitMix64;
@@ -171,12 +171,16 @@ fn a_drop_that_is_refused_in_a_part_covers_none(rt: HostRuntime) {
 }
 
 /// Whether two keys have two parts, and a key has the same again.
-fn uses_both_parts(alloc: Global) -> Result<bool, AllocError> {
+fn uses_both_parts(alloc: Global) -> Result<bool, StoreError> {
     let generator = SplitMix64::seed_from_u64(1);
     let mut store = PlainStore::new(alloc, TWO, 0, generator, FixedHasher)?;
-    let first = store.accept(b"a", b"1", None, false, 0)?;
-    let other = store.accept(b"c", b"1", None, false, 0)?;
-    Ok(first != other && store.accept(b"a", b"2", None, true, 0)? == first)
+    let mut key = Key::with_capacity(alloc, 1)?;
+    key.fill(b"a")?;
+    let first = store.accept(&key, b"1", None, false, 0)?;
+    key.fill(b"c")?;
+    let other = store.accept(&key, b"1", None, false, 0)?;
+    key.fill(b"a")?;
+    Ok(first != other && store.accept(&key, b"2", None, true, 0)? == first)
 }
 
 #[test]

@@ -4,7 +4,7 @@ ghost use Rattle.std.specs.Prelude.{◌≡◌, ◌≤◌, ◌<◌, ◌^◌, IfSo
 ghost use Rattle.audit_model.specs.History.{accepts_values};
 
 use audit_model::{Config, Note, RemovalCause};
-use cache_store::{Store, StoreError};
+use cache_store::{Key, Store};
 use plain_store::{KeyHasher, PlainStore};
 use rand_core::Rng;
 use std::alloc::{AllocError, Global};
@@ -60,16 +60,16 @@ fn accepts<S: Store>(
     store: &mut S,
     config: &Config,
     now: u64,
-    key: &[u8],
+    key: &Key,
     value: &[u8],
     milliseconds: Option<u64>,
     part: u64,
 ) -> bool
-    requires config { (S.frame store.old).config ≡ config.now }
-    requires in_time { (S.frame store.old).latest ≤ now }
+    requires config { (S.view store.old).frame.config ≡ config.now }
+    requires in_time { (S.view store.old).frame.latest ≤ now }
     requires moment { now < 2 ^ 63 }
-    ensures config { (S.frame store.new).config ≡ config.now }
-    ensures in_time { (S.frame store.new).latest ≤ now }
+    ensures config { (S.view store.new).frame.config ≡ config.now }
+    ensures in_time { (S.view store.new).frame.latest ≤ now }
 {
     if !takes_values(config.capacity) || value.len() > 8192 {
         return false;
@@ -82,31 +82,29 @@ fn accepts<S: Store>(
     store.accept(key, value, milliseconds, false, now) == Ok(part)
 }
 
-/// Whether that is found of a key.
+/// Whether that is found of a key, which is a use of it.
 fn looks_up<S: Store>(
-    alloc: Global,
     store: &mut S,
     config: &Config,
     now: u64,
-    key: &[u8],
+    key: &Key,
     wanted: Option<&[u8]>,
 ) -> bool
-    requires config { (S.frame store.old).config ≡ config.now }
-    requires in_time { (S.frame store.old).latest ≤ now }
-    ensures config { (S.frame store.new).config ≡ config.now }
-    ensures in_time { (S.frame store.new).latest ≤ now }
+    requires config { (S.view store.old).frame.config ≡ config.now }
+    requires in_time { (S.view store.old).frame.latest ≤ now }
+    requires moment { now < 2 ^ 63 }
+    ensures config { (S.view store.new).frame.config ≡ config.now }
+    ensures in_time { (S.view store.new).frame.latest ≤ now }
 {
-    let mut found = Vec::new(alloc);
-    match (store.look_up(key, now, &mut found), wanted) {
-        (Ok(true), Some(value)) => found.as_slice() == value,
-        (Ok(false), None) => found.is_empty(),
-        _ => false,
-    }
+    let is_so = store.peek(key, now) == wanted;
+    store.touch(key, now);
+    is_so
 }
 
 /// Whether these are the live keys, and so many.
 fn lists<S: Store>(alloc: Global, store: &S, now: u64, lines: &[u8], number: usize) -> bool
-    requires { (S.frame store.now).latest ≤ now }
+    requires in_time { (S.view store.now).frame.latest ≤ now }
+    requires moment { now < 2 ^ 63 }
 {
     let mut keys = Vec::new(alloc);
     store.write_live_keys(now, &mut keys).is_ok()
@@ -116,41 +114,57 @@ fn lists<S: Store>(alloc: Global, store: &S, now: u64, lines: &[u8], number: usi
 
 /// Whether a run leaves so many values, which weigh that much.
 fn runs<S: Store>(store: &mut S, config: &Config, now: u64, number: u64, weight: u64) -> bool
-    requires config { (S.frame store.old).config ≡ config.now }
-    requires in_time { (S.frame store.old).latest ≤ now }
-    ensures config { (S.frame store.new).config ≡ config.now }
-    ensures in_time { (S.frame store.new).latest ≤ now }
+    requires config { (S.view store.old).frame.config ≡ config.now }
+    requires in_time { (S.view store.old).frame.latest ≤ now }
+    requires moment { now < 2 ^ 63 }
+    ensures config { (S.view store.new).frame.config ≡ config.now }
+    ensures in_time { (S.view store.new).frame.latest ≤ now }
 {
     let counts = store.run_all(now);
     counts.number == number && counts.weight == weight && store.len() as u64 == number
 }
 
-/// Asks, and answers whether it came out so.
-fn comes_so<S: Store>(alloc: Global, store: &mut S, config: &Config, now: u64, row: Row<'_>) -> bool
-    requires config { (S.frame store.old).config ≡ config.now }
-    requires in_time { (S.frame store.old).latest ≤ now }
+/// Asks, and answers whether it came out so. The row's key is put into `key`.
+fn comes_so<S: Store>(
+    alloc: Global,
+    store: &mut S,
+    config: &Config,
+    key: &mut Key,
+    now: u64,
+    row: Row<'_>,
+) -> bool
+    requires config { (S.view store.old).frame.config ≡ config.now }
+    requires in_time { (S.view store.old).frame.latest ≤ now }
     requires moment { now < 2 ^ 63 }
-    ensures config { (S.frame store.new).config ≡ config.now }
-    ensures in_time { (S.frame store.new).latest ≤ now }
+    ensures config { (S.view store.new).frame.config ≡ config.now }
+    ensures in_time { (S.view store.new).frame.latest ≤ now }
 {
+    if key.fill(name_of(row)).is_err() {
+        return false;
+    }
     match row {
         Row::At(moment) => moment == now,
-        Row::Accepts(key, value, time, part) => {
-            accepts(store, config, now, key, value, time, part)
-        }
-        Row::Finds(key, wanted) => store.find(key, now) == wanted,
-        Row::LooksUp(key, wanted) => looks_up(alloc, store, config, now, key, wanted),
-        Row::Removes(key) => store.remove(key, now).is_ok(),
-        Row::Clears => {
-            store.clear(now);
-            true
-        }
-        Row::Drops(prefix, true) => store.drop_prefix(prefix, now).is_ok(),
-        Row::Drops(prefix, false) => { store.drop_prefix(prefix, now) == Err(StoreError::IdsInUse) }
+        Row::Accepts(_, value, time, part) => accepts(store, config, now, key, value, time, part),
+        Row::Finds(_, wanted) => store.peek(key, now) == wanted,
+        Row::LooksUp(_, wanted) => looks_up(store, config, now, key, wanted),
+        Row::Removes(_) => store.remove(key, now).is_ok(),
+        Row::Clears => store.clear(now).is_ok(),
+        Row::Drops(prefix, wanted) => store.drop_prefix(prefix, now) == Ok(wanted),
         Row::Lists(lines, number) => lists(alloc, store, now, lines, number),
         Row::Runs(number, weight) => runs(store, config, now, number, weight),
-        Row::Tells(cause, key, value) => tells(store.next_notice(), cause, key, value),
+        Row::Tells(cause, name, value) => tells(store.next_notice(), cause, name, value),
         Row::TellsNone => store.next_notice().is_none(),
+    }
+}
+
+/// The key of a row, if it has one.
+fn name_of<'a>(row: Row<'a>) -> &'a [u8] {
+    match row {
+        Row::Accepts(name, _, _, _) => name,
+        Row::Finds(name, _) => name,
+        Row::LooksUp(name, _) => name,
+        Row::Removes(name) => name,
+        _ => b"",
     }
 }
 
@@ -173,11 +187,12 @@ fn first_wrong_of<S: Store>(
     alloc: Global,
     store: &mut S,
     config: &Config,
+    key: &mut Key,
     made: u64,
     rows: &[Row<'_>],
 ) -> Option<usize>
-    requires config { (S.frame store.old).config ≡ config.now }
-    requires in_time { (S.frame store.old).latest ≤ made }
+    requires config { (S.view store.old).frame.config ≡ config.now }
+    requires in_time { (S.view store.old).frame.latest ≤ made }
 {
     let mut now = made;
     for (place, row) in rows.iter().enumerate() {
@@ -185,7 +200,7 @@ fn first_wrong_of<S: Store>(
             return Some(place);
         };
         now = moment;
-        if !comes_so(alloc, store, config, now, *row) {
+        if !comes_so(alloc, store, config, key, now, *row) {
             return Some(place);
         }
     }
@@ -201,7 +216,8 @@ pub fn first_wrong<R: Rng + Drop, H: KeyHasher>(
     rows: &[Row<'_>],
 ) -> Result<Option<usize>, AllocError> {
     let mut store = PlainStore::new(alloc, config, 0, generator, hasher)?;
-    Ok(first_wrong_of(alloc, &mut store, &config, 0, rows))
+    let mut key = Key::with_capacity(alloc, 250)?;
+    Ok(first_wrong_of(alloc, &mut store, &config, &mut key, 0, rows))
 }
 
 /// Accepts a value of a key. Where memory is wanted for it, so many values are held as before, the key has the value that it had, and
@@ -210,21 +226,22 @@ fn accepts_at_last<S: Store>(
     store: &mut S,
     config: &Config,
     now: u64,
+    key: &Key,
     value: &[u8],
     held: usize,
     before: Option<&[u8]>,
 ) -> bool
-    requires config { (S.frame store.old).config ≡ config.now }
-    requires in_time { (S.frame store.old).latest ≤ now }
+    requires config { (S.view store.old).frame.config ≡ config.now }
+    requires in_time { (S.view store.old).frame.latest ≤ now }
     requires moment { now < 2 ^ 63 }
-    ensures config { (S.frame store.new).config ≡ config.now }
-    ensures in_time { (S.frame store.new).latest ≤ now }
+    ensures config { (S.view store.new).frame.config ≡ config.now }
+    ensures in_time { (S.view store.new).frame.latest ≤ now }
 {
-    accepts(store, config, now, b"key", value, None, 0)
+    accepts(store, config, now, key, value, None, 0)
         || (store.len() == held
             && store.next_notice().is_none()
-            && store.find(b"key", now) == before
-            && accepts(store, config, now, b"key", value, None, 0))
+            && store.peek(key, now) == before
+            && accepts(store, config, now, key, value, None, 0))
 }
 
 /// Whether a new store of one part takes two values of a key, and a refusal changes nothing.
@@ -235,10 +252,12 @@ pub fn refusals_change_nothing<R: Rng + Drop, H: KeyHasher>(
     hasher: H,
 ) -> Result<bool, AllocError> {
     let mut store = PlainStore::new(alloc, config, 0, generator, hasher)?;
+    let mut key = Key::with_capacity(alloc, 250)?;
+    key.fill(b"key")?;
     Ok(
-        accepts_at_last(&mut store, &config, 5, b"one", 0, None)
-            && accepts_at_last(&mut store, &config, 5, b"two", 1, Some(b"one"))
-            && store.find(b"key", 5) == Some(b"two".as_slice()),
+        accepts_at_last(&mut store, &config, 5, &key, b"one", 0, None)
+            && accepts_at_last(&mut store, &config, 5, &key, b"two", 1, Some(b"one"))
+            && store.peek(&key, 5) == Some(b"two".as_slice()),
     )
 }
 

@@ -5,9 +5,11 @@ use Rattle.audit_model.specs.Situation.{Situation, HeldValue, live_at}
 use Rattle.audit_model.specs.Steps.{action_by}
 use Rattle.audit_model.specs.Stream.{behind_lines}
 use Rattle.audit_model.specs.declared.config.Config.{Config}
-use Rattle.cache_steps.specs.Loading.{step_silent}
-use Rattle.cache_steps.specs.Right.{step_saying, held_when_run}
+use Rattle.cache_commands.specs.Loading.{step_silent}
+use Rattle.cache_commands.specs.Right.{step_saying, held_when_run}
 use Rattle.cache_store.specs.Promises.{Frame, no_deed}
+use Rattle.cache_commands.proofs.Drawn.{spends-none}
+use Rattle.cache_store.specs.Identifiers.{DrawsAlone}
 use Rattle.cache_namespace.specs.Drawing.{workings}
 use Rattle.cache_namespace.specs.Ends.{situation_left}
 use Rattle.cache_namespace.specs.Gathered.{IsFresh, gather}
@@ -30,13 +32,13 @@ use Rattle.cache_namespace.specs.declared.feeding.End.TheVariants as at
 
 pub returns-then-not-held-clause-ran : goal.returns-then-not-held-clause-ran
 returns-then-not-held-clause-ran g c = λ base values e d under there m.
-    let making = making_of (g.S.Store.frame c.args.store.now) in
-    let old = gathered c.args.text.now.items c.args.kept.now (g.S.Store.untaken c.args.store.now) in
-    let new = gathered c.run_ready.new.text.items c.run_ready.new.kept (g.S.Store.untaken c.run_ready.new.store) in
-    let dropped = (g.S.Store.frame c.run_ready.new.store).dropped in
-    let drawn = workings (g.S.Store.stream c.args.store.now) (g.S.Store.registered c.args.store.now) (g.S.Store.recency c.args.store.now) in
-    let drawing = workings (g.S.Store.stream c.run_ready.new.store) (g.S.Store.registered c.run_ready.new.store) (g.S.Store.recency c.run_ready.new.store) in
-    let Stands = g.S.Store.stands c.run_ready.new.store in
+    let making = making_of (g.S.Store.view c.args.store.now).frame in
+    let old = gathered c.args.text.now.items c.args.kept.now (g.S.Store.view c.args.store.now).untaken in
+    let new = gathered c.run_ready.new.text.items c.run_ready.new.kept (g.S.Store.view c.run_ready.new.store).untaken in
+    let dropped = (g.S.Store.view c.run_ready.new.store).frame.dropped in
+    let drawn = workings (g.S.Store.view c.args.store.now).stream (g.S.Store.view c.args.store.now).registered (g.S.Store.view c.args.store.now).Used in
+    let drawing = workings (g.S.Store.view c.run_ready.new.store).stream (g.S.Store.view c.run_ready.new.store).registered (g.S.Store.view c.run_ready.new.store).Used in
+    let Stands = (g.S.Store.view c.run_ready.new.store).Stands in
     let back = holds_back c.run_ready.result in
     let quit = ends_by_quit c.run_ready.result in
     let target = situation_left c.args.number base dropped (under_way c.run_ready.new.loads) c.run_ready.result c.run_ready.new.unread.bytes in
@@ -48,24 +50,24 @@ returns-then-not-held-clause-ran g c = λ base values e d under there m.
 
 pub returns-in-Ok-Stays-clause-ran : goal.returns-in-Ok-Stays-clause-ran
 returns-in-Ok-Stays-clause-ran g c = λ base values e d under there m.
-    let making = making_of (g.S.Store.frame c.args.store.now) in
-    let old = gathered c.args.text.now.items c.args.kept.now (g.S.Store.untaken c.args.store.now) in
-    let middle = gathered c.release.new.text.items c.release.new.kept (g.S.Store.untaken c.release.new.store) in
-    let new = gathered c.run_ready-in-Ok-Stays.new.text.items c.run_ready-in-Ok-Stays.new.kept (g.S.Store.untaken c.run_ready-in-Ok-Stays.new.store) in
-    let was = (g.S.Store.frame c.release.new.store).dropped in
-    let dropped = (g.S.Store.frame c.run_ready-in-Ok-Stays.new.store).dropped in
-    let drawn = workings (g.S.Store.stream c.args.store.now) (g.S.Store.registered c.args.store.now) (g.S.Store.recency c.args.store.now) in
-    let middling = workings (g.S.Store.stream c.release.new.store) (g.S.Store.registered c.release.new.store) (g.S.Store.recency c.release.new.store) in
-    let drawing = workings (g.S.Store.stream c.run_ready-in-Ok-Stays.new.store) (g.S.Store.registered c.run_ready-in-Ok-Stays.new.store) (g.S.Store.recency c.run_ready-in-Ok-Stays.new.store) in
-    let Stands = g.S.Store.stands c.run_ready-in-Ok-Stays.new.store in
+    let making = making_of (g.S.Store.view c.args.store.now).frame in
+    let old = gathered c.args.text.now.items c.args.kept.now (g.S.Store.view c.args.store.now).untaken in
+    let middle = gathered c.release.new.text.items c.release.new.kept (g.S.Store.view c.release.new.store).untaken in
+    let new = gathered c.run_ready-in-Ok-Stays.new.text.items c.run_ready-in-Ok-Stays.new.kept (g.S.Store.view c.run_ready-in-Ok-Stays.new.store).untaken in
+    let was = (g.S.Store.view c.release.new.store).frame.dropped in
+    let dropped = (g.S.Store.view c.run_ready-in-Ok-Stays.new.store).frame.dropped in
+    let drawn = workings (g.S.Store.view c.args.store.now).stream (g.S.Store.view c.args.store.now).registered (g.S.Store.view c.args.store.now).Used in
+    let middling = workings (g.S.Store.view c.release.new.store).stream (g.S.Store.view c.release.new.store).registered (g.S.Store.view c.release.new.store).Used in
+    let drawing = workings (g.S.Store.view c.run_ready-in-Ok-Stays.new.store).stream (g.S.Store.view c.run_ready-in-Ok-Stays.new.store).registered (g.S.Store.view c.run_ready-in-Ok-Stays.new.store).Used in
+    let Stands = (g.S.Store.view c.run_ready-in-Ok-Stays.new.store).Stands in
     let back = holds_back c.run_ready-in-Ok-Stays.result in
     let quit = ends_by_quit c.run_ready-in-Ok-Stays.result in
     let target = situation_left c.args.number base dropped (under_way c.run_ready-in-Ok-Stays.new.loads) c.run_ready-in-Ok-Stays.result c.run_ready-in-Ok-Stays.new.unread.bytes in
     let bytes = c.reserve.new.self.bytes in
     let hit = ap misses_now c.in-Ok-Stays.field-0-is in
     let s = set_in base values (holding_load c.args.number (held_line bytes) (behind_lines 1 bytes ++ c.args.piece.now) c.args.waited) in
-    let one = ran-as c.args.config.now s c.args.number making making (held_line bytes) (quits_now c.in-Ok-Stays.field-0) false (g.S.Store.stands c.release.new.store) was drawn middling old middle refl (ap quits_now c.in-Ok-Stays.field-0-is) (c.in-Ok-Stays.ensures.ok hit s e d m) in
-    let parts : making_of (g.S.Store.frame c.release.new.store) ≡ making = ap (λ (f : Frame). making_of f) c.in-Ok-Stays.ensures.frame.rest in
+    let one = ran-as c.args.config.now s c.args.number making making (held_line bytes) (quits_now c.in-Ok-Stays.field-0) false (g.S.Store.view c.release.new.store).Stands was drawn middling old middle refl (ap quits_now c.in-Ok-Stays.field-0-is) (c.in-Ok-Stays.ensures.ok hit s e d m) in
+    let parts : making_of (g.S.Store.view c.release.new.store).frame ≡ making = ap (λ (f : Frame). making_of f) c.in-Ok-Stays.ensures.frame.rest in
     let ran = subst (λ (p : Making). RanReady c.args.config.now (with_drops was base) c.args.number p (held_when_run c.args.config.now s (action_by (reading c.args.config.now (held_line bytes))) (step_saying 0 [] one.reply one.accepted one.told)) (c.release.new.unread.bytes ++ c.args.piece.now) quit back target Stands middling drawing middle new) parts
     (c.run_ready-in-Ok-Stays.ensures.ran (with_drops was base) _ e refl under there one.left) in
     let f : RanFeed c.args.config.now base c.args.number making values c.args.held c.args.waited bytes c.args.piece.now quit back target Stands drawn drawing old new =
@@ -76,13 +78,13 @@ returns-in-Ok-Stays-clause-ran g c = λ base values e d under there m.
 
 pub returns-in-Ok-Quits-clause-ran : goal.returns-in-Ok-Quits-clause-ran
 returns-in-Ok-Quits-clause-ran g c = λ base values e d under there m.
-    let making = making_of (g.S.Store.frame c.args.store.now) in
-    let old = gathered c.args.text.now.items c.args.kept.now (g.S.Store.untaken c.args.store.now) in
-    let new = gathered c.release.new.text.items c.release.new.kept (g.S.Store.untaken c.release.new.store) in
-    let dropped = (g.S.Store.frame c.release.new.store).dropped in
-    let drawn = workings (g.S.Store.stream c.args.store.now) (g.S.Store.registered c.args.store.now) (g.S.Store.recency c.args.store.now) in
-    let drawing = workings (g.S.Store.stream c.release.new.store) (g.S.Store.registered c.release.new.store) (g.S.Store.recency c.release.new.store) in
-    let Stands = g.S.Store.stands c.release.new.store in
+    let making = making_of (g.S.Store.view c.args.store.now).frame in
+    let old = gathered c.args.text.now.items c.args.kept.now (g.S.Store.view c.args.store.now).untaken in
+    let new = gathered c.release.new.text.items c.release.new.kept (g.S.Store.view c.release.new.store).untaken in
+    let dropped = (g.S.Store.view c.release.new.store).frame.dropped in
+    let drawn = workings (g.S.Store.view c.args.store.now).stream (g.S.Store.view c.args.store.now).registered (g.S.Store.view c.args.store.now).Used in
+    let drawing = workings (g.S.Store.view c.release.new.store).stream (g.S.Store.view c.release.new.store).registered (g.S.Store.view c.release.new.store).Used in
+    let Stands = (g.S.Store.view c.release.new.store).Stands in
     let rest = c.release.new.unread.bytes in
     let bytes = c.reserve.new.self.bytes in
     let hit = ap misses_now c.in-Ok-Quits.field-0-is in
@@ -97,12 +99,12 @@ returns-in-Ok-Quits-clause-ran g c = λ base values e d under there m.
 
 pub returns-in-Ok-clause-ran : goal.returns-in-Ok-clause-ran
 returns-in-Ok-clause-ran g c = λ base values e d under there m.
-    let making = making_of (g.S.Store.frame c.args.store.now) in
-    let old = gathered c.args.text.now.items c.args.kept.now (g.S.Store.untaken c.args.store.now) in
-    let untaken = g.S.Store.untaken c.release.new.store in
+    let making = making_of (g.S.Store.view c.args.store.now).frame in
+    let old = gathered c.args.text.now.items c.args.kept.now (g.S.Store.view c.args.store.now).untaken in
+    let untaken = (g.S.Store.view c.release.new.store).untaken in
     let new = gathered c.join_first.new.output.items c.join_first.new.kept untaken in
-    let drawn = workings (g.S.Store.stream c.args.store.now) (g.S.Store.registered c.args.store.now) (g.S.Store.recency c.args.store.now) in
-    let Stood = g.S.Store.stands c.args.store.now in
+    let drawn = workings (g.S.Store.view c.args.store.now).stream (g.S.Store.view c.args.store.now).registered (g.S.Store.view c.args.store.now).Used in
+    let Stood = (g.S.Store.view c.args.store.now).Stands in
     let bytes = c.reserve.new.self.bytes in
     let held_bytes = c.release.new.unread.bytes in
     let all = c.append.new.self.bytes in
@@ -111,7 +113,7 @@ returns-in-Ok-clause-ran g c = λ base values e d under there m.
     let stays : held_bytes ≡ bytes = ap (λ (u : Unread). u.bytes) (c.in-Ok-Misses.ensures.stays hit) in
     let reads : reading c.args.config.now (held_line held_bytes) ≡ Ok (says.Load missed.2.key) = ap (λ b. reading c.args.config.now (held_line b)) stays ∙ missed.2.reads in
     let none : live_at c.args.config.now base.latest values missed.2.key ≡ None = subst (λ (n : ℕ). live_at c.args.config.now n values missed.2.key ≡ None) (sym e) (missed.2.none values m) in
-    let idle : Stood (all_held_after c.args.config.now base.latest values no_deed []) = subst (λ (k : Config). Stood (all_held_after k base.latest values no_deed [])) c.requires.config (g.met.S.Store.idle c.args.store.now values base.latest m) in
+    let idle : Stood (all_held_after c.args.config.now base.latest values no_deed []) = subst (λ (k : Config). Stood (all_held_after k base.latest values no_deed [])) c.requires.config (c.sound.ensures.idle values base.latest m) in
     let step = λ (b : List ℕ) (u : UnderWay). step_silent c.args.number (held_line b) (load_sent_for missed.2.key u) None [] in
     let gathers : new ≡ gather old (step bytes (loads_in base) ∷ []) =
     ap (λ t. gathered t c.join_first.new.kept untaken) c.join_first.ensures.output
@@ -122,11 +124,11 @@ returns-in-Ok-clause-ran g c = λ base values e d under there m.
     let joined = ap (when_waiting c.args.number missed.2.key) under ∙ sym (c.in-Ok.ensures.joined missed.2.key reads) in
     let is : all ≡ bytes ++ c.args.piece.now = c.append.ensures.bytes ∙ ap (λ b. b ++ c.args.piece.now) stays in
     let whole : has_line bytes ≡ true = ap has_line c.reserve.ensures.bytes ∙ subst (λ h. (not h || has_line c.args.unread.now.bytes) ≡ true) c.if-not-held.false c.requires.whole in
-    let f : RanFeed c.args.config.now base c.args.number making values c.args.held c.args.waited bytes c.args.piece.now false false (situation_left c.args.number base (g.S.Store.frame c.args.store.now).dropped (under_way c.join_first.new.loads) (at.Waits (c.args.waited + 1)) all) Stood drawn drawn old new =
-    feeds-waits-on c.args.config.now base c.args.number making values c.args.held c.args.waited (c.args.waited + 1) bytes c.args.piece.now all missed.2.key Stood (g.S.Store.frame c.args.store.now).dropped (under_way c.join_first.new.loads) drawn old new
+    let f : RanFeed c.args.config.now base c.args.number making values c.args.held c.args.waited bytes c.args.piece.now false false (situation_left c.args.number base (g.S.Store.view c.args.store.now).frame.dropped (under_way c.join_first.new.loads) (at.Waits (c.args.waited + 1)) all) Stood drawn drawn old new =
+    feeds-waits-on c.args.config.now base c.args.number making values c.args.held c.args.waited (c.args.waited + 1) bytes c.args.piece.now all missed.2.key Stood (g.S.Store.view c.args.store.now).frame.dropped (under_way c.join_first.new.loads) drawn old new
     c.if-not-held.false refl is whole d joined there missed.2.reads none idle gathers in
-    subst (λ st. RanFeed c.args.config.now base c.args.number making values c.args.held c.args.waited c.args.unread.now.bytes c.args.piece.now false false (situation_left c.args.number base (g.S.Store.frame st).dropped (under_way c.join_first.new.loads) (at.Waits (c.args.waited + 1)) all) (g.S.Store.stands st) drawn (workings (g.S.Store.stream st) (g.S.Store.registered st) (g.S.Store.recency st)) old new) (sym missed.0)
-    (subst (λ b. RanFeed c.args.config.now base c.args.number making values c.args.held c.args.waited b c.args.piece.now false false (situation_left c.args.number base (g.S.Store.frame c.args.store.now).dropped (under_way c.join_first.new.loads) (at.Waits (c.args.waited + 1)) all) Stood drawn drawn old new) c.reserve.ensures.bytes f)
+    subst (λ st. RanFeed c.args.config.now base c.args.number making values c.args.held c.args.waited c.args.unread.now.bytes c.args.piece.now false false (situation_left c.args.number base (g.S.Store.view st).frame.dropped (under_way c.join_first.new.loads) (at.Waits (c.args.waited + 1)) all) (g.S.Store.view st).Stands drawn (workings (g.S.Store.view st).stream (g.S.Store.view st).registered (g.S.Store.view st).Used) old new) (sym missed.0)
+    (subst (λ b. RanFeed c.args.config.now base c.args.number making values c.args.held c.args.waited b c.args.piece.now false false (situation_left c.args.number base (g.S.Store.view c.args.store.now).frame.dropped (under_way c.join_first.new.loads) (at.Waits (c.args.waited + 1)) all) Stood drawn drawn old new) c.reserve.ensures.bytes f)
 
 pub returns-in-Ok-clause-ends : goal.returns-in-Ok-clause-ends
 returns-in-Ok-clause-ends g c =
@@ -140,10 +142,16 @@ returns-in-Ok-clause-ends g c =
 
 pub returns-in-Ok-clause-fresh : goal.returns-in-Ok-clause-fresh
 returns-in-Ok-clause-fresh g c =
-    let untaken = g.S.Store.untaken c.release.new.store in
+    let untaken = (g.S.Store.view c.release.new.store).untaken in
     let hit = ap misses_now c.in-Ok-Misses.field-0-is in
     let missed = c.in-Ok-Misses.ensures.missed hit in
     let stays : c.release.new.unread.bytes ≡ c.reserve.new.self.bytes = ap (λ (u : Unread). u.bytes) (c.in-Ok-Misses.ensures.stays hit) in
     let reads : reading c.args.config.now (held_line c.release.new.unread.bytes) ≡ Ok (says.Load missed.2.key) = ap (λ b. reading c.args.config.now (held_line b)) stays ∙ missed.2.reads in
     subst IsFresh (sym (ap (λ t. gathered t c.join_first.new.kept untaken) c.join_first.ensures.output ∙ c.in-Ok.ensures.step missed.2.key reads c.release.new.text.items untaken))
     (fresh-gather (gathered c.release.new.text.items c.release.new.kept untaken) (step_silent c.args.number (held_line c.release.new.unread.bytes) (load_sent_for missed.2.key (under_way c.args.loads.now)) None [] ∷ []) c.release.ensures.fresh)
+
+pub returns-in-Err-join_first-clause-spends : goal.returns-in-Err-join_first-clause-spends
+returns-in-Err-join_first-clause-spends g c =
+    let was = g.S.Store.view c.args.store.now in
+    let same = (c.in-Ok-Misses.ensures.missed (ap misses_now c.in-Ok-Misses.field-0-is)).0 in
+    subst (λ st. DrawsAlone was.stream (g.S.Store.view st).stream was.registered (g.S.Store.view st).registered) (sym same) (spends-none _ _)

@@ -7,13 +7,13 @@ use Rattle.cache_namespace.proofs.lines.drain.Given as goal
 
 abbrev pub invariant-loop-note : goal.invariant-loop-note
 invariant-loop-note g l = record {
-  room : vec_len l.notes + length (g.S.Store.untaken l.store) ≤ vec_capacity l.notes;
-  order : l.notes.items ++ g.S.Store.untaken l.store ≡ l.fn.notes.items ++ g.S.Store.untaken l.fn.store;
-  stands : (held : List HeldValue) → g.S.Store.stands l.fn.store held → g.S.Store.stands l.store held;
-  frame : g.S.Store.frame l.store ≡ g.S.Store.frame l.fn.store;
-  recency : KeepsRecency (g.S.Store.recency l.fn.store) (g.S.Store.recency l.store);
-  identifiers : KeepsIdentifiers (g.S.Store.stream l.fn.store) (g.S.Store.stream l.store) (g.S.Store.registered l.fn.store) (g.S.Store.registered l.store);
+  room : vec_len l.notes + length (g.S.Store.view l.store).untaken ≤ vec_capacity l.notes;
+  order : l.notes.items ++ (g.S.Store.view l.store).untaken ≡ l.fn.notes.items ++ (g.S.Store.view l.fn.store).untaken;
+  stands : (held : List HeldValue) → (g.S.Store.view l.fn.store).Stands held → (g.S.Store.view l.store).Stands held;
+  frame : (g.S.Store.view l.store).frame ≡ (g.S.Store.view l.fn.store).frame;
+  recency : KeepsRecency (g.S.Store.view l.fn.store).Used (g.S.Store.view l.store).Used;
+  identifiers : KeepsIdentifiers (g.S.Store.view l.fn.store).stream (g.S.Store.view l.store).stream (g.S.Store.view l.fn.store).registered (g.S.Store.view l.store).registered;
 }
 
 abbrev pub decreases-loop-note : goal.decreases-loop-note
-decreases-loop-note g l = length (g.S.Store.untaken l.store)
+decreases-loop-note g l = length (g.S.Store.view l.store).untaken

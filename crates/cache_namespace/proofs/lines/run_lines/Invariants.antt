@@ -1,6 +1,6 @@
 use Rattle.std.proofs.Common.{◌≡◌, false, List, length}
 use Rattle.audit_model.specs.Situation.{Situation, HeldValue}
-use Rattle.cache_steps.specs.Right.{KeepsFrame}
+use Rattle.cache_commands.specs.Right.{KeepsFrame}
 use Rattle.cache_namespace.specs.Drawing.{workings}
 use Rattle.cache_namespace.specs.Gathered.{IsFresh}
 use Rattle.cache_namespace.specs.Kept.{IsReadyToHold, gathered, more_in}
@@ -11,9 +11,9 @@ use Rattle.cache_namespace.proofs.lines.run_lines.Given as goal
 
 abbrev pub invariant-loop-len : goal.invariant-loop-len
 invariant-loop-len g l = record {
-  ran : (base : Situation) (held : List HeldValue) → base.latest ≡ l.fn.now → base.dropped ≡ (g.S.Store.frame l.fn.store).dropped → IsThere l.fn.number base → g.S.Store.stands l.fn.store held → RanLines l.fn.config base l.fn.number (making_of (g.S.Store.frame l.fn.store)) held l.fn.unread.bytes false l.unread.bytes (g.S.Store.stands l.store) (g.S.Store.frame l.store).dropped (workings (g.S.Store.stream l.fn.store) (g.S.Store.registered l.fn.store) (g.S.Store.recency l.fn.store)) (workings (g.S.Store.stream l.store) (g.S.Store.registered l.store) (g.S.Store.recency l.store)) (gathered l.fn.text.items l.fn.kept (g.S.Store.untaken l.fn.store)) (gathered l.text.items l.kept (g.S.Store.untaken l.store));
-  frame : KeepsFrame (g.S.Store.frame l.fn.store) (g.S.Store.frame l.store) l.fn.now;
-  fresh : IsFresh (gathered l.text.items l.kept (g.S.Store.untaken l.store));
+  ran : (base : Situation) (held : List HeldValue) → base.latest ≡ l.fn.now → base.dropped ≡ (g.S.Store.view l.fn.store).frame.dropped → IsThere l.fn.number base → (g.S.Store.view l.fn.store).Stands held → RanLines l.fn.config base l.fn.number (making_of (g.S.Store.view l.fn.store).frame) held l.fn.unread.bytes false l.unread.bytes (g.S.Store.view l.store).Stands (g.S.Store.view l.store).frame.dropped (workings (g.S.Store.view l.fn.store).stream (g.S.Store.view l.fn.store).registered (g.S.Store.view l.fn.store).Used) (workings (g.S.Store.view l.store).stream (g.S.Store.view l.store).registered (g.S.Store.view l.store).Used) (gathered l.fn.text.items l.fn.kept (g.S.Store.view l.fn.store).untaken) (gathered l.text.items l.kept (g.S.Store.view l.store).untaken);
+  frame : KeepsFrame (g.S.Store.view l.fn.store).frame (g.S.Store.view l.store).frame l.fn.now;
+  fresh : IsFresh (gathered l.text.items l.kept (g.S.Store.view l.store).untaken);
   ready : IsReadyToHold l.kept;
   more : more_in l.kept ≡ more_in l.fn.kept;
 }

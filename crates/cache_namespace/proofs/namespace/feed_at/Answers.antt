@@ -20,8 +20,8 @@ returns-in-Ok-clause-ran g c =
     let set = at-replaced cs c.args.index new c.requires.inside in (
       record { was = old; is = new; at = at; set = refl },
       λ base values e d under there m.
-          subst (λ b. FeedsConnection c.args.config.now base c.args.number (making_of (g.S.Store.frame c.args.store.now)) values old c.args.piece.now new c.in-Ok.is_held (g.S.Store.stands c.feed_connection.new.store) (g.S.Store.frame c.feed_connection.new.store).dropped (under_way c.feed_connection.new.loads) (workings (g.S.Store.stream c.args.store.now) (g.S.Store.registered c.args.store.now) (g.S.Store.recency c.args.store.now)) (workings (g.S.Store.stream c.feed_connection.new.store) (g.S.Store.registered c.feed_connection.new.store) (g.S.Store.recency c.feed_connection.new.store)) (gathered b c.args.kept.now (g.S.Store.untaken c.args.store.now)) (gathered (text_at (slice_set cs c.args.index new) c.args.index) c.feed_connection.new.kept (g.S.Store.untaken c.feed_connection.new.store))) (sym (text-is cs c.args.index old at))
-          (subst (λ b. FeedsConnection c.args.config.now base c.args.number (making_of (g.S.Store.frame c.args.store.now)) values old c.args.piece.now new c.in-Ok.is_held (g.S.Store.stands c.feed_connection.new.store) (g.S.Store.frame c.feed_connection.new.store).dropped (under_way c.feed_connection.new.loads) (workings (g.S.Store.stream c.args.store.now) (g.S.Store.registered c.args.store.now) (g.S.Store.recency c.args.store.now)) (workings (g.S.Store.stream c.feed_connection.new.store) (g.S.Store.registered c.feed_connection.new.store) (g.S.Store.recency c.feed_connection.new.store)) (gathered old.output.items c.args.kept.now (g.S.Store.untaken c.args.store.now)) (gathered b c.feed_connection.new.kept (g.S.Store.untaken c.feed_connection.new.store))) (sym (text-is (slice_set cs c.args.index new) c.args.index new set))
+          subst (λ b. FeedsConnection c.args.config.now base c.args.number (making_of (g.S.Store.view c.args.store.now).frame) values old c.args.piece.now new c.in-Ok.is_held (g.S.Store.view c.feed_connection.new.store).Stands (g.S.Store.view c.feed_connection.new.store).frame.dropped (under_way c.feed_connection.new.loads) (workings (g.S.Store.view c.args.store.now).stream (g.S.Store.view c.args.store.now).registered (g.S.Store.view c.args.store.now).Used) (workings (g.S.Store.view c.feed_connection.new.store).stream (g.S.Store.view c.feed_connection.new.store).registered (g.S.Store.view c.feed_connection.new.store).Used) (gathered b c.args.kept.now (g.S.Store.view c.args.store.now).untaken) (gathered (text_at (slice_set cs c.args.index new) c.args.index) c.feed_connection.new.kept (g.S.Store.view c.feed_connection.new.store).untaken)) (sym (text-is cs c.args.index old at))
+          (subst (λ b. FeedsConnection c.args.config.now base c.args.number (making_of (g.S.Store.view c.args.store.now).frame) values old c.args.piece.now new c.in-Ok.is_held (g.S.Store.view c.feed_connection.new.store).Stands (g.S.Store.view c.feed_connection.new.store).frame.dropped (under_way c.feed_connection.new.loads) (workings (g.S.Store.view c.args.store.now).stream (g.S.Store.view c.args.store.now).registered (g.S.Store.view c.args.store.now).Used) (workings (g.S.Store.view c.feed_connection.new.store).stream (g.S.Store.view c.feed_connection.new.store).registered (g.S.Store.view c.feed_connection.new.store).Used) (gathered old.output.items c.args.kept.now (g.S.Store.view c.args.store.now).untaken) (gathered b c.feed_connection.new.kept (g.S.Store.view c.feed_connection.new.store).untaken)) (sym (text-is (slice_set cs c.args.index new) c.args.index new set))
           (c.in-Ok.ensures.ran base values e d under there m)),
     )
 
@@ -37,9 +37,9 @@ returns-in-Err-clause-ungathered g c =
     let cs = c.args.connections.now.items in
     let old = c.index_mut-connection.result.now in
     let new = c.feed_connection.new.connection in
-    ap (λ b. gathered b c.feed_connection.new.kept (g.S.Store.untaken c.feed_connection.new.store)) (text-is (slice_set cs c.args.index new) c.args.index new (at-replaced cs c.args.index new c.requires.inside))
+    ap (λ b. gathered b c.feed_connection.new.kept (g.S.Store.view c.feed_connection.new.store).untaken) (text-is (slice_set cs c.args.index new) c.args.index new (at-replaced cs c.args.index new c.requires.inside))
     ∙ c.in-Err.ensures.ungathered
-    ∙ ap (λ b. gathered b c.args.kept.now (g.S.Store.untaken c.args.store.now)) (sym (text-is cs c.args.index old (at-place cs c.args.index c.index_mut-connection.result.now c.requires.inside c.index_mut-connection.ensures.value)))
+    ∙ ap (λ b. gathered b c.args.kept.now (g.S.Store.view c.args.store.now).untaken) (sym (text-is cs c.args.index old (at-place cs c.args.index c.index_mut-connection.result.now c.requires.inside c.index_mut-connection.ensures.value)))
 
 pub returns-in-Err-clause-again : goal.returns-in-Err-clause-again
 returns-in-Err-clause-again g c = λ h k at.

@@ -13,7 +13,7 @@ returns-in-Ok-clause-tidy g c = λ values m.
     let moment = c.args.moment in
     let t = c.requires.tidy in
     let x = c.in-Ok.ensures.ran values m in
-    let f = records was.config (situation was.latest (under_way was.loads) was.connections.items (g.S.Store.frame was.store).dropped values) _ (record_answered c.args.load c.args.outcome moment c.in-Ok.accepted x.own x.steps) x.settles.follows (record { once = t.once; keys = t.keys }) in
+    let f = records was.config (situation was.latest (under_way was.loads) was.connections.items (g.S.Store.view was.store).frame.dropped values) _ (record_answered c.args.load c.args.outcome moment c.in-Ok.accepted x.own x.steps) x.settles.follows (record { once = t.once; keys = t.keys }) in
     record { once = f.once; keys = f.keys }
 
 pub returns-in-Err-clause-still : goal.returns-in-Err-clause-still

@@ -9,5 +9,5 @@ returns-clause-tidy g c = λ values m.
     let was = c.args.namespace.now in
     let t = c.requires.tidy in
     let x = c.give_up_load.ensures.ran values m in
-    let f = records was.config (situation was.latest (under_way was.loads) was.connections.items (g.S.Store.frame was.store).dropped values) _ (record_given_up c.args.load c.args.moment x.steps) x.settles.follows (record { once = t.once; keys = t.keys }) in
+    let f = records was.config (situation was.latest (under_way was.loads) was.connections.items (g.S.Store.view was.store).frame.dropped values) _ (record_given_up c.args.load c.args.moment x.steps) x.settles.follows (record { once = t.once; keys = t.keys }) in
     record { once = f.once; keys = f.keys }

@@ -1,7 +1,7 @@
 use Rattle.std.proofs.Common.{◌≤◌, ◌+◌, ◌∷◌, ◌++◌, [], None, take, drop, get_or, sym, ap, ◌∙◌, subst, arith}
 use Rattle.std.proofs.lemmas.List.{map-append}
 use Rattle.audit_model.specs.Replies.{outcome_text}
-use Rattle.cache_steps.specs.Right.{step_saying}
+use Rattle.cache_commands.specs.Right.{step_saying}
 use Rattle.audit_waiting_laws.specs.Tidy.{times_in}
 use Rattle.cache_settling.specs.Told.{line_of, steps_told}
 use Rattle.cache_settling.proofs.Chain.{fewer-next, front-more, once-first, rest-next}

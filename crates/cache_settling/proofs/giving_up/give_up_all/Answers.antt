@@ -17,8 +17,8 @@ pub loop-number-init : goal.loop-number-init
 loop-number-init g c =
     let was = c.args.store.now in record {
       ran = λ values m.
-          gives-first c.args.config.now (making_of (g.S.Store.frame was)) c.args.now c.args.waiting.now (under_way c.args.loads.now) c.args.connections.now.items (g.S.Store.frame was).dropped values (g.S.Store.stands was)
-          (identifiers (g.S.Store.stream was) (g.S.Store.registered was)) (noted_in c.args.kept.now (g.S.Store.untaken was)) m;
+          gives-first c.args.config.now (making_of (g.S.Store.view was).frame) c.args.now c.args.waiting.now (under_way c.args.loads.now) c.args.connections.now.items (g.S.Store.view was).frame.dropped values (g.S.Store.view was).Stands
+          (identifiers (g.S.Store.view was).stream (g.S.Store.view was).registered) (noted_in c.args.kept.now (g.S.Store.view was).untaken) m;
       waits = c.requires.waits;
       fewer = λ n. (omega arith);
       frame = record { rest = refl; latest = c.requires.in_time };
@@ -67,28 +67,28 @@ loop-number-preserved g c =
     let l = under_way c.args.loads.now in
     let j = under_way c.loop-number.loads in
     let k = under_way c.give_up_one.new.loads in
-    let drawn = identifiers (g.S.Store.stream was) (g.S.Store.registered was) in
-    let drawing = identifiers (g.S.Store.stream mid) (g.S.Store.registered mid) in
-    let draws = identifiers (g.S.Store.stream is) (g.S.Store.registered is) in
-    let noting = noted_in c.args.kept.now (g.S.Store.untaken was) in
-    let noted = noted_in c.loop-number.kept (g.S.Store.untaken mid) in
-    let notes = noted_in c.give_up_one.new.kept (g.S.Store.untaken is) in
-    let same : making_of (g.S.Store.frame mid) ≡ making_of (g.S.Store.frame was) = ap making_of i.frame.rest in
+    let drawn = identifiers (g.S.Store.view was).stream (g.S.Store.view was).registered in
+    let drawing = identifiers (g.S.Store.view mid).stream (g.S.Store.view mid).registered in
+    let draws = identifiers (g.S.Store.view is).stream (g.S.Store.view is).registered in
+    let noting = noted_in c.args.kept.now (g.S.Store.view was).untaken in
+    let noted = noted_in c.loop-number.kept (g.S.Store.view mid).untaken in
+    let notes = noted_in c.give_up_one.new.kept (g.S.Store.view is).untaken in
+    let same : making_of (g.S.Store.view mid).frame ≡ making_of (g.S.Store.view was).frame = ap making_of i.frame.rest in
     let next = rest-next ns at c.loop-number-test.true in
     let few : times_in n (n ∷ rest) ≤ 1 =
     (let fewer = subst (λ xs. times_in n xs ≤ times_in n ns) next (i.fewer n) in let once = c.requires.once n in omega arith) in
     record {
       ran = λ values m.
-          let r = subst (λ xs. GivesUp config (making_of (g.S.Store.frame was)) c.args.now values ns xs (g.S.Store.stands mid) l j (g.S.Store.frame was).dropped (g.S.Store.frame mid).dropped drawn drawing old between noting noted)
+          let r = subst (λ xs. GivesUp config (making_of (g.S.Store.view was).frame) c.args.now values ns xs (g.S.Store.view mid).Stands l j (g.S.Store.view was).frame.dropped (g.S.Store.view mid).frame.dropped drawn drawing old between noting noted)
           next (i.ran values m) in
-          let q = subst (λ (making : Making). GivesUp config making c.args.now r.held (n ∷ []) [] (g.S.Store.stands is) j k (g.S.Store.frame mid).dropped (g.S.Store.frame is).dropped drawing draws between new noted notes) same
+          let q = subst (λ (making : Making). GivesUp config making c.args.now r.held (n ∷ []) [] (g.S.Store.view is).Stands j k (g.S.Store.view mid).frame.dropped (g.S.Store.view is).frame.dropped drawing draws between new noted notes) same
           (c.give_up_one.ensures.ran r.held r.stands) in
-          gives-next config (making_of (g.S.Store.frame was)) c.args.now n ns rest l j k old between new (g.S.Store.frame was).dropped (g.S.Store.frame mid).dropped (g.S.Store.frame is).dropped values (g.S.Store.stands mid) (g.S.Store.stands is) drawn drawing draws
+          gives-next config (making_of (g.S.Store.view was).frame) c.args.now n ns rest l j k old between new (g.S.Store.view was).frame.dropped (g.S.Store.view mid).frame.dropped (g.S.Store.view is).frame.dropped values (g.S.Store.view mid).Stands (g.S.Store.view is).Stands drawn drawing draws
           noting noted notes r q;
       waits = loads-left config n rest between new few (subst (HaveLoads config between) next i.waits) c.give_up_one.ensures.count c.give_up_one.ensures.others;
       fewer = λ m. fewer-next m n rest ns (drop at ns) next (i.fewer m);
       frame = record {
-        rest = c.give_up_one.ensures.frame.rest ∙ ap (λ (f : Frame). record f { dropped = (g.S.Store.frame is).dropped; latest = (g.S.Store.frame is).latest }) i.frame.rest;
+        rest = c.give_up_one.ensures.frame.rest ∙ ap (λ (f : Frame). record f { dropped = (g.S.Store.view is).frame.dropped; latest = (g.S.Store.view is).frame.latest }) i.frame.rest;
         latest = c.give_up_one.ensures.frame.latest;
       };
       fresh = c.give_up_one.ensures.fresh;
@@ -104,7 +104,7 @@ returns-clause-ran g c = λ values m.
     let ns = c.args.waiting.now in
     let was = c.args.store.now in
     let is = c.loop-number.store in
-    subst (λ xs. GivesUp c.args.config.now (making_of (g.S.Store.frame was)) c.args.now values ns xs (g.S.Store.stands is) (under_way c.args.loads.now) (under_way c.loop-number.loads) (g.S.Store.frame was).dropped (g.S.Store.frame is).dropped (identifiers (g.S.Store.stream was) (g.S.Store.registered was)) (identifiers (g.S.Store.stream is) (g.S.Store.registered is)) c.args.connections.now.items c.loop-number.connections.items (noted_in c.args.kept.now (g.S.Store.untaken was)) (noted_in c.loop-number.kept (g.S.Store.untaken is)))
+    subst (λ xs. GivesUp c.args.config.now (making_of (g.S.Store.view was).frame) c.args.now values ns xs (g.S.Store.view is).Stands (under_way c.args.loads.now) (under_way c.loop-number.loads) (g.S.Store.view was).frame.dropped (g.S.Store.view is).frame.dropped (identifiers (g.S.Store.view was).stream (g.S.Store.view was).registered) (identifiers (g.S.Store.view is).stream (g.S.Store.view is).registered) c.args.connections.now.items c.loop-number.connections.items (noted_in c.args.kept.now (g.S.Store.view was).untaken) (noted_in c.loop-number.kept (g.S.Store.view is).untaken))
     (drop_all at ns c.loop-number-test.false) (c.loop-number.invariant.ran values m)
 
 pub give_up_one-requires-clause-stocked : goal.give_up_one-requires-clause-stocked

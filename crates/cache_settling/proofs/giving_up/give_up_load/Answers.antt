@@ -26,14 +26,14 @@ returns-clause-ran g c = λ values m.
     let was = c.args.store.now in
     let is = c.settle_give_up.new.store in
     let config = c.args.config.now in
-    let making = making_of (g.S.Store.frame was) in
+    let making = making_of (g.S.Store.view was).frame in
     let load = c.args.load in
     let l = under_way c.args.loads.now in
     let k = under_way c.settle_give_up.new.loads in
     let cs = c.args.connections.now.items in
     let new = c.settle_give_up.new.connections.items in
-    let a = identifiers (g.S.Store.stream was) (g.S.Store.registered was) in
-    let b = identifiers (g.S.Store.stream is) (g.S.Store.registered is) in
-    let noting : Noted = record { kept = None; waiting = g.S.Store.untaken was } in
-    given-up config making load c.args.latest c.args.moment values (g.S.Store.stands is) l k (g.S.Store.frame was).dropped (g.S.Store.frame is).dropped a b cs new (g.S.Store.untaken was) (g.S.Store.untaken is) (kept_steps c.settle_give_up.new.kept) c.requires.admitted
-    (subst (λ (now : ℕ). GivesUp config making now values (waiting_on load l) [] (g.S.Store.stands is) (but_for load l) k (g.S.Store.frame was).dropped (g.S.Store.frame is).dropped a b cs new noting (noted_in c.settle_give_up.new.kept (g.S.Store.untaken is))) c.max-now.ensures (c.settle_give_up.ensures.ran values m))
+    let a = identifiers (g.S.Store.view was).stream (g.S.Store.view was).registered in
+    let b = identifiers (g.S.Store.view is).stream (g.S.Store.view is).registered in
+    let noting : Noted = record { kept = None; waiting = (g.S.Store.view was).untaken } in
+    given-up config making load c.args.latest c.args.moment values (g.S.Store.view is).Stands l k (g.S.Store.view was).frame.dropped (g.S.Store.view is).frame.dropped a b cs new (g.S.Store.view was).untaken (g.S.Store.view is).untaken (kept_steps c.settle_give_up.new.kept) c.requires.admitted
+    (subst (λ (now : ℕ). GivesUp config making now values (waiting_on load l) [] (g.S.Store.view is).Stands (but_for load l) k (g.S.Store.view was).frame.dropped (g.S.Store.view is).frame.dropped a b cs new noting (noted_in c.settle_give_up.new.kept (g.S.Store.view is).untaken)) c.max-now.ensures (c.settle_give_up.ensures.ran values m))

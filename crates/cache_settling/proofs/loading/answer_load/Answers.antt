@@ -5,8 +5,8 @@ use Rattle.audit_model.specs.History.{Storing}
 use Rattle.audit_model.specs.Situation.{Situation}
 use Rattle.audit_model.specs.declared.config.Config.{Config}
 use Rattle.cache_store.specs.Handing.{AppendsNotes}
-use Rattle.cache_steps.specs.Loading.{Stores, step_silent}
-use Rattle.cache_steps.specs.Right.{held_when_run}
+use Rattle.cache_commands.specs.Loading.{Stores, step_silent}
+use Rattle.cache_commands.specs.Right.{held_when_run}
 use Rattle.cache_namespace.specs.Drawing.{identifiers}
 use Rattle.cache_namespace.specs.Making.{Making, making_of}
 use Rattle.cache_namespace.specs.Shown.{situation}
@@ -34,7 +34,7 @@ returns-clause-ran g c = λ values m.
     let mid = c.store_for.new.store in
     let is = c.settle_answer.new.store in
     let config = c.args.config.now in
-    let making = making_of (g.S.Store.frame was) in
+    let making = making_of (g.S.Store.view was).frame in
     let load = c.args.load in
     let outcome = c.args.outcome.now in
     let latest = c.args.latest in
@@ -45,29 +45,29 @@ returns-clause-ran g c = λ values m.
     let old = c.args.connections.now.items in
     let between = c.reserve_for.new.connections.items in
     let new = c.settle_answer.new.connections.items in
-    let dropped = (g.S.Store.frame was).dropped in
-    let dropping = (g.S.Store.frame is).dropped in
-    let a = identifiers (g.S.Store.stream was) (g.S.Store.registered was) in
-    let b = identifiers (g.S.Store.stream mid) (g.S.Store.registered mid) in
-    let d = identifiers (g.S.Store.stream is) (g.S.Store.registered is) in
-    let told = g.S.Store.untaken was in
-    let telling = g.S.Store.untaken mid in
-    let last = g.S.Store.untaken is in
+    let dropped = (g.S.Store.view was).frame.dropped in
+    let dropping = (g.S.Store.view is).frame.dropped in
+    let a = identifiers (g.S.Store.view was).stream (g.S.Store.view was).registered in
+    let b = identifiers (g.S.Store.view mid).stream (g.S.Store.view mid).registered in
+    let d = identifiers (g.S.Store.view is).stream (g.S.Store.view is).registered in
+    let told = (g.S.Store.view was).untaken in
+    let telling = (g.S.Store.view mid).untaken in
+    let last = (g.S.Store.view is).untaken in
     let noting : Noted = record { kept = None; waiting = telling } in
     let noted = noted_in c.settle_answer.new.kept last in
     let s = situation (max moment latest) (but_for load l) between dropped values in
     let ok = c.in_ok-accepted.ensures.ok in
     let key = ok.0 in
-    let x = subst (λ (f : Config). (y : Stores f s key outcome accepted (g.S.Store.stands mid) (AppendsNotes told telling)) × ((is_some accepted || is_empty y.told) ≡ true)) c.requires.sound.config
+    let x = subst (λ (f : Config). (y : Stores f s key outcome accepted (g.S.Store.view mid).Stands (AppendsNotes told telling)) × ((is_some accepted || is_empty y.told) ≡ true)) c.requires.sound.config
     (ok.3 s (sym c.max-now.ensures) m) in
     let held = held_when_run config s (Storing (Some key) outcome) (step_silent 0 [] None accepted x.0.told) in
-    let same : making_of (g.S.Store.frame mid) ≡ making = ap making_of c.in_ok-accepted.ensures.frame.rest in
-    let h = subst (λ (now : ℕ). HandsOut config making outcome now held (waiting_on load l) (g.S.Store.stands is) (but_for load l) k dropped dropping b d between new noting noted) c.max-now.ensures
-    (subst (λ (drop : Bool). HandsOut config making outcome c.max-now.result held (waiting_on load l) (g.S.Store.stands is) (but_for load l) k drop dropping b d between new noting noted) c.store_for.ensures.dropped
-    (subst (λ (made : Making). HandsOut config made outcome c.max-now.result held (waiting_on load l) (g.S.Store.stands is) (but_for load l) k (g.S.Store.frame mid).dropped dropping b d between new noting noted) same
+    let same : making_of (g.S.Store.view mid).frame ≡ making = ap making_of c.in_ok-accepted.ensures.frame.rest in
+    let h = subst (λ (now : ℕ). HandsOut config making outcome now held (waiting_on load l) (g.S.Store.view is).Stands (but_for load l) k dropped dropping b d between new noting noted) c.max-now.ensures
+    (subst (λ (drop : Bool). HandsOut config making outcome c.max-now.result held (waiting_on load l) (g.S.Store.view is).Stands (but_for load l) k drop dropping b d between new noting noted) c.store_for.ensures.dropped
+    (subst (λ (made : Making). HandsOut config made outcome c.max-now.result held (waiting_on load l) (g.S.Store.view is).Stands (but_for load l) k (g.S.Store.view mid).frame.dropped dropping b d between new noting noted) same
     (c.settle_answer.ensures.out held x.0.left))) in
-    answered-same config making load latest moment outcome accepted values (g.S.Store.stands is) l k old between new dropped dropping a d told last c.reserve_for.ensures.same
-    (answered config making load latest moment key outcome accepted values (g.S.Store.stands mid) (g.S.Store.stands is) l k between new dropped dropping a b d told telling last (kept_steps c.settle_answer.new.kept) c.requires.admitted ok.1 ok.2 x.0 x.1 c.store_for.ensures.identifiers h)
+    answered-same config making load latest moment outcome accepted values (g.S.Store.view is).Stands l k old between new dropped dropping a d told last c.reserve_for.ensures.same
+    (answered config making load latest moment key outcome accepted values (g.S.Store.view mid).Stands (g.S.Store.view is).Stands l k between new dropped dropping a b d told telling last (kept_steps c.settle_answer.new.kept) c.requires.admitted ok.1 ok.2 x.0 x.1 c.store_for.ensures.identifiers h)
 
 pub returns-clause-count : goal.returns-clause-count
 returns-clause-count g c = c.settle_answer.ensures.count ∙ ap (λ (s : Situation). s.opened) (c.reserve_for.ensures.same.situation 0 (under_way c.args.loads.now) false [])

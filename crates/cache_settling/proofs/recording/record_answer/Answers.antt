@@ -5,8 +5,8 @@ use Rattle.audit_model.specs.History.{Storing}
 use Rattle.audit_model.specs.declared.config.Config.{Config}
 use Rattle.audit_model.specs.declared.transcript.Note.{Note}
 use Rattle.cache_store.specs.Handing.{AppendsNotes}
-use Rattle.cache_steps.specs.Loading.{Stores, step_silent}
-use Rattle.cache_steps.specs.Right.{held_when_run}
+use Rattle.cache_commands.specs.Loading.{Stores, step_silent}
+use Rattle.cache_commands.specs.Right.{held_when_run}
 use Rattle.cache_store.specs.Promises.{Frame}
 use Rattle.cache_namespace.specs.Drawing.{identifiers}
 use Rattle.cache_namespace.specs.Making.{Making, making_of}
@@ -42,7 +42,7 @@ returns-clause-ran g c = λ values m.
     let between = c.drain.new.store in
     let is = c.settle_answer.new.store in
     let config = c.args.config.now in
-    let making = making_of (g.S.Store.frame was) in
+    let making = making_of (g.S.Store.view was).frame in
     let load = c.args.load in
     let outcome = c.args.outcome.now in
     let latest = c.args.latest in
@@ -52,35 +52,35 @@ returns-clause-ran g c = λ values m.
     let k = under_way c.settle_answer.new.loads in
     let cs = c.args.connections.now.items in
     let new = c.settle_answer.new.connections.items in
-    let dropped = (g.S.Store.frame was).dropped in
-    let dropping = (g.S.Store.frame is).dropped in
-    let a = identifiers (g.S.Store.stream was) (g.S.Store.registered was) in
-    let b = identifiers (g.S.Store.stream between) (g.S.Store.registered between) in
-    let d = identifiers (g.S.Store.stream is) (g.S.Store.registered is) in
-    let told = g.S.Store.untaken was in
-    let telling = g.S.Store.untaken mid in
-    let noted = noted_in c.settle_answer.new.kept (g.S.Store.untaken is) in
+    let dropped = (g.S.Store.view was).frame.dropped in
+    let dropping = (g.S.Store.view is).frame.dropped in
+    let a = identifiers (g.S.Store.view was).stream (g.S.Store.view was).registered in
+    let b = identifiers (g.S.Store.view between).stream (g.S.Store.view between).registered in
+    let d = identifiers (g.S.Store.view is).stream (g.S.Store.view is).registered in
+    let told = (g.S.Store.view was).untaken in
+    let telling = (g.S.Store.view mid).untaken in
+    let noted = noted_in c.settle_answer.new.kept (g.S.Store.view is).untaken in
     let s = situation (max moment latest) (but_for load l) cs dropped values in
     let ok = c.in_ok-accepted.ensures.ok in
     let key = ok.0 in
-    let x = subst (λ (f : Config). (y : Stores f s key outcome accepted (g.S.Store.stands mid) (AppendsNotes told telling)) × ((is_some accepted || is_empty y.told) ≡ true)) c.requires.sound.config
+    let x = subst (λ (f : Config). (y : Stores f s key outcome accepted (g.S.Store.view mid).Stands (AppendsNotes told telling)) × ((is_some accepted || is_empty y.told) ≡ true)) c.requires.sound.config
     (ok.3 s (sym c.max-now.ensures) m) in
     let held = held_when_run config s (Storing (Some key) outcome) (step_silent 0 [] None accepted x.0.told) in
-    let same : making_of (g.S.Store.frame between) ≡ making = ap making_of c.drain.ensures.frame ∙ ap making_of c.in_ok-accepted.ensures.frame.rest in
-    let drops : (g.S.Store.frame between).dropped ≡ dropped = ap (λ (f : Frame). f.dropped) c.drain.ensures.frame ∙ c.store_for.ensures.dropped in
+    let same : making_of (g.S.Store.view between).frame ≡ making = ap making_of c.drain.ensures.frame ∙ ap making_of c.in_ok-accepted.ensures.frame.rest in
+    let drops : (g.S.Store.view between).frame.dropped ≡ dropped = ap (λ (f : Frame). f.dropped) c.drain.ensures.frame ∙ c.store_for.ensures.dropped in
     let none : Noted = record { kept = Some []; waiting = [] } in
-    let h = subst (λ (now : ℕ). HandsOut config making outcome now held (waiting_on load l) (g.S.Store.stands is) (but_for load l) k dropped dropping b d cs new none noted) c.max-now.ensures
-    (subst (λ (drop : Bool). HandsOut config making outcome c.max-now.result held (waiting_on load l) (g.S.Store.stands is) (but_for load l) k drop dropping b d cs new none noted) drops
-    (subst (λ (made : Making). HandsOut config made outcome c.max-now.result held (waiting_on load l) (g.S.Store.stands is) (but_for load l) k (g.S.Store.frame between).dropped dropping b d cs new none noted) same
-    (subst (λ (w : List Note). HandsOut config (making_of (g.S.Store.frame between)) outcome c.max-now.result held (waiting_on load l) (g.S.Store.stands is) (but_for load l) k (g.S.Store.frame between).dropped dropping b d cs new (record { kept = Some []; waiting = w }) noted) c.drain.ensures.none
+    let h = subst (λ (now : ℕ). HandsOut config making outcome now held (waiting_on load l) (g.S.Store.view is).Stands (but_for load l) k dropped dropping b d cs new none noted) c.max-now.ensures
+    (subst (λ (drop : Bool). HandsOut config making outcome c.max-now.result held (waiting_on load l) (g.S.Store.view is).Stands (but_for load l) k drop dropping b d cs new none noted) drops
+    (subst (λ (made : Making). HandsOut config made outcome c.max-now.result held (waiting_on load l) (g.S.Store.view is).Stands (but_for load l) k (g.S.Store.view between).frame.dropped dropping b d cs new none noted) same
+    (subst (λ (w : List Note). HandsOut config (making_of (g.S.Store.view between).frame) outcome c.max-now.result held (waiting_on load l) (g.S.Store.view is).Stands (but_for load l) k (g.S.Store.view between).frame.dropped dropping b d cs new (record { kept = Some []; waiting = w }) noted) c.drain.ensures.none
     (c.settle_answer.ensures.out held (c.drain.ensures.stands held x.0.left))))) in
     let notes : c.drain.new.notes.items ≡ x.0.told =
     c.drain.ensures.drained ∙ ap (λ ns. ns ++ telling) c.in_ok-notices.ensures.items ∙ x.0.handed.added ∙ ap (λ ns. ns ++ x.0.told) c.requires.untaken in
-    answer-kept config making load latest moment key outcome accepted values (g.S.Store.stands mid) (g.S.Store.stands is) l k cs new dropped dropping a b d told telling c.from_vec.result c.steps_kept.result noted c.requires.admitted ok.1 ok.2 x.0 x.1
+    answer-kept config making load latest moment key outcome accepted values (g.S.Store.view mid).Stands (g.S.Store.view is).Stands l k cs new dropped dropping a b d told telling c.from_vec.result c.steps_kept.result noted c.requires.admitted ok.1 ok.2 x.0 x.1
     (keeps-more _ _ _ _ _ _ c.store_for.ensures.identifiers c.drain.ensures.identifiers) h (c.from_vec.ensures ∙ notes) c.steps_kept.ensures
 
 pub returns-clause-untold : goal.returns-clause-untold
-returns-clause-untold g c = (made-fresh c.settle_answer.new.kept (g.S.Store.untaken c.settle_answer.new.store) c.settle_answer.new.connections.items c.settle_answer.ensures.made c.settle_answer.ensures.fresh).0
+returns-clause-untold g c = (made-fresh c.settle_answer.new.kept (g.S.Store.view c.settle_answer.new.store).untaken c.settle_answer.new.connections.items c.settle_answer.ensures.made c.settle_answer.ensures.fresh).0
 
 pub returns-clause-untaken : goal.returns-clause-untaken
-returns-clause-untaken g c = (made-fresh c.settle_answer.new.kept (g.S.Store.untaken c.settle_answer.new.store) c.settle_answer.new.connections.items c.settle_answer.ensures.made c.settle_answer.ensures.fresh).1
+returns-clause-untaken g c = (made-fresh c.settle_answer.new.kept (g.S.Store.view c.settle_answer.new.store).untaken c.settle_answer.new.connections.items c.settle_answer.ensures.made c.settle_answer.ensures.fresh).1

@@ -28,26 +28,26 @@ returns-clause-ran g c = λ values m.
     let was = c.args.store.now in
     let is = c.settle_give_up.new.store in
     let config = c.args.config.now in
-    let making = making_of (g.S.Store.frame was) in
+    let making = making_of (g.S.Store.view was).frame in
     let load = c.args.load in
     let l = under_way c.args.loads.now in
     let k = under_way c.settle_give_up.new.loads in
     let cs = c.args.connections.now.items in
     let new = c.settle_give_up.new.connections.items in
-    let dropped = (g.S.Store.frame was).dropped in
-    let dropping = (g.S.Store.frame is).dropped in
-    let a = identifiers (g.S.Store.stream was) (g.S.Store.registered was) in
-    let b = identifiers (g.S.Store.stream is) (g.S.Store.registered is) in
+    let dropped = (g.S.Store.view was).frame.dropped in
+    let dropping = (g.S.Store.view is).frame.dropped in
+    let a = identifiers (g.S.Store.view was).stream (g.S.Store.view was).registered in
+    let b = identifiers (g.S.Store.view is).stream (g.S.Store.view is).registered in
     let none : Noted = record { kept = Some []; waiting = [] } in
-    let noted = noted_in c.settle_give_up.new.kept (g.S.Store.untaken is) in
-    give-up-kept config making load c.args.latest c.args.moment values (g.S.Store.stands is) l k dropped dropping a b cs new c.steps_kept.result noted c.requires.admitted
-    (subst (λ (now : ℕ). GivesUp config making now values (waiting_on load l) [] (g.S.Store.stands is) (but_for load l) k dropped dropping a b cs new none noted) c.max-now.ensures
-    (subst (λ (w : List Note). GivesUp config making c.max-now.result values (waiting_on load l) [] (g.S.Store.stands is) (but_for load l) k dropped dropping a b cs new (record { kept = Some []; waiting = w }) noted) c.requires.untaken
-    (subst (λ (steps : List Ran). GivesUp config making c.max-now.result values (waiting_on load l) [] (g.S.Store.stands is) (but_for load l) k dropped dropping a b cs new (record { kept = Some steps; waiting = g.S.Store.untaken was }) noted) c.in_ok-kept.ensures.steps
+    let noted = noted_in c.settle_give_up.new.kept (g.S.Store.view is).untaken in
+    give-up-kept config making load c.args.latest c.args.moment values (g.S.Store.view is).Stands l k dropped dropping a b cs new c.steps_kept.result noted c.requires.admitted
+    (subst (λ (now : ℕ). GivesUp config making now values (waiting_on load l) [] (g.S.Store.view is).Stands (but_for load l) k dropped dropping a b cs new none noted) c.max-now.ensures
+    (subst (λ (w : List Note). GivesUp config making c.max-now.result values (waiting_on load l) [] (g.S.Store.view is).Stands (but_for load l) k dropped dropping a b cs new (record { kept = Some []; waiting = w }) noted) c.requires.untaken
+    (subst (λ (steps : List Ran). GivesUp config making c.max-now.result values (waiting_on load l) [] (g.S.Store.view is).Stands (but_for load l) k dropped dropping a b cs new (record { kept = Some steps; waiting = (g.S.Store.view was).untaken }) noted) c.in_ok-kept.ensures.steps
     (c.settle_give_up.ensures.ran values m)))) c.steps_kept.ensures
 
 pub returns-clause-untold : goal.returns-clause-untold
-returns-clause-untold g c = (made-fresh c.settle_give_up.new.kept (g.S.Store.untaken c.settle_give_up.new.store) c.settle_give_up.new.connections.items c.settle_give_up.ensures.made c.settle_give_up.ensures.fresh).0
+returns-clause-untold g c = (made-fresh c.settle_give_up.new.kept (g.S.Store.view c.settle_give_up.new.store).untaken c.settle_give_up.new.connections.items c.settle_give_up.ensures.made c.settle_give_up.ensures.fresh).0
 
 pub returns-clause-untaken : goal.returns-clause-untaken
-returns-clause-untaken g c = (made-fresh c.settle_give_up.new.kept (g.S.Store.untaken c.settle_give_up.new.store) c.settle_give_up.new.connections.items c.settle_give_up.ensures.made c.settle_give_up.ensures.fresh).1
+returns-clause-untaken g c = (made-fresh c.settle_give_up.new.kept (g.S.Store.view c.settle_give_up.new.store).untaken c.settle_give_up.new.connections.items c.settle_give_up.ensures.made c.settle_give_up.ensures.fresh).1

@@ -15,8 +15,8 @@ pub loop-number-init : goal.loop-number-init
 loop-number-init g c =
     let was = c.args.store.now in record {
       ran = λ values m.
-          runs-first c.args.config.now (making_of (g.S.Store.frame was)) c.args.now c.args.told.now (under_way c.args.loads.now) c.args.connections.now.items (g.S.Store.frame was).dropped values (g.S.Store.stands was)
-          (identifiers (g.S.Store.stream was) (g.S.Store.registered was)) (noted_in c.args.kept.now (g.S.Store.untaken was)) m;
+          runs-first c.args.config.now (making_of (g.S.Store.view was).frame) c.args.now c.args.told.now (under_way c.args.loads.now) c.args.connections.now.items (g.S.Store.view was).frame.dropped values (g.S.Store.view was).Stands
+          (identifiers (g.S.Store.view was).stream (g.S.Store.view was).registered) (noted_in c.args.kept.now (g.S.Store.view was).untaken) m;
       frame = record { rest = refl; latest = c.requires.in_time };
       fresh = c.requires.fresh;
       made = refl;
@@ -42,23 +42,23 @@ loop-number-preserved g c =
     let l = under_way c.args.loads.now in
     let j = under_way c.loop-number.loads in
     let k = under_way c.resume_at.new.loads in
-    let drawn = identifiers (g.S.Store.stream was) (g.S.Store.registered was) in
-    let drawing = identifiers (g.S.Store.stream mid) (g.S.Store.registered mid) in
-    let draws = identifiers (g.S.Store.stream is) (g.S.Store.registered is) in
-    let noting = noted_in c.args.kept.now (g.S.Store.untaken was) in
-    let noted = noted_in c.loop-number.kept (g.S.Store.untaken mid) in
-    let notes = noted_in c.resume_at.new.kept (g.S.Store.untaken is) in
-    let same : making_of (g.S.Store.frame mid) ≡ making_of (g.S.Store.frame was) = ap making_of i.frame.rest in
+    let drawn = identifiers (g.S.Store.view was).stream (g.S.Store.view was).registered in
+    let drawing = identifiers (g.S.Store.view mid).stream (g.S.Store.view mid).registered in
+    let draws = identifiers (g.S.Store.view is).stream (g.S.Store.view is).registered in
+    let noting = noted_in c.args.kept.now (g.S.Store.view was).untaken in
+    let noted = noted_in c.loop-number.kept (g.S.Store.view mid).untaken in
+    let notes = noted_in c.resume_at.new.kept (g.S.Store.view is).untaken in
+    let same : making_of (g.S.Store.view mid).frame ≡ making_of (g.S.Store.view was).frame = ap making_of i.frame.rest in
     record {
       ran = λ values m.
-          let r = subst (λ xs. RunsThem config (making_of (g.S.Store.frame was)) c.args.now values ns xs (g.S.Store.stands mid) l j (g.S.Store.frame was).dropped (g.S.Store.frame mid).dropped drawn drawing old between noting noted)
+          let r = subst (λ xs. RunsThem config (making_of (g.S.Store.view was).frame) c.args.now values ns xs (g.S.Store.view mid).Stands l j (g.S.Store.view was).frame.dropped (g.S.Store.view mid).frame.dropped drawn drawing old between noting noted)
           (rest-next ns at c.loop-number-test.true) (i.ran values m) in
-          let q = subst (λ (making : Making). RunsThem config making c.args.now r.held (n ∷ []) [] (g.S.Store.stands is) j k (g.S.Store.frame mid).dropped (g.S.Store.frame is).dropped drawing draws between new noted notes) same
+          let q = subst (λ (making : Making). RunsThem config making c.args.now r.held (n ∷ []) [] (g.S.Store.view is).Stands j k (g.S.Store.view mid).frame.dropped (g.S.Store.view is).frame.dropped drawing draws between new noted notes) same
           (c.resume_at.ensures.ran r.held r.stands) in
-          runs-next config (making_of (g.S.Store.frame was)) c.args.now n ns rest l j k old between new (g.S.Store.frame was).dropped (g.S.Store.frame mid).dropped (g.S.Store.frame is).dropped values (g.S.Store.stands mid) (g.S.Store.stands is) drawn drawing draws
+          runs-next config (making_of (g.S.Store.view was).frame) c.args.now n ns rest l j k old between new (g.S.Store.view was).frame.dropped (g.S.Store.view mid).frame.dropped (g.S.Store.view is).frame.dropped values (g.S.Store.view mid).Stands (g.S.Store.view is).Stands drawn drawing draws
           noting noted notes r q;
       frame = record {
-        rest = c.resume_at.ensures.frame.rest ∙ ap (λ (f : Frame). record f { dropped = (g.S.Store.frame is).dropped; latest = (g.S.Store.frame is).latest }) i.frame.rest;
+        rest = c.resume_at.ensures.frame.rest ∙ ap (λ (f : Frame). record f { dropped = (g.S.Store.view is).frame.dropped; latest = (g.S.Store.view is).frame.latest }) i.frame.rest;
         latest = c.resume_at.ensures.frame.latest;
       };
       fresh = c.resume_at.ensures.fresh;

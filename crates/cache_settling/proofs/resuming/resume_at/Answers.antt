@@ -20,12 +20,12 @@ returns-then-number-eq0-clause-ran g c = λ values m.
     let cs = c.args.connections.now.items in
     let away : (c.args.number ≡ 0) ⊎ (length cs < c.args.number) = elim c.then-number-eq0.branch [ then-number-eq0-via-then-number-eq0 w ↦ inl w.if-number-eq0.true | then-number-eq0-via-else-number-eq0+then-number-len w ↦ inr (omega (arith, w.if-number-len.true, w.len.ensures)) ] in
     let st = c.args.store.now in
-    let told = g.S.Store.untaken st in
+    let told = (g.S.Store.view st).untaken in
     let l = under_way c.args.loads.now in
-    let ids = identifiers (g.S.Store.stream st) (g.S.Store.registered st) in
+    let ids = identifiers (g.S.Store.view st).stream (g.S.Store.view st).registered in
     let same : noted_in c.args.kept.now told ≡ noted_in c.restock_where.new.kept told = ap (λ ss. record { kept = ss; waiting = told }) (sym c.restock_where.ensures.steps) in
-    subst (λ (n : Noted). RunsThem c.args.config.now (making_of (g.S.Store.frame st)) c.args.now values (c.args.number ∷ []) [] (g.S.Store.stands st) l l (g.S.Store.frame st).dropped (g.S.Store.frame st).dropped ids ids cs cs (noted_in c.args.kept.now told) n) same
-    (runs-none c.args.config.now (making_of (g.S.Store.frame c.args.store.now)) c.args.now c.args.number (under_way c.args.loads.now) cs (g.S.Store.frame c.args.store.now).dropped values (g.S.Store.stands c.args.store.now) (identifiers (g.S.Store.stream c.args.store.now) (g.S.Store.registered c.args.store.now)) (noted_in c.args.kept.now told)
+    subst (λ (n : Noted). RunsThem c.args.config.now (making_of (g.S.Store.view st).frame) c.args.now values (c.args.number ∷ []) [] (g.S.Store.view st).Stands l l (g.S.Store.view st).frame.dropped (g.S.Store.view st).frame.dropped ids ids cs cs (noted_in c.args.kept.now told) n) same
+    (runs-none c.args.config.now (making_of (g.S.Store.view c.args.store.now).frame) c.args.now c.args.number (under_way c.args.loads.now) cs (g.S.Store.view c.args.store.now).frame.dropped values (g.S.Store.view c.args.store.now).Stands (identifiers (g.S.Store.view c.args.store.now).stream (g.S.Store.view c.args.store.now).registered) (noted_in c.args.kept.now told)
     (none-there cs c.args.number away) m)
 
 pub returns-then-not-runs_there-clause-ran : goal.returns-then-not-runs_there-clause-ran
@@ -34,12 +34,12 @@ returns-then-not-runs_there-clause-ran g c = λ values m.
     let e : c.args.number ≡ suc (c.args.number - 1) = omega (arith, c.if-number-eq0.false) in
     let none : runs_at (slice_get cs (c.args.number - 1)) ≡ false = sym (c.runs_there.ensures ∙ ap (λ ks. runs_at (slice_get ks (c.args.number - 1))) c.deref.ensures.value) ∙ c.if-not-runs_there.true in
     let st = c.args.store.now in
-    let told = g.S.Store.untaken st in
+    let told = (g.S.Store.view st).untaken in
     let l = under_way c.args.loads.now in
-    let ids = identifiers (g.S.Store.stream st) (g.S.Store.registered st) in
+    let ids = identifiers (g.S.Store.view st).stream (g.S.Store.view st).registered in
     let same : noted_in c.args.kept.now told ≡ noted_in c.restock_where.new.kept told = ap (λ ss. record { kept = ss; waiting = told }) (sym c.restock_where.ensures.steps) in
-    subst (λ (n : Noted). RunsThem c.args.config.now (making_of (g.S.Store.frame st)) c.args.now values (c.args.number ∷ []) [] (g.S.Store.stands st) l l (g.S.Store.frame st).dropped (g.S.Store.frame st).dropped ids ids cs cs (noted_in c.args.kept.now told) n) same
-    (runs-none c.args.config.now (making_of (g.S.Store.frame c.args.store.now)) c.args.now c.args.number (under_way c.args.loads.now) cs (g.S.Store.frame c.args.store.now).dropped values (g.S.Store.stands c.args.store.now) (identifiers (g.S.Store.stream c.args.store.now) (g.S.Store.registered c.args.store.now)) (noted_in c.args.kept.now told)
+    subst (λ (n : Noted). RunsThem c.args.config.now (making_of (g.S.Store.view st).frame) c.args.now values (c.args.number ∷ []) [] (g.S.Store.view st).Stands l l (g.S.Store.view st).frame.dropped (g.S.Store.view st).frame.dropped ids ids cs cs (noted_in c.args.kept.now told) n) same
+    (runs-none c.args.config.now (making_of (g.S.Store.view c.args.store.now).frame) c.args.now c.args.number (under_way c.args.loads.now) cs (g.S.Store.view c.args.store.now).frame.dropped values (g.S.Store.view c.args.store.now).Stands (identifiers (g.S.Store.view c.args.store.now).stream (g.S.Store.view c.args.store.now).registered) (noted_in c.args.kept.now told)
     (none-here cs c.args.number (c.args.number - 1) e none) m)
 
 pub returns-clause-ran : goal.returns-clause-ran
@@ -49,18 +49,18 @@ returns-clause-ran g c = λ values m.
     let was = c.args.store.now in
     let is = c.resume_there-closed.new.store in
     let l = under_way c.args.loads.now in
-    let dropped = (g.S.Store.frame was).dropped in
+    let dropped = (g.S.Store.view was).frame.dropped in
     let e : c.args.number ≡ suc (c.args.number - 1) = omega (arith, c.if-number-eq0.false) in
     let runs : runs_at (slice_get cs (c.args.number - 1)) ≡ true = sym (c.runs_there.ensures ∙ ap (λ ks. runs_at (slice_get ks (c.args.number - 1))) c.deref.ensures.value) ∙ c.if-not-runs_there.false in
     let p = c.resume_there-closed.ensures.ran.0 in
     let so = runs-here cs (c.args.number - 1) p.was p.at runs in
     let there = there-at c.args.now c.args.number (c.args.number - 1) l cs dropped values p.was e p.at so.1 in
     let f = c.resume_there-closed.ensures.ran.2 (situation c.args.now l cs dropped values) values refl refl refl there m in
-    let told = g.S.Store.untaken was in
+    let told = (g.S.Store.view was).untaken in
     let same : noted_in c.restock_where.new.kept told ≡ noted_in c.args.kept.now told = ap (λ ss. record { kept = ss; waiting = told }) c.restock_where.ensures.steps in
-    subst (λ (n : Noted). RunsThem c.args.config.now (making_of (g.S.Store.frame was)) c.args.now values (c.args.number ∷ []) [] (g.S.Store.stands is) l (under_way c.leave_where.new.loads) dropped (g.S.Store.frame is).dropped (identifiers (g.S.Store.stream was) (g.S.Store.registered was)) (identifiers (g.S.Store.stream is) (g.S.Store.registered is)) cs after n (noted_in c.resume_there-closed.new.kept (g.S.Store.untaken is))) same
-    (runs-resumed c.args.config.now (making_of (g.S.Store.frame was)) c.args.now c.args.number (c.args.number - 1) l (under_way c.resume_there-closed.new.loads) (under_way c.leave_where.new.loads) cs after dropped (g.S.Store.frame is).dropped c.resume_there-closed.result f.0 values (g.S.Store.stands is)
-    (workings (g.S.Store.stream was) (g.S.Store.registered was) (g.S.Store.recency was)) (workings (g.S.Store.stream is) (g.S.Store.registered is) (g.S.Store.recency is)) (noted_in c.restock_where.new.kept told) (noted_in c.resume_there-closed.new.kept (g.S.Store.untaken is))
+    subst (λ (n : Noted). RunsThem c.args.config.now (making_of (g.S.Store.view was).frame) c.args.now values (c.args.number ∷ []) [] (g.S.Store.view is).Stands l (under_way c.leave_where.new.loads) dropped (g.S.Store.view is).frame.dropped (identifiers (g.S.Store.view was).stream (g.S.Store.view was).registered) (identifiers (g.S.Store.view is).stream (g.S.Store.view is).registered) cs after n (noted_in c.resume_there-closed.new.kept (g.S.Store.view is).untaken)) same
+    (runs-resumed c.args.config.now (making_of (g.S.Store.view was).frame) c.args.now c.args.number (c.args.number - 1) l (under_way c.resume_there-closed.new.loads) (under_way c.leave_where.new.loads) cs after dropped (g.S.Store.view is).frame.dropped c.resume_there-closed.result f.0 values (g.S.Store.view is).Stands
+    (workings (g.S.Store.view was).stream (g.S.Store.view was).registered (g.S.Store.view was).Used) (workings (g.S.Store.view is).stream (g.S.Store.view is).registered (g.S.Store.view is).Used) (noted_in c.restock_where.new.kept told) (noted_in c.resume_there-closed.new.kept (g.S.Store.view is).untaken)
     e p runs c.resume_there-closed.ensures.ran.1 c.resume_there-closed.ensures.ran.4 c.leave_where.ensures.left f.1)
 
 pub returns-clause-others : goal.returns-clause-others
@@ -69,26 +69,26 @@ returns-clause-others g c = λ place ne. replaced-others c.args.connections.now.
 pub resume_there-closed-requires-clause-fresh : goal.resume_there-closed-requires-clause-fresh
 resume_there-closed-requires-clause-fresh g c =
     let cs = c.args.connections.now.items in
-    let told = g.S.Store.untaken c.args.store.now in
+    let told = (g.S.Store.view c.args.store.now).untaken in
     let at = c.args.number - 1 in
     subst (λ ss. IsFresh (record { text = text_at cs at; kept = ss; waiting = told })) (sym c.restock_where.ensures.steps) (fresh-at (noted_in c.args.kept.now told) cs at c.requires.fresh)
 
 pub returns-then-number-eq0-clause-fresh : goal.returns-then-number-eq0-clause-fresh
 returns-then-number-eq0-clause-fresh g c =
-    let told = g.S.Store.untaken c.args.store.now in
+    let told = (g.S.Store.view c.args.store.now).untaken in
     subst (λ ss. NothingWaits (record { kept = ss; waiting = told }) c.args.connections.now.items) (sym c.restock_where.ensures.steps) c.requires.fresh
 
 pub returns-then-not-runs_there-clause-fresh : goal.returns-then-not-runs_there-clause-fresh
 returns-then-not-runs_there-clause-fresh g c =
-    let told = g.S.Store.untaken c.args.store.now in
+    let told = (g.S.Store.view c.args.store.now).untaken in
     subst (λ ss. NothingWaits (record { kept = ss; waiting = told }) c.args.connections.now.items) (sym c.restock_where.ensures.steps) c.requires.fresh
 
 pub returns-clause-fresh : goal.returns-clause-fresh
 returns-clause-fresh g c =
-    let told = g.S.Store.untaken c.args.store.now in
+    let told = (g.S.Store.view c.args.store.now).untaken in
     let cs = c.args.connections.now.items in
     let ran = c.resume_there-closed.ensures.ran in
-    fresh-replaced cs c.resume_there-closed.new.connections.items (c.args.number - 1) ran.0 c.restock_where.new.kept c.resume_there-closed.new.kept told (g.S.Store.untaken c.resume_there-closed.new.store) c.resume_there-closed.ensures.more
+    fresh-replaced cs c.resume_there-closed.new.connections.items (c.args.number - 1) ran.0 c.restock_where.new.kept c.resume_there-closed.new.kept told (g.S.Store.view c.resume_there-closed.new.store).untaken c.resume_there-closed.ensures.more
     (subst (λ ss. NothingWaits (record { kept = ss; waiting = told }) cs) (sym c.restock_where.ensures.steps) c.requires.fresh) ran.3
 
 pub returns-clause-stocked : goal.returns-clause-stocked

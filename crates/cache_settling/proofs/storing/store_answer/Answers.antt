@@ -1,22 +1,25 @@
-use Rattle.std.proofs.Common.{Some, sym, ap, ◌∙◌}
-use Rattle.audit_model.specs.History.{Storing, accepts_values}
-use Rattle.audit_model.specs.Replies.{offered, taken_where}
-use Rattle.audit_model.specs.Situation.{view_in}
-use Rattle.cache_steps.proofs.LoadSteps.{stores-off}
-use Rattle.cache_settling.proofs.Stored.{stores-nothing}
+use Rattle.std.proofs.Common.{◌≡◌, ◌≤◌, ◌+◌, length, arith, ap, refl, subst, sym}
+use Rattle.cache_store.specs.Identifiers.{KeepsIdentifiers}
+use Rattle.cache_store.specs.Promises.{Frame, IsUnchanged}
+use Rattle.cache_store.specs.Recency.{KeepsRecency}
 use Rattle.cache_settling.proofs.storing.store_answer.Goals as goal
 
-pub returns-then-not-takes_values-clause-ok : goal.returns-then-not-takes_values-clause-ok
-returns-then-not-takes_values-clause-ok g c = λ s e m.
-    let config = (g.S.Store.frame c.args.store.now).config in
-    stores-nothing config s c.args.key.now c.args.outcome.now _ _ (stores-off config s c.args.key.now c.args.outcome.now (ap accepts_values c.requires.capacity ∙ sym c.takes_values.ensures ∙ c.if-not-takes_values.true)) (g.met.S.Store.idle c.args.store.now s.held s.latest m)
+pub returns-in-Ok : goal.returns-in-Ok
+returns-in-Ok g c =
+    let a = c.in-Ok.ensures.ok in
+    record { ok = λ s e m. a.right s e m; part = a.part; few = a.few; frame = a.frame; dropped = a.dropped; identifiers = a.identifiers; unchanged = tt; unmoved = tt }
 
-pub returns-in-None-clause-ok : goal.returns-in-None-clause-ok
-returns-in-None-clause-ok g c = λ s e m.
-    let config = (g.S.Store.frame c.args.store.now).config in
-    stores-nothing config s c.args.key.now c.args.outcome.now _ _ (ap (λ o. taken_where (accepts_values config.capacity) (offered (view_in config s) (Storing (Some c.args.key.now) o))) c.in-None.is) (g.met.S.Store.idle c.args.store.now s.held s.latest m)
-
-pub returns-in-Fault-clause-ok : goal.returns-in-Fault-clause-ok
-returns-in-Fault-clause-ok g c = λ s e m.
-    let config = (g.S.Store.frame c.args.store.now).config in
-    stores-nothing config s c.args.key.now c.args.outcome.now _ _ (ap (λ o. taken_where (accepts_values config.capacity) (offered (view_in config s) (Storing (Some c.args.key.now) o))) c.in-Fault.is) (g.met.S.Store.idle c.args.store.now s.held s.latest m)
+pub returns-in-Err : goal.returns-in-Err
+returns-in-Err g c =
+    let was = g.S.Store.view c.args.store.now in
+    let same = c.in-Err.ensures.unchanged in
+    record {
+      ok = tt;
+      part = tt;
+      few = subst (λ st. length (g.S.Store.view st).untaken ≤ length was.untaken + was.count + 1) (sym same) (omega arith);
+      frame = tt;
+      dropped = ap (λ st. (g.S.Store.view st).frame.dropped) same;
+      identifiers = subst (λ st. KeepsIdentifiers was.stream (g.S.Store.view st).stream was.registered (g.S.Store.view st).registered) (sym same) (record { stream = refl; registered = λ part id h. h });
+      unchanged = subst (λ st. IsUnchanged was.Stands (g.S.Store.view st).Stands was.frame (g.S.Store.view st).frame was.untaken (g.S.Store.view st).untaken) (sym same) (record { stands = λ held h. h; frame = refl; untaken = refl });
+      unmoved = subst (λ st. KeepsRecency was.Used (g.S.Store.view st).Used) (sym same) (λ settled keys u. u);
+    }

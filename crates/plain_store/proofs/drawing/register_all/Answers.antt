@@ -1,6 +1,6 @@
 use Rattle.std.proofs.Common.{◌≡◌, refl, sym, subst, arith}
 use Rattle.std.proofs.lemmas.List.{append-nil, append_assoc}
-use Rattle.plain_store.proofs.Drawn.{Adding, adding_start, adding_more, adding_end, put_back, used_up, on_from}
+use Rattle.plain_store.proofs.Drawn.{Adding, adding_start, adding_more, adding_end, put_back, used_up}
 use Rattle.plain_store.proofs.drawing.register_all.Goals as goal
 
 pub loop-part-init : goal.loop-part-init
@@ -28,17 +28,17 @@ pub loop-part-smaller : goal.loop-part-smaller
 loop-part-smaller g c = omega arith
 
 pub returns-in_default : goal.returns-in_default
-returns-in_default g c = record { ok = tt; in_use = λ e. absurd cc; draws = record { number = 0; stream = refl }; unchanged = c.try_reserve.ensures.items }
+returns-in_default g c = record { ok = tt; in_use = tt; kept = tt; undrawn = refl; unchanged = c.try_reserve.ensures.items }
 
 pub returns-in-None : goal.returns-in-None
 returns-in-None g c = record {
-  ok = tt;
+  ok = λ e. absurd cc;
   in_use = λ _.
       used_up c.args.parts c.loop-part.part (g.R.Rng.stream c.args.generator.now) (g.R.Rng.stream c.loop-part.generator) (g.R.Rng.stream c.draw.new.generator) c.args.register.now.items c.loop-part.register.items
       (let t = c.loop-part-test.true in omega arith) c.loop-part.invariant.adding (c.in-None.ensures.none refl);
-  draws = on_from c.loop-part.part (g.R.Rng.stream c.args.generator.now) (g.R.Rng.stream c.loop-part.generator) (g.R.Rng.stream c.draw.new.generator) c.args.register.now.items c.loop-part.register.items _
-      c.loop-part.invariant.adding (c.in-None.ensures.none refl);
-  unchanged = put_back _ c.args.register.now.items c.loop-part.invariant.adding.added c.loop-part.register.items _ c.loop-part.invariant.before c.loop-part.invariant.adding.whole c.truncate.ensures.items;
+  kept = λ _. put_back _ c.args.register.now.items c.loop-part.invariant.adding.added c.loop-part.register.items _ c.loop-part.invariant.before c.loop-part.invariant.adding.whole c.truncate.ensures.items;
+  undrawn = tt;
+  unchanged = tt;
 }
 
 pub returns : goal.returns
@@ -46,9 +46,10 @@ returns g c =
     let t = c.loop-part-test.false in
     let e = c.loop-part.auto.part-end in
     let is : c.loop-part.part ≡ c.args.parts = omega arith in record {
-      ok = adding_end c.args.parts (g.R.Rng.stream c.args.generator.now) (g.R.Rng.stream c.loop-part.generator) c.args.register.now.items c.loop-part.register.items c.requires.some
+      ok = λ _. adding_end c.args.parts (g.R.Rng.stream c.args.generator.now) (g.R.Rng.stream c.loop-part.generator) c.args.register.now.items c.loop-part.register.items c.requires.some
           (subst (λ n. Adding n (g.R.Rng.stream c.args.generator.now) (g.R.Rng.stream c.loop-part.generator) c.args.register.now.items c.loop-part.register.items) is c.loop-part.invariant.adding);
       in_use = λ e. absurd cc;
-      draws = tt;
+      kept = λ e. absurd cc;
+      undrawn = tt;
       unchanged = tt;
     }

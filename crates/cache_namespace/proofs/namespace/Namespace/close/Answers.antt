@@ -18,7 +18,7 @@ returns-clause-ran g c = λ values was m.
     let old = c.args.self.now in
     let place = rw c.deref.ensures.value at c.in-Ok.ensures.place in
     let p = c.close_at.ensures in
-    taken-close old.config (making_of (g.S.Store.frame old.store)) old.latest c.args.number c.in-Ok.index (under_way old.loads) (under_way c.leave.new.self) old.connections.items c.close_at.new.connections.items (g.S.Store.frame old.store).dropped values (g.S.Store.stands old.store) (workings (g.S.Store.stream old.store) (g.S.Store.registered old.store) (g.S.Store.recency old.store)) was
+    taken-close old.config (making_of (g.S.Store.view old.store).frame) old.latest c.args.number c.in-Ok.index (under_way old.loads) (under_way c.leave.new.self) old.connections.items c.close_at.new.connections.items (g.S.Store.view old.store).frame.dropped values (g.S.Store.view old.store).Stands (workings (g.S.Store.view old.store).stream (g.S.Store.view old.store).registered (g.S.Store.view old.store).Used) was
     (left-is old.loads c.leave.new.self c.args.number c.leave.ensures.sent c.leave.ensures.pending) place.0 place.1 (rw c.deref.ensures.value at c.in-Ok.ensures.open) p.0 p.1 m
 
 pub returns-clause-texts : goal.returns-clause-texts
@@ -47,4 +47,4 @@ returns-clause-open g c =
     ap (closing_at c.args.self.now.connections.items) at ∙ closing-none c.args.self.now.connections.items c.in-Ok.index (rw c.deref.ensures.value at c.in-Ok.ensures.open)
 
 pub returns-clause-bounded : goal.returns-clause-bounded
-returns-clause-bounded g c = λ values m. subst (λ (k : Config). IsTrue (is_bounded k values)) c.requires.sound.config (g.met.S.Store.bounded c.args.self.now.store values m)
+returns-clause-bounded g c = λ values m. subst (λ (k : Config). IsTrue (is_bounded k values)) c.requires.sound.config (c.sound.ensures.bounded values m)

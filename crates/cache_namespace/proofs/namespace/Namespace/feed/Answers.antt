@@ -18,8 +18,8 @@ returns-in-Ok-feed_at-clause-ran g c = λ values m.
     let old = c.args.self.now in
     let ran = c.in-Ok-feed_at.ensures.ran in
     let place = rw c.deref.ensures.value at c.in-Ok.ensures.place in
-    taken-feed old.config (making_of (g.S.Store.frame old.store)) old.latest c.max-now.result c.args.number c.in-Ok.index (c.args.number - 1) c.args.moment (under_way old.loads) (under_way c.feed_at.new.loads) (under_way c.leave_closed.new.loads) old.connections.items c.feed_at.new.connections.items (g.S.Store.frame old.store).dropped (g.S.Store.frame c.feed_at.new.store).dropped values
-    c.args.piece.now c.in-Ok-feed_at.is_held (g.S.Store.stands old.store) (g.S.Store.stands c.feed_at.new.store) (workings (g.S.Store.stream old.store) (g.S.Store.registered old.store) (g.S.Store.recency old.store)) (workings (g.S.Store.stream c.feed_at.new.store) (g.S.Store.registered c.feed_at.new.store) (g.S.Store.recency c.feed_at.new.store)) c.args.kept.now c.feed_at.new.kept (g.S.Store.untaken old.store) (g.S.Store.untaken c.feed_at.new.store)
+    taken-feed old.config (making_of (g.S.Store.view old.store).frame) old.latest c.max-now.result c.args.number c.in-Ok.index (c.args.number - 1) c.args.moment (under_way old.loads) (under_way c.feed_at.new.loads) (under_way c.leave_closed.new.loads) old.connections.items c.feed_at.new.connections.items (g.S.Store.view old.store).frame.dropped (g.S.Store.view c.feed_at.new.store).frame.dropped values
+    c.args.piece.now c.in-Ok-feed_at.is_held (g.S.Store.view old.store).Stands (g.S.Store.view c.feed_at.new.store).Stands (workings (g.S.Store.view old.store).stream (g.S.Store.view old.store).registered (g.S.Store.view old.store).Used) (workings (g.S.Store.view c.feed_at.new.store).stream (g.S.Store.view c.feed_at.new.store).registered (g.S.Store.view c.feed_at.new.store).Used) c.args.kept.now c.feed_at.new.kept (g.S.Store.view old.store).untaken (g.S.Store.view c.feed_at.new.store).untaken
     (rw c.deref-in-Ok-feed_at.ensures.value at c.leave_closed.ensures.left) place.0 refl c.max-now.ensures place.1 (omega arith) (rw c.deref.ensures.value at c.in-Ok.ensures.open) ran.0 ran.1 m
 
 pub returns-in-Ok-feed_at-clause-others : goal.returns-in-Ok-feed_at-clause-others
@@ -62,5 +62,5 @@ returns-in-Ok-feed_at-clause-closing g c =
 
 pub returns-in-Ok-feed_at-clause-bounded : goal.returns-in-Ok-feed_at-clause-bounded
 returns-in-Ok-feed_at-clause-bounded g c = λ values m.
-    let same : (g.S.Store.frame c.feed_at.new.store).config ≡ c.args.self.now.config = ap (λ (f : Frame). f.config) c.feed_at.ensures.frame.rest ∙ c.requires.sound.config in
-    subst (λ (k : Config). IsTrue (is_bounded k values)) same (g.met.S.Store.bounded c.feed_at.new.store values m)
+    let same : (g.S.Store.view c.feed_at.new.store).frame.config ≡ c.args.self.now.config = ap (λ (f : Frame). f.config) c.feed_at.ensures.frame.rest ∙ c.requires.sound.config in
+    subst (λ (k : Config). IsTrue (is_bounded k values)) same (c.sound.ensures.bounded values m)

@@ -15,10 +15,10 @@ use Rattle.cache_namespace.proofs.namespace.Namespace.open.Goals as goal
 pub returns-clause-ran : goal.returns-clause-ran
 returns-clause-ran g c = λ values was m.
     let old = c.args.self.now in
-    let frame = g.S.Store.frame old.store in
+    let frame = (g.S.Store.view old.store).frame in
     let n = c.new_connection-connection in
-    subst (λ (cs : List Connection). FollowsEvent old.config (making_of frame) (situation old.latest (under_way old.loads) old.connections.items frame.dropped values) (event.Open c.len.result) false false (g.S.Store.stands old.store) (situation old.latest (under_way old.loads) cs frame.dropped) (workings (g.S.Store.stream old.store) (g.S.Store.registered old.store) (g.S.Store.recency old.store)) (workings (g.S.Store.stream old.store) (g.S.Store.registered old.store) (g.S.Store.recency old.store)) was was) (sym c.in_ok-push.ensures.items)
-    (follows-open old.config (making_of frame) old.latest c.len.result (under_way old.loads) n.result old.connections.items frame.dropped values (g.S.Store.stands old.store) (workings (g.S.Store.stream old.store) (g.S.Store.registered old.store) (g.S.Store.recency old.store)) was (omega (arith, c.in_ok-push.ensures.len, c.len.ensures)) n.ensures.closing n.ensures.standing n.ensures.unread m)
+    subst (λ (cs : List Connection). FollowsEvent old.config (making_of frame) (situation old.latest (under_way old.loads) old.connections.items frame.dropped values) (event.Open c.len.result) false false (g.S.Store.view old.store).Stands (situation old.latest (under_way old.loads) cs frame.dropped) (workings (g.S.Store.view old.store).stream (g.S.Store.view old.store).registered (g.S.Store.view old.store).Used) (workings (g.S.Store.view old.store).stream (g.S.Store.view old.store).registered (g.S.Store.view old.store).Used) was was) (sym c.in_ok-push.ensures.items)
+    (follows-open old.config (making_of frame) old.latest c.len.result (under_way old.loads) n.result old.connections.items frame.dropped values (g.S.Store.view old.store).Stands (workings (g.S.Store.view old.store).stream (g.S.Store.view old.store).registered (g.S.Store.view old.store).Used) was (omega (arith, c.in_ok-push.ensures.len, c.len.ensures)) n.ensures.closing n.ensures.standing n.ensures.unread m)
 
 pub returns-clause-bounded : goal.returns-clause-bounded
-returns-clause-bounded g c = λ values m. subst (λ (k : Config). IsTrue (is_bounded k values)) c.requires.sound.config (g.met.S.Store.bounded c.args.self.now.store values m)
+returns-clause-bounded g c = λ values m. subst (λ (k : Config). IsTrue (is_bounded k values)) c.requires.sound.config (c.sound.ensures.bounded values m)

@@ -1,4 +1,4 @@
-use Rattle.std.proofs.Common.{◌-◌, [], false, max, refl, ap, ◌∙◌, subst}
+use Rattle.std.proofs.Common.{◌-◌, [], false, max, refl, ap, ◌∙◌, subst, sym}
 use Rattle.std.specs.Prelude.{IsTrue}
 use Rattle.std.proofs.Math.Logic.{∥∥₁_elim, ∥∥₁_map}
 use Rattle.std.proofs.Props.{props}
@@ -9,7 +9,6 @@ use Rattle.cache_settling.specs.Laws.{record_answered}
 use Rattle.cache_store.specs.Promises.{Frame}
 use Rattle.cache_store.specs.Running.{is_bounded}
 use Rattle.plain_store.specs.Hashing.{hashed}
-use Rattle.plain_store.specs.Laws.{bounded_from}
 use Rattle.plain_store.specs.Parting.{part_by}
 use Rattle.plain_store.specs.Standing as plain
 use Rattle.cache_spaces.specs.Spaces.{recency_of}
@@ -44,10 +43,10 @@ returns-in-Ok-clause-settled c =
           let entry = record_answered c.args.load c.args.outcome c.args.moment _ x.own x.steps in
           settles-with was _ entry s
           (settles-by was _ (record { part_of = part_by old.store.parts (hashed 0); made = old.store.made }) entry (max c.args.moment old.latest) stands.values x.held s
-          (same-parts old.store.parts old.store.config old.config old.store.counted was.sound.config) refl c.in-Ok.ensures.latest stands.same x.stands x.settles
-          (subst (λ config. IsTrue (is_bounded config x.held)) (c.answer_in.ensures.sound.config ∙ c.answer_in.ensures.config) (bounded_from new.store.config (part_by new.store.parts (hashed 0)) new.store.table new.store.kept x.held x.stands))
+          (same-parts old.store.parts old.store.config old.config (sym c.parts_of-parts.ensures.parts ∙ c.parts_of-parts.ensures.counted) was.sound.config) refl c.in-Ok.ensures.latest stands.same x.stands x.settles
+          (subst (λ config. IsTrue (is_bounded config x.held)) (c.answer_in.ensures.sound.config ∙ c.answer_in.ensures.config) (c.sound.ensures.bounded x.held x.stands))
           (orders-answered old.config _ (recency_of was) (plain.AreInOrder new.store.config new.store.table) (with_values was stands.values) _ c.args.load c.args.moment c.args.outcome entry _ _ refl x.settles))
-          x.texts (own-first old.store.notes.items x.own new.store.notes.items x.steps x.notes);
+          x.texts (own-first old.store.notes x.own new.store.notes x.steps x.notes);
       config = c.answer_in.ensures.config;
       made = ap (λ (f : Frame). f.made) c.in-Ok.ensures.made.rest;
       count = c.in-Ok.ensures.count;

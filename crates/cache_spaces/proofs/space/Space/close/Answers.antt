@@ -1,4 +1,4 @@
-use Rattle.std.proofs.Common.{◌-◌, ap, refl, None, [], false, subst, sym}
+use Rattle.std.proofs.Common.{◌-◌, ap, refl, None, [], false, subst, sym, ◌∙◌}
 use Rattle.cache_namespace.specs.Taken.{is_quit}
 use Rattle.cache_spaces.specs.Spaces.{gathered_in}
 use Rattle.cache_namespace.specs.Waiting.{under_way}
@@ -15,7 +15,7 @@ pub returns-in-Ok-clause-moves : goal.returns-in-Ok-clause-moves
 returns-in-Ok-clause-moves c = λ s was stands.
     let old = c.args.self.now.inner in
     let new = c.close.new.self in
-    moves-from old.config (record { part_of = part_by old.store.parts (hashed 0); made = old.store.made }) (plain.Stands old.store.config old.store.table) (plain.Stands new.store.config new.store.table) old.store.dropped new.store.dropped old.latest new.latest (under_way old.loads) (under_way new.loads) old.connections.items new.connections.items _ _ _ _ _ was was s (same-parts old.store.parts old.store.config old.config old.store.counted c.args.self.now.sound.config) stands (λ values held. c.in-Ok.ensures.ran values was held) c.in-Ok.ensures.bounded
+    moves-from old.config (record { part_of = part_by old.store.parts (hashed 0); made = old.store.made }) (plain.Stands old.store.config old.store.table) (plain.Stands new.store.config new.store.table) old.store.dropped new.store.dropped old.latest new.latest (under_way old.loads) (under_way new.loads) old.connections.items new.connections.items _ _ _ _ _ was was s (same-parts old.store.parts old.store.config old.config (sym c.parts_of-parts.ensures.parts ∙ c.parts_of-parts.ensures.counted) c.args.self.now.sound.config) stands (λ values held. c.in-Ok.ensures.ran values was held) c.in-Ok.ensures.bounded
 
 pub returns-in-Ok-clause-takes : goal.returns-in-Ok-clause-takes
 returns-in-Ok-clause-takes c =
@@ -25,7 +25,7 @@ returns-in-Ok-clause-takes c =
     record {
       serves = λ s stands.
           serves-still c.args.self.now _ c.args.number s _ _
-          (moves-from old.config (record { part_of = part_by old.store.parts (hashed 0); made = old.store.made }) (plain.Stands old.store.config old.store.table) (plain.Stands new.store.config new.store.table) old.store.dropped new.store.dropped old.latest new.latest (under_way old.loads) (under_way new.loads) old.connections.items new.connections.items _ _ _ _ _ was was s (same-parts old.store.parts old.store.config old.config old.store.counted c.args.self.now.sound.config) stands (λ values held. c.in-Ok.ensures.ran values was held) c.in-Ok.ensures.bounded)
+          (moves-from old.config (record { part_of = part_by old.store.parts (hashed 0); made = old.store.made }) (plain.Stands old.store.config old.store.table) (plain.Stands new.store.config new.store.table) old.store.dropped new.store.dropped old.latest new.latest (under_way old.loads) (under_way new.loads) old.connections.items new.connections.items _ _ _ _ _ was was s (same-parts old.store.parts old.store.config old.config (sym c.parts_of-parts.ensures.parts ∙ c.parts_of-parts.ensures.counted) c.args.self.now.sound.config) stands (λ values held. c.in-Ok.ensures.ran values was held) c.in-Ok.ensures.bounded)
           (ap is_quit c.in-Ok.ensures.closed) (c.in-Ok.ensures.texts (c.args.number - 1)) (rw c.in-Ok.ensures.rest refl);
       others = c.in-Ok.ensures.others;
       config = rw c.in-Ok.ensures.rest refl;

@@ -7,7 +7,6 @@ use Rattle.cache_settling.specs.Answered.{but_for}
 use Rattle.cache_settling.specs.Laws.{record_given_up}
 use Rattle.cache_store.specs.Running.{is_bounded}
 use Rattle.plain_store.specs.Hashing.{hashed}
-use Rattle.plain_store.specs.Laws.{bounded_from}
 use Rattle.plain_store.specs.Parting.{part_by}
 use Rattle.plain_store.specs.Standing as plain
 use Rattle.cache_spaces.specs.Knowing.{KnowsWaiting}
@@ -44,9 +43,9 @@ returns-clause-settled c =
           settles-with was _ (record_given_up c.args.load c.args.moment []) s
           (drops-load was _ c.args.load c.args.moment (sym c.refuse_load.ensures ∙ c.in-None.is) c.requires.unwaited (ap (λ n. record old { latest = n; loads = c.settle.new.self }) c.max-self.ensures)
           (loads-left (under_way old.loads) (under_way c.settle.new.self) c.args.load c.settle.ensures.sent c.settle.ensures.pending)
-          (λ values held. subst (λ config. IsTrue (is_bounded config values)) was.sound.config (bounded_from old.store.config (part_by old.store.parts (hashed 0)) old.store.table old.store.kept values held))
-          (same-parts old.store.parts old.store.config old.config old.store.counted was.sound.config) s stands)
-          (writes-none old.connections.items old.connections.items refl) (sym (append-nil old.store.notes.items));
+          (λ values held. subst (λ config. IsTrue (is_bounded config values)) was.sound.config (c.sound.ensures.bounded values held))
+          (same-parts old.store.parts old.store.config old.config (sym c.parts_of-parts.ensures.parts ∙ c.parts_of-parts.ensures.counted) was.sound.config) s stands)
+          (writes-none old.connections.items old.connections.items refl) (sym (append-nil old.store.notes));
       config = refl;
       made = refl;
       count = refl;
@@ -60,6 +59,6 @@ returns-clause-kept c = λ quiet s stands.
     leads-with was _ (record_given_up c.args.load c.args.moment []) s
     (drops-load was _ c.args.load c.args.moment (sym c.refuse_load.ensures ∙ c.in-None.is) c.requires.unwaited (ap (λ n. record old { latest = n; loads = c.settle.new.self }) c.max-self.ensures)
     (loads-left (under_way old.loads) (under_way c.settle.new.self) c.args.load c.settle.ensures.sent c.settle.ensures.pending)
-    (λ values held. subst (λ config. IsTrue (is_bounded config values)) was.sound.config (bounded_from old.store.config (part_by old.store.parts (hashed 0)) old.store.table old.store.kept values held))
-    (same-parts old.store.parts old.store.config old.config old.store.counted was.sound.config) s stands)
+    (λ values held. subst (λ config. IsTrue (is_bounded config values)) was.sound.config (c.sound.ensures.bounded values held))
+    (same-parts old.store.parts old.store.config old.config (sym c.parts_of-parts.ensures.parts ∙ c.parts_of-parts.ensures.counted) was.sound.config) s stands)
     (record { outputs = quiet.outputs; notices = quiet.notices })

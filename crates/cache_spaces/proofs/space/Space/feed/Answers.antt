@@ -1,4 +1,4 @@
-use Rattle.std.proofs.Common.{ap, ◌∙◌, [], false}
+use Rattle.std.proofs.Common.{ap, ◌∙◌, [], false, sym}
 use Rattle.cache_namespace.specs.Shown.{situation}
 use Rattle.cache_store.specs.Promises.{Frame}
 use Rattle.cache_namespace.specs.Waiting.{under_way}
@@ -15,7 +15,7 @@ pub returns-in-Ok-clause-moves : goal.returns-in-Ok-clause-moves
 returns-in-Ok-clause-moves c = λ s stands.
     let old = c.args.self.now.inner in
     let new = c.feed.new.self in
-    moves-from old.config (record { part_of = part_by old.store.parts (hashed 0); made = old.store.made }) (plain.Stands old.store.config old.store.table) (plain.Stands new.store.config new.store.table) old.store.dropped new.store.dropped old.latest new.latest (under_way old.loads) (under_way new.loads) old.connections.items new.connections.items _ _ _ _ _ _ _ s (same-parts old.store.parts old.store.config old.config old.store.counted c.args.self.now.sound.config) stands c.in-Ok.ensures.ran c.in-Ok.ensures.bounded
+    moves-from old.config (record { part_of = part_by old.store.parts (hashed 0); made = old.store.made }) (plain.Stands old.store.config old.store.table) (plain.Stands new.store.config new.store.table) old.store.dropped new.store.dropped old.latest new.latest (under_way old.loads) (under_way new.loads) old.connections.items new.connections.items _ _ _ _ _ _ _ s (same-parts old.store.parts old.store.config old.config (sym c.parts_of-parts.ensures.parts ∙ c.parts_of-parts.ensures.counted) c.args.self.now.sound.config) stands c.in-Ok.ensures.ran c.in-Ok.ensures.bounded
 
 pub returns-in-Err-clause-stands : goal.returns-in-Err-clause-stands
 returns-in-Err-clause-stands c = λ s stands.

@@ -8,7 +8,6 @@ use Rattle.cache_settling.specs.Laws.{record_given_up}
 use Rattle.cache_store.specs.Promises.{Frame}
 use Rattle.cache_store.specs.Running.{is_bounded}
 use Rattle.plain_store.specs.Hashing.{hashed}
-use Rattle.plain_store.specs.Laws.{bounded_from}
 use Rattle.plain_store.specs.Parting.{part_by}
 use Rattle.plain_store.specs.Standing as plain
 use Rattle.cache_spaces.specs.Spaces.{recency_of}
@@ -47,8 +46,8 @@ returns-in-Ok-clause-settled c =
           let entry = record_given_up c.args.load c.args.moment x.steps in
           settles-with was _ entry s
           (settles-by was _ (record { part_of = part_by old.store.parts (hashed 0); made = old.store.made }) entry (max c.args.moment old.latest) stands.values x.held s
-          (same-parts old.store.parts old.store.config old.config old.store.counted was.sound.config) refl c.in-Ok.ensures.latest stands.same x.stands x.settles
-          (subst (λ config. IsTrue (is_bounded config x.held)) (c.give_up_in.ensures.sound.config ∙ c.give_up_in.ensures.config) (bounded_from new.store.config (part_by new.store.parts (hashed 0)) new.store.table new.store.kept x.held x.stands))
+          (same-parts old.store.parts old.store.config old.config (sym c.parts_of-parts.ensures.parts ∙ c.parts_of-parts.ensures.counted) was.sound.config) refl c.in-Ok.ensures.latest stands.same x.stands x.settles
+          (subst (λ config. IsTrue (is_bounded config x.held)) (c.give_up_in.ensures.sound.config ∙ c.give_up_in.ensures.config) (c.sound.ensures.bounded x.held x.stands))
           (orders-given-up old.config _ (recency_of was) (plain.AreInOrder new.store.config new.store.table) (with_values was stands.values) _ c.args.load c.args.moment entry _ _ (c.if-not-is_waited_for.ensures.some refl) refl x.settles))
           x.texts x.notes;
       config = c.give_up_in.ensures.config;

@@ -7,7 +7,6 @@ use Rattle.cache_namespace.specs.Waiting.{under_way}
 use Rattle.cache_store.specs.Promises.{Frame}
 use Rattle.cache_store.specs.Running.{is_bounded}
 use Rattle.plain_store.specs.Hashing.{hashed}
-use Rattle.plain_store.specs.Laws.{bounded_from}
 use Rattle.plain_store.specs.Parting.{part_by}
 use Rattle.plain_store.specs.Standing as plain
 use Rattle.cache_spaces.specs.Spaces.{recency_of}
@@ -49,8 +48,8 @@ returns-in-Ok-give_up_kept-clause-leads c = λ s stands.
     let x = c.in-Ok-give_up_kept.ensures.ran stands.values stands.held in
     leads-with was _ c.in-Ok-give_up_kept.entry s
     (settles-by was _ (record { part_of = part_by old.store.parts (hashed 0); made = old.store.made }) c.in-Ok-give_up_kept.entry (max c.args.moment old.latest) stands.values x.held s
-    (same-parts old.store.parts old.store.config old.config old.store.counted was.sound.config) refl c.in-Ok-give_up_kept.ensures.latest stands.same x.stands x.settles
-    (subst (λ config. IsTrue (is_bounded config x.held)) (c.give_up_kept.ensures.sound.config ∙ c.give_up_kept.ensures.config) (bounded_from new.store.config (part_by new.store.parts (hashed 0)) new.store.table new.store.kept x.held x.stands))
+    (same-parts old.store.parts old.store.config old.config (sym c.parts_of-parts.ensures.parts ∙ c.parts_of-parts.ensures.counted) was.sound.config) refl c.in-Ok-give_up_kept.ensures.latest stands.same x.stands x.settles
+    (subst (λ config. IsTrue (is_bounded config x.held)) (c.give_up_kept.ensures.sound.config ∙ c.give_up_kept.ensures.config) (c.sound.ensures.bounded x.held x.stands))
     (orders-given-up old.config _ (recency_of was) (plain.AreInOrder new.store.config new.store.table) (with_values was stands.values) _ c.args.load c.args.moment c.in-Ok-give_up_kept.entry _ _ (c.if-not-is_waited_for.ensures.some refl) c.in-Ok-give_up_kept.ensures.happened x.settles))
     (record { outputs = λ number. c.give_up_kept.ensures.untold (number - 1); notices = c.give_up_kept.ensures.untaken })
 

@@ -10,4 +10,4 @@ invariant_of-self-clause-waiting c =
     let old = c.args.self.now.inner in
     let store = c.next_notice.new.self in
     ∥∥₁_map c.args.self.now.waiting (λ k.
-    known-same old.config old.config (plain.Stands old.store.config old.store.table) (plain.Stands store.config store.table) (under_way old.loads) (under_way old.loads) old.connections.items old.connections.items refl k c.next_notice.ensures.stands refl)
+    known-same old.config old.config (plain.Stands old.store.config old.store.table) (plain.Stands store.config store.table) (under_way old.loads) (under_way old.loads) old.connections.items old.connections.items refl k c.next_notice.ensures.gives.stands refl)

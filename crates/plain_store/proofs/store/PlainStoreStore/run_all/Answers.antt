@@ -1,4 +1,4 @@
-use Rattle.std.proofs.Common.{◌≡◌, ◌+◌, None, length, sym, ap, ◌∙◌, subst, arith}
+use Rattle.std.proofs.Common.{◌≡◌, refl, Bool, true, false, ◌||◌, not, None, length, sym, ap, ◌∙◌, subst, arith}
 use Rattle.std.specs.List.{sum_by}
 use Rattle.std.proofs.lemmas.List.{length-append}
 use Rattle.audit_model.specs.Changes.{all_held_after}
@@ -6,7 +6,7 @@ use Rattle.audit_model.specs.Situation.{HeldValue}
 use Rattle.cache_store.specs.Promises.{Done, syncing}
 use Rattle.cache_store.specs.Handing.{AppendsNotes}
 use Rattle.plain_sweep.specs.Swept.{swept}
-use Rattle.plain_sweep.proofs.Sweeping.{swept_number}
+use Rattle.plain_sweep.proofs.Sweeping.{kept_all}
 use Rattle.plain_store.specs.Standing.{Stands}
 use Rattle.plain_store.specs.Drawing.{is_registered}
 use Rattle.plain_store.specs.Parting.{part_by}
@@ -15,56 +15,50 @@ use Rattle.plain_store.proofs.Keeping.{kept_swept, within_from, weight_is, all_t
 use Rattle.plain_store.proofs.Ordering.{order_swept}
 use Rattle.plain_store.proofs.store.PlainStoreStore.run_all.Goals as goal
 
+or-no : (b : Bool) → (b || false) ≡ b
+or-no true = refl
+or-no false = refl
+
 pub invariant_of-self : goal.invariant_of-self
 invariant_of-self g c =
-    let store = c.args.self.now in
-    record {
-      kept = rw c.sweep.ensures.kept (kept_swept store.config (part_by store.parts (g.H.KeyHasher.number_of store.hasher)) c.args.now store.table store.kept);
-      counted = store.counted;
-      shared = store.shared;
-      weighed = c.weigh_parts.ensures;
-      room = c.sweep.ensures.room;
-      unused = λ _. c.clear.ensures.items;
-    }
+    let store = c.self.inside in
+    let fit = c.self.invariant.0 in (
+      record {
+        kept = rw c.sweep.ensures.kept (kept_swept store.config (part_by store.parts (g.H.KeyHasher.number_of store.hasher)) c.args.now store.table fit.kept);
+        counted = fit.counted;
+        shared = fit.shared;
+        weighed = c.weigh_parts.ensures;
+        unused = λ _. c.clear.ensures.items;
+        plain = rw c.sweep.ensures.kept (kept_all store.config c.args.now None None 0 (λ (x : HeldValue). not x.evictable) store.table fit.plain);
+      },
+      c.sweep.ensures.room,
+    )
 
-pub returns-clause-done : goal.returns-clause-done
-returns-clause-done g c = λ held stands.
-    let store = c.args.self.now in
+pub returns-clause-does : goal.returns-clause-does
+returns-clause-does g c =
+    let store = c.self.inside in
+    let fit = c.self.invariant.0 in
+    rw (← c.self.view_is, c.sweep.ensures.kept) (record {
+      done = λ held stands. run_does store.config c.args.now store.table held store.notes.items c.sweep.new.notes.items fit.kept.apart c.sweep.ensures.told stands;
+      frame = rw (or-no store.dropped) refl;
+      used = λ n settled keys p o. order_swept store.config (part_by store.parts (g.H.KeyHasher.number_of store.hasher)) n p c.args.now store.table keys settled fit.kept o;
+      drawn = record { stream = refl; registered = λ part id h. let e : false ≡ true = sym (ap (λ xs. is_registered xs part id) c.clear.ensures.items) ∙ h in cc };
+      spent = omega arith;
+    })
+
+pub returns-clause-settled : goal.returns-clause-settled
+returns-clause-settled g c =
+    let store = c.self.inside in
+    let fit = c.self.invariant.0 in
     let part_of = part_by store.parts (g.H.KeyHasher.number_of store.hasher) in
     let s = swept store.config c.args.now None None 0 store.table in
-    let d : Done store.config c.args.now syncing held (Stands store.config s.kept) (AppendsNotes store.notes.items c.sweep.new.notes.items) =
-    run_does store.config c.args.now store.table held store.notes.items c.sweep.new.notes.items store.kept.apart c.sweep.ensures.told stands in
-    let xs = all_held_after store.config c.args.now held syncing d.told in
-    let k = kept_swept store.config part_of c.args.now store.table store.kept in
+    let k = kept_swept store.config part_of c.args.now store.table fit.kept in
     record {
-      told = d.told;
-      right = d.right;
-      left = (
-        subst (λ t. Stands store.config t xs) (sym c.sweep.ensures.kept) d.left,
-        within_from store.config part_of s.kept xs k d.left.same,
-        c.len.ensures.number ∙ ap length c.sweep.ensures.kept ∙ sym d.left.same.number,
-        c.weigh_all.ensures ∙ ap (sum_by (λ (h : HeldValue). h.value.weight)) c.sweep.ensures.kept ∙ sym (weight_is s.kept xs k.apart d.left.same),
+      held = λ held stands. let h = subst (λ t. Stands store.config t held) c.sweep.ensures.kept stands in (
+        c.len.ensures.number ∙ ap length c.sweep.ensures.kept ∙ sym h.same.number,
+        c.weigh_all.ensures ∙ ap (sum_by (λ (h : HeldValue). h.value.weight)) c.sweep.ensures.kept ∙ sym (weight_is s.kept held k.apart h.same),
       );
-      handed = d.handed;
+      within = λ held stands. let h = subst (λ t. Stands store.config t held) c.sweep.ensures.kept stands in within_from store.config part_of s.kept held k h.same;
+      timely = λ held stands. all_timely store.config part_of store.made c.args.now store.table held fit.kept (subst (λ t. Stands store.config t held) c.sweep.ensures.kept stands);
+      released = λ part id. ap (λ xs. is_registered xs part id) c.clear.ensures.items;
     }
-
-pub returns-clause-timely : goal.returns-clause-timely
-returns-clause-timely g c = λ held stands.
-    let store = c.args.self.now in
-    all_timely store.config (part_by store.parts (g.H.KeyHasher.number_of store.hasher)) store.made c.args.now store.table held store.kept (subst (λ t. Stands store.config t held) c.sweep.ensures.kept stands)
-
-pub returns-clause-few : goal.returns-clause-few
-returns-clause-few g c =
-    let store = c.args.self.now in
-    let s = swept store.config c.args.now None None 0 store.table in
-    let n = swept_number store.config c.args.now None None 0 store.table in
-    let l : length c.sweep.new.notes.items ≡ length store.notes.items + length s.told = ap length c.sweep.ensures.told ∙ length-append store.notes.items s.told in
-    omega arith
-
-pub returns-clause-recency : goal.returns-clause-recency
-returns-clause-recency g c = λ n settled keys p o.
-    let store = c.args.self.now in
-    rw c.sweep.ensures.kept (order_swept store.config (part_by store.parts (g.H.KeyHasher.number_of store.hasher)) n p c.args.now store.table keys settled store.kept o)
-
-pub returns-clause-released : goal.returns-clause-released
-returns-clause-released g c = λ part id. ap (λ xs. is_registered xs part id) c.clear.ensures.items

@@ -1,0 +1,5 @@
+use Rattle.cache_commands.proofs.Answered.{answered-quit}
+use Rattle.cache_commands.proofs.asking.quit.Goals as goal
+
+pub returns-clause-ok : goal.returns-clause-ok
+returns-clause-ok g c = answered-quit _ _ _ _ c.sound.ensures c.requires.0 (cc)

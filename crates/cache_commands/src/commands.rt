@@ -1,0 +1,172 @@
+//! Commands.
+ghost use Rattle.std.specs.Prelude.{◌≡◌, ◌≤◌, ◌++◌, None, IsTrue, IfOk, OnOk, OnErr, Ok, Err, length, vec_len, vec_capacity, ◌+◌, codes, decimal};
+ghost use Rattle.std.specs.Result.{IsErrOf};
+ghost use Rattle.audit_model.specs.History.{accepts_values};
+ghost use Rattle.audit_model.specs.Replies.{fault_text};
+ghost use Rattle.audit_model.specs.declared.command.Command.TheVariants as says;
+ghost use Rattle.cache_commands.specs.Answered.{IsAnswered, IsTakable};
+ghost use Rattle.cache_store.specs.Values.{IsMoment, IsSpent};
+
+use crate::writing::write;
+use audit_model::{Accepted, LineError};
+use cache_store::{Counts, Key, Store, StoreError};
+use itoa::Buffer;
+use std::alloc::AllocError;
+
+/// Room for each text of a reply that has no value and no key in it.
+pub const SHORT: usize = 96;
+
+/// Answers a `GET`.
+pub fn get<S: Store>(
+    store: &mut S,
+    key: &Key,
+    now: u64,
+    output: &mut Vec<u8>,
+) -> Result<(), AllocError>
+    requires { IsMoment (S.view store.old) now }
+    ensures ok { OnOk result (IsAnswered now (Ok (says.Get key.now)) None (S.view store.old) (S.view store.new) output.old.items output.new.items) }
+    ensures unchanged { OnErr result (store.new ≡ store.old) }
+    ensures unwritten { OnErr result (output.new.items ≡ output.old.items) }
+{
+    store.sound();
+    match store.peek(key, now) {
+        Some(bytes) => {
+            write_value(output, bytes)?;
+            store.touch(key, now);
+            Ok(())
+        }
+        None => {
+            output.try_reserve(SHORT)?;
+            write(output, b"NONE\n");
+            store.touch(key, now);
+            Ok(())
+        }
+    }
+}
+
+/// Writes a value that was found.
+fn write_value(output: &mut Vec<u8>, bytes: &[u8]) -> Result<(), AllocError>
+    ensures written { OnOk result (output.new.items ≡ output.old.items ++ (codes "VAL " ++ bytes.now ++ codes "\n")) }
+    ensures unwritten { OnErr result (output.new.items ≡ output.old.items) }
+{
+    output.try_reserve(bytes.len() + SHORT)?;
+    write(output, b"VAL ");
+    write(output, bytes);
+    write(output, b"\n");
+    Ok(())
+}
+
+/// Answers a `SET`, and says which part took the value; none at capacity 0.
+pub fn set<S: Store>(
+    store: &mut S,
+    key: &Key,
+    milliseconds: Option<u64>,
+    value: &[u8],
+    now: u64,
+    output: &mut Vec<u8>,
+) -> Result<Option<Accepted>, StoreError>
+    requires in_time { IsMoment (S.view store.old) now }
+    requires takable { IsTakable (S.view store.old).frame.config value.now milliseconds }
+    ensures ok { IfOk result (λ accepted. IsAnswered now (Ok (says.Set key.now milliseconds value.now)) accepted (S.view store.old) (S.view store.new) output.old.items output.new.items) }
+    ensures used_up { IsErrOf result StoreError.UsedUp → IsSpent (S.view store.old) }
+    ensures unchanged { OnErr result (store.new ≡ store.old) }
+    ensures unwritten { OnErr result (output.new.items ≡ output.old.items) }
+{
+    store.sound();
+    output.try_reserve(SHORT)?;
+    if !accepts(store.config().capacity) {
+        write(output, b"OFF\n");
+        return Ok(None);
+    }
+    let part = store.accept(key, value, milliseconds, false, now)?;
+    write(output, b"OK\n");
+    Ok(Some(Accepted { part }))
+}
+
+/// Whether values are accepted at that capacity.
+pub fn accepts(capacity: Option<u64>) -> bool
+    ensures { result ≡ accepts_values capacity }
+{
+    match capacity {
+        Some(limit) => limit > 0,
+        None => true,
+    }
+}
+
+/// Answers a `DEL`.
+pub fn del<S: Store>(
+    store: &mut S,
+    key: &Key,
+    now: u64,
+    output: &mut Vec<u8>,
+) -> Result<(), StoreError>
+    requires { IsMoment (S.view store.old) now }
+    ensures ok { OnOk result (IsAnswered now (Ok (says.Del key.now)) None (S.view store.old) (S.view store.new) output.old.items output.new.items) }
+    ensures used_up { IsErrOf result StoreError.UsedUp → IsSpent (S.view store.old) }
+    ensures unchanged { OnErr result (store.new ≡ store.old) }
+    ensures unwritten { OnErr result (output.new.items ≡ output.old.items) }
+{
+    store.sound();
+    output.try_reserve(SHORT)?;
+    store.remove(key, now)?;
+    write(output, b"OK\n");
+    Ok(())
+}
+
+/// Answers a `SYNC`.
+pub fn sync<S: Store>(store: &mut S, now: u64, output: &mut Vec<u8>) -> Result<(), AllocError>
+    requires { IsMoment (S.view store.old) now }
+    ensures ok { OnOk result (IsAnswered now (Ok says.Sync) None (S.view store.old) (S.view store.new) output.old.items output.new.items) }
+    ensures unchanged { OnErr result (store.new ≡ store.old) }
+    ensures unwritten { OnErr result (output.new.items ≡ output.old.items) }
+{
+    store.sound();
+    output.try_reserve(SHORT)?;
+    let counts = store.run_all(now);
+    write_counts(output, counts);
+    Ok(())
+}
+
+/// Writes how many values are held, and what they weigh.
+fn write_counts(output: &mut Vec<u8>, counts: Counts)
+    requires { vec_len output.old + SHORT ≤ vec_capacity output.old }
+    ensures { output.new.items ≡ output.old.items ++ (codes "SYNC " ++ decimal counts.number ++ codes " " ++ decimal counts.weight ++ codes "\n") }
+{
+    let mut number = Buffer::new();
+    let mut weight = Buffer::new();
+    write(output, b"SYNC ");
+    write(output, number.format(counts.number).as_bytes());
+    write(output, b" ");
+    write(output, weight.format(counts.weight).as_bytes());
+    write(output, b"\n");
+}
+
+/// Answers a line that cannot be read.
+pub fn fault<S: Store>(
+    store: &S,
+    error: LineError,
+    now: u64,
+    output: &mut Vec<u8>,
+) -> Result<(), AllocError>
+    requires { IsMoment (S.view store.now) now }
+    ensures ok { OnOk result (IsAnswered now (Err error) None (S.view store.now) (S.view store.now) output.old.items output.new.items) }
+    ensures unwritten { OnErr result (output.new.items ≡ output.old.items) }
+{
+    store.sound();
+    output.try_reserve(SHORT)?;
+    write(output, text_of(error));
+    Ok(())
+}
+
+/// The reply to a line that cannot be read.
+fn text_of(error: LineError) -> &'static [u8]
+    ensures text { result.now ≡ fault_text error }
+    ensures short { length result.now ≤ 96 }
+{
+    match error {
+        LineError::Command => b"ERR command\n",
+        LineError::Syntax => b"ERR syntax\n",
+        LineError::Deadline => b"ERR deadline\n",
+        LineError::Number => b"ERR number\n",
+    }
+}

@@ -1,0 +1,19 @@
+//! What each command does over any store.
+#![tactic(auto)]
+
+mod asking;
+mod commands;
+mod covering;
+mod keyed;
+mod loading;
+mod running;
+mod sums;
+mod writing;
+
+pub use asking::{has, keys, quit};
+pub use commands::{SHORT, accepts, del, fault, get, set, sync};
+pub use covering::{clear, drop_prefix};
+pub use keyed::Keyed;
+pub use loading::{load, store_outcome, write_abandoned, write_outcome};
+pub use running::{Ran, run_line, run_request};
+pub use sums::add;

@@ -1,0 +1,91 @@
+//! `LOAD`, and what a load's outcome does.
+ghost use Rattle.std.specs.Prelude.{◌≡◌, ◌≤◌, ◌+◌, ◌++◌, IfOk, OnErr, Ok, None, true, false, length, codes, vec_len, vec_capacity};
+ghost use Rattle.std.specs.Result.{IsErrOf};
+ghost use Rattle.audit_model.specs.Belongs.{refusal_of_outcome};
+ghost use Rattle.audit_model.specs.Replies.{outcome_text};
+ghost use Rattle.audit_model.specs.declared.command.Command.TheVariants as says;
+ghost use Rattle.cache_commands.specs.Answered.{IsAnswered, IsStored};
+ghost use Rattle.cache_store.specs.Values.{IsLive, IsMoment, IsSpent};
+
+use crate::commands::{accepts, get};
+use crate::writing::write;
+use audit_model::{Accepted, Outcome};
+use cache_store::{Key, Store, StoreError};
+use std::alloc::AllocError;
+
+/// Answers a `LOAD` that finds a live value, which is a use of it, and says whether it found one. Where it found none, nothing has
+/// changed and nothing was written.
+pub fn load<S: Store>(
+    store: &mut S,
+    key: &Key,
+    now: u64,
+    output: &mut Vec<u8>,
+) -> Result<bool, AllocError>
+    requires { IsMoment (S.view store.old) now }
+    ensures found { IfOk result (λ found. found ≡ true → IsAnswered now (Ok (says.Load key.now)) None (S.view store.old) (S.view store.new) output.old.items output.new.items) }
+    ensures missed { IfOk result (λ found. found ≡ false → (store.new ≡ store.old) × (output.new.items ≡ output.old.items) × IsLive (S.view store.old) now key.now None) }
+    ensures unchanged { OnErr result (store.new ≡ store.old) }
+    ensures unwritten { OnErr result (output.new.items ≡ output.old.items) }
+{
+    if store.peek(key, now).is_none() {
+        return Ok(false);
+    }
+    get(store, key, now, output)?;
+    Ok(true)
+}
+
+/// Stores the value of a load's outcome under the load's key, and says which part took it; none at capacity 0, and where the outcome is no
+/// value. An `Err` changes nothing.
+pub fn store_outcome<S: Store>(
+    store: &mut S,
+    key: &Key,
+    outcome: &Outcome,
+    now: u64,
+) -> Result<Option<Accepted>, StoreError>
+    requires in_time { IsMoment (S.view store.old) now }
+    requires fit { refusal_of_outcome (S.view store.old).frame.config outcome.now ≡ None }
+    ensures ok { IfOk result (λ accepted. IsStored now key.now outcome.now accepted (S.view store.old) (S.view store.new)) }
+    ensures used_up { IsErrOf result StoreError.UsedUp → IsSpent (S.view store.old) }
+    ensures unchanged { OnErr result (store.new ≡ store.old) }
+{
+    store.sound();
+    match outcome {
+        Outcome::Value(bytes, milliseconds) => {
+            if !accepts(store.config().capacity) {
+                return Ok(None);
+            }
+            let part = store.accept(key, bytes.as_slice(), *milliseconds, false, now)?;
+            Ok(Some(Accepted { part }))
+        }
+        Outcome::None => Ok(None),
+        Outcome::Fault(_) => Ok(None),
+    }
+}
+
+/// Writes the reply to a waiting `LOAD` that is handed this outcome, in reserved room.
+pub fn write_outcome(outcome: &Outcome, output: &mut Vec<u8>)
+    requires { vec_len output.old + length (outcome_text outcome.now) ≤ vec_capacity output.old }
+    ensures { output.new.items ≡ output.old.items ++ outcome_text outcome.now }
+{
+    match outcome {
+        Outcome::Value(bytes, _) => {
+            write(output, b"VAL ");
+            write(output, bytes.as_slice());
+            write(output, b"\n");
+        }
+        Outcome::None => write(output, b"NONE\n"),
+        Outcome::Fault(text) => {
+            write(output, b"ERR load ");
+            write(output, text.as_slice());
+            write(output, b"\n");
+        }
+    }
+}
+
+/// Writes the reply to a `LOAD` that was given up for the last time, in reserved room.
+pub fn write_abandoned(output: &mut Vec<u8>)
+    requires { vec_len output.old + 14 ≤ vec_capacity output.old }
+    ensures { output.new.items ≡ output.old.items ++ codes "ERR abandoned\n" }
+{
+    write(output, b"ERR abandoned\n");
+}

@@ -1,0 +1,139 @@
+//! Lines.
+ghost use Rattle.std.specs.Prelude.{◌≡◌, ◌≤◌, OnErr, IfOk, length, true};
+ghost use Rattle.std.specs.Option.{option_map_or};
+ghost use Rattle.std.specs.Result.{IsErrOf};
+ghost use Rattle.audit_model.specs.Grammar.{reading};
+ghost use Rattle.audit_lines.specs.Request.{said};
+ghost use Rattle.cache_commands.specs.Ran.{RunsLine, RunsRequest, FitsStore, rests};
+ghost use Rattle.cache_store.specs.Values.{IsMoment, IsSpent};
+
+use crate::asking::{has, keys, quit};
+use crate::commands::{SHORT, del, fault, get, set, sync};
+use crate::covering::{clear, drop_prefix};
+use crate::loading::load;
+use crate::sums::add;
+use crate::writing::write;
+use audit_lines::{Request, read_line};
+use audit_model::Accepted;
+use cache_store::{Key, Store, StoreError};
+use std::alloc::AllocError;
+
+/// What a line did besides its reply.
+#[derive(Clone, Copy, Drop)]
+pub enum Ran {
+    /// It was answered, and that part took its value.
+    Answered(Option<Accepted>),
+    /// It is a `LOAD` of a key that has no live value, and did nothing.
+    Misses,
+}
+
+/// Runs a request: its reply stands behind `reply`. Its key is put into `key`.
+pub fn run_request<S: Store>(
+    store: &mut S,
+    key: &mut Key,
+    request: Request,
+    now: u64,
+    reply: &mut Vec<u8>,
+) -> Result<Ran, StoreError>
+    requires in_time { IsMoment (S.view store.old) now }
+    requires fit { FitsStore (S.view store.old).frame.config request }
+    ensures runs { IfOk result (λ ran. RunsRequest now (said request.entry) ran (S.view store.old) (S.view store.new) reply.old.items reply.new.items) }
+    ensures rests { IfOk result (λ ran. rests ran ≡ true → store.new ≡ store.old) }
+    ensures used_up { IsErrOf result StoreError.UsedUp → IsSpent (S.view store.old) }
+    ensures unchanged { OnErr result (store.new ≡ store.old) }
+    ensures unwritten { OnErr result (reply.new.items ≡ reply.old.items) }
+{
+    let accepted = match request {
+        Request::Set {
+            key: name,
+            deadline,
+            value,
+        } => {
+            key.fill(name)?;
+            set(store, key, deadline, value, now, reply)?
+        }
+        Request::Add {
+            key: name,
+            deadline,
+            number,
+        } => {
+            key.fill(name)?;
+            add(store, key, deadline, number, now, reply)?
+        }
+        Request::Load { key: name } => {
+            key.fill(name)?;
+            if !load(store, key, now, reply)? {
+                return Ok(Ran::Misses);
+            }
+            None
+        }
+        Request::Get { key: name } => {
+            key.fill(name)?;
+            get(store, key, now, reply)?;
+            None
+        }
+        Request::Has { key: name } => {
+            key.fill(name)?;
+            has(store, key, now, reply)?;
+            None
+        }
+        Request::Del { key: name } => {
+            key.fill(name)?;
+            del(store, key, now, reply)?;
+            None
+        }
+        Request::Clear => {
+            clear(store, now, reply)?;
+            None
+        }
+        Request::DropIf { prefix } => {
+            drop_prefix(store, prefix, now, reply)?;
+            None
+        }
+        Request::Keys => {
+            keys(store, now, reply)?;
+            None
+        }
+        Request::Sync => {
+            sync(store, now, reply)?;
+            None
+        }
+        Request::Quit => {
+            quit(store, now, reply)?;
+            None
+        }
+        Request::Fault(error) => {
+            fault(store, error, now, reply)?;
+            None
+        }
+    };
+    Ok(Ran::Answered(accepted))
+}
+
+/// Runs a line: its reply stands behind `reply`. Where a 64-bit number is used up it answers `None`, has changed nothing, and the reply is
+/// `ERR used`. An `Err` changes nothing. `key` is a place for the line's key: where it has room, no memory is taken for it.
+pub fn run_line<S: Store>(
+    store: &mut S,
+    key: &mut Key,
+    now: u64,
+    line: &[u8],
+    reply: &mut Vec<u8>,
+) -> Result<Option<Ran>, AllocError>
+    requires in_time { IsMoment (S.view store.old) now }
+    requires short { length line.now ≤ 8192 }
+    ensures runs { IfOk result (λ ran. RunsLine now (reading (S.view store.old).frame.config line.now) ran (S.view store.old) (S.view store.new) reply.old.items reply.new.items) }
+    ensures rests { IfOk result (λ ran. option_map_or rests ran true ≡ true → store.new ≡ store.old) }
+    ensures unchanged { OnErr result (store.new ≡ store.old) }
+    ensures unwritten { OnErr result (reply.new.items ≡ reply.old.items) }
+{
+    let request = read_line(store.config(), line);
+    match run_request(store, key, request, now, reply) {
+        Ok(ran) => Ok(Some(ran)),
+        Err(StoreError::OutOfMemory) => Err(AllocError),
+        Err(StoreError::UsedUp) => {
+            reply.try_reserve(SHORT)?;
+            write(reply, b"ERR used\n");
+            Ok(None)
+        }
+    }
+}
