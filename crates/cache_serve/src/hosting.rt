@@ -2,30 +2,24 @@
 
 use crate::devices::{Devices, Teller};
 use crate::serving::serve_and_tell;
+use crate::workers::{Done, Workers};
 use cache_devices::{Clock, Loader, Watched};
 use cache_shared::{Seat, Seating, SharedService, Takings};
 use std::alloc::Global;
+use std::io::ErrorKind;
 use std::net::{TcpListener, TcpStream};
-use std::sync::atomic::{AtomicBool, Ordering};
 use std::sync::{Arc, Wait};
 use std::thread;
-use std::thread::{JoinHandle, SpawnError, Threads};
+use std::thread::{SpawnError, Threads};
 
-/// What `host` leaves: the seats of the connections that were served, and whether an accept failed.
+/// What `host` leaves: the seats of the connections that were served, and whether it could not go on.
 #[derive(Drop)]
 pub struct Hosted<L: Seating> {
     /// The seats, in no order; one serves many connections, one after another. One that no memory could keep is missing, so that
     /// `SharedService::finish` then hands all back.
     pub seats: Vec<Seat<L>>,
-    /// Whether an accept failed, which ended it early.
+    /// Whether an accept failed while nobody was connected, or there was no memory to begin with, which ended it early.
     pub failed: bool,
-}
-
-/// A thread that serves, and whether it is done.
-#[derive(Drop)]
-struct Running<L: Seating> {
-    done: Arc<AtomicBool>,
-    thread: JoinHandle<Seat<L>>,
 }
 
 /// What one connection is served with.
@@ -38,11 +32,12 @@ struct Work<L: Seating, C: Takings, K: Clock + Drop, D: Loader + Drop, T: Teller
     loader: D,
     teller: T,
     stream: TcpStream,
-    done: Arc<AtomicBool>,
+    place: usize,
+    done: Arc<Done>,
 }
 
 impl<L: Seating, C: Takings, K: Clock + Drop, D: Loader + Drop, T: Teller> Work<L, C, K, D, T> {
-    /// Serves the connection, and gives the seat back.
+    /// Serves the connection, tells that it is done, and gives the seat back.
     fn attend<R: Wait>(self, rt: &R, alloc: Global) -> Seat<L> {
         let Work {
             shared,
@@ -52,6 +47,7 @@ impl<L: Seating, C: Takings, K: Clock + Drop, D: Loader + Drop, T: Teller> Work<
             mut loader,
             mut teller,
             stream,
+            place,
             done,
         } = self;
         let mut reader = Watched::new(&stream);
@@ -68,13 +64,16 @@ impl<L: Seating, C: Takings, K: Clock + Drop, D: Loader + Drop, T: Teller> Work<
             &mut loader,
             &mut teller,
         );
-        done.store(true, Ordering::SeqCst);
+        done.tell(rt, place);
         seat
     }
 }
 
 /// Serves the connections that a listener accepts as connections of that namespace, by `serve_and_tell`, each on a thread of its own with
-/// devices and a seat of its own; `limit` of them, or without one 2^64 - 1; and joins the threads. An accept that fails ends it early.
+/// devices and a seat of its own; `limit` of them, or without one 2^64 - 1; and joins the threads.
+///
+/// An accept whose client has gone already is tried again. One that fails otherwise, as where no descriptor is free, waits until a
+/// connection has ended, and is tried again; while nobody is connected it ends the host early.
 ///
 /// Where devices, seat or memory cannot be had, that connection alone is closed; where no thread can be made, it is served here.
 pub fn host<L, C, D, R>(
@@ -92,64 +91,59 @@ where
     D: Devices,
     R: Threads + Wait + Copy + Send + Sync + 'static,
 {
-    let mut seats = Vec::new(alloc);
-    let mut running: Vec<Running<L>> = Vec::new(alloc);
+    let Ok(mut workers) = Workers::new(alloc) else {
+        return Hosted {
+            seats: Vec::new(alloc),
+            failed: true,
+        };
+    };
     let mut failed = false;
     for _served in 0..limit.unwrap_or(u64::MAX) {
-        let Ok((stream, _)) = listener.accept() else {
+        let Some(stream) = accept(&rt, listener, &mut workers) else {
             failed = true;
             break;
         };
-        gather(&rt, &mut running, &mut seats);
-        admit(
-            rt,
-            alloc,
-            shared,
-            namespace,
-            devices,
-            stream,
-            &mut running,
-            &mut seats,
-        );
+        admit(rt, alloc, shared, namespace, devices, stream, &mut workers);
     }
-    for one in running {
-        let Running { done: _, thread } = one;
-        keep(&mut seats, thread.join(&rt));
+    Hosted {
+        seats: workers.finish(&rt),
+        failed,
     }
-    Hosted { seats, failed }
 }
 
-/// Joins the threads that are done.
-fn gather<L: Seating + Send + Sync + 'static>(
-    rt: &impl Threads,
-    running: &mut Vec<Running<L>>,
-    seats: &mut Vec<Seat<L>>,
-) {
-    let mut at = running.len();
-    while at > 0 {
-        at -= 1;
-        if at < running.len() && running[at].done.load(Ordering::SeqCst) {
-            let Running { done: _, thread } = running.swap_remove(at);
-            keep(seats, thread.join(rt));
+/// The next connection. None where accepting fails while nobody is connected.
+fn accept<L, R>(rt: &R, listener: &TcpListener, workers: &mut Workers<L>) -> Option<TcpStream>
+where
+    L: Seating + Send + Sync + 'static,
+    R: Threads + Wait,
+{
+    for _try in rt.forever() {
+        workers.join_done(rt);
+        match listener.accept() {
+            Ok((stream, _)) => return Some(stream),
+            Err(error) => {
+                if !is_of_client(error.kind()) {
+                    if workers.is_idle() {
+                        return None;
+                    }
+                    workers.join_next(rt);
+                }
+            }
         }
     }
+    unreachable!()
 }
 
-/// Keeps a seat. Without memory it is lost, and `finish` then hands all back.
-fn keep<L: Seating>(seats: &mut Vec<Seat<L>>, seat: Seat<L>) {
-    let _ = seats.push(seat);
-}
-
-/// A seat that is free, or else a new one.
-fn find_seat<L: Seating, C: Takings>(
-    rt: &impl Wait,
-    shared: &SharedService<L, C>,
-    seats: &mut Vec<Seat<L>>,
-) -> Option<Seat<L>> {
-    match seats.pop() {
-        Some(seat) => Some(seat),
-        None => shared.seat(rt).ok(),
-    }
+/// Whether an accept failed since its client has gone or cannot be reached any more.
+fn is_of_client(kind: ErrorKind) -> bool {
+    matches!(
+        kind,
+        ErrorKind::ConnectionAborted
+            | ErrorKind::ConnectionReset
+            | ErrorKind::HostUnreachable
+            | ErrorKind::NetworkDown
+            | ErrorKind::NetworkUnreachable
+    )
 }
 
 /// Serves one connection on a thread of its own, or here where none can be made.
@@ -160,8 +154,7 @@ fn admit<L, C, D, R>(
     namespace: u64,
     devices: &D,
     stream: TcpStream,
-    running: &mut Vec<Running<L>>,
-    seats: &mut Vec<Seat<L>>,
+    workers: &mut Workers<L>,
 )
 where
     L: Seating + Send + Sync + 'static,
@@ -169,20 +162,17 @@ where
     D: Devices,
     R: Threads + Wait + Copy + Send + Sync + 'static,
 {
-    if running.reserve(1).is_err() || seats.reserve(running.len() + 1).is_err() {
+    let Ok((place, done)) = workers.reserve(&rt) else {
         return;
-    }
+    };
     let Some((clock, loader, teller)) = devices.make(alloc) else {
         return;
     };
     let theirs: Result<_, _> = shared.clone();
-    let (Ok(theirs), Ok(done)) = (theirs, Arc::new(alloc, AtomicBool::new(false))) else {
+    let Ok(theirs) = theirs else {
         return;
     };
-    let Ok(mine) = Arc::try_clone(&done) else {
-        return;
-    };
-    let Some(seat) = find_seat(&rt, shared, seats) else {
+    let Some(seat) = workers.take_seat(&rt, shared) else {
         return;
     };
     let work = Work {
@@ -193,13 +183,14 @@ where
         loader,
         teller,
         stream,
+        place,
         done,
     };
     match thread::spawn(&rt, move || work.attend(&rt, alloc)) {
-        Ok(thread) => running.push_reserved(Running { done: mine, thread }),
+        Ok(thread) => workers.add(thread),
         Err(refused) => {
             let SpawnError { value } = refused;
-            keep(seats, value());
+            workers.give_back(&rt, place, value());
         }
     }
 }

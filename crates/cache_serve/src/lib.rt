@@ -5,8 +5,10 @@ mod devices;
 mod errors;
 mod hosting;
 mod loading;
+mod pausing;
 mod serving;
 mod turns;
+mod workers;
 
 pub use devices::{Devices, Teller, Untold};
 pub use hosting::{Hosted, host};

@@ -14,6 +14,7 @@ ghost use Rattle.cache_shared.specs.Untaken.{WereUntaken};
 
 use crate::devices::Teller;
 use crate::errors::error_of_refusal;
+use crate::pausing::pause;
 use crate::turns::{Progress, deliver, hand_in, tell_notes};
 use audit_model::{Bytes, Conn, Input, Instant, LoadId, Outcome, ServiceError};
 use cache_devices::{Clock, Loader, Watched};
@@ -52,7 +53,7 @@ fn give_up<L: Seating, C: Takings>(
         ) {
             Ok(_) => return Ok(()),
             Err(Refusal { error, .. }) => match error {
-                ServiceError::OutOfMemory => {}
+                ServiceError::OutOfMemory => pause(rt),
                 ServiceError::UsedUp => return Err(RunError::UsedUp),
                 ServiceError::Moment => return Err(RunError::Moment),
                 _ => return Ok(()),

@@ -16,6 +16,7 @@ ghost use Rattle.cache_shared.specs.Untaken.{WereUntaken};
 
 use crate::devices::{Teller, Untold};
 use crate::loading::settle_rest;
+use crate::pausing::pause;
 use crate::turns::{Progress, take_turn};
 use audit_model::{Bytes, Conn, Input, LoadId, ServiceError};
 use cache_devices::{Clock, Loader, Watched};
@@ -76,7 +77,7 @@ fn close_if_open<L: Seating, C: Takings>(
                     error: ServiceError::OutOfMemory,
                     ..
                 },
-            ) => {}
+            ) => pause(rt),
             _ => return,
         }
     }

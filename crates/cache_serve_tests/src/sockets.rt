@@ -13,6 +13,7 @@ use std::sync::atomic::{AtomicU64, Ordering};
 use std::sync::ledger::Blank;
 use std::sync::{Arc, Wait};
 use std::thread::Threads;
+use std::time::Duration;
 use std::{io, thread};
 
 /// What came of it.
@@ -65,11 +66,41 @@ fn clients<R: Net<Listener = TcpListener, Stream = TcpStream>>(
     )
 }
 
-/// A listener of this machine, and its address.
+/// Reads once.
+fn read_once(alloc: Global, stream: &mut TcpStream) -> io::Result<Vec<u8>> {
+    let mut replies = Vec::new(alloc);
+    let mut buffer = [0u8; 64];
+    let count = stream.read(&mut buffer)?;
+    let _ = replies.extend_from_slice(&buffer[..count]);
+    Ok(replies)
+}
+
+/// Two clients, of whom the second comes once the first, which has connected, is served, and then the first goes.
+fn overlap<R: Net<Listener = TcpListener, Stream = TcpStream>>(
+    rt: &R,
+    alloc: Global,
+    addr: SocketAddr,
+    mut open: TcpStream,
+    first: &[u8],
+    second: &[u8],
+) -> io::Result<(Vec<u8>, Vec<u8>)> {
+    open.write_all(first)?;
+    let early = read_once(alloc, &mut open)?;
+    let mut late = TcpStream::connect(rt, addr)?;
+    late.set_read_timeout(Some(Duration::from_secs(20)))?;
+    late.write_all(second)?;
+    drop(open);
+    let replies = read_once(alloc, &mut late)?;
+    Ok((early, replies))
+}
+
+/// A listener of this machine, and its address. One that does not block refuses an accept where nobody is there.
 fn listen<R: Net<Listener = TcpListener, Stream = TcpStream>>(
     rt: &R,
+    blocks: bool,
 ) -> io::Result<(TcpListener, SocketAddr)> {
     let listener = TcpListener::bind(rt, SocketAddr::from((Ipv4Addr::LOCALHOST, 0)))?;
+    listener.set_nonblocking(!blocks)?;
     let addr = listener.local_addr()?;
     Ok((listener, addr))
 }
@@ -93,13 +124,44 @@ where
         + Sync
         + 'static,
 {
-    let (listener, addr) = listen(&rt)?;
+    let (listener, addr) = listen(&rt, true)?;
     let lent = &rt;
     Ok(thread::join(
         lent,
         move || clients(lent, alloc, addr, first, second),
         || host(rt, alloc, shared, 0, &listener, devices, Some(2)),
     ))
+}
+
+/// Hosts two clients at a listener that does not block, so that an accept fails while the first is connected and no other has come.
+/// Answers what they read, and whether the host ended early.
+fn join_overlapping<L, R>(
+    rt: R,
+    alloc: Global,
+    shared: &SharedService<L, LiveService>,
+    devices: &Plain,
+    first: &[u8],
+    second: &[u8],
+) -> io::Result<((Vec<u8>, Vec<u8>), bool)>
+where
+    L: Seating + Send + Sync + 'static,
+    R: Net<Listener = TcpListener, Stream = TcpStream>
+        + Threads
+        + Wait
+        + Copy
+        + Send
+        + Sync
+        + 'static,
+{
+    let (listener, addr) = listen(&rt, false)?;
+    let open = TcpStream::connect(&rt, addr)?;
+    let lent = &rt;
+    let (replies, hosted) = thread::join(
+        lent,
+        move || overlap(lent, alloc, addr, open, first, second),
+        || host(rt, alloc, shared, 0, &listener, devices, None),
+    );
+    Ok((replies?, hosted.failed))
 }
 
 /// How many events there were, where all went well.
@@ -153,6 +215,55 @@ where
         events,
         told: devices.told.load(Ordering::SeqCst),
     })
+}
+
+/// The replies to two clients that come past accepts which fail, where the host went on until nobody was connected.
+fn run_overlapping<L, R>(
+    rt: R,
+    alloc: Global,
+    core: LiveService,
+    blank: Blank,
+    parts: u64,
+    first: &[u8],
+    second: &[u8],
+) -> Option<(Vec<u8>, Vec<u8>)>
+where
+    L: Seating + Send + Sync + 'static,
+    R: Net<Listener = TcpListener, Stream = TcpStream>
+        + Threads
+        + Wait
+        + Copy
+        + Send
+        + Sync
+        + 'static,
+    requires empty { core.events ≡ 0 }
+    requires name { blank.name ≡ L.name }
+    requires parts { (blank.parts ≡ L.parts) × (L.all ≡ L.parts) × (parts ≡ L.parts) }
+{
+    let devices = make_devices(alloc)?;
+    let shared: SharedService<L, LiveService> = SharedService::new(alloc, core, blank, parts).ok()?;
+    let (replies, ended) = join_overlapping(rt, alloc, &shared, &devices, first, second).ok()?;
+    if ended { Some(replies) } else { None }
+}
+
+/// Two clients of a plain namespace at a listener whose accepts fail between them, over a ledger of five parts.
+pub fn serve_past_failures<R>(
+    rt: R,
+    alloc: Global,
+    first: &[u8],
+    second: &[u8],
+) -> Option<(Vec<u8>, Vec<u8>)>
+where
+    R: Net<Listener = TcpListener, Stream = TcpStream>
+        + Threads
+        + Wait
+        + Copy
+        + Send
+        + Sync
+        + 'static,
+{
+    let core = make_core(alloc)?;
+    run_overlapping::<Brand, R>(rt, alloc, core, Blank::new(5), 5, first, second)
 }
 
 /// Two clients of a plain namespace, over a ledger of five parts.

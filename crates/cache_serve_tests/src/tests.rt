@@ -1,6 +1,6 @@
 use crate::loaders::Hold;
 use crate::rows::{Row, first_wrong};
-use crate::sockets::{Served, serve_two};
+use crate::sockets::{Served, serve_past_failures, serve_two};
 use crate::waiting::await_other;
 use audit_model::Closing;
 use cache_run::RunError;
@@ -23,6 +23,14 @@ fn two_clients(rt: HostRuntime) {
         b"GET a\nGET b\nQUIT\n",
     );
     assert!(rt; matches!(&served, Some(served) if is_served(served)));
+}
+
+#[test]
+fn a_failed_accept_waits_for_a_connection_to_end(rt: HostRuntime) {
+    let replies = serve_past_failures(rt, rt.alloc(), b"SET a - 1\n", b"GET a\n");
+    assert!(rt;
+        matches!(&replies, Some(replies) if replies.0.as_slice() == b"OK\n".as_slice() && replies.1.as_slice() == b"VAL 1\n".as_slice())
+    );
 }
 
 /// One connection that sends nothing beside one that loads, with room for all that is written.
