@@ -113,13 +113,7 @@ impl<K: Eq, V, S, R: Rules<K, V>> Model for Tables<K, V, S, R> {
 
 impl<K: Eq, V, S, R: Rules<K, V>> Tables<K, V, S, R> {
     /// The tables of a cache that was just made. They take no memory.
-    pub fn new(
-        alloc: Global,
-        name: Option<String>,
-        settings: Settings,
-        hasher: S,
-        rules: R,
-    ) -> Self
+    pub fn new(alloc: Global, name: Option<String>, settings: Settings, hasher: S, rules: R) -> Self
         ensures { IsNew (option_map string_bytes name) settings hasher rules result.state }
     {
         Tables {
