@@ -13,7 +13,9 @@ use Rattle.engine_cells.specs.declared.cell.Cell.{Cell}
 use Rattle.engine_cells.specs.declared.cell.Noted.{Noted}
 use Rattle.engine_cells.specs.Cells.{cell_at, access_in, node_number, numbers_in, AreQueued}
 use Rattle.engine_cells.specs.Fitting.{unqueued, HasPlaceFor, ComesLast}
-use Rattle.engine_cells.specs.Noting.{AreAimed}
+use Rattle.engine_cells.specs.declared.cell.PlacedWrite.{PlacedWrite}
+use Rattle.engine_pending.specs.declared.tickets.Ticketed.{Ticketed}
+use Rattle.engine_cells.specs.Noting.{AreAllAimed}
 use Rattle.engine_cells.proofs.Access.{TheNode, numbers-absent, find-push, known-push, access-moved, kept-moved}
 use Rattle.engine_cells.proofs.Views.{Shape, shape_of, unqueued-set, unqueued-remove, alike-set, numbers-alike, kept-alike, access-there}
 use Rattle.engine_cells.proofs.Changes.{Gets, place_of, known-other, unlisted-same, absent, access-other}
@@ -56,14 +58,14 @@ module _ {K V : Type 0} where
   unqueued-here (None ∷ cells) (suc i) c d there unlisted listed = unqueued-here cells i c d there unlisted listed
   unqueued-here (Some x ∷ cells) (suc i) c d there unlisted listed = let later : unqueued (slice_set cells i (Some d)) + 1 ≡ unqueued cells = unqueued-here cells i c d there unlisted listed in omega arith
 
-  pub pointed-gets_same : (old new : List (Option (Cell K V))) (next i : ℕ) (c d : Cell K V) (ns : List Noted) → cell_at old i ≡ Some c → Gets old new i d → d.item.number ≡ c.item.number → AreAimed old next ns → AreAimed new next ns
-  pointed-gets_same old new next i c d ns there h same = pointed-map old new next next (λ place number p. (
+  pub pointed-gets_same : (old new : List (Option (Cell K V))) (next i : ℕ) (c d : Cell K V) {rs : List Noted} {ws : List PlacedWrite} {us : List (Ticketed PlacedWrite)} → cell_at old i ≡ Some c → Gets old new i d → d.item.number ≡ c.item.number → AreAllAimed old next rs ws us → AreAllAimed new next rs ws us
+  pointed-gets_same old new next i c d there h same = pointed-map old new next next (λ place number p. (
     p.0,
     λ j x at is. elim (place_of old new i j d x h at) [
       | inl q ↦ p.1 j c (ap (λ k. cell_at old k) q.0 ∙ there) (sym same ∙ sym (ap (λ y. y.item.number) q.1) ∙ is)
       | inr f ↦ p.1 j x f is
     ],
-  )) ns
+  ))
 
   -- a cell comes to the back of the queue, in which it did not stand
   pub kept-pushed : (old new : List (Option (Cell K V))) (nodes : List TheNode) (next i : ℕ) (c d : Cell K V) (id : NodeId) → AreQueued old nodes next → cell_at old i ≡ Some c → c.nodes.access_queue ≡ None → Gets old new i d

@@ -1,6 +1,7 @@
--- Reads that name records by number and place, as cells change.
-use Rattle.std.proofs.Common.{◌≡◌, refl, ap, sym, ◌∙◌, ℕ, ◌+◌, arith, Bool, true, false, not, cond, ◌&&◌, List, [], ◌∷◌, Option, Some, None, is_some, inl, inr, eqb}
-use Rattle.std.specs.Prelude.{option_map, unwrap_or, slice_get}
+-- Reads and writes that name records by number and place, as cells change.
+use Rattle.std.proofs.Common.{◌≡◌, refl, ap, sym, ◌∙◌, subst, ℕ, ◌+◌, ◌-◌, ◌≤◌, arith, Bool, true, false, not, cond, ◌&&◌, List, [], ◌∷◌, ◌++◌, drop, Option, Some, None, is_some, inl, inr, eqb}
+use Rattle.std.specs.Prelude.{map, option_map, unwrap_or, slice_get}
+use Rattle.std.proofs.lemmas.List.{map-append}
 use Rattle.std.proofs.lemmas.Bool.{and_parts, eqb-true, eq-eqb}
 use Rattle.std.specs.Option.{option_and_then}
 use Rattle.policy_base.specs.declared.records.KeyHashDate.{KeyHashDate}
@@ -8,41 +9,167 @@ use Rattle.policy_queue.specs.declared.places.Node.{Node}
 use Rattle.policy_queue.specs.Queue.{head}
 use Rattle.engine_reference.specs.Records.{record_at, without_record, without, moved_to_back}
 use Rattle.engine_reference.specs.declared.data.Record.{Record}
+use Rattle.engine_reference.specs.declared.data.Entry.{Entry}
+use Rattle.engine_reference.specs.declared.data.Notice.{Notice}
+use Rattle.engine_reference.specs.Visible.{told}
+use Rattle.engine_rules.specs.declared.causes.RemovalCause.{RemovalCause}
 use Rattle.engine_reference.specs.Runs.{after_hit, after_removal}
 use Rattle.engine_reference.specs.State.{State}
 use Rattle.engine_cells.specs.declared.cell.Cell.{Cell}
 use Rattle.engine_cells.specs.declared.cell.Noted.{Noted}
 use Rattle.engine_cells.specs.declared.cell.Noted.TheVariants.{Hit, Miss}
+use Rattle.engine_cells.specs.declared.cell.PlacedWrite.{PlacedWrite}
+use Rattle.engine_pending.specs.Pending.{Pending, told_if, ticketed_at, without_ticketed, with_sent_of, ticket_sent}
+use Rattle.engine_pending.specs.declared.tickets.Ticketed.{Ticketed}
 use Rattle.engine_cells.specs.Cells.{cell_at, records_by_number, record_in, numbers_of, numbers_in, access_in, HaveOwnNumbers, AreQueued}
-use Rattle.engine_cells.specs.Kept.{is_admitted_as, is_removed_as}
-use Rattle.engine_cells.specs.Noting.{AimsAt, IsAimed, AreAimed, AimsOnlyAt, AimsRight}
+use Rattle.engine_cells.specs.Kept.{Kept, is_admitted_as, is_removed_as}
+use Rattle.engine_pending.specs.Whole.{unsent_of, whole}
+use Rattle.engine_pending.proofs.Agreeing.{pending_agrees}
+use Rattle.engine_reference.specs.Calls.{sent}
+use Rattle.engine_cells.specs.Noting.{read_of, write_of, number_written, AimsAt, IsAimed, AreAimed, AreWritesAimed, AreUnsentAimed, AreAllAimed, AimsOnlyAt, AimsRight}
 use Rattle.engine_cells.proofs.Views.{number-in, AreAlike, before}
 use Rattle.engine_cells.proofs.Changes.{Loses, Gets, was, place_of}
 use Rattle.engine_cells.proofs.Listed.{record_at-none, record_at-there}
 
+-- a write that was made, as the state shows it
+pub more-unsent : (us : List (Ticketed PlacedWrite)) (t : ℕ) (w : PlacedWrite) → map (unsent_of write_of) (us ++ (record { ticket = t; write = w }) ∷ []) ≡ map (unsent_of write_of) us ++ (record { ticket = t; write = w.write }) ∷ []
+more-unsent us t w = map-append (unsent_of write_of) us ((record { ticket = t; write = w }) ∷ [])
+
+-- a list whose first is known
+pub first-of_map : {X Y : Type 0} (f : X → Y) (xs : List X) (x : X) → slice_get xs 0 ≡ Some x → map f xs ≡ f x ∷ map f (drop 1 xs)
+first-of_map f [] x e = absurd (cc)
+first-of_map f (y ∷ ys) x e = let same : y ≡ x = cc in ap (λ z. f z ∷ map f ys) same
+
+-- what a sending leaves as it was
+sent_of-same : {K V O W P S R : Type 0} (t : ℕ) (o : Option W) (p : Pending K V O W P S R) → with_sent_of t o p ≡ record p { unsent = (with_sent_of t o p).unsent; writes = (with_sent_of t o p).writes }
+sent_of-same t None p = refl
+sent_of-same t (Some w) p = refl
+
+pub sent-same : {K V O W P S R : Type 0} (t : ℕ) (p : Pending K V O W P S R) → ticket_sent t p ≡ record p { unsent = (ticket_sent t p).unsent; writes = (ticket_sent t p).writes }
+sent-same t p = sent_of-same t (ticketed_at p.unsent t) p
+
+-- a sending, as a contract sees it
+abbrev kept_with : {K V P S R : Type 0} → List (Record K V) → List ℕ → List ℕ → ℕ → List (Option ℕ) → Pending K V Noted PlacedWrite P S R → Kept K V P S R
+kept_with records access order next numbers p = record { state = whole read_of write_of records access order next p; numbers = numbers }
+
+pub kept-sent : {K V P S R : Type 0} (records : List (Record K V)) (access order : List ℕ) (next : ℕ) (numbers : List (Option ℕ)) (t : ℕ) (p q : Pending K V Noted PlacedWrite P S R) → q ≡ ticket_sent t p
+    → kept_with records access order next numbers q ≡ record (kept_with records access order next numbers p) { state = sent t (whole read_of write_of records access order next p) }
+kept-sent {K} {V} {P} {S} {R} records access order next numbers t p q e =
+    ap (λ x. kept_with records access order next numbers x) e
+    ∙ ap (λ s. record (kept_with records access order next numbers p) { state = s }) ((pending_agrees K V Noted PlacedWrite P S R read_of write_of records access order next).sent t p)
+
+-- an entry that is told or not
+pub told-same : {K V O W P S R : Type 0} (b : Bool) (why : RemovalCause) (e : Entry K V) (p : Pending K V O W P S R) → told_if b why e p ≡ record p { notices = told b why e p.notices; notice_room = cond b (p.notice_room - 1) p.notice_room }
+told-same true why e p = refl
+told-same false why e p = refl
+
+pub told-parts : {K V : Type 0} (a b : Bool) (why : RemovalCause) (e : Entry K V) (ns : List (Notice K V)) → told (a && b) why e ns ≡ cond a (told b why e ns) ns
+told-parts true b why e ns = refl
+told-parts false b why e ns = refl
+
+pub told-room : (b : Bool) (n : ℕ) → n ≤ cond b (n - 1) n + 1
+told-room true n = omega arith
+told-room false n = omega arith
+
 module _ {K V : Type 0} where
-  pub pointed-map : (old new : List (Option (Cell K V))) (m n : ℕ) → ((place number : ℕ) → AimsAt old m place number → AimsAt new n place number) → (ns : List Noted) → AreAimed old m ns → AreAimed new n ns
-  pointed-map old new m n f [] h = tt
-  pointed-map old new m n f (Hit place number hash ∷ ns) h = (f place number h.0, pointed-map old new m n f ns h.1)
-  pointed-map old new m n f (Miss hash ∷ ns) h = (tt, pointed-map old new m n f ns h.1)
+  reads-map : (old new : List (Option (Cell K V))) (m n : ℕ) → ((place number : ℕ) → AimsAt old m place number → AimsAt new n place number) → (ns : List Noted) → AreAimed old m ns → AreAimed new n ns
+  reads-map old new m n f [] h = tt
+  reads-map old new m n f (Hit place number hash ∷ ns) h = (f place number h.0, reads-map old new m n f ns h.1)
+  reads-map old new m n f (Miss hash ∷ ns) h = (tt, reads-map old new m n f ns h.1)
 
-  pub pointed-alike : (old new : List (Option (Cell K V))) (next : ℕ) (ns : List Noted) → AreAlike old new → AreAimed old next ns → AreAimed new next ns
-  pointed-alike old new next ns h = pointed-map old new next next (λ place number p. (p.0, λ i c at same. let b = before old new h i c at in p.1 i b.cell b.there (sym (ap (λ s. s.number) b.alike) ∙ same))) ns
+  writes-map : (old new : List (Option (Cell K V))) (m n : ℕ) → ((place number : ℕ) → AimsAt old m place number → AimsAt new n place number) → (ws : List PlacedWrite) → AreWritesAimed old m ws → AreWritesAimed new n ws
+  writes-map old new m n f [] h = tt
+  writes-map old new m n f (w ∷ ws) h = (f w.place (number_written w.write) h.0, writes-map old new m n f ws h.1)
 
-  pub pointed-loses : (old new : List (Option (Cell K V))) (next i : ℕ) (ns : List Noted) → Loses old new i → AreAimed old next ns → AreAimed new next ns
-  pointed-loses old new next i ns h = pointed-map old new next next (λ place number p. (p.0, λ j c at same. p.1 j c (was old new i j c h at) same)) ns
+  unsent-map : (old new : List (Option (Cell K V))) (m n : ℕ) → ((place number : ℕ) → AimsAt old m place number → AimsAt new n place number) → (us : List (Ticketed PlacedWrite)) → AreUnsentAimed old m us → AreUnsentAimed new n us
+  unsent-map old new m n f [] h = tt
+  unsent-map old new m n f (u ∷ us) h = (f u.write.place (number_written u.write.write) h.0, unsent-map old new m n f us h.1)
 
-  pub pointed-gets : (old new : List (Option (Cell K V))) (next i : ℕ) (d : Cell K V) (ns : List Noted) → Gets old new i d → d.item.number ≡ next → AreAimed old next ns → AreAimed new (next + 1) ns
-  pointed-gets old new next i d ns h is = pointed-map old new next (next + 1) (λ place number p. (
+  pub pointed-map : (old new : List (Option (Cell K V))) (m n : ℕ) {rs : List Noted} {ws : List PlacedWrite} {us : List (Ticketed PlacedWrite)} → ((place number : ℕ) → AimsAt old m place number → AimsAt new n place number) → AreAllAimed old m rs ws us → AreAllAimed new n rs ws us
+  pointed-map old new m n {rs} {ws} {us} f h = record { reads_are = reads-map old new m n f rs h.reads_are; writes_are = writes-map old new m n f ws h.writes_are; unsent_are = unsent-map old new m n f us h.unsent_are }
+
+  pub pointed-alike : (old new : List (Option (Cell K V))) (next : ℕ) {rs : List Noted} {ws : List PlacedWrite} {us : List (Ticketed PlacedWrite)} → AreAlike old new → AreAllAimed old next rs ws us → AreAllAimed new next rs ws us
+  pointed-alike old new next h = pointed-map old new next next (λ place number p. (p.0, λ i c at same. let b = before old new h i c at in p.1 i b.cell b.there (sym (ap (λ s. s.number) b.alike) ∙ same)))
+
+  pub pointed-loses : (old new : List (Option (Cell K V))) (next i : ℕ) {rs : List Noted} {ws : List PlacedWrite} {us : List (Ticketed PlacedWrite)} → Loses old new i → AreAllAimed old next rs ws us → AreAllAimed new next rs ws us
+  pointed-loses old new next i h = pointed-map old new next next (λ place number p. (p.0, λ j c at same. p.1 j c (was old new i j c h at) same))
+
+  pub pointed-gets : (old new : List (Option (Cell K V))) (next i : ℕ) (d : Cell K V) {rs : List Noted} {ws : List PlacedWrite} {us : List (Ticketed PlacedWrite)} → Gets old new i d → d.item.number ≡ next → AreAllAimed old next rs ws us → AreAllAimed new (next + 1) rs ws us
+  pointed-gets old new next i d h is = pointed-map old new next (next + 1) (λ place number p. (
     (let less = p.0 in omega arith),
     λ j c at same. elim (place_of old new i j d c h at) [
       | inl q ↦ (let less = p.0 in let e : number ≡ next = sym same ∙ ap (λ x. x.item.number) q.1 ∙ is in absurd (omega arith))
       | inr f ↦ p.1 j c f same
     ],
-  )) ns
+  ))
+
+  -- a record is found where it stands
+  pub aims-there : (cells : List (Option (Cell K V))) (nodes : List (Node KeyHashDate)) (next i : ℕ) (c : Cell K V) → AreQueued cells nodes next → cell_at cells i ≡ Some c → AimsAt cells next i c.item.number
+  aims-there cells nodes next i c h at = (h.below i c at, λ j d there same. h.apart j i d c there at same)
+
+  -- a write that was made, and one that is sent
+  unsent-more : (cells : List (Option (Cell K V))) (next t : ℕ) (w : PlacedWrite) → AimsAt cells next w.place (number_written w.write) → (us : List (Ticketed PlacedWrite)) → AreUnsentAimed cells next us → AreUnsentAimed cells next (us ++ (record { ticket = t; write = w }) ∷ [])
+  unsent-more cells next t w p [] h = (p, tt)
+  unsent-more cells next t w p (u ∷ us) h = (h.0, unsent-more cells next t w p us h.1)
+
+  pub aims-made : (cells : List (Option (Cell K V))) (next t : ℕ) (w : PlacedWrite) {rs : List Noted} {ws : List PlacedWrite} {us : List (Ticketed PlacedWrite)} → AimsAt cells next w.place (number_written w.write) → AreAllAimed cells next rs ws us → AreAllAimed cells next rs ws (us ++ (record { ticket = t; write = w }) ∷ [])
+  aims-made cells next t w {rs} {ws} {us} p h = record { reads_are = h.reads_are; writes_are = h.writes_are; unsent_are = unsent-more cells next t w p us h.unsent_are }
+
+  writes-more : (cells : List (Option (Cell K V))) (next : ℕ) (w : PlacedWrite) → AimsAt cells next w.place (number_written w.write) → (ws : List PlacedWrite) → AreWritesAimed cells next ws → AreWritesAimed cells next (ws ++ w ∷ [])
+  writes-more cells next w p [] h = (p, tt)
+  writes-more cells next w p (x ∷ xs) h = (h.0, writes-more cells next w p xs h.1)
+
+  reads-more : (cells : List (Option (Cell K V))) (next : ℕ) (n : Noted) → IsAimed cells next n → (ns : List Noted) → AreAimed cells next ns → AreAimed cells next (ns ++ n ∷ [])
+  reads-more cells next n p [] h = (p, tt)
+  reads-more cells next n p (x ∷ xs) h = (h.0, reads-more cells next n p xs h.1)
+
+  pub aims-noted : (cells : List (Option (Cell K V))) (next : ℕ) (n : Noted) {rs : List Noted} {ws : List PlacedWrite} {us : List (Ticketed PlacedWrite)} → IsAimed cells next n → AreAllAimed cells next rs ws us → AreAllAimed cells next (rs ++ n ∷ []) ws us
+  aims-noted cells next n {rs} {ws} {us} p h = record { reads_are = reads-more cells next n p rs h.reads_are; writes_are = h.writes_are; unsent_are = h.unsent_are }
+
+  ticket-aimed : (cells : List (Option (Cell K V))) (next t : ℕ) (w : PlacedWrite) (us : List (Ticketed PlacedWrite)) → ticketed_at us t ≡ Some w → AreUnsentAimed cells next us → AimsAt cells next w.place (number_written w.write)
+  ticket-aimed cells next t w [] e h = absurd (cc)
+  ticket-aimed cells next t w (u ∷ us) e h = go (eqb u.ticket t) e (λ f. ticket-aimed cells next t w us f h.1)
+    where
+      go : (b : Bool) → cond b (Some u.write) (ticketed_at us t) ≡ Some w → (ticketed_at us t ≡ Some w → AimsAt cells next w.place (number_written w.write)) → AimsAt cells next w.place (number_written w.write)
+      go true f later = let same : u.write ≡ w = cc in subst (λ (x : PlacedWrite). AimsAt cells next x.place (number_written x.write)) same h.0
+      go false f later = later f
+
+  others-aimed : (cells : List (Option (Cell K V))) (next t : ℕ) (us : List (Ticketed PlacedWrite)) → AreUnsentAimed cells next us → AreUnsentAimed cells next (without_ticketed t us)
+  others-aimed cells next t [] h = tt
+  others-aimed cells next t (u ∷ us) h = go (eqb u.ticket t) (others-aimed cells next t us h.1)
+    where
+      go : (b : Bool) → AreUnsentAimed cells next (without_ticketed t us) → AreUnsentAimed cells next (cond b us (u ∷ without_ticketed t us))
+      go true later = h.1
+      go false later = (h.0, later)
+
+  aims-sent_of : (cells : List (Option (Cell K V))) (next t : ℕ) (o : Option PlacedWrite) {P S R : Type 0} (p : Pending K V Noted PlacedWrite P S R) → ticketed_at p.unsent t ≡ o → AreAllAimed cells next p.reads p.writes p.unsent
+      → AreAllAimed cells next p.reads (with_sent_of t o p).writes (with_sent_of t o p).unsent
+  aims-sent_of cells next t None p e h = h
+  aims-sent_of cells next t (Some w) p e h = record { reads_are = h.reads_are; writes_are = writes-more cells next w (ticket-aimed cells next t w p.unsent e h.unsent_are) p.writes h.writes_are; unsent_are = others-aimed cells next t p.unsent h.unsent_are }
+
+  pub aims-sent : (cells : List (Option (Cell K V))) (next t : ℕ) {P S R : Type 0} (p : Pending K V Noted PlacedWrite P S R) → AreAllAimed cells next p.reads p.writes p.unsent
+      → AreAllAimed cells next p.reads (ticket_sent t p).writes (ticket_sent t p).unsent
+  aims-sent cells next t p h = aims-sent_of cells next t (ticketed_at p.unsent t) p refl h
+
+  -- the first goes
+  pub aims-read : (cells : List (Option (Cell K V))) (next : ℕ) (rs : List Noted) (ws : List PlacedWrite) (us : List (Ticketed PlacedWrite)) → AreAllAimed cells next rs ws us → AreAllAimed cells next (drop 1 rs) ws us
+  aims-read cells next [] ws us h = h
+  aims-read cells next (r ∷ rs) ws us h = record { reads_are = h.reads_are.1; writes_are = h.writes_are; unsent_are = h.unsent_are }
+
+  pub aims-written : (cells : List (Option (Cell K V))) (next : ℕ) (rs : List Noted) (ws : List PlacedWrite) (us : List (Ticketed PlacedWrite)) → AreAllAimed cells next rs ws us → AreAllAimed cells next rs (drop 1 ws) us
+  aims-written cells next rs [] us h = h
+  aims-written cells next rs (w ∷ ws) us h = record { reads_are = h.reads_are; writes_are = h.writes_are.1; unsent_are = h.unsent_are }
+
+  pub first-read : (cells : List (Option (Cell K V))) (next : ℕ) (n : Noted) (rs : List Noted) → slice_get rs 0 ≡ Some n → AreAimed cells next rs → IsAimed cells next n
+  first-read cells next n [] e h = absurd (cc)
+  first-read cells next n (r ∷ rs) e h = let same : r ≡ n = cc in subst (λ (x : Noted). IsAimed cells next x) same h.0
+
+  pub first-write : (cells : List (Option (Cell K V))) (next : ℕ) (w : PlacedWrite) (ws : List PlacedWrite) → slice_get ws 0 ≡ Some w → AreWritesAimed cells next ws → AimsAt cells next w.place (number_written w.write)
+  first-write cells next w [] e h = absurd (cc)
+  first-write cells next w (x ∷ ws) e h = let same : x ≡ w = cc in subst (λ (y : PlacedWrite). AimsAt cells next y.place (number_written y.write)) same h.0
 
   -- as the numbers in the places show it
-  points-to : (cells : List (Option (Cell K V))) (next place number : ℕ) → AimsAt cells next place number → AimsOnlyAt (numbers_of cells) place number
+  pub points-to : (cells : List (Option (Cell K V))) (next place number : ℕ) → AimsAt cells next place number → AimsOnlyAt (numbers_of cells) place number
   points-to cells next place number p i at = go (cell_at cells i) refl
     where
       go : (o : Option (Cell K V)) → cell_at cells i ≡ o → i ≡ place

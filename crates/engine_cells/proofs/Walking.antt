@@ -1,6 +1,6 @@
 -- Walks over cells and queues.
 use Rattle.std.proofs.Common.{◌≡◌, refl, sym, ◌∙◌, ℕ, zero, suc, Bool, true, false, cond, eqb, List, [], ◌∷◌, Option, Some, None}
-use Rattle.std.specs.Prelude.{IfSome, IfNone}
+use Rattle.std.specs.Prelude.{IfSome, IfNone, OnOk, OnErr, Result, Ok, Err, option_map, is_some}
 use Rattle.engine_reference.specs.declared.data.Record.{Record}
 use Rattle.engine_reference.specs.Records.{record_at}
 use Rattle.engine_cells.specs.declared.cell.Cell.{Cell}
@@ -12,6 +12,18 @@ use Rattle.engine_cells.proofs.Placed.{record_at-put_among}
 pub found-map : (P Q : ℕ → Type 0) → ((i : ℕ) → P i → Q i) → (o : Option ℕ) → IfSome o P → IfSome o Q
 found-map P Q f None h = tt
 found-map P Q f (Some i) h = f i h
+
+pub ok-map : {T E : Type 0} (P Q : Type 0) → (P → Q) → (r : Result T E) → OnOk r P → OnOk r Q
+ok-map P Q f (Ok x) h = f h
+ok-map P Q f (Err e) h = tt
+
+pub by-result : {T E : Type 0} (P Q Z : Type 0) → (P → Z) → (Q → Z) → (r : Result T E) → OnOk r P → OnErr r Q → Z
+by-result P Q Z f g (Ok x) h k = f h
+by-result P Q Z f g (Err e) h k = g k
+
+pub some-mapped : {X Y : Type 0} (f : X → Y) (o : Option X) → is_some (option_map f o) ≡ is_some o
+some-mapped f None = refl
+some-mapped f (Some x) = refl
 
 pub none-map : (P Q : Type 0) → (P → Q) → (o : Option ℕ) → IfNone o P → IfNone o Q
 none-map P Q f None h = f h

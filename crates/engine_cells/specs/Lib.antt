@@ -6,3 +6,4 @@ pub mod Noting
 pub mod Looking
 pub mod Tallying
 pub mod Rooms
+pub mod Writing

@@ -8,8 +8,7 @@ mod rooms;
 mod tables;
 mod tally;
 
-pub use cell::Cell;
+pub use cell::{Cell, Noted, PlacedWrite};
 pub use finding::find_held;
-pub use rooms::RoomError;
 pub use tables::Tables;
 pub use tally::Tally;

@@ -1,31 +1,35 @@
 //! The tables.
-ghost use Rattle.std.specs.Prelude.{◌≡◌, ℕ, ◌+◌, ◌-◌, ◌<◌, ◌≤◌, ◌^◌, min, max, true, false, [], ◌∷◌, ◌++◌, length, vec_len, vec_capacity, List, length, slice_get, slice_set, is_some, Some, None, IfSome, IfNone, OnOk, OnErr, ◌↔◌, option_copied, if◌then◌else◌, ◌≢◌, option_map};
+ghost use Rattle.std.specs.Prelude.{◌≡◌, ℕ, ◌+◌, ◌-◌, ◌<◌, ◌≤◌, ◌^◌, min, true, false, [], ◌∷◌, ◌⊎◌, ◌++◌, length, remove, List, slice_get, slice_set, is_some, Some, None, IfSome, IfNone, IfOk, OnOk, OnErr, ◌↔◌, option_copied, if◌then◌else◌, ◌≢◌, option_map};
 ghost use Rattle.std.specs.String.{string_bytes};
+ghost use Rattle.std.specs.Result.{IsErrOf};
+ghost use Rattle.std.specs.Int.{IsNextPowerOfTwo};
 ghost use Rattle.engine_reference.specs.Records.{record_at, changed_at, without_record, without, moved_to_back, settled_in, admitted_number, admitted_weight, held_weight};
 ghost use Rattle.engine_reference.specs.Admission.{is_above};
 ghost use Rattle.engine_reference.specs.declared.data.Record.{Record};
-ghost use Rattle.engine_reference.specs.Visible.{told};
+ghost use Rattle.engine_reference.specs.Visible.{told, is_covered};
+ghost use Rattle.engine_reference.specs.State.{Answers};
 ghost use Rattle.engine_cells.specs.Fitting.{StandsIn, HasPlaceFor, StepsOut, ComesLast};
-ghost use Rattle.engine_cells.specs.Noting.{read_of, AimsRight, AimsOnlyAt};
-ghost use Rattle.engine_reference.specs.Runs.{after_hit, after_read, after_removal, next_to_evict};
-ghost use Rattle.engine_reference.specs.Calls.{IsNew, without_room, cleared_by};
+ghost use Rattle.engine_cells.specs.Noting.{read_of, write_of, number_written, AimsRight, AimsOnlyAt};
+ghost use Rattle.engine_reference.specs.Runs.{after_hit, after_read, after_removal, next_to_evict, is_due};
+ghost use Rattle.engine_reference.specs.Calls.{IsNew, without_room, without_notice, cleared_by, registered, sent, unsent_at, is_full};
 ghost use Rattle.engine_cells.specs.Looking.{is_expired};
 ghost use Rattle.engine_reference.specs.declared.data.Read.{Read};
-ghost use Rattle.policy_sketch.specs.Counts.{incremented};
+ghost use Rattle.policy_sketch.specs.Counts.{incremented, grown};
+ghost use Rattle.engine_cells.specs.Writing.{put_for, with_put_for};
 ghost use Rattle.engine_cells.specs.Kept.{numbered_at, kept_at, is_admitted_as, is_removed_as};
 
-use crate::cell::{Cell, Noted};
+use crate::cell::{Cell, Noted, PlacedWrite};
 use crate::looking::{first_due, first_settled};
-use crate::rooms::{RoomError, grow};
+use crate::rooms::grow;
 use crate::tally::Tally;
-use engine_reference::{Entry, Notice, Record, Registered, Settings, Unsent, Write};
-use engine_rules::{RemovalCause, Rules};
+use engine_pending::Backlog;
+use engine_reference::{Entry, Notice, Record, Registered, Settings, Upsert, Write};
+use engine_rules::{Refusal, RemovalCause, Rules};
 use policy_base::{CacheRegion, DeqNodes, KeyHashDate, NodeId};
 use policy_queue::{Deque, names_stand};
 use policy_sketch::FrequencySketch;
 use slab::Slab;
-use std::alloc::Global;
-use std::collections::VecDeque;
+use std::alloc::{AllocError, Global};
 use std::marker::Model;
 use std::mem;
 
@@ -36,87 +40,58 @@ pub struct Tables<K: Eq, V, S, R: Rules<K, V>> {
     access: Deque<KeyHashDate>,
     order: Deque<KeyHashDate>,
     tally: Tally,
-    cleared: u64,
-    predicates: Vec<Registered<R::Predicate>>,
-    unsent: Vec<Unsent>,
-    reads: VecDeque<Noted>,
-    writes: Vec<Write>,
-    notices: Vec<Notice<K, V>>,
-    sketch: FrequencySketch,
-    number: u64,
-    weight: u64,
-    ran: u64,
-    table_refused: bool,
     next_number: u64,
-    next_ticket: u64,
-    reserved: u64,
-    name: Option<String>,
-    settings: Settings,
-    hasher: S,
-    rules: R,
+    backlog: Backlog<K, V, Noted, PlacedWrite, S, R>,
 }
 
 impl<K: Eq, V, S, R: Rules<K, V>> Model for Tables<K, V, S, R> {
-    ghost use Rattle.std.specs.Prelude.{ℕ, ◌+◌, ◌≤◌, ◌<◌, ◌^◌, vec_len, vec_capacity, option_map};
-    ghost use Rattle.std.specs.String.{string_bytes};
+    ghost use Rattle.std.specs.Prelude.{ℕ, ◌+◌, ◌≤◌, ◌<◌, ◌^◌};
     ghost use Rattle.slab.specs.Slab.{slab_len};
+    ghost use Rattle.engine_pending.specs.Whole.{whole};
     ghost use Rattle.engine_cells.specs.Cells.{records_by_number, numbers_in, numbers_of, all_turned};
     ghost use Rattle.engine_cells.specs.Fitting.{FitsQueue, unqueued};
-    ghost use Rattle.engine_cells.specs.Noting.{reads_of, AreAimed};
+    ghost use Rattle.engine_cells.specs.Noting.{read_of, write_of, AreAllAimed};
     ghost use Rattle.engine_cells.specs.Kept.{Kept};
     ghost use Rattle.engine_cells.specs.Tallying.{IsTallied};
 
     ghost Value = { Kept K V R.Predicate S R };
 
     ghost view = { λ c. record {
-      state = record {
-        records = records_by_number c.cells.slots;
-        access = numbers_in c.cells.slots c.access.nodes;
-        order = numbers_in c.cells.slots c.order.nodes;
-        cleared = c.cleared;
-        predicates = c.predicates.items;
-        unsent = c.unsent.items;
-        reads = reads_of c.reads.items;
-        writes = c.writes.items;
-        notices = c.notices.items;
-        sketch = c.sketch;
-        number = c.number;
-        weight = c.weight;
-        ran = c.ran;
-        table_refused = c.table_refused;
-        next_number = c.next_number;
-        next_ticket = c.next_ticket;
-        reserved = c.reserved;
-        name = option_map string_bytes c.name;
-        settings = c.settings;
-        hasher = c.hasher;
-        rules = c.rules;
-      };
+      state = whole read_of write_of (records_by_number c.cells.slots) (numbers_in c.cells.slots c.access.nodes) (numbers_in c.cells.slots c.order.nodes) c.next_number c.backlog;
       numbers = numbers_of c.cells.slots;
     } };
 
-    // cells and queues fit together; each record has room in both queues, and what is reserved serves a write
+    // cells and queues fit together; each record has room in both queues and for its notice, and what is reserved serves a write; what waits leads to its records
     ghost invariant = { λ c. record {
       kept : FitsQueue c.cells.slots c.access c.next_number;
       listed : FitsQueue (all_turned c.cells.slots) c.order c.next_number;
-      cells : slab_len c.cells + c.reserved ≤ c.cells.capacity;
-      access : unqueued c.cells.slots + c.reserved ≤ c.access.room;
-      order : unqueued (all_turned c.cells.slots) + c.reserved ≤ c.order.room;
-      notices : vec_len c.notices + slab_len c.cells + c.reserved ≤ vec_capacity c.notices;
-      unsent : vec_len c.unsent + c.reserved ≤ vec_capacity c.unsent;
+      cells : slab_len c.cells + c.backlog.reserved ≤ c.cells.capacity;
+      access : unqueued c.cells.slots + c.backlog.reserved ≤ c.access.room;
+      order : unqueued (all_turned c.cells.slots) + c.backlog.reserved ≤ c.order.room;
+      notices : slab_len c.cells + c.backlog.reserved ≤ c.backlog.notice_room;
       tallied : IsTallied c.cells.slots c.tally;
-      reads : AreAimed c.cells.slots c.next_number c.reads.items;
-      tickets : c.next_ticket + c.reserved < 2 ^ 64;
-      numbers : c.next_number ≤ c.next_ticket;
+      aimed : AreAllAimed c.cells.slots c.next_number c.backlog.reads c.backlog.writes c.backlog.unsent;
+      tickets : c.backlog.next_ticket + c.backlog.reserved < 2 ^ 64;
+      numbers : c.next_number ≤ c.backlog.next_ticket;
     } };
 }
 
 impl<K: Eq, V, S, R: Rules<K, V>> Tables<K, V, S, R> {
-    /// The tables of a cache that was just made. They take no memory.
-    pub fn new(alloc: Global, name: Option<String>, settings: Settings, hasher: S, rules: R) -> Self
-        ensures { IsNew (option_map string_bytes name) settings hasher rules result.state }
+    /// The tables of a cache that was just made.
+    pub fn new(
+        alloc: Global,
+        name: Option<String>,
+        settings: Settings,
+        hasher: S,
+        rules: R,
+    ) -> Result<Self, AllocError>
+    where
+        S: Drop,
+        R: Drop,
+        ensures { IfOk result (λ made. IsNew (option_map string_bytes name) settings hasher rules made.state) }
     {
-        Tables {
+        let backlog = Backlog::new(alloc, name, settings, hasher, rules)?;
+        Ok(Tables {
             cells: Slab::new(alloc),
             access: Deque::new(alloc, CacheRegion::MainProbation),
             order: Deque::new(alloc, CacheRegion::Other),
@@ -125,69 +100,88 @@ impl<K: Eq, V, S, R: Rules<K, V>> Tables<K, V, S, R> {
                 weight: 0,
                 number: 0,
             },
-            cleared: 0,
-            predicates: Vec::new(alloc),
-            unsent: Vec::new(alloc),
-            reads: VecDeque::new(alloc),
-            writes: Vec::new(alloc),
-            notices: Vec::new(alloc),
-            sketch: FrequencySketch::default(alloc),
-            number: 0,
-            weight: 0,
-            ran: settings.made,
-            table_refused: false,
             next_number: 0,
-            next_ticket: 0,
-            reserved: 0,
-            name,
-            settings,
-            hasher,
-            rules,
-        }
+            backlog,
+        })
     }
 
-    /// Makes room for `by` more writes, which are then not refused.
-    pub fn make_room(&mut self, by: u64) -> Result<(), RoomError>
+    // ---- room
+
+    /// Makes room for `by` more writes or predicates, which are then not refused.
+    pub fn make_room(&mut self, by: u64) -> Result<(), Refusal>
         ensures ok { OnOk result (self.new ≡ record self.old { state = record self.old.state { reserved = self.old.state.reserved + by } }) }
         ensures err { OnErr result (self.new ≡ self.old) }
-        ensures used_up { (result ≡ Err RoomError.UsedUp) ↔ (2 ^ 64 ≤ self.old.state.next_ticket + self.old.state.reserved + by) }
+        ensures used_up { (result ≡ Err Refusal.UsedUp) ↔ (2 ^ 64 ≤ self.old.state.next_ticket + self.old.state.reserved + by) }
+        ensures only { OnErr result ((IsErrOf result Refusal.OutOfMemory) ⊎ (IsErrOf result Refusal.UsedUp)) }
     {
-        let free = (u64::MAX - self.next_ticket).saturating_sub(self.reserved);
+        let reserved = self.backlog.reserved();
+        let free = (u64::MAX - self.backlog.next_ticket()).saturating_sub(reserved);
         if free < by {
-            return Err(RoomError::UsedUp);
+            return Err(Refusal::UsedUp);
         }
-        let more = self.reserved + by;
+        let more = reserved + by;
         let waiting = self.cells.len() - self.tally.number as usize;
         let has_grown = grow(
             &mut self.cells,
             &mut self.access,
             &mut self.order,
-            &mut self.notices,
-            &mut self.unsent,
             more as usize,
             waiting,
         );
         if !has_grown {
-            return Err(RoomError::OutOfMemory);
+            return Err(Refusal::OutOfMemory);
         }
-        self.reserved = more;
-        Ok(())
+        self.backlog.make_room(by, self.cells.len())
     }
 
-    /// Gives up the room of one write.
+    /// Gives up the room of one write or predicate.
     pub fn release_room(&mut self)
         requires { 0 < self.old.state.reserved }
         ensures { self.new ≡ record self.old { state = without_room self.old.state } }
     {
-        self.reserved -= 1;
+        self.backlog.release_room();
     }
+
+    // ---- clears and predicates
 
     /// Covers every entry of an earlier step.
     pub fn clear(&mut self, step: u64)
         ensures { self.new ≡ record self.old { state = cleared_by step self.old.state } }
     {
-        self.cleared = self.cleared.max(step);
+        self.backlog.clear(step);
     }
+
+    /// Registers a predicate, for which there is room.
+    pub fn register(&mut self, predicate: Registered<R::Predicate>)
+        requires { 0 < self.old.state.reserved }
+        ensures { self.new ≡ record self.old { state = registered predicate self.old.state } }
+    {
+        self.backlog.register(predicate);
+    }
+
+    /// The predicate at a place of them goes.
+    pub fn end_predicate(&mut self, place: usize)
+        requires { place < length self.old.state.predicates }
+        ensures { self.new ≡ record self.old { state = record self.old.state { predicates = remove self.old.state.predicates place } } }
+    {
+        self.backlog.end_predicate(place);
+    }
+
+    /// The predicates.
+    pub fn predicates(&self) -> &[Registered<R::Predicate>]
+        ensures { result.now ≡ self.now.state.predicates }
+    {
+        self.backlog.predicates()
+    }
+
+    /// Whether a later clear or predicate stands over an entry.
+    pub fn is_over(&self, entry: &Entry<K, V>) -> bool
+        ensures { (answers : Answers K V R.Predicate R) → answers.covers ≡ R.covers → result ≡ is_covered answers self.now.state entry.now }
+    {
+        self.backlog.is_over(entry)
+    }
+
+    // ---- records
 
     /// The record in a place.
     pub fn record(&self, place: usize) -> Option<&Record<K, V>>
@@ -224,59 +218,44 @@ impl<K: Eq, V, S, R: Rules<K, V>> Tables<K, V, S, R> {
     }
 
     /// Adds the record of a new key, and its write, for which there is room. Its place is answered.
-    pub fn add(&mut self, added: Record<K, V>, write: Write) -> usize
+    pub fn add(&mut self, added: Record<K, V>) -> usize
         requires room { 0 < self.old.state.reserved }
         requires numbered { added.number ≡ self.old.state.next_number }
         requires uncounted { added.counts ≡ None }
         ensures vacant { numbered_at self.old.numbers result ≡ None }
         ensures place { kept_at self.new result ≡ Some added }
         ensures others { (i : ℕ) → i ≢ result → numbered_at self.new.numbers i ≡ numbered_at self.old.numbers i }
-        ensures state { self.new.state ≡ record self.old.state { records = self.old.state.records ++ added ∷ []; unsent = self.old.state.unsent ++ (record { ticket = self.old.state.next_ticket; write = write }) ∷ []; next_number = self.old.state.next_number + 1; next_ticket = self.old.state.next_ticket + 1; reserved = self.old.state.reserved - 1 } }
+        ensures state { self.new.state ≡ with_put_for added (record self.old.state { records = self.old.state.records ++ added ∷ []; next_number = self.old.state.next_number + 1 }) }
     {
         let _many = self.cells.len();
         self.tally = self.tally.with(&added);
+        let write = put_of(&added, self.tally.held);
         let nodes = DeqNodes::new(None, None, None);
         let place = self.cells.insert_reserved(Cell { item: added, nodes });
-        self.unsent.push_reserved(Unsent {
-            ticket: self.next_ticket,
-            write,
-        });
+        self.backlog.add_write(PlacedWrite { place, write });
         self.next_number += 1;
-        self.next_ticket += 1;
-        self.reserved -= 1;
         place
     }
 
     /// Writes over the entry in a place, which is told where removals are told, and adds the write, for which there is room.
-    pub fn write_over(
-        &mut self,
-        place: usize,
-        entry: Entry<K, V>,
-        cause: RemovalCause,
-        write: Write,
-    )
+    pub fn write_over(&mut self, place: usize, entry: Entry<K, V>, cause: RemovalCause)
     where
         K: Drop,
         V: Drop,
         requires there { is_some (kept_at self.old place) ≡ true }
         requires room { 0 < self.old.state.reserved }
         requires fits { (r : Record K V) → kept_at self.old place ≡ Some r → r.writes < 2 ^ 64 - 1 }
-        ensures { (r : Record K V) × (kept_at self.old place ≡ Some r) × (self.new ≡ record self.old { state = record self.old.state { records = changed_at r.number (λ x. record x { entry = entry; writes = x.writes + 1 }) self.old.state.records; notices = told self.old.state.settings.tells cause r.entry self.old.state.notices; unsent = self.old.state.unsent ++ (record { ticket = self.old.state.next_ticket; write = write }) ∷ []; next_ticket = self.old.state.next_ticket + 1; reserved = self.old.state.reserved - 1 } }) }
+        ensures { (r : Record K V) × (kept_at self.old place ≡ Some r) × (self.new ≡ record self.old { state = with_put_for (record r { entry = entry; writes = r.writes + 1 }) (record self.old.state { records = changed_at r.number (λ x. record x { entry = entry; writes = x.writes + 1 }) self.old.state.records; notices = told self.old.state.settings.tells cause r.entry self.old.state.notices }) }) }
     {
-        let tells = self.settings.tells;
         let _many = self.cells.len();
         let cell = &mut self.cells[place];
         let others = self.tally.without(&cell.item);
         let replaced = mem::replace(&mut cell.item.entry, entry);
         cell.item.writes += 1;
         self.tally = others.with(&cell.item);
-        tell_replaced(&mut self.notices, tells, cause, replaced);
-        self.unsent.push_reserved(Unsent {
-            ticket: self.next_ticket,
-            write,
-        });
-        self.next_ticket += 1;
-        self.reserved -= 1;
+        let write = put_of(&cell.item, self.tally.held);
+        self.backlog.tell(true, cause, replaced);
+        self.backlog.add_write(PlacedWrite { place, write });
     }
 
     /// The record in a place is no longer held, and its removal waits to be sent, for which there is room.
@@ -293,12 +272,8 @@ impl<K: Eq, V, S, R: Rules<K, V>> Tables<K, V, S, R> {
         cell.item.is_held = false;
         cell.item.writes += 1;
         self.tally = others.with(&cell.item);
-        self.unsent.push_reserved(Unsent {
-            ticket: self.next_ticket,
-            write: Write::Removed(number),
-        });
-        self.next_ticket += 1;
-        self.reserved -= 1;
+        let write = Write::Removed(number);
+        self.backlog.add_write(PlacedWrite { place, write });
     }
 
     /// A write of the record in a place is applied, and the record stays as it is otherwise, not admitted where it was not.
@@ -330,9 +305,7 @@ impl<K: Eq, V, S, R: Rules<K, V>> Tables<K, V, S, R> {
         requires room { 0 < self.old.state.reserved }
         ensures { self.new ≡ record self.old { state = record self.old.state { notices = told self.old.state.settings.tells cause entry self.old.state.notices; reserved = self.old.state.reserved - 1 } } }
     {
-        let tells = self.settings.tells;
-        tell_replaced(&mut self.notices, tells, cause, entry);
-        self.reserved -= 1;
+        self.backlog.tell_removed(cause, entry);
     }
 
     /// The removal of the record of a number is applied: it goes, where it is there and not held. It can only stand in this place.
@@ -380,8 +353,7 @@ impl<K: Eq, V, S, R: Rules<K, V>> Tables<K, V, S, R> {
         self.tally = self.tally.without(&item);
         take_off(&mut self.access, nodes.access_queue);
         take_off(&mut self.order, nodes.write_queue);
-        let tells = self.settings.tells;
-        tell_left(&mut self.notices, tells, cause, item);
+        self.backlog.tell(item.is_held, cause, item.entry);
     }
 
     /// The place of the record used longest ago.
@@ -426,7 +398,7 @@ impl<K: Eq, V, S, R: Rules<K, V>> Tables<K, V, S, R> {
     pub fn is_too_heavy(&self) -> bool
         ensures { result ≡ is_above self.now.state.settings.capacity (admitted_weight self.now.state.records) }
     {
-        match self.settings.capacity {
+        match self.backlog.settings().capacity {
             Some(capacity) => u128::from(capacity) < self.tally.weight,
             None => false,
         }
@@ -436,56 +408,49 @@ impl<K: Eq, V, S, R: Rules<K, V>> Tables<K, V, S, R> {
     pub fn settings(&self) -> Settings
         ensures { result ≡ self.now.state.settings }
     {
-        self.settings
+        self.backlog.settings()
     }
 
     /// The step of the last clear, or 0.
     pub fn cleared(&self) -> u64
         ensures { result ≡ self.now.state.cleared }
     {
-        self.cleared
-    }
-
-    /// The writes that were made and not sent yet, under their tickets.
-    pub fn unsent(&self) -> &[Unsent]
-        ensures { result.now ≡ self.now.state.unsent }
-    {
-        self.unsent.as_slice()
+        self.backlog.cleared()
     }
 
     /// How often hashes were asked for.
     pub fn sketch(&self) -> &FrequencySketch
         ensures { result.now ≡ self.now.state.sketch }
     {
-        &self.sketch
+        self.backlog.sketch()
     }
 
     /// How many records were admitted at the end of the last run.
     pub fn number(&self) -> u64
         ensures { result ≡ self.now.state.number }
     {
-        self.number
+        self.backlog.number()
     }
 
     /// What the admitted records weighed at the end of the last run.
     pub fn weight(&self) -> u64
         ensures { result ≡ self.now.state.weight }
     {
-        self.weight
+        self.backlog.weight()
     }
 
     /// The moment of the last run, in nanoseconds.
     pub fn ran(&self) -> u64
         ensures { result ≡ self.now.state.ran }
     {
-        self.ran
+        self.backlog.ran()
     }
 
     /// Whether the last run wanted the sketch's table and there was no memory for it.
     pub fn table_refused(&self) -> bool
         ensures { result ≡ self.now.state.table_refused }
     {
-        self.table_refused
+        self.backlog.table_refused()
     }
 
     /// The number of the next record.
@@ -499,21 +464,28 @@ impl<K: Eq, V, S, R: Rules<K, V>> Tables<K, V, S, R> {
     pub fn next_ticket(&self) -> u64
         ensures { result ≡ self.now.state.next_ticket }
     {
-        self.next_ticket
+        self.backlog.next_ticket()
+    }
+
+    /// What the cache is called.
+    pub fn name(&self) -> Option<&str>
+        ensures { option_map (λ text. text.now) result ≡ self.now.state.name }
+    {
+        self.backlog.name()
     }
 
     /// The rules.
     pub fn rules(&self) -> &R
         ensures { result.now ≡ self.now.state.rules }
     {
-        &self.rules
+        self.backlog.rules()
     }
 
     /// What makes hashers.
     pub fn hasher(&self) -> &S
         ensures { result.now ≡ self.now.state.hasher }
     {
-        &self.hasher
+        self.backlog.hasher()
     }
 
     /// Takes down number and weight of the admitted records at the end of a run.
@@ -521,17 +493,113 @@ impl<K: Eq, V, S, R: Rules<K, V>> Tables<K, V, S, R> {
         ensures { self.new ≡ record self.old { state = record self.old.state { number = admitted_number self.old.state.records; weight = min (admitted_weight self.old.state.records) 18446744073709551615; ran = now; table_refused = table_refused } } }
     {
         let _many = self.cells.len();
-        self.number = self.tally.number as u64;
-        self.weight = capped(self.tally.weight);
-        self.ran = now;
-        self.table_refused = table_refused;
+        let number = self.tally.number as u64;
+        let weight = capped(self.tally.weight);
+        self.backlog.finish_run(number, weight, now, table_refused);
+    }
+
+    /// Makes the sketch's table for so many hashes.
+    pub fn make_table(&mut self, hashes: u32) -> Result<(), AllocError>
+        ensures made { OnOk result ((words : ℕ) × IsNextPowerOfTwo (min hashes (2 ^ 24)) words × (self.new ≡ record self.old { state = record self.old.state { sketch = grown self.old.state.sketch words hashes } })) }
+        ensures err { OnErr result (self.new ≡ self.old) }
+    {
+        self.backlog.make_table(hashes)
+    }
+
+    /// Whether a run is due: 64 writes or 64 reads wait, or the last run is 300 milliseconds old.
+    pub fn is_due(&self, now: u64) -> bool
+        ensures { result ≡ is_due self.now.state now }
+    {
+        self.backlog.is_due(now)
+    }
+
+    // ---- notices
+
+    /// The oldest notice that was not taken.
+    pub fn next_notice(&mut self) -> Option<Notice<K, V>>
+        ensures notice { result ≡ slice_get self.old.state.notices 0 }
+        ensures taken { self.new ≡ record self.old { state = without_notice self.old.state } }
+    {
+        self.backlog.next_notice()
+    }
+
+    // ---- writes that wait
+
+    /// How many writes wait to be applied.
+    pub fn number_of_writes(&self) -> usize
+        ensures { result ≡ length self.now.state.writes }
+    {
+        self.backlog.number_of_writes()
+    }
+
+    /// The write that waits longest.
+    pub fn first_write(&self) -> Option<&PlacedWrite>
+        ensures { option_map write_of (option_copied result) ≡ slice_get self.now.state.writes 0 }
+    {
+        self.backlog.first_write()
+    }
+
+    /// Moves the write of a ticket into the queue. An unknown ticket is refused before a full queue.
+    pub fn send(&mut self, ticket: u64) -> Result<(), Refusal>
+        ensures ok { OnOk result (self.new ≡ record self.old { state = sent ticket self.old.state }) }
+        ensures known { OnOk result (is_some (unsent_at self.old.state.unsent ticket) ≡ true) }
+        ensures err { OnErr result (self.new ≡ self.old) }
+        ensures unknown { IsErrOf result Refusal.UnknownTicket → unsent_at self.old.state.unsent ticket ≡ None }
+        ensures full { IsErrOf result Refusal.QueueFull → (is_some (unsent_at self.old.state.unsent ticket) ≡ true) × (is_full self.old.state ≡ true) }
+        ensures only { OnErr result ((IsErrOf result Refusal.UnknownTicket) ⊎ (IsErrOf result Refusal.QueueFull)) }
+    {
+        self.backlog.send(ticket)
+    }
+
+    /// Takes off the write that waits longest. Only in the place that is told can its record stand.
+    pub fn pop_write(&mut self) -> PlacedWrite
+        requires { 0 < length self.old.state.writes }
+        ensures first { self.old.state.writes ≡ write_of result ∷ self.new.state.writes }
+        ensures right { AimsOnlyAt self.new.numbers result.place (number_written result.write) }
+        ensures rest { self.new ≡ record self.old { state = record self.old.state { writes = self.new.state.writes } } }
+    {
+        match self.backlog.pop_write() {
+            Some(write) => write,
+            None => unreachable!(),
+        }
+    }
+
+    // ---- reads that wait
+
+    /// How many reads wait to be counted.
+    pub fn number_of_reads(&self) -> usize
+        ensures { result ≡ length self.now.state.reads }
+    {
+        self.backlog.number_of_reads()
+    }
+
+    /// A look-up that found the record in a place waits to be counted, for which there is room.
+    pub fn push_hit(&mut self, place: usize, hash: u64)
+        requires room { length self.old.state.reads < 64 }
+        requires there { is_some (kept_at self.old place) ≡ true }
+        ensures { (r : Record K V) × (kept_at self.old place ≡ Some r) × (self.new ≡ record self.old { state = record self.old.state { reads = self.old.state.reads ++ Read.Hit r.number hash ∷ [] } }) }
+    {
+        let number = self.cells[place].item.number;
+        self.backlog.push_read(Noted::Hit {
+            place,
+            number,
+            hash,
+        });
+    }
+
+    /// A look-up that found nothing waits to be counted, for which there is room.
+    pub fn push_miss(&mut self, hash: u64)
+        requires { length self.old.state.reads < 64 }
+        ensures { self.new ≡ record self.old { state = record self.old.state { reads = self.old.state.reads ++ Read.Miss hash ∷ [] } } }
+    {
+        self.backlog.push_read(Noted::Miss(hash));
     }
 
     /// Counts a hash as asked for.
     pub fn count_hash(&mut self, hash: u64)
         ensures { self.new ≡ record self.old { state = record self.old.state { sketch = incremented self.old.state.sketch hash } } }
     {
-        self.sketch.increment(hash);
+        self.backlog.count_hash(hash);
     }
 
     /// Takes off the oldest read.
@@ -541,7 +609,7 @@ impl<K: Eq, V, S, R: Rules<K, V>> Tables<K, V, S, R> {
         ensures right { AimsRight self.new.numbers result }
         ensures rest { self.new ≡ record self.old { state = record self.old.state { reads = self.new.state.reads } } }
     {
-        match self.reads.pop_front() {
+        match self.backlog.pop_read() {
             Some(noted) => noted,
             None => unreachable!(),
         }
@@ -639,32 +707,6 @@ fn take_off(queue: &mut Deque<KeyHashDate>, node: Option<NodeId>)
     }
 }
 
-/// Adds a notice of a record that left, where it was held and removals are told.
-fn tell_left<K: Drop, V: Drop>(
-    notices: &mut Vec<Notice<K, V>>,
-    tells: bool,
-    cause: RemovalCause,
-    left: Record<K, V>,
-)
-    requires { vec_len notices.old < vec_capacity notices.old }
-    ensures items { notices.new.items ≡ (if left.is_held then told tells cause left.entry notices.old.items else notices.old.items) }
-    ensures len { vec_len notices.new ≤ vec_len notices.old + 1 }
-    ensures capacity { vec_capacity notices.new ≡ vec_capacity notices.old }
-{
-    if left.is_held && tells {
-        let Entry {
-            key,
-            value,
-            step: _,
-            written: _,
-            used: _,
-            expires: _,
-            weight: _,
-        } = left.entry;
-        notices.push_reserved(Notice { cause, key, value });
-    }
-}
-
 /// Whether a record has a number, and is not held.
 fn is_removed_as<K, V>(found: &Record<K, V>, number: u64) -> bool
     ensures { result ≡ is_removed_as number (Some found.now) }
@@ -679,30 +721,17 @@ fn is_admitted_as<K, V>(found: &Record<K, V>, number: u64) -> bool
     found.number == number && found.counts.is_some()
 }
 
-/// Adds a notice of an entry that was replaced, where removals are told.
-fn tell_replaced<K: Drop, V: Drop>(
-    notices: &mut Vec<Notice<K, V>>,
-    tells: bool,
-    cause: RemovalCause,
-    entry: Entry<K, V>,
-)
-    requires { vec_len notices.old < vec_capacity notices.old }
-    ensures items { notices.new.items ≡ told tells cause entry notices.old.items }
-    ensures len { vec_len notices.new ≤ vec_len notices.old + 1 }
-    ensures capacity { vec_capacity notices.new ≡ vec_capacity notices.old }
+/// The write of a record as it stands, where so much is held.
+fn put_of<K, V>(written: &Record<K, V>, kept: u128) -> Write
+    ensures { result ≡ put_for written.now kept }
 {
-    if tells {
-        let Entry {
-            key,
-            value,
-            step: _,
-            written: _,
-            used: _,
-            expires: _,
-            weight: _,
-        } = entry;
-        notices.push_reserved(Notice { cause, key, value });
-    }
+    Write::Put(Upsert {
+        number: written.number,
+        write: written.writes,
+        weight: written.entry.weight,
+        hash: written.hash,
+        kept,
+    })
 }
 
 /// A weight as it is kept: at most the greatest that fits.

@@ -1,8 +1,8 @@
 //! Tables.
-use engine_cells::{RoomError, Tables};
+use engine_cells::Tables;
 use engine_reference::Settings;
-use engine_rules::{Bundle, EvictionPolicy, NoExpiry, NoPredicate, WeighOne};
-use std::alloc::Global;
+use engine_rules::{Bundle, EvictionPolicy, NoExpiry, NoPredicate, Refusal, WeighOne};
+use std::alloc::{AllocError, Global};
 
 type OneTable = Tables<u32, u32, u8, Bundle<NoExpiry, WeighOne, NoPredicate, u8>>;
 
@@ -16,29 +16,36 @@ const SETTINGS: Settings = Settings {
     made: 0,
 };
 
-fn made(alloc: Global) -> OneTable {
-    Tables::new(alloc, None, SETTINGS, 0, Bundle::new(NoExpiry, WeighOne))
+/// New tables, at the second try where memory is refused.
+fn made(alloc: Global) -> Result<OneTable, AllocError> {
+    match Tables::new(alloc, None, SETTINGS, 0, Bundle::new(NoExpiry, WeighOne)) {
+        Ok(tables) => Ok(tables),
+        Err(_) => Tables::new(alloc, None, SETTINGS, 0, Bundle::new(NoExpiry, WeighOne)),
+    }
 }
 
 /// Whether there is room, at the second try where memory is refused; more than there are tickets is refused.
-fn makes_room(alloc: Global) -> (Result<(), RoomError>, Result<(), RoomError>) {
-    let mut tables = made(alloc);
+fn makes_room(alloc: Global) -> Result<(Result<(), Refusal>, Result<(), Refusal>), AllocError> {
+    let mut tables = made(alloc)?;
     let first = match tables.make_room(2) {
         Ok(()) => Ok(()),
         Err(_) => tables.make_room(2),
     };
-    (first, tables.make_room(u64::MAX))
+    Ok((first, tables.make_room(u64::MAX)))
 }
 
 #[test]
 fn room_is_made_for_writes(rt: HostRuntime) {
-    assert_eq!(rt; makes_room(rt.alloc()), (Ok(()), Err(RoomError::UsedUp)));
+    assert_eq!(rt; makes_room(rt.alloc()), Ok((Ok(()), Err(Refusal::UsedUp))));
+}
+
+/// What new tables hold.
+fn held_when_new(alloc: Global) -> Result<(u128, Option<usize>, Option<usize>), AllocError> {
+    let tables = made(alloc)?;
+    Ok((tables.held_weight(), tables.oldest(), tables.first_due(0)))
 }
 
 #[test]
 fn new_tables_hold_nothing(rt: HostRuntime) {
-    let tables = made(rt.alloc());
-    assert_eq!(rt; tables.held_weight(), 0);
-    assert_eq!(rt; tables.oldest(), None);
-    assert_eq!(rt; tables.first_due(0), None);
+    assert_eq!(rt; held_when_new(rt.alloc()), Ok((0, None, None)));
 }

@@ -1,13 +1,16 @@
-use Rattle.std.proofs.Common.{◌≡◌, refl, ap, sym, ◌∙◌, subst, ◌<◌, arith}
+use Rattle.std.proofs.Common.{◌≡◌, refl, ap, sym, ◌∙◌, subst, ◌+◌, ◌<◌, arith, [], ◌∷◌, ◌++◌}
 use Rattle.std.specs.Prelude.{option_map}
 use Rattle.engine_cells.specs.declared.cell.Cell.{Cell}
 use Rattle.engine_cells.specs.Kept.{numbered_at}
 use Rattle.engine_cells.proofs.Views.{number-in, unqueued-insert, kept-in, there-record}
 use Rattle.engine_cells.proofs.Listed.{records-insert}
 use Rattle.engine_cells.proofs.Changes.{Gets, kept-inserted, access-inserted}
-use Rattle.engine_cells.proofs.Pointing.{pointed-gets}
+use Rattle.engine_cells.proofs.Pointing.{pointed-gets, aims-made, aims-there, more-unsent}
 use Rattle.engine_cells.proofs.Turned.{order-kept_inserted, order-inserted, order_waiting-insert}
-use Rattle.engine_cells.proofs.Totals.{tally-fits, tally-insert}
+use Rattle.engine_reference.specs.Records.{held_weight}
+use Rattle.engine_cells.specs.Cells.{records_by_number}
+use Rattle.engine_cells.specs.Writing.{put_for}
+use Rattle.engine_cells.proofs.Totals.{held-is, tally-fits, tally-insert}
 use Rattle.engine_cells.proofs.tables.Tables.add.Goals as goal
 
 pub invariant_of-self : goal.invariant_of-self
@@ -18,22 +21,25 @@ invariant_of-self g c =
     let new = c.insert_reserved-place.new.self.slots in
     let vacant = c.insert_reserved-place.ensures.was_vacant in
     let gets : Gets old new i x = record { there = c.insert_reserved-place.ensures.updates.changed; others = c.insert_reserved-place.ensures.updates.others } in
-    let room : 0 < c.self.inside.reserved = omega (arith, ap (λ t. t.state.reserved) c.self.view_is) in
+    let room : 0 < c.self.inside.backlog.reserved = omega (arith, ap (λ t. t.state.reserved) c.self.view_is) in
     let is : c.args.added.number ≡ c.self.inside.next_number = c.requires.numbered ∙ sym (ap (λ t. t.state.next_number) c.self.view_is) in
     let order_more = order_waiting-insert old new i x c.new-nodes.ensures.write_queue vacant gets in
     let more = unqueued-insert old new i x c.new-nodes.ensures.access_queue vacant gets.there gets.others in
+    let kept = kept-inserted old new c.self.inside.access.nodes c.self.inside.next_number i x c.self.invariant.kept vacant gets is c.new-nodes.ensures.access_queue c.requires.uncounted in
+    let made = c.add_write.ensures.added in
     record {
-      kept = kept-inserted old new c.self.inside.access.nodes c.self.inside.next_number i x c.self.invariant.kept vacant gets is c.new-nodes.ensures.access_queue c.requires.uncounted;
+      kept = kept;
       listed = order-kept_inserted old new c.self.inside.order.nodes c.self.inside.next_number i x c.self.invariant.listed vacant gets is c.new-nodes.ensures.write_queue c.requires.uncounted;
-      order = omega arith;
-      cells = omega arith;
-      access = omega arith;
-      notices = omega arith;
-      unsent = omega arith;
+      order = rw made (omega arith);
+      cells = rw made (omega arith);
+      access = rw made (omega arith);
+      notices = rw made (omega arith);
       tallied = tally-insert old new i x c.self.inside.tally c.with-self-inside.result vacant gets c.with-self-inside.ensures.light c.self.invariant.tallied c.with-self-inside.ensures.more;
-      reads = pointed-gets old new c.self.inside.next_number i x c.self.inside.reads.items gets is c.self.invariant.reads;
-      tickets = omega arith;
-      numbers = omega arith;
+      aimed = rw (made, c.put_of-write.ensures)
+          (aims-made new (c.self.inside.next_number + 1) c.self.inside.backlog.next_ticket _ (aims-there new c.self.inside.access.nodes (c.self.inside.next_number + 1) i x kept gets.there)
+          (pointed-gets old new c.self.inside.next_number i x gets is c.self.invariant.aimed));
+      tickets = rw made (omega arith);
+      numbers = rw made (omega arith);
     }
 
 pub returns-clause-place : goal.returns-clause-place
@@ -64,12 +70,18 @@ returns-clause-state g c =
     let vacant = c.insert_reserved-place.ensures.was_vacant in
     let gets : Gets old new i x = record { there = c.insert_reserved-place.ensures.updates.changed; others = c.insert_reserved-place.ensures.updates.others } in
     let is : c.args.added.number ≡ c.self.inside.next_number = c.requires.numbered ∙ sym (ap (λ t. t.state.next_number) c.self.view_is) in
+    let records = records-insert old new i x (λ j d e. subst (λ n. d.item.number < n) (sym is) (c.self.invariant.kept.below j d e)) vacant gets.there gets.others in
+    let tallied = tally-insert old new i x c.self.inside.tally c.with-self-inside.result vacant gets c.with-self-inside.ensures.light c.self.invariant.tallied c.with-self-inside.ensures.more in
+    let holds = sym (held-is new c.with-self-inside.result tallied) ∙ ap held_weight records in
+    let write : c.put_of-write.result ≡ put_for c.args.added (held_weight (records_by_number old ++ c.args.added ∷ [])) = c.put_of-write.ensures ∙ ap (λ n. put_for c.args.added n) holds in
     rw (
       ← c.self.view_is,
       access-inserted old new c.self.inside.access.nodes c.self.inside.next_number i x c.self.invariant.kept vacant gets,
       order-inserted old new c.self.inside.order.nodes c.self.inside.next_number i x c.self.invariant.listed vacant gets,
-      c.push_reserved.ensures.items,
-      records-insert old new i x (λ j d e. subst (λ n. d.item.number < n) (sym is) (c.self.invariant.kept.below j d e)) vacant gets.there gets.others,
+      records,
+      c.add_write.ensures.added,
+      more-unsent c.self.inside.backlog.unsent c.self.inside.backlog.next_ticket (record { place = i; write = c.put_of-write.result }),
+      write,
     ) refl
 
 pub returns-clause-vacant : goal.returns-clause-vacant

@@ -1,6 +1,6 @@
 use Rattle.std.proofs.Common.{◌≡◌, refl, ap, sym, ◌∙◌, subst, ◌+◌, ◌≤◌, is_some, Some, arith}
 use Rattle.engine_cells.specs.Fitting.{ComesLast}
-use Rattle.std.specs.Prelude.{slice_set, vec_len, vec_capacity}
+use Rattle.std.specs.Prelude.{slice_set}
 use Rattle.engine_reference.specs.declared.data.Record.{Record}
 use Rattle.engine_cells.specs.declared.cell.Cell.{Cell}
 use Rattle.engine_cells.specs.Kept.{kept_at}
@@ -22,13 +22,13 @@ pub put_last-used-requires-clause-has : goal.put_last-used-requires-clause-has
 put_last-used-requires-clause-has g c = has-node c.self.inside.cells.slots c.self.inside.access c.self.inside.next_number c.args.place c.index.result.now c.self.invariant.kept c.index.ensures
 
 pub put_last-used-requires-clause-room : goal.put_last-used-requires-clause-room
-put_last-used-requires-clause-room g c = has-room c.self.inside.cells.slots c.self.inside.access c.args.place c.self.inside.reserved c.index.result.now c.index.ensures c.self.invariant.access
+put_last-used-requires-clause-room g c = has-room c.self.inside.cells.slots c.self.inside.access c.args.place c.self.inside.backlog.reserved c.index.result.now c.index.ensures c.self.invariant.access
 
 pub put_last-written-requires-clause-has : goal.put_last-written-requires-clause-has
 put_last-written-requires-clause-has g c = order-has_node c.self.inside.cells.slots c.self.inside.order c.self.inside.next_number c.args.place c.index.result.now c.self.invariant.listed c.index.ensures
 
 pub put_last-written-requires-clause-room : goal.put_last-written-requires-clause-room
-put_last-written-requires-clause-room g c = order-has_room c.self.inside.cells.slots c.self.inside.order c.args.place c.self.inside.reserved c.index.result.now c.index.ensures c.self.invariant.order
+put_last-written-requires-clause-room g c = order-has_room c.self.inside.cells.slots c.self.inside.order c.args.place c.self.inside.backlog.reserved c.index.result.now c.index.ensures c.self.invariant.order
 
 pub invariant_of-self : goal.invariant_of-self
 invariant_of-self g c =
@@ -44,18 +44,17 @@ invariant_of-self g c =
     let comes = subst (λ (z : Cell g.row.K.Denot g.row.V.Denot). ComesLast z.nodes.access_queue c.args.place c.put_last-used.result before after) same c.put_last-used.ensures in
     let order_comes = subst (λ (z : Cell g.row.K.Denot g.row.V.Denot). ComesLast z.nodes.write_queue c.args.place c.put_last-written.result order_before order_after) same c.put_last-written.ensures in
     let d : Cell g.row.K.Denot g.row.V.Denot = record y { item = record y.item { applied = c.args.write; counts = Some c.args.weight }; nodes = record y.nodes { access_queue = Some c.put_last-used.result; write_queue = Some c.put_last-written.result } } in
-    let k = counted cells before after c.self.inside.next_number c.args.place c.self.inside.reserved y d c.put_last-used.result c.names_stand.ensures c.self.invariant.kept there refl refl refl c.self.invariant.access comes in
-    let o = ordered cells order_before order_after c.self.inside.next_number c.args.place c.self.inside.reserved y d c.put_last-written.result c.names_stand-2.ensures c.self.invariant.listed there refl refl refl c.self.invariant.order order_comes in
+    let k = counted cells before after c.self.inside.next_number c.args.place c.self.inside.backlog.reserved y d c.put_last-used.result c.names_stand.ensures c.self.invariant.kept there refl refl refl c.self.invariant.access comes in
+    let o = ordered cells order_before order_after c.self.inside.next_number c.args.place c.self.inside.backlog.reserved y d c.put_last-written.result c.names_stand-2.ensures c.self.invariant.listed there refl refl refl c.self.invariant.order order_comes in
     record {
       kept = k.kept;
       listed = o.kept;
       order = o.room;
-      cells = subst (λ n. n + c.self.inside.reserved ≤ c.self.inside.cells.capacity) (sym (count-set cells c.args.place y d there)) c.self.invariant.cells;
+      cells = subst (λ n. n + c.self.inside.backlog.reserved ≤ c.self.inside.cells.capacity) (sym (count-set cells c.args.place y d there)) c.self.invariant.cells;
       access = k.room;
-      notices = subst (λ n. vec_len c.self.inside.notices + n + c.self.inside.reserved ≤ vec_capacity c.self.inside.notices) (sym (count-set cells c.args.place y d there)) c.self.invariant.notices;
-      unsent = c.self.invariant.unsent;
+      notices = subst (λ n. n + c.self.inside.backlog.reserved ≤ c.self.inside.backlog.notice_room) (sym (count-set cells c.args.place y d there)) c.self.invariant.notices;
       tallied = tally-replaced cells c.args.place y d c.self.inside.tally c.without-others.result c.with-self-inside.result there c.with-self-inside.ensures.light c.self.invariant.tallied c.without-others.ensures c.with-self-inside.ensures.more;
-      reads = pointed-gets_same cells (slice_set cells c.args.place (Some d)) c.self.inside.next_number c.args.place y d c.self.inside.reads.items there (gets-set cells c.args.place y d there) refl c.self.invariant.reads;
+      aimed = pointed-gets_same cells (slice_set cells c.args.place (Some d)) c.self.inside.next_number c.args.place y d there (gets-set cells c.args.place y d there) refl c.self.invariant.aimed;
       tickets = c.self.invariant.tickets;
       numbers = c.self.invariant.numbers;
     }
@@ -74,8 +73,8 @@ returns g c =
     let comes = subst (λ (z : Cell g.row.K.Denot g.row.V.Denot). ComesLast z.nodes.access_queue c.args.place c.put_last-used.result before after) same c.put_last-used.ensures in
     let order_comes = subst (λ (z : Cell g.row.K.Denot g.row.V.Denot). ComesLast z.nodes.write_queue c.args.place c.put_last-written.result order_before order_after) same c.put_last-written.ensures in
     let d : Cell g.row.K.Denot g.row.V.Denot = record y { item = record y.item { applied = c.args.write; counts = Some c.args.weight }; nodes = record y.nodes { access_queue = Some c.put_last-used.result; write_queue = Some c.put_last-written.result } } in
-    let k = counted cells before after c.self.inside.next_number c.args.place c.self.inside.reserved y d c.put_last-used.result c.names_stand.ensures c.self.invariant.kept there refl refl refl c.self.invariant.access comes in
-    let o = ordered cells order_before order_after c.self.inside.next_number c.args.place c.self.inside.reserved y d c.put_last-written.result c.names_stand-2.ensures c.self.invariant.listed there refl refl refl c.self.invariant.order order_comes in
+    let k = counted cells before after c.self.inside.next_number c.args.place c.self.inside.backlog.reserved y d c.put_last-used.result c.names_stand.ensures c.self.invariant.kept there refl refl refl c.self.invariant.access comes in
+    let o = ordered cells order_before order_after c.self.inside.next_number c.args.place c.self.inside.backlog.reserved y d c.put_last-written.result c.names_stand-2.ensures c.self.invariant.listed there refl refl refl c.self.invariant.order order_comes in
     let f = λ (r : Record g.row.K.Denot g.row.V.Denot). record r { applied = c.args.write; counts = Some c.args.weight } in (
       y.item,
       ap (λ t. kept_at t c.args.place) (sym c.self.view_is) ∙ kept-in cells c.args.place c.self.invariant.kept.apart ∙ there-record cells c.args.place y there,

@@ -1,10 +1,10 @@
-use Rattle.std.proofs.Common.{◌≡◌, refl, ap, sym, ◌∙◌, ◌+◌, is_some, cond, arith}
+use Rattle.std.proofs.Common.{◌≡◌, refl, ap, sym, ◌∙◌, ◌+◌, is_some, cond, arith, ◌&&◌}
 use Rattle.engine_cells.specs.Fitting.{unqueued}
 use Rattle.engine_cells.specs.Kept.{kept_at}
 use Rattle.engine_cells.proofs.Views.{unqueued-remove, kept-in, there-record}
 use Rattle.engine_cells.proofs.Listed.{records-remove}
 use Rattle.engine_cells.proofs.Changes.{Loses, kept-left, access-left, after-loses, room-loses, has-node, numbers_of-removed}
-use Rattle.engine_cells.proofs.Pointing.{pointed-loses, cell-there}
+use Rattle.engine_cells.proofs.Pointing.{pointed-loses, cell-there, told-same, told-room, told-parts}
 use Rattle.engine_cells.proofs.Turned.{order-kept_left, order-left, order_waiting-remove, order-has_node}
 use Rattle.engine_cells.specs.Cells.{all_turned}
 use Rattle.engine_cells.proofs.Totals.{tally-has, tally-remove}
@@ -26,24 +26,25 @@ invariant_of-self g c =
     let fewer : unqueued new + cond (is_some x.nodes.access_queue) 0 1 ≡ unqueued old = ap (λ l. unqueued l + cond (is_some x.nodes.access_queue) 0 1) c.remove-item.ensures.slots ∙ unqueued-remove old c.args.place x there in
     let room = room-loses x.nodes.access_queue c.self.inside.access c.take_off.new.queue c.take_off.ensures in
     let had = c.self.invariant.access in
-    let told = c.tell_left.ensures.len in
     let order_fewer : unqueued (all_turned new) + cond (is_some x.nodes.write_queue) 0 1 ≡ unqueued (all_turned old) = ap (λ l. unqueued (all_turned l) + cond (is_some x.nodes.write_queue) 0 1) c.remove-item.ensures.slots ∙ order_waiting-remove old c.args.place x there in
     let order_room = room-loses x.nodes.write_queue c.self.inside.order c.take_off-2.new.queue c.take_off-2.ensures in
     let order_had = c.self.invariant.order in
+    let is_told = x.item.is_held && c.self.inside.backlog.settings.tells in
+    let told = c.tell.ensures ∙ told-same is_told c.args.cause x.item.entry c.self.inside.backlog in
+    let less = told-room is_told c.self.inside.backlog.notice_room in
     record {
       kept = kept-left old new c.self.inside.access.nodes c.take_off.new.queue.nodes c.self.inside.next_number c.args.place x c.self.inside.access.region c.self.inside.access.next_serial c.names_stand.ensures c.self.invariant.kept there loses
           (after-loses x.nodes.access_queue c.self.inside.access c.take_off.new.queue c.take_off.ensures);
       listed = order-kept_left old new c.self.inside.order.nodes c.take_off-2.new.queue.nodes c.self.inside.next_number c.args.place x c.self.inside.order.region c.self.inside.order.next_serial c.names_stand-2.ensures c.self.invariant.listed there loses
           (after-loses x.nodes.write_queue c.self.inside.order c.take_off-2.new.queue c.take_off-2.ensures);
-      order = omega arith;
-      cells = omega arith;
-      access = omega arith;
-      notices = omega arith;
-      unsent = c.self.invariant.unsent;
+      order = rw told (omega arith);
+      cells = rw told (omega arith);
+      access = rw told (omega arith);
+      notices = rw told (omega arith);
       tallied = tally-remove old new c.args.place x c.self.inside.tally c.without-self-inside.result there loses c.remove-item.ensures.slots c.self.invariant.tallied c.without-self-inside.ensures;
-      reads = pointed-loses old new c.self.inside.next_number c.args.place c.self.inside.reads.items loses c.self.invariant.reads;
-      tickets = c.self.invariant.tickets;
-      numbers = c.self.invariant.numbers;
+      aimed = rw told (pointed-loses old new c.self.inside.next_number c.args.place loses c.self.invariant.aimed);
+      tickets = rw told c.self.invariant.tickets;
+      numbers = rw told c.self.invariant.numbers;
     }
 
 pub returns : goal.returns
@@ -57,7 +58,8 @@ returns g c =
       ap (λ t. kept_at t c.args.place) (sym c.self.view_is) ∙ kept-in old c.args.place c.self.invariant.kept.apart ∙ there-record old c.args.place x there,
       rw (
         ← c.self.view_is,
-        c.tell_left.ensures.items,
+        c.tell.ensures ∙ told-same (x.item.is_held && c.self.inside.backlog.settings.tells) c.args.cause x.item.entry c.self.inside.backlog,
+        told-parts x.item.is_held c.self.inside.backlog.settings.tells c.args.cause x.item.entry c.self.inside.backlog.notices,
         access-left old new c.self.inside.access.nodes c.take_off.new.queue.nodes c.self.inside.next_number c.args.place x c.self.inside.access.region c.self.inside.access.next_serial c.names_stand.ensures c.self.invariant.kept there loses
             (after-loses x.nodes.access_queue c.self.inside.access c.take_off.new.queue c.take_off.ensures),
         order-left old new c.self.inside.order.nodes c.take_off-2.new.queue.nodes c.self.inside.next_number c.args.place x c.self.inside.order.region c.self.inside.order.next_serial c.names_stand-2.ensures c.self.invariant.listed there loses

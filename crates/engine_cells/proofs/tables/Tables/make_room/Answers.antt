@@ -1,5 +1,9 @@
 use Rattle.std.proofs.Common.{◌≡◌, ap, arith, rules}
 use Rattle.engine_cells.specs.Cells.{all_turned}
+use Rattle.std.specs.Prelude.{count_by, is_some}
+use Rattle.slab.specs.Slab.{slab_len}
+use Rattle.engine_pending.specs.Pending.{MakesRoom}
+use Rattle.engine_cells.proofs.Walking.{by-result}
 use Rattle.engine_cells.specs.Fitting.{unqueued}
 use Rattle.engine_cells.proofs.Totals.{number-below, waiting-is, order_waiting-is}
 use Rattle.engine_cells.proofs.tables.Tables.make_room.Goals as goal
@@ -27,21 +31,43 @@ invariant_of-self-2 g c =
     let order_waits = order_waiting-is cells c.self.invariant.listed.admitted in
     let same : unqueued c.grow-has_grown.new.cells.slots ≡ unqueued cells = ap (λ l. unqueued l) slots in
     let order_same : unqueued (all_turned c.grow-has_grown.new.cells.slots) ≡ unqueued (all_turned cells) = ap (λ l. unqueued (all_turned l)) slots in
+    let many : slab_len c.grow-has_grown.new.cells ≡ slab_len c.self.inside.cells = ap (λ l. count_by is_some l) slots in
     let a = rooms.access_fits in
     let b = rooms.order_fits in
-    let d = rooms.notices_fit in
-    let e = rooms.unsent_fits in
     let f = rooms.cells_fit in
-    record {
+    let more = c.reserved-reserved.ensures in
+    let ticket = c.next_ticket.ensures in
+    let free = c.saturating_sub-free.ensures in
+    let had_cells = c.self.invariant.cells in
+    let had_access = c.self.invariant.access in
+    let had_order = c.self.invariant.order in
+    let had_notices = c.self.invariant.notices in
+    by-result _ _ _
+    (λ (m : MakesRoom c.args.by c.len-2.result c.self.inside.backlog c.make_room.new.self).
+    let enough = m.enough in
+    rw m.made (record {
       kept = rw (slots, access) c.self.invariant.kept;
       listed = rw (slots, order) c.self.invariant.listed;
-      cells = omega (arith, f);
-      access = omega (arith, a, same, waits, number, c.len.ensures);
-      order = omega (arith, b, order_same, order_waits, number, c.len.ensures);
-      notices = omega (arith, d);
-      unsent = omega (arith, e);
+      cells = omega (arith, f, more);
+      access = omega (arith, a, same, waits, number, c.len.ensures, more);
+      order = omega (arith, b, order_same, order_waits, number, c.len.ensures, more);
+      notices = omega (arith, enough, c.len-2.ensures);
       tallied = rw slots c.self.invariant.tallied;
-      reads = rw slots c.self.invariant.reads;
-      tickets = omega (arith, c.if-free-by.false, c.saturating_sub-free.ensures);
+      aimed = rw slots c.self.invariant.aimed;
+      tickets = omega (arith, c.if-free-by.false, free, more, ticket);
       numbers = c.self.invariant.numbers;
-    }
+    }))
+    (λ (e : c.make_room.new.self ≡ c.self.inside.backlog).
+    rw e (record {
+      kept = rw (slots, access) c.self.invariant.kept;
+      listed = rw (slots, order) c.self.invariant.listed;
+      cells = omega (arith, f, more);
+      access = omega (arith, a, same, waits, number, c.len.ensures, more);
+      order = omega (arith, b, order_same, order_waits, number, c.len.ensures, more);
+      notices = omega (arith, many, had_notices);
+      tallied = rw slots c.self.invariant.tallied;
+      aimed = rw slots c.self.invariant.aimed;
+      tickets = c.self.invariant.tickets;
+      numbers = c.self.invariant.numbers;
+    }))
+    c.make_room.result c.make_room.ensures.ok c.make_room.ensures.err

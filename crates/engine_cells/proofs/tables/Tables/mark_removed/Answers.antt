@@ -5,8 +5,10 @@ use Rattle.engine_cells.specs.declared.cell.Cell.{Cell}
 use Rattle.engine_cells.specs.Kept.{kept_at}
 use Rattle.engine_cells.proofs.Views.{kept-in, there-record, numbers-alike, kept-alike, alike-set, numbers_of-set, count-set, unqueued-set}
 use Rattle.engine_cells.proofs.Listed.{records-set}
-use Rattle.engine_cells.proofs.Pointing.{pointed-alike, cell-there}
+use Rattle.engine_cells.proofs.Pointing.{pointed-alike, cell-there, aims-made, aims-there, more-unsent}
 use Rattle.engine_cells.proofs.Turned.{order-alike, order_waiting-set}
+use Rattle.engine_cells.proofs.Counting.{gets-set}
+use Rattle.engine_reference.specs.declared.data.Write.TheVariants as Write
 use Rattle.engine_cells.proofs.Totals.{tally-has, tally-fits, fits-less, tally-replaced}
 use Rattle.engine_cells.proofs.tables.Tables.mark_removed.Goals as goal
 
@@ -29,24 +31,28 @@ invariant_of-self g c =
     let cells = c.self.inside.cells.slots in
     let d : Cell g.row.K.Denot g.row.V.Denot = record x { item = record x.item { is_held = false; writes = x.item.writes + 1 } } in
     let h = alike-set cells c.args.place x d there refl in
-    let room : 0 < c.self.inside.reserved = omega (arith, ap (λ t. t.state.reserved) c.self.view_is) in
+    let room : 0 < c.self.inside.backlog.reserved = omega (arith, ap (λ t. t.state.reserved) c.self.view_is) in
     let many = count-set cells c.args.place x d there in
     let waits = unqueued-set cells c.args.place x d there refl in
     let had = c.self.invariant.access in
     let order_waits = order_waiting-set cells c.args.place x d there refl in
     let order_had = c.self.invariant.order in
+    let kept = kept-alike cells (slice_set cells c.args.place (Some d)) c.self.inside.access.nodes c.self.inside.next_number h c.self.invariant.kept in
+    let made = c.add_write.ensures.added in
     record {
-      kept = kept-alike cells (slice_set cells c.args.place (Some d)) c.self.inside.access.nodes c.self.inside.next_number h c.self.invariant.kept;
+      kept = kept;
       listed = order-alike cells c.args.place x d c.self.inside.order.nodes c.self.inside.next_number there refl c.self.invariant.listed;
-      order = omega arith;
-      cells = omega arith;
-      access = omega arith;
-      notices = omega arith;
-      unsent = omega arith;
+      order = rw made (omega arith);
+      cells = rw made (omega arith);
+      access = rw made (omega arith);
+      notices = rw made (omega arith);
       tallied = tally-replaced cells c.args.place x d c.self.inside.tally c.without-others.result c.with-self-inside.result there c.with-self-inside.ensures.light c.self.invariant.tallied c.without-others.ensures c.with-self-inside.ensures.more;
-      reads = pointed-alike cells (slice_set cells c.args.place (Some d)) c.self.inside.next_number c.self.inside.reads.items h c.self.invariant.reads;
-      tickets = omega arith;
-      numbers = omega arith;
+      aimed = rw made
+          (aims-made (slice_set cells c.args.place (Some d)) c.self.inside.next_number c.self.inside.backlog.next_ticket (record { place = c.args.place; write = Write.Removed x.item.number })
+          (aims-there (slice_set cells c.args.place (Some d)) c.self.inside.access.nodes c.self.inside.next_number c.args.place d kept (gets-set cells c.args.place x d there).there)
+          (pointed-alike cells (slice_set cells c.args.place (Some d)) c.self.inside.next_number h c.self.invariant.aimed));
+      tickets = rw made (omega arith);
+      numbers = rw made (omega arith);
     }
 
 pub returns : goal.returns
@@ -65,7 +71,8 @@ returns g c =
         numbers-alike cells (slice_set cells c.args.place (Some d)) h c.self.inside.access.nodes,
         numbers-alike cells (slice_set cells c.args.place (Some d)) h c.self.inside.order.nodes,
         numbers_of-set cells c.args.place x d there refl,
-        c.push_reserved.ensures.items,
+        c.add_write.ensures.added,
+        more-unsent c.self.inside.backlog.unsent c.self.inside.backlog.next_ticket (record { place = c.args.place; write = Write.Removed x.item.number }),
       ) refl,
     )
 

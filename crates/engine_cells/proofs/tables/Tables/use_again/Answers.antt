@@ -27,9 +27,8 @@ invariant_of-self g c =
       order = c.self.invariant.order;
       access = rw moves.room c.self.invariant.access;
       notices = c.self.invariant.notices;
-      unsent = c.self.invariant.unsent;
       tallied = c.self.invariant.tallied;
-      reads = c.self.invariant.reads;
+      aimed = c.self.invariant.aimed;
       tickets = c.self.invariant.tickets;
       numbers = c.self.invariant.numbers;
     }

@@ -1,5 +1,5 @@
 use Rattle.std.proofs.Common.{refl, ap, sym, ◌∙◌, subst, ◌+◌, ◌≤◌, is_some, Some}
-use Rattle.std.specs.Prelude.{slice_set, vec_len, vec_capacity}
+use Rattle.std.specs.Prelude.{slice_set}
 use Rattle.engine_reference.specs.declared.data.Record.{Record}
 use Rattle.engine_cells.specs.Kept.{kept_at}
 use Rattle.engine_cells.proofs.Views.{kept-in, there-record, numbers-alike, kept-alike, alike-set, numbers_of-set, count-set, unqueued-set}
@@ -18,13 +18,12 @@ invariant_of-self g c =
     record {
       kept = kept-alike cells _ c.self.inside.access.nodes c.self.inside.next_number h c.self.invariant.kept;
       listed = order-alike cells c.args.place x _ c.self.inside.order.nodes c.self.inside.next_number there refl c.self.invariant.listed;
-      order = subst (λ n. n + c.self.inside.reserved ≤ c.self.inside.order.room) (sym (order_waiting-set cells c.args.place x _ there refl)) c.self.invariant.order;
-      cells = subst (λ n. n + c.self.inside.reserved ≤ c.self.inside.cells.capacity) (sym (count-set cells c.args.place x _ there)) c.self.invariant.cells;
-      access = subst (λ n. n + c.self.inside.reserved ≤ c.self.inside.access.room) (sym (unqueued-set cells c.args.place x _ there refl)) c.self.invariant.access;
-      notices = subst (λ n. vec_len c.self.inside.notices + n + c.self.inside.reserved ≤ vec_capacity c.self.inside.notices) (sym (count-set cells c.args.place x _ there)) c.self.invariant.notices;
-      unsent = c.self.invariant.unsent;
+      order = subst (λ n. n + c.self.inside.backlog.reserved ≤ c.self.inside.order.room) (sym (order_waiting-set cells c.args.place x _ there refl)) c.self.invariant.order;
+      cells = subst (λ n. n + c.self.inside.backlog.reserved ≤ c.self.inside.cells.capacity) (sym (count-set cells c.args.place x _ there)) c.self.invariant.cells;
+      access = subst (λ n. n + c.self.inside.backlog.reserved ≤ c.self.inside.access.room) (sym (unqueued-set cells c.args.place x _ there refl)) c.self.invariant.access;
+      notices = subst (λ n. n + c.self.inside.backlog.reserved ≤ c.self.inside.backlog.notice_room) (sym (count-set cells c.args.place x _ there)) c.self.invariant.notices;
       tallied = tally-set cells c.args.place x (record x { item = record x.item { entry = record x.item.entry { used = c.args.used; expires = c.args.expires } } }) c.self.inside.tally c.self.inside.tally there (record { entry = (c.self.invariant.tallied.light c.args.place x there).entry; counted = (c.self.invariant.tallied.light c.args.place x there).counted }) c.self.invariant.tallied refl refl refl;
-      reads = pointed-alike cells _ c.self.inside.next_number c.self.inside.reads.items h c.self.invariant.reads;
+      aimed = pointed-alike cells _ c.self.inside.next_number h c.self.invariant.aimed;
       tickets = c.self.invariant.tickets;
       numbers = c.self.invariant.numbers;
     }

@@ -5,9 +5,13 @@ use Rattle.engine_cells.specs.declared.cell.Cell.{Cell}
 use Rattle.engine_cells.specs.Kept.{kept_at}
 use Rattle.engine_cells.proofs.Views.{kept-in, there-record, numbers-alike, kept-alike, alike-set, numbers_of-set, count-set, unqueued-set}
 use Rattle.engine_cells.proofs.Listed.{records-set}
-use Rattle.engine_cells.proofs.Pointing.{pointed-alike, cell-there}
+use Rattle.engine_cells.proofs.Pointing.{pointed-alike, cell-there, aims-made, aims-there, more-unsent, told-same, told-room}
 use Rattle.engine_cells.proofs.Turned.{order-alike, order_waiting-set}
-use Rattle.engine_cells.proofs.Totals.{tally-has, tally-fits, fits-less, tally-replaced}
+use Rattle.engine_reference.specs.Records.{held_weight, changed_at}
+use Rattle.engine_cells.specs.Cells.{records_by_number}
+use Rattle.engine_cells.proofs.Counting.{gets-set}
+use Rattle.engine_cells.specs.Writing.{put_for}
+use Rattle.engine_cells.proofs.Totals.{held-is, tally-has, tally-fits, fits-less, tally-replaced}
 use Rattle.engine_cells.proofs.tables.Tables.write_over.Goals as goal
 
 pub index_mut-cell-requires : goal.index_mut-cell-requires
@@ -29,25 +33,31 @@ invariant_of-self g c =
     let cells = c.self.inside.cells.slots in
     let d : Cell g.row.K.Denot g.row.V.Denot = record x { item = record x.item { entry = c.replace-replaced.new.dest; writes = x.item.writes + 1 } } in
     let h = alike-set cells c.args.place x d there refl in
-    let room : 0 < c.self.inside.reserved = omega (arith, ap (λ t. t.state.reserved) c.self.view_is) in
+    let room : 0 < c.self.inside.backlog.reserved = omega (arith, ap (λ t. t.state.reserved) c.self.view_is) in
     let many = count-set cells c.args.place x d there in
     let waits = unqueued-set cells c.args.place x d there refl in
     let had = c.self.invariant.access in
     let order_waits = order_waiting-set cells c.args.place x d there refl in
     let order_had = c.self.invariant.order in
-    let told = c.tell_replaced.ensures.len in
+    let tells = c.self.inside.backlog.settings.tells in
+    let told = c.tell.ensures ∙ told-same tells c.args.cause c.replace-replaced.result c.self.inside.backlog in
+    let less = told-room tells c.self.inside.backlog.notice_room in
+    let made = c.add_write.ensures.added in
+    let kept = kept-alike cells (slice_set cells c.args.place (Some d)) c.self.inside.access.nodes c.self.inside.next_number h c.self.invariant.kept in
     record {
-      kept = kept-alike cells (slice_set cells c.args.place (Some d)) c.self.inside.access.nodes c.self.inside.next_number h c.self.invariant.kept;
+      kept = kept;
       listed = order-alike cells c.args.place x d c.self.inside.order.nodes c.self.inside.next_number there refl c.self.invariant.listed;
-      order = omega arith;
-      cells = omega arith;
-      access = omega arith;
-      notices = omega arith;
-      unsent = omega arith;
+      order = rw (made, told) (omega arith);
+      cells = rw (made, told) (omega arith);
+      access = rw (made, told) (omega arith);
+      notices = rw (made, told) (omega arith);
       tallied = tally-replaced cells c.args.place x d c.self.inside.tally c.without-others.result c.with-self-inside.result there c.with-self-inside.ensures.light c.self.invariant.tallied c.without-others.ensures c.with-self-inside.ensures.more;
-      reads = pointed-alike cells (slice_set cells c.args.place (Some d)) c.self.inside.next_number c.self.inside.reads.items h c.self.invariant.reads;
-      tickets = omega arith;
-      numbers = omega arith;
+      aimed = rw (made, told, c.put_of-write.ensures)
+          (aims-made (slice_set cells c.args.place (Some d)) c.self.inside.next_number c.self.inside.backlog.next_ticket _
+          (aims-there (slice_set cells c.args.place (Some d)) c.self.inside.access.nodes c.self.inside.next_number c.args.place d kept (gets-set cells c.args.place x d there).there)
+          (pointed-alike cells (slice_set cells c.args.place (Some d)) c.self.inside.next_number h c.self.invariant.aimed));
+      tickets = rw (made, told) (omega arith);
+      numbers = rw (made, told) (omega arith);
     }
 
 pub returns : goal.returns
@@ -58,18 +68,24 @@ returns g c =
     let d : Cell g.row.K.Denot g.row.V.Denot = record x { item = record x.item { entry = c.replace-replaced.new.dest; writes = x.item.writes + 1 } } in
     let h = alike-set cells c.args.place x d there refl in
     let f = λ (r : Record g.row.K.Denot g.row.V.Denot). record r { entry = c.args.entry; writes = r.writes + 1 } in
-    let is : d.item ≡ f x.item = ap (λ e. record x.item { entry = e; writes = x.item.writes + 1 }) c.replace-replaced.ensures.after in (
+    let is : d.item ≡ f x.item = ap (λ e. record x.item { entry = e; writes = x.item.writes + 1 }) c.replace-replaced.ensures.after in
+    let records = records-set cells c.args.place x d f (λ r. refl) c.self.invariant.kept.apart there is in
+    let tallied = tally-replaced cells c.args.place x d c.self.inside.tally c.without-others.result c.with-self-inside.result there c.with-self-inside.ensures.light c.self.invariant.tallied c.without-others.ensures c.with-self-inside.ensures.more in
+    let holds = sym (held-is (slice_set cells c.args.place (Some d)) c.with-self-inside.result tallied) ∙ ap held_weight records in
+    let write : c.put_of-write.result ≡ put_for (f x.item) (held_weight (changed_at x.item.number f (records_by_number cells))) = c.put_of-write.ensures ∙ ap (λ r. put_for r c.with-self-inside.result.held) is ∙ ap (λ n. put_for (f x.item) n) holds in (
       x.item,
       ap (λ t. kept_at t c.args.place) (sym c.self.view_is) ∙ kept-in cells c.args.place c.self.invariant.kept.apart ∙ there-record cells c.args.place x there,
       rw (
         ← c.self.view_is,
-        records-set cells c.args.place x d f (λ r. refl) c.self.invariant.kept.apart there is,
+        records,
         numbers-alike cells (slice_set cells c.args.place (Some d)) h c.self.inside.access.nodes,
         numbers-alike cells (slice_set cells c.args.place (Some d)) h c.self.inside.order.nodes,
         numbers_of-set cells c.args.place x d there refl,
-        c.tell_replaced.ensures.items,
+        c.add_write.ensures.added,
+        c.tell.ensures ∙ told-same c.self.inside.backlog.settings.tells c.args.cause c.replace-replaced.result c.self.inside.backlog,
+        more-unsent c.self.inside.backlog.unsent c.self.inside.backlog.next_ticket (record { place = c.args.place; write = c.put_of-write.result }),
+        write,
         c.replace-replaced.ensures.value,
-        c.push_reserved.ensures.items,
       ) refl,
     )
 

@@ -1,0 +1,20 @@
+-- Writes of records as they stand.
+use Rattle.std.specs.Prelude.{ℕ, ◌+◌, ◌-◌, [], ◌∷◌, ◌++◌}
+use Rattle.engine_reference.specs.declared.data.Record.{Record}
+use Rattle.engine_reference.specs.declared.data.Write.{Write}
+use Rattle.engine_reference.specs.declared.data.Write.TheVariants.{Put}
+use Rattle.engine_reference.specs.Records.{held_weight}
+use Rattle.engine_reference.specs.State.{State}
+
+module _ {K V : Type 0} where
+  -- the write of a record, where so much is held
+  abbrev pub put_for : Record K V → ℕ → Write
+  put_for r kept = Put (record { number = r.number; write = r.writes; weight = r.entry.weight; hash = r.hash; kept = kept })
+
+  -- it waits to be sent, with the weight of all that is held
+  abbrev pub with_put_for : {P S R : Type 0} → Record K V → State K V P S R → State K V P S R
+  with_put_for r s = record s {
+    unsent = s.unsent ++ (record { ticket = s.next_ticket; write = put_for r (held_weight s.records) }) ∷ [];
+    next_ticket = s.next_ticket + 1;
+    reserved = s.reserved - 1;
+  }
