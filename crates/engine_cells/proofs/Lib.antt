@@ -10,3 +10,4 @@ pub mod Totals
 pub mod Turned
 pub mod Walking
 pub mod Settling
+pub mod Spotting

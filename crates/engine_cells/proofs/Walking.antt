@@ -13,6 +13,14 @@ pub found-map : (P Q : ℕ → Type 0) → ((i : ℕ) → P i → Q i) → (o : 
 found-map P Q f None h = tt
 found-map P Q f (Some i) h = f i h
 
+pub both-map : (P Q R : ℕ → Type 0) → ((i : ℕ) → P i → Q i → R i) → (o : Option ℕ) → IfSome o P → IfSome o Q → IfSome o R
+both-map P Q R f None h k = tt
+both-map P Q R f (Some i) h k = f i h k
+
+pub some-of : {X : Type 0} (o : Option X) → is_some o ≡ true → (x : X) × (o ≡ Some x)
+some-of None h = absurd (cc)
+some-of (Some x) h = (x, refl)
+
 pub ok-map : {T E : Type 0} (P Q : Type 0) → (P → Q) → (r : Result T E) → OnOk r P → OnOk r Q
 ok-map P Q f (Ok x) h = f h
 ok-map P Q f (Err e) h = tt

@@ -1,8 +1,25 @@
 -- Cells and the spots of their keys' hashes.
 use Rattle.std.specs.Prelude.{◌≡◌, ℕ, Bool, true, false, ◌&&◌, List, Option, Some, None}
-use Rattle.engine_keys.specs.Spots.{Spots, IsUnder}
+use Rattle.engine_keys.specs.Spots.{Spots, IsUnder, LeavesFrom}
 use Rattle.engine_cells.specs.declared.cell.Cell.{Cell}
 use Rattle.engine_cells.specs.Cells.{cell_at}
+
+module _ {K V : Type 0} where
+  -- a place has a held record of a hash
+  pub record HoldsAt (cells : List (Option (Cell K V))) (hash place : ℕ) : Type 0 where
+    pub cell : Cell K V
+    pub there : cell_at cells place ≡ Some cell
+    pub held : cell.item.is_held ≡ true
+    pub hash_is : cell.item.hash ≡ hash
+
+  -- the hash of each held record is that of its key
+  abbrev pub AreHashed : (K → ℕ) → List (Option (Cell K V)) → Type 0
+  AreHashed hash_of cells = (i : ℕ) (c : Cell K V) → cell_at cells i ≡ Some c → c.item.is_held ≡ true → c.item.hash ≡ hash_of c.item.entry.key
+
+-- a place leaves from under a hash, where it is to
+abbrev pub LeavesIf : Bool → Spots → Spots → ℕ → ℕ → Type 0
+LeavesIf true old new hash place = LeavesFrom old new hash place
+LeavesIf false old new hash place = new ≡ old
 
 module _ {K V : Type 0} (eq : K → K → Bool) where
   -- a cell's record is held, and its key compares alike
@@ -10,9 +27,10 @@ module _ {K V : Type 0} (eq : K → K → Bool) where
   is_match key None = false
   is_match key (Some c) = c.item.is_held && eq key c.item.entry.key
 
-  -- each held record's place stands under its hash, and no two held records have keys alike
+  -- each held record's place stands under its hash, and nothing else does, and no two held records have keys alike
   pub record AreSpotted (cells : List (Option (Cell K V))) (spots : Spots) : Type 0 where
     pub spotted : (i : ℕ) (c : Cell K V) → cell_at cells i ≡ Some c → c.item.is_held ≡ true → IsUnder spots c.item.hash i
+    pub only : (hash i : ℕ) → IsUnder spots hash i → HoldsAt cells hash i
     pub single : (key : K) (i j : ℕ) → is_match key (cell_at cells i) ≡ true → is_match key (cell_at cells j) ≡ true → i ≡ j
 
   -- held records with keys alike have this hash

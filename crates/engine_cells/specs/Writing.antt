@@ -1,9 +1,9 @@
 -- Writes of records as they stand.
-use Rattle.std.specs.Prelude.{ℕ, ◌+◌, ◌-◌, [], ◌∷◌, ◌++◌}
+use Rattle.std.specs.Prelude.{◌≡◌, ℕ, ◌+◌, ◌-◌, Bool, true, [], ◌∷◌, ◌++◌, None}
 use Rattle.engine_reference.specs.declared.data.Record.{Record}
 use Rattle.engine_reference.specs.declared.data.Write.{Write}
 use Rattle.engine_reference.specs.declared.data.Write.TheVariants.{Put}
-use Rattle.engine_reference.specs.Records.{held_weight}
+use Rattle.engine_reference.specs.Records.{held_at, held_weight}
 use Rattle.engine_reference.specs.State.{State}
 
 module _ {K V : Type 0} where
@@ -18,3 +18,11 @@ module _ {K V : Type 0} where
     next_ticket = s.next_ticket + 1;
     reserved = s.reserved - 1;
   }
+
+-- a record comes whose key is not held
+pub record IsNewcomer {K V P S R : Type 0} (eq : K → K → Bool) (hash_of : K → ℕ) (s : State K V P S R) (r : Record K V) : Type 0 where
+  pub numbered : r.number ≡ s.next_number
+  pub uncounted : r.counts ≡ None
+  pub held : r.is_held ≡ true
+  pub hashed : r.hash ≡ hash_of r.entry.key
+  pub fresh : held_at eq s.records r.entry.key ≡ None

@@ -1,35 +1,47 @@
 //! Look-up by key and hash.
 ghost use Rattle.std.specs.Prelude.{◌≡◌, ◌≤◌, ℕ, true, Some, None, IfSome, IfNone, is_some};
 ghost use Rattle.engine_reference.specs.Records.{held_at};
+ghost use Rattle.engine_keys.specs.Spots.{IsUnder};
 ghost use Rattle.engine_cells.specs.Cells.{cell_at, record_in, records_by_number};
-ghost use Rattle.engine_cells.specs.Spotted.{is_match, AreSpotted, HaveHash};
+ghost use Rattle.engine_cells.specs.Spotted.{is_match, AreSpotted, HaveHash, LeavesIf};
 
 use crate::cell::Cell;
 use engine_keys::Keys;
+use engine_rules::Names;
 use slab::Slab;
 
 /// Whether the record in a place is held under a key.
-fn is_match<K: Eq, V>(cells: &Slab<Cell<K, V>>, place: usize, key: &K) -> bool
-    ensures { result ≡ is_match K.eq key.now (cell_at cells.now.slots place) }
+fn is_match<K: Eq, Q: Names<K>, V>(cells: &Slab<Cell<K, V>>, place: usize, key: &Q) -> bool
+    ensures { result ≡ is_match K.eq (Q.named_key key.now) (cell_at cells.now.slots place) }
 {
     match cells.get(place) {
-        Some(cell) => cell.item.is_held && *key == cell.item.entry.key,
+        Some(cell) => cell.item.is_held && key.is_name_of(&cell.item.entry.key),
         None => false,
     }
 }
 
+/// Takes a place from under a hash, where it is to go.
+pub(crate) fn take_if(keys: &mut Keys, goes: bool, hash: u64, place: usize)
+    requires { goes ≡ true → IsUnder keys.old hash place }
+    ensures { LeavesIf goes keys.old keys.new hash place }
+{
+    if goes {
+        keys.take(hash, place);
+    }
+}
+
 /// The place of a key's record, where it is held, by the key's hash.
-pub fn find_held<K: Eq, V>(
+pub fn find_held<K: Eq, Q: Names<K>, V>(
     cells: &Slab<Cell<K, V>>,
     keys: &Keys,
-    key: &K,
+    key: &Q,
     hash: u64,
 ) -> Option<usize>
     requires spotted { AreSpotted K.eq cells.now.slots keys.now }
-    requires hashed { HaveHash K.eq key.now hash cells.now.slots }
-    ensures found { IfSome result (λ i. held_at K.eq (records_by_number cells.now.slots) key.now ≡ record_in cells.now.slots i) }
+    requires hashed { HaveHash K.eq (Q.named_key key.now) hash cells.now.slots }
+    ensures found { IfSome result (λ i. held_at K.eq (records_by_number cells.now.slots) (Q.named_key key.now) ≡ record_in cells.now.slots i) }
     ensures there { IfSome result (λ i. is_some (cell_at cells.now.slots i) ≡ true) }
-    ensures none { IfNone result (held_at K.eq (records_by_number cells.now.slots) key.now ≡ None) }
+    ensures none { IfNone result (held_at K.eq (records_by_number cells.now.slots) (Q.named_key key.now) ≡ None) }
 {
     keys.get(hash, |place| is_match(cells, place, key))
 }

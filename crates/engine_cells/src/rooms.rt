@@ -1,9 +1,11 @@
 //! Room for writes.
 ghost use Rattle.std.specs.Prelude.{◌≡◌, true};
 ghost use Rattle.policy_queue.specs.Queue.{Stays};
+ghost use Rattle.engine_keys.specs.Spots.{OnlyGainsSpace};
 ghost use Rattle.engine_cells.specs.Rooms.{OnlyMoreCells, HasRooms};
 
 use crate::cell::Cell;
+use engine_keys::Keys;
 use policy_base::KeyHashDate;
 use policy_queue::Deque;
 use slab::Slab;
@@ -14,13 +16,15 @@ pub(crate) fn grow<K, V>(
     cells: &mut Slab<Cell<K, V>>,
     access: &mut Deque<KeyHashDate>,
     order: &mut Deque<KeyHashDate>,
+    keys: &mut Keys,
     more: usize,
     waiting: usize,
 ) -> bool
     ensures cells { OnlyMoreCells cells.old cells.new }
     ensures access { Stays access.old access.new }
     ensures order { Stays order.old order.new }
-    ensures room { result ≡ true → HasRooms cells.new access.new order.new more waiting }
+    ensures keys { OnlyGainsSpace keys.old keys.new }
+    ensures room { result ≡ true → HasRooms cells.new access.new order.new keys.new more waiting }
 {
     let Some(queued) = waiting.checked_add(more) else {
         return false;
@@ -28,5 +32,5 @@ pub(crate) fn grow<K, V>(
     if cells.reserve(more).is_err() || access.reserve(queued).is_err() {
         return false;
     }
-    order.reserve(queued).is_ok()
+    order.reserve(queued).is_ok() && keys.reserve(more).is_ok()
 }

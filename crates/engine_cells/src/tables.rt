@@ -3,7 +3,7 @@ ghost use Rattle.std.specs.Prelude.{◌≡◌, ℕ, ◌+◌, ◌-◌, ◌<◌, �
 ghost use Rattle.std.specs.String.{string_bytes};
 ghost use Rattle.std.specs.Result.{IsErrOf};
 ghost use Rattle.std.specs.Int.{IsNextPowerOfTwo};
-ghost use Rattle.engine_reference.specs.Records.{record_at, changed_at, without_record, without, moved_to_back, settled_in, admitted_number, admitted_weight, held_weight};
+ghost use Rattle.engine_reference.specs.Records.{record_at, held_at, changed_at, without_record, without, moved_to_back, settled_in, admitted_number, admitted_weight, held_weight};
 ghost use Rattle.engine_reference.specs.Admission.{is_above};
 ghost use Rattle.engine_reference.specs.declared.data.Record.{Record};
 ghost use Rattle.engine_reference.specs.Visible.{told, is_covered};
@@ -12,39 +12,44 @@ ghost use Rattle.engine_cells.specs.Fitting.{StandsIn, HasPlaceFor, StepsOut, Co
 ghost use Rattle.engine_cells.specs.Noting.{read_of, write_of, number_written, AimsRight, AimsOnlyAt};
 ghost use Rattle.engine_reference.specs.Runs.{after_hit, after_read, after_removal, next_to_evict, is_due};
 ghost use Rattle.engine_reference.specs.Calls.{IsNew, without_room, without_notice, cleared_by, registered, sent, unsent_at, is_full};
+ghost use Rattle.engine_rules.specs.Hashing.{hash_of_key};
 ghost use Rattle.engine_cells.specs.Looking.{is_expired};
 ghost use Rattle.engine_reference.specs.declared.data.Read.{Read};
 ghost use Rattle.policy_sketch.specs.Counts.{incremented, grown};
-ghost use Rattle.engine_cells.specs.Writing.{put_for, with_put_for};
+ghost use Rattle.engine_cells.specs.Writing.{put_for, with_put_for, IsNewcomer};
 ghost use Rattle.engine_cells.specs.Kept.{numbered_at, kept_at, is_admitted_as, is_removed_as};
 
 use crate::cell::{Cell, Noted, PlacedWrite};
+use crate::finding::{find_held, take_if};
 use crate::looking::{first_due, first_settled};
 use crate::rooms::grow;
 use crate::tally::Tally;
+use engine_keys::Keys;
 use engine_pending::Backlog;
 use engine_reference::{Entry, Notice, Record, Registered, Settings, Upsert, Write};
-use engine_rules::{Refusal, RemovalCause, Rules};
+use engine_rules::{Names, Refusal, RemovalCause, Rules};
 use policy_base::{CacheRegion, DeqNodes, KeyHashDate, NodeId};
 use policy_queue::{Deque, names_stand};
 use policy_sketch::FrequencySketch;
 use slab::Slab;
 use std::alloc::{AllocError, Global};
+use std::hash::{BuildHasher, Hash, Hasher};
 use std::marker::Model;
 use std::mem;
 
 /// The tables of a cache of one part. Each method that changes them makes one change, for which there is room.
 #[derive(Drop)]
-pub struct Tables<K: Eq, V, S, R: Rules<K, V>> {
+pub struct Tables<K: Eq + Hash, V, S: BuildHasher, R: Rules<K, V>> {
     cells: Slab<Cell<K, V>>,
     access: Deque<KeyHashDate>,
     order: Deque<KeyHashDate>,
     tally: Tally,
     next_number: u64,
+    keys: Keys,
     backlog: Backlog<K, V, Noted, PlacedWrite, S, R>,
 }
 
-impl<K: Eq, V, S, R: Rules<K, V>> Model for Tables<K, V, S, R> {
+impl<K: Eq + Hash, V, S: BuildHasher, R: Rules<K, V>> Model for Tables<K, V, S, R> {
     ghost use Rattle.std.specs.Prelude.{ℕ, ◌+◌, ◌≤◌, ◌<◌, ◌^◌};
     ghost use Rattle.slab.specs.Slab.{slab_len};
     ghost use Rattle.engine_pending.specs.Whole.{whole};
@@ -53,6 +58,8 @@ impl<K: Eq, V, S, R: Rules<K, V>> Model for Tables<K, V, S, R> {
     ghost use Rattle.engine_cells.specs.Noting.{read_of, write_of, AreAllAimed};
     ghost use Rattle.engine_cells.specs.Kept.{Kept};
     ghost use Rattle.engine_cells.specs.Tallying.{IsTallied};
+    ghost use Rattle.engine_cells.specs.Spotted.{AreSpotted, AreHashed};
+    ghost use Rattle.engine_rules.specs.Hashing.{hash_of_key};
 
     ghost Value = { Kept K V R.Predicate S R };
 
@@ -61,7 +68,7 @@ impl<K: Eq, V, S, R: Rules<K, V>> Model for Tables<K, V, S, R> {
       numbers = numbers_of c.cells.slots;
     } };
 
-    // cells and queues fit together; each record has room in both queues and for its notice, and what is reserved serves a write; what waits leads to its records
+    // cells and queues fit together; each record has room in both queues and for its notice, and what is reserved serves a write; what waits, and the hashes of keys, lead to their records
     ghost invariant = { λ c. record {
       kept : FitsQueue c.cells.slots c.access c.next_number;
       listed : FitsQueue (all_turned c.cells.slots) c.order c.next_number;
@@ -73,10 +80,13 @@ impl<K: Eq, V, S, R: Rules<K, V>> Model for Tables<K, V, S, R> {
       aimed : AreAllAimed c.cells.slots c.next_number c.backlog.reads c.backlog.writes c.backlog.unsent;
       tickets : c.backlog.next_ticket + c.backlog.reserved < 2 ^ 64;
       numbers : c.next_number ≤ c.backlog.next_ticket;
+      spotted : AreSpotted K.eq c.cells.slots c.keys;
+      hashed : AreHashed (hash_of_key S.Hasher.finish S.Hasher.write S.build_hasher K.hash_input c.backlog.hasher) c.cells.slots;
+      keys : c.backlog.reserved ≤ c.keys.space;
     } };
 }
 
-impl<K: Eq, V, S, R: Rules<K, V>> Tables<K, V, S, R> {
+impl<K: Eq + Hash, V, S: BuildHasher, R: Rules<K, V>> Tables<K, V, S, R> {
     /// The tables of a cache that was just made.
     pub fn new(
         alloc: Global,
@@ -101,6 +111,7 @@ impl<K: Eq, V, S, R: Rules<K, V>> Tables<K, V, S, R> {
                 number: 0,
             },
             next_number: 0,
+            keys: Keys::new(alloc),
             backlog,
         })
     }
@@ -125,6 +136,7 @@ impl<K: Eq, V, S, R: Rules<K, V>> Tables<K, V, S, R> {
             &mut self.cells,
             &mut self.access,
             &mut self.order,
+            &mut self.keys,
             more as usize,
             waiting,
         );
@@ -193,6 +205,15 @@ impl<K: Eq, V, S, R: Rules<K, V>> Tables<K, V, S, R> {
         }
     }
 
+    /// The place of a key's record, where it is held, by the key's hash.
+    pub fn place_of<Q: Names<K>>(&self, key: &Q, hash: u64) -> Option<usize>
+        requires hashed { hash ≡ hash_of_key S.Hasher.finish S.Hasher.write S.build_hasher K.hash_input self.now.state.hasher (Q.named_key key.now) }
+        ensures found { IfSome result (λ i. (r : Record K V) × (kept_at self.now i ≡ Some r) × (held_at K.eq self.now.state.records (Q.named_key key.now) ≡ Some r)) }
+        ensures none { IfNone result (held_at K.eq self.now.state.records (Q.named_key key.now) ≡ None) }
+    {
+        find_held(&self.cells, &self.keys, key, hash)
+    }
+
     /// A look-up uses the record in a place.
     pub fn use_at(&mut self, place: usize, used: u64, expires: Option<u64>)
         requires { is_some (kept_at self.old place) ≡ true }
@@ -220,8 +241,7 @@ impl<K: Eq, V, S, R: Rules<K, V>> Tables<K, V, S, R> {
     /// Adds the record of a new key, and its write, for which there is room. Its place is answered.
     pub fn add(&mut self, added: Record<K, V>) -> usize
         requires room { 0 < self.old.state.reserved }
-        requires numbered { added.number ≡ self.old.state.next_number }
-        requires uncounted { added.counts ≡ None }
+        requires newcomer { IsNewcomer K.eq (hash_of_key S.Hasher.finish S.Hasher.write S.build_hasher K.hash_input self.old.state.hasher) self.old.state added }
         ensures vacant { numbered_at self.old.numbers result ≡ None }
         ensures place { kept_at self.new result ≡ Some added }
         ensures others { (i : ℕ) → i ≢ result → numbered_at self.new.numbers i ≡ numbered_at self.old.numbers i }
@@ -230,14 +250,17 @@ impl<K: Eq, V, S, R: Rules<K, V>> Tables<K, V, S, R> {
         let _many = self.cells.len();
         self.tally = self.tally.with(&added);
         let write = put_of(&added, self.tally.held);
+        let hash = added.hash;
         let nodes = DeqNodes::new(None, None, None);
         let place = self.cells.insert_reserved(Cell { item: added, nodes });
+        self.keys.put(hash, place);
         self.backlog.add_write(PlacedWrite { place, write });
         self.next_number += 1;
         place
     }
 
     /// Writes over the entry in a place, which is told where removals are told, and adds the write, for which there is room.
+    /// The new key compares alike.
     pub fn write_over(&mut self, place: usize, entry: Entry<K, V>, cause: RemovalCause)
     where
         K: Drop,
@@ -245,6 +268,7 @@ impl<K: Eq, V, S, R: Rules<K, V>> Tables<K, V, S, R> {
         requires there { is_some (kept_at self.old place) ≡ true }
         requires room { 0 < self.old.state.reserved }
         requires fits { (r : Record K V) → kept_at self.old place ≡ Some r → r.writes < 2 ^ 64 - 1 }
+        requires alike { (r : Record K V) → kept_at self.old place ≡ Some r → K.eq r.entry.key entry.key ≡ true }
         ensures { (r : Record K V) × (kept_at self.old place ≡ Some r) × (self.new ≡ record self.old { state = with_put_for (record r { entry = entry; writes = r.writes + 1 }) (record self.old.state { records = changed_at r.number (λ x. record x { entry = entry; writes = x.writes + 1 }) self.old.state.records; notices = told self.old.state.settings.tells cause r.entry self.old.state.notices }) }) }
     {
         let _many = self.cells.len();
@@ -268,10 +292,13 @@ impl<K: Eq, V, S, R: Rules<K, V>> Tables<K, V, S, R> {
         let _many = self.cells.len();
         let cell = &mut self.cells[place];
         let number = cell.item.number;
+        let hash = cell.item.hash;
+        let was_held = cell.item.is_held;
         let others = self.tally.without(&cell.item);
         cell.item.is_held = false;
         cell.item.writes += 1;
         self.tally = others.with(&cell.item);
+        take_if(&mut self.keys, was_held, hash, place);
         let write = Write::Removed(number);
         self.backlog.add_write(PlacedWrite { place, write });
     }
@@ -353,6 +380,7 @@ impl<K: Eq, V, S, R: Rules<K, V>> Tables<K, V, S, R> {
         self.tally = self.tally.without(&item);
         take_off(&mut self.access, nodes.access_queue);
         take_off(&mut self.order, nodes.write_queue);
+        take_if(&mut self.keys, item.is_held, item.hash, place);
         self.backlog.tell(item.is_held, cause, item.entry);
     }
 

@@ -3,8 +3,11 @@ use engine_cells::Tables;
 use engine_reference::Settings;
 use engine_rules::{Bundle, EvictionPolicy, NoExpiry, NoPredicate, Refusal, WeighOne};
 use std::alloc::{AllocError, Global};
+use std::hash::{BuildHasherDefault, FoldHasher};
 
-type OneTable = Tables<u32, u32, u8, Bundle<NoExpiry, WeighOne, NoPredicate, u8>>;
+type Folding = BuildHasherDefault<FoldHasher>;
+
+type OneTable = Tables<u32, u32, Folding, Bundle<NoExpiry, WeighOne, NoPredicate, u8>>;
 
 const SETTINGS: Settings = Settings {
     capacity: Some(4),
@@ -18,9 +21,21 @@ const SETTINGS: Settings = Settings {
 
 /// New tables, at the second try where memory is refused.
 fn made(alloc: Global) -> Result<OneTable, AllocError> {
-    match Tables::new(alloc, None, SETTINGS, 0, Bundle::new(NoExpiry, WeighOne)) {
+    match Tables::new(
+        alloc,
+        None,
+        SETTINGS,
+        Folding::new(),
+        Bundle::new(NoExpiry, WeighOne),
+    ) {
         Ok(tables) => Ok(tables),
-        Err(_) => Tables::new(alloc, None, SETTINGS, 0, Bundle::new(NoExpiry, WeighOne)),
+        Err(_) => Tables::new(
+            alloc,
+            None,
+            SETTINGS,
+            Folding::new(),
+            Bundle::new(NoExpiry, WeighOne),
+        ),
     }
 }
 
@@ -39,7 +54,21 @@ fn room_is_made_for_writes(rt: HostRuntime) {
     assert_eq!(rt; makes_room(rt.alloc()), Ok((Ok(()), Err(Refusal::UsedUp))));
 }
 
-/// What new tables hold.
+/// Whether the sketch's table is made, at the second try where memory is refused.
+fn makes_table(alloc: Global) -> Result<(), AllocError> {
+    let mut tables = made(alloc)?;
+    match tables.make_table(16) {
+        Ok(()) => Ok(()),
+        Err(_) => tables.make_table(16),
+    }
+}
+
+#[test]
+fn the_table_of_the_sketch_is_made(rt: HostRuntime) {
+    assert_eq!(rt; makes_table(rt.alloc()), Ok(()));
+}
+
+/// What new tables hold: its weight, the place used longest ago, and the first that is due.
 fn held_when_new(alloc: Global) -> Result<(u128, Option<usize>, Option<usize>), AllocError> {
     let tables = made(alloc)?;
     Ok((tables.held_weight(), tables.oldest(), tables.first_due(0)))

@@ -11,9 +11,10 @@ ghost use Rattle.engine_sweeping.specs.Stretches.{Stretch, StepsFor, KeepsRest};
 use crate::fronts::next_leaving;
 use engine_cells::Tables;
 use engine_rules::{RemovalCause, Rules};
+use std::hash::{BuildHasher, Hash};
 
 /// A record that has to leave does.
-fn leave_for<K: Eq + Drop, V: Drop, S, R: Rules<K, V>>(
+fn leave_for<K: Eq + Hash + Drop, V: Drop, S: BuildHasher, R: Rules<K, V>>(
     tables: &mut Tables<K, V, S, R>,
     place: usize,
     cause: RemovalCause,
@@ -31,7 +32,10 @@ fn leave_for<K: Eq + Drop, V: Drop, S, R: Rules<K, V>>(
 }
 
 /// All that is due by the fronts leaves, until each front is clean and the weight within the capacity.
-pub fn sweep<K: Eq + Drop, V: Drop, S, R: Rules<K, V>>(tables: &mut Tables<K, V, S, R>, now: u64)
+pub fn sweep<K: Eq + Hash + Drop, V: Drop, S: BuildHasher, R: Rules<K, V>>(
+    tables: &mut Tables<K, V, S, R>,
+    now: u64,
+)
     requires { IsApplied tables.old.state }
     ensures stretch { (answers : Answers K V R.Predicate R) → Stretch answers now tables.old.state tables.new.state }
     ensures applied { IsApplied tables.new.state }
@@ -45,7 +49,7 @@ pub fn sweep<K: Eq + Drop, V: Drop, S, R: Rules<K, V>>(tables: &mut Tables<K, V,
 
 /// The rest of a run of what has nothing to apply and no predicate: what is due by the fronts leaves, and the counts are
 /// taken. The sketch's table was made before, where it was wanted, or there was no memory for it, which is taken down.
-pub fn settle<K: Eq + Drop, V: Drop, S, R: Rules<K, V>>(
+pub fn settle<K: Eq + Hash + Drop, V: Drop, S: BuildHasher, R: Rules<K, V>>(
     tables: &mut Tables<K, V, S, R>,
     now: u64,
     table_refused: bool,

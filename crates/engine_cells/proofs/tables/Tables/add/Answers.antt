@@ -1,4 +1,4 @@
-use Rattle.std.proofs.Common.{◌≡◌, refl, ap, sym, ◌∙◌, subst, ◌+◌, ◌<◌, arith, [], ◌∷◌, ◌++◌}
+use Rattle.std.proofs.Common.{◌≡◌, refl, ap, sym, ◌∙◌, subst, ◌+◌, ◌<◌, arith, [], ◌∷◌, ◌++◌, Some, None}
 use Rattle.std.specs.Prelude.{option_map}
 use Rattle.engine_cells.specs.declared.cell.Cell.{Cell}
 use Rattle.engine_cells.specs.Kept.{numbered_at}
@@ -7,9 +7,10 @@ use Rattle.engine_cells.proofs.Listed.{records-insert}
 use Rattle.engine_cells.proofs.Changes.{Gets, kept-inserted, access-inserted}
 use Rattle.engine_cells.proofs.Pointing.{pointed-gets, aims-made, aims-there, more-unsent}
 use Rattle.engine_cells.proofs.Turned.{order-kept_inserted, order-inserted, order_waiting-insert}
-use Rattle.engine_reference.specs.Records.{held_weight}
+use Rattle.engine_reference.specs.Records.{held_at, held_weight}
 use Rattle.engine_cells.specs.Cells.{records_by_number}
 use Rattle.engine_cells.specs.Writing.{put_for}
+use Rattle.engine_cells.proofs.Spotting.{none-matches, spotted-inserted, hashed-inserted}
 use Rattle.engine_cells.proofs.Totals.{held-is, tally-fits, tally-insert}
 use Rattle.engine_cells.proofs.tables.Tables.add.Goals as goal
 
@@ -22,14 +23,20 @@ invariant_of-self g c =
     let vacant = c.insert_reserved-place.ensures.was_vacant in
     let gets : Gets old new i x = record { there = c.insert_reserved-place.ensures.updates.changed; others = c.insert_reserved-place.ensures.updates.others } in
     let room : 0 < c.self.inside.backlog.reserved = omega (arith, ap (λ t. t.state.reserved) c.self.view_is) in
-    let is : c.args.added.number ≡ c.self.inside.next_number = c.requires.numbered ∙ sym (ap (λ t. t.state.next_number) c.self.view_is) in
+    let is : c.args.added.number ≡ c.self.inside.next_number = c.requires.newcomer.numbered ∙ sym (ap (λ t. t.state.next_number) c.self.view_is) in
     let order_more = order_waiting-insert old new i x c.new-nodes.ensures.write_queue vacant gets in
     let more = unqueued-insert old new i x c.new-nodes.ensures.access_queue vacant gets.there gets.others in
-    let kept = kept-inserted old new c.self.inside.access.nodes c.self.inside.next_number i x c.self.invariant.kept vacant gets is c.new-nodes.ensures.access_queue c.requires.uncounted in
+    let kept = kept-inserted old new c.self.inside.access.nodes c.self.inside.next_number i x c.self.invariant.kept vacant gets is c.new-nodes.ensures.access_queue c.requires.newcomer.uncounted in
     let made = c.add_write.ensures.added in
+    let fresh = ap (λ t. held_at g.K.PartialEq.eq t.state.records c.args.added.entry.key) c.self.view_is ∙ c.requires.newcomer.fresh in
+    let alone = none-matches g.K.PartialEq.eq old c.self.inside.keys c.args.added.entry.key c.self.invariant.spotted fresh in
+    let space = c.put.ensures.space in
+    let had_keys = c.self.invariant.keys in
+    let hasher : c.self.inside.backlog.hasher ≡ c.args.self.now.state.hasher = ap (λ t. t.state.hasher) c.self.view_is in
+    let mine = rw (sym hasher) at c.requires.newcomer.hashed in
     record {
       kept = kept;
-      listed = order-kept_inserted old new c.self.inside.order.nodes c.self.inside.next_number i x c.self.invariant.listed vacant gets is c.new-nodes.ensures.write_queue c.requires.uncounted;
+      listed = order-kept_inserted old new c.self.inside.order.nodes c.self.inside.next_number i x c.self.invariant.listed vacant gets is c.new-nodes.ensures.write_queue c.requires.newcomer.uncounted;
       order = rw made (omega arith);
       cells = rw made (omega arith);
       access = rw made (omega arith);
@@ -40,6 +47,9 @@ invariant_of-self g c =
           (pointed-gets old new c.self.inside.next_number i x gets is c.self.invariant.aimed));
       tickets = rw made (omega arith);
       numbers = rw made (omega arith);
+      spotted = spotted-inserted g.K.PartialEq.eq old new c.self.inside.keys c.put.new.self i x g.met.K.Eq.laws vacant gets c.requires.newcomer.held c.put.ensures alone c.self.invariant.spotted;
+      hashed = rw made (hashed-inserted g.K.PartialEq.eq old new c.self.inside.keys c.put.new.self i x g.met.K.Eq.laws vacant gets c.requires.newcomer.held c.put.ensures alone c.self.invariant.spotted _ mine c.self.invariant.hashed);
+      keys = rw made (omega (arith, space, had_keys));
     }
 
 pub returns-clause-place : goal.returns-clause-place
@@ -50,8 +60,8 @@ returns-clause-place g c =
     let new = c.insert_reserved-place.new.self.slots in
     let vacant = c.insert_reserved-place.ensures.was_vacant in
     let gets : Gets old new i x = record { there = c.insert_reserved-place.ensures.updates.changed; others = c.insert_reserved-place.ensures.updates.others } in
-    let is : c.args.added.number ≡ c.self.inside.next_number = c.requires.numbered ∙ sym (ap (λ t. t.state.next_number) c.self.view_is) in
-    let kept = kept-inserted old new c.self.inside.access.nodes c.self.inside.next_number i x c.self.invariant.kept vacant gets is c.new-nodes.ensures.access_queue c.requires.uncounted in
+    let is : c.args.added.number ≡ c.self.inside.next_number = c.requires.newcomer.numbered ∙ sym (ap (λ t. t.state.next_number) c.self.view_is) in
+    let kept = kept-inserted old new c.self.inside.access.nodes c.self.inside.next_number i x c.self.invariant.kept vacant gets is c.new-nodes.ensures.access_queue c.requires.newcomer.uncounted in
     kept-in new i kept.apart ∙ there-record new i x gets.there
 
 pub returns-clause-others : goal.returns-clause-others
@@ -69,7 +79,7 @@ returns-clause-state g c =
     let new = c.insert_reserved-place.new.self.slots in
     let vacant = c.insert_reserved-place.ensures.was_vacant in
     let gets : Gets old new i x = record { there = c.insert_reserved-place.ensures.updates.changed; others = c.insert_reserved-place.ensures.updates.others } in
-    let is : c.args.added.number ≡ c.self.inside.next_number = c.requires.numbered ∙ sym (ap (λ t. t.state.next_number) c.self.view_is) in
+    let is : c.args.added.number ≡ c.self.inside.next_number = c.requires.newcomer.numbered ∙ sym (ap (λ t. t.state.next_number) c.self.view_is) in
     let records = records-insert old new i x (λ j d e. subst (λ n. d.item.number < n) (sym is) (c.self.invariant.kept.below j d e)) vacant gets.there gets.others in
     let tallied = tally-insert old new i x c.self.inside.tally c.with-self-inside.result vacant gets c.with-self-inside.ensures.light c.self.invariant.tallied c.with-self-inside.ensures.more in
     let holds = sym (held-is new c.with-self-inside.result tallied) ∙ ap held_weight records in
@@ -95,3 +105,9 @@ with-self-inside-requires g c =
     let fits = tally-fits c.self.inside.cells.slots c.self.inside.tally c.self.invariant.tallied (omega (arith, c.len-many.ensures, c.len-many.type_inv)) in
     let number = fits.number in
     record { held = fits.held; weight = fits.weight; number = omega (arith, number) }
+
+pub put-requires-clause-absent : goal.put-requires-clause-absent
+put-requires-clause-absent g c u =
+    let o = c.self.invariant.spotted.only c.args.added.hash c.insert_reserved-place.result u in
+    let e : Some o.cell ≡ None = sym o.there ∙ c.insert_reserved-place.ensures.was_vacant in
+    cc

@@ -10,6 +10,7 @@ use Rattle.engine_cells.proofs.Changes.{has-node}
 use Rattle.engine_cells.proofs.Pointing.{cell-there}
 use Rattle.engine_cells.proofs.Counting.{counted, has-room, gets-set, pointed-gets_same}
 use Rattle.engine_cells.proofs.Turned.{ordered, order-has_node, order-has_room}
+use Rattle.engine_cells.proofs.Spotting.{spotted-gets, hashed-gets}
 use Rattle.engine_cells.proofs.Totals.{tally-has, tally-fits, fits-less, tally-replaced}
 use Rattle.engine_cells.proofs.tables.Tables.count.Goals as goal
 
@@ -57,6 +58,9 @@ invariant_of-self g c =
       aimed = pointed-gets_same cells (slice_set cells c.args.place (Some d)) c.self.inside.next_number c.args.place y d there (gets-set cells c.args.place y d there) refl c.self.invariant.aimed;
       tickets = c.self.invariant.tickets;
       numbers = c.self.invariant.numbers;
+      spotted = spotted-gets g.K.PartialEq.eq cells (slice_set cells c.args.place (Some d)) c.self.inside.keys c.args.place y d there (gets-set cells c.args.place y d there) (record { held = refl; hash = refl; key = λ key. refl }) c.self.invariant.spotted;
+      hashed = hashed-gets g.K.PartialEq.eq cells (slice_set cells c.args.place (Some d)) c.self.inside.keys c.args.place y d there (gets-set cells c.args.place y d there) (record { held = refl; hash = refl; key = λ key. refl }) c.self.invariant.spotted _ refl c.self.invariant.hashed;
+      keys = c.self.invariant.keys;
     }
 
 pub returns : goal.returns

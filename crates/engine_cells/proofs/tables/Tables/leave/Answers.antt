@@ -7,6 +7,7 @@ use Rattle.engine_cells.proofs.Changes.{Loses, kept-left, access-left, after-los
 use Rattle.engine_cells.proofs.Pointing.{pointed-loses, cell-there, told-same, told-room, told-parts}
 use Rattle.engine_cells.proofs.Turned.{order-kept_left, order-left, order_waiting-remove, order-has_node}
 use Rattle.engine_cells.specs.Cells.{all_turned}
+use Rattle.engine_cells.proofs.Spotting.{unholds-lost, spotted-unholds, hashed-unholds, space-unholds}
 use Rattle.engine_cells.proofs.Totals.{tally-has, tally-remove}
 use Rattle.engine_cells.proofs.tables.Tables.leave.Goals as goal
 
@@ -29,6 +30,8 @@ invariant_of-self g c =
     let order_fewer : unqueued (all_turned new) + cond (is_some x.nodes.write_queue) 0 1 ≡ unqueued (all_turned old) = ap (λ l. unqueued (all_turned l) + cond (is_some x.nodes.write_queue) 0 1) c.remove-item.ensures.slots ∙ order_waiting-remove old c.args.place x there in
     let order_room = room-loses x.nodes.write_queue c.self.inside.order c.take_off-2.new.queue c.take_off-2.ensures in
     let order_had = c.self.invariant.order in
+    let unholds = unholds-lost g.K.PartialEq.eq old new c.args.place loses in
+    let space = space-unholds g.K.PartialEq.eq old new c.self.inside.keys c.take_if.new.keys c.args.place x there unholds c.take_if.ensures c.self.invariant.spotted in
     let is_told = x.item.is_held && c.self.inside.backlog.settings.tells in
     let told = c.tell.ensures ∙ told-same is_told c.args.cause x.item.entry c.self.inside.backlog in
     let less = told-room is_told c.self.inside.backlog.notice_room in
@@ -45,6 +48,9 @@ invariant_of-self g c =
       aimed = rw told (pointed-loses old new c.self.inside.next_number c.args.place loses c.self.invariant.aimed);
       tickets = rw told c.self.invariant.tickets;
       numbers = rw told c.self.invariant.numbers;
+      spotted = spotted-unholds g.K.PartialEq.eq old new c.self.inside.keys c.take_if.new.keys c.args.place x there unholds c.take_if.ensures c.self.invariant.spotted;
+      hashed = rw told (hashed-unholds g.K.PartialEq.eq old new c.self.inside.keys c.take_if.new.keys c.args.place x there unholds c.take_if.ensures c.self.invariant.spotted _ c.self.invariant.hashed);
+      keys = rw told (omega (arith, space, c.self.invariant.keys));
     }
 
 pub returns : goal.returns
@@ -79,3 +85,6 @@ pub without-self-inside-requires : goal.without-self-inside-requires
 without-self-inside-requires g c =
     let has = tally-has c.self.inside.cells.slots c.args.place c.remove-item.result c.self.inside.tally c.remove-item.ensures.value c.self.invariant.tallied in
     record { held = has.held; weight = has.weight; number = has.number }
+
+pub take_if-requires : goal.take_if-requires
+take_if-requires g c held = c.self.invariant.spotted.spotted c.args.place c.remove-item.result c.remove-item.ensures.value held

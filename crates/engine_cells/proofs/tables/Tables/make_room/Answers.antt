@@ -5,6 +5,7 @@ use Rattle.slab.specs.Slab.{slab_len}
 use Rattle.engine_pending.specs.Pending.{MakesRoom}
 use Rattle.engine_cells.proofs.Walking.{by-result}
 use Rattle.engine_cells.specs.Fitting.{unqueued}
+use Rattle.engine_cells.proofs.Spotting.{spotted-roomier}
 use Rattle.engine_cells.proofs.Totals.{number-below, waiting-is, order_waiting-is}
 use Rattle.engine_cells.proofs.tables.Tables.make_room.Goals as goal
 
@@ -17,6 +18,32 @@ pub overflow_sub-waiting : goal.overflow_sub-waiting
 overflow_sub-waiting g c =
     let below = number-below c.self.inside.cells.slots c.self.inside.tally c.self.invariant.tallied in
     omega (arith, below, c.len.ensures)
+
+pub invariant_of-self : goal.invariant_of-self
+invariant_of-self g c =
+    let cells = c.self.inside.cells.slots in
+    let grown = c.grow-has_grown.ensures in
+    let slots = grown.cells.slots in
+    let access = ap (λ q. q.nodes) grown.access.same in
+    let order = ap (λ q. q.nodes) grown.order.same in
+    let same : unqueued c.grow-has_grown.new.cells.slots ≡ unqueued cells = ap (λ l. unqueued l) slots in
+    let order_same : unqueued (all_turned c.grow-has_grown.new.cells.slots) ≡ unqueued (all_turned cells) = ap (λ l. unqueued (all_turned l)) slots in
+    let many : slab_len c.grow-has_grown.new.cells ≡ slab_len c.self.inside.cells = ap (λ l. count_by is_some l) slots in
+    record {
+      kept = rw (slots, access) c.self.invariant.kept;
+      listed = rw (slots, order) c.self.invariant.listed;
+      cells = omega (arith, many, grown.cells.capacity, c.self.invariant.cells);
+      access = omega (arith, same, grown.access.room, c.self.invariant.access);
+      order = omega (arith, order_same, grown.order.room, c.self.invariant.order);
+      notices = omega (arith, many, c.self.invariant.notices);
+      tallied = rw slots c.self.invariant.tallied;
+      aimed = rw slots c.self.invariant.aimed;
+      tickets = c.self.invariant.tickets;
+      numbers = c.self.invariant.numbers;
+      spotted = rw slots (spotted-roomier g.K.PartialEq.eq cells c.self.inside.keys c.grow-has_grown.new.keys grown.keys c.self.invariant.spotted);
+      hashed = rw slots c.self.invariant.hashed;
+      keys = omega (arith, grown.keys.space, c.self.invariant.keys);
+    }
 
 pub invariant_of-self-2 : goal.invariant_of-self-2
 invariant_of-self-2 g c =
@@ -35,6 +62,7 @@ invariant_of-self-2 g c =
     let a = rooms.access_fits in
     let b = rooms.order_fits in
     let f = rooms.cells_fit in
+    let k = rooms.keys_fit in
     let more = c.reserved-reserved.ensures in
     let ticket = c.next_ticket.ensures in
     let free = c.saturating_sub-free.ensures in
@@ -56,6 +84,9 @@ invariant_of-self-2 g c =
       aimed = rw slots c.self.invariant.aimed;
       tickets = omega (arith, c.if-free-by.false, free, more, ticket);
       numbers = c.self.invariant.numbers;
+      spotted = rw slots (spotted-roomier g.K.PartialEq.eq cells c.self.inside.keys c.grow-has_grown.new.keys grown.keys c.self.invariant.spotted);
+      hashed = rw slots c.self.invariant.hashed;
+      keys = omega (arith, k, more);
     }))
     (λ (e : c.make_room.new.self ≡ c.self.inside.backlog).
     rw e (record {
@@ -69,5 +100,8 @@ invariant_of-self-2 g c =
       aimed = rw slots c.self.invariant.aimed;
       tickets = c.self.invariant.tickets;
       numbers = c.self.invariant.numbers;
+      spotted = rw slots (spotted-roomier g.K.PartialEq.eq cells c.self.inside.keys c.grow-has_grown.new.keys grown.keys c.self.invariant.spotted);
+      hashed = rw slots c.self.invariant.hashed;
+      keys = omega (arith, k, more);
     }))
     c.make_room.result c.make_room.ensures.ok c.make_room.ensures.err

@@ -9,6 +9,7 @@ use Rattle.engine_cells.proofs.Pointing.{pointed-alike, cell-there, aims-made, a
 use Rattle.engine_cells.proofs.Turned.{order-alike, order_waiting-set}
 use Rattle.engine_cells.proofs.Counting.{gets-set}
 use Rattle.engine_reference.specs.declared.data.Write.TheVariants as Write
+use Rattle.engine_cells.proofs.Spotting.{unholds-changed, spotted-unholds, hashed-unholds, space-unholds}
 use Rattle.engine_cells.proofs.Totals.{tally-has, tally-fits, fits-less, tally-replaced}
 use Rattle.engine_cells.proofs.tables.Tables.mark_removed.Goals as goal
 
@@ -39,6 +40,8 @@ invariant_of-self g c =
     let order_had = c.self.invariant.order in
     let kept = kept-alike cells (slice_set cells c.args.place (Some d)) c.self.inside.access.nodes c.self.inside.next_number h c.self.invariant.kept in
     let made = c.add_write.ensures.added in
+    let unholds = unholds-changed g.K.PartialEq.eq cells (slice_set cells c.args.place (Some d)) c.args.place d (gets-set cells c.args.place x d there) refl in
+    let space = space-unholds g.K.PartialEq.eq cells (slice_set cells c.args.place (Some d)) c.self.inside.keys c.take_if.new.keys c.args.place x there unholds c.take_if.ensures c.self.invariant.spotted in
     record {
       kept = kept;
       listed = order-alike cells c.args.place x d c.self.inside.order.nodes c.self.inside.next_number there refl c.self.invariant.listed;
@@ -53,6 +56,9 @@ invariant_of-self g c =
           (pointed-alike cells (slice_set cells c.args.place (Some d)) c.self.inside.next_number h c.self.invariant.aimed));
       tickets = rw made (omega arith);
       numbers = rw made (omega arith);
+      spotted = spotted-unholds g.K.PartialEq.eq cells (slice_set cells c.args.place (Some d)) c.self.inside.keys c.take_if.new.keys c.args.place x there unholds c.take_if.ensures c.self.invariant.spotted;
+      hashed = rw made (hashed-unholds g.K.PartialEq.eq cells (slice_set cells c.args.place (Some d)) c.self.inside.keys c.take_if.new.keys c.args.place x there unholds c.take_if.ensures c.self.invariant.spotted _ c.self.invariant.hashed);
+      keys = rw made (omega (arith, space, c.self.invariant.keys));
     }
 
 pub returns : goal.returns
@@ -87,3 +93,6 @@ with-self-inside-requires g c =
     let less = fits-less c.self.inside.tally c.without-others.result c.index_mut-cell.result.now.item fits c.without-others.ensures in
     let number = less.number in
     record { held = less.held; weight = less.weight; number = omega (arith, number) }
+
+pub take_if-requires : goal.take_if-requires
+take_if-requires g c held = c.self.invariant.spotted.spotted c.args.place c.index_mut-cell.result.now c.index_mut-cell.ensures.value held

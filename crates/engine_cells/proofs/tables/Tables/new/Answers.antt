@@ -4,6 +4,7 @@ use Rattle.slab.specs.Slab.{slab_len}
 use Rattle.engine_cells.specs.Cells.{all_turned, AreQueued}
 use Rattle.engine_cells.specs.Fitting.{unqueued}
 use Rattle.engine_cells.specs.Tallying.{IsTallied}
+use Rattle.engine_cells.proofs.Spotting.{none-spotted}
 use Rattle.engine_cells.proofs.tables.Tables.new.Goals as goal
 
 -- no cells and an empty queue fit together
@@ -38,4 +39,7 @@ invariant_of-result g c =
       aimed = rw (u.reads, u.writes, u.unsent) (record { reads_are = tt; writes_are = tt; unsent_are = tt });
       tickets = omega (arith, reserved, ticket);
       numbers = omega arith;
+      spotted = rw c.new-2.ensures.empty (none-spotted g.K.PartialEq.eq c.new-5.result c.new-5.ensures);
+      hashed = rw c.new-2.ensures.empty (λ i c at held. absurd (cc));
+      keys = omega (arith, reserved);
     }

@@ -27,4 +27,7 @@ invariant_of-self g c = rw c.in-Some.ensures.rest (record {
   aimed = aims-read c.self.inside.cells.slots c.self.inside.next_number c.self.inside.backlog.reads c.self.inside.backlog.writes c.self.inside.backlog.unsent c.self.invariant.aimed;
   tickets = c.self.invariant.tickets;
   numbers = c.self.invariant.numbers;
+  spotted = c.self.invariant.spotted;
+  hashed = c.self.invariant.hashed;
+  keys = c.self.invariant.keys;
 })

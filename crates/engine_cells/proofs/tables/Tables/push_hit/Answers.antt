@@ -27,6 +27,9 @@ invariant_of-self g c =
       aimed = aims-noted cells c.self.inside.next_number (Hit c.args.place x.item.number c.args.hash) (aims-there cells c.self.inside.access.nodes c.self.inside.next_number c.args.place x c.self.invariant.kept c.index.ensures) c.self.invariant.aimed;
       tickets = c.self.invariant.tickets;
       numbers = c.self.invariant.numbers;
+      spotted = c.self.invariant.spotted;
+      hashed = c.self.invariant.hashed;
+      keys = c.self.invariant.keys;
     })
 
 pub returns : goal.returns

@@ -14,4 +14,7 @@ invariant_of-self g c = rw c.push_read.ensures (record {
   aimed = aims-noted c.self.inside.cells.slots c.self.inside.next_number (Miss c.args.hash) tt c.self.invariant.aimed;
   tickets = c.self.invariant.tickets;
   numbers = c.self.invariant.numbers;
+  spotted = c.self.invariant.spotted;
+  hashed = c.self.invariant.hashed;
+  keys = c.self.invariant.keys;
 })

@@ -24,6 +24,9 @@ invariant_of-self g c =
       aimed = aims-sent c.self.inside.cells.slots c.self.inside.next_number c.args.ticket c.self.inside.backlog c.self.invariant.aimed;
       tickets = c.self.invariant.tickets;
       numbers = c.self.invariant.numbers;
+      spotted = c.self.invariant.spotted;
+      hashed = c.self.invariant.hashed;
+      keys = c.self.invariant.keys;
     }))
     (λ (e : c.send.new.self ≡ c.self.inside.backlog). rw e c.self.invariant)
     c.send.result c.send.ensures.ok c.send.ensures.err

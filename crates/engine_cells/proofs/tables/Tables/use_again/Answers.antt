@@ -31,6 +31,9 @@ invariant_of-self g c =
       aimed = c.self.invariant.aimed;
       tickets = c.self.invariant.tickets;
       numbers = c.self.invariant.numbers;
+      spotted = c.self.invariant.spotted;
+      hashed = c.self.invariant.hashed;
+      keys = c.self.invariant.keys;
     }
 
 pub returns-in-Ok : goal.returns-in-Ok

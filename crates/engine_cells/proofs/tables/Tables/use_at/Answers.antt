@@ -6,6 +6,8 @@ use Rattle.engine_cells.proofs.Views.{kept-in, there-record, numbers-alike, kept
 use Rattle.engine_cells.proofs.Listed.{records-set}
 use Rattle.engine_cells.proofs.Pointing.{pointed-alike, cell-there}
 use Rattle.engine_cells.proofs.Turned.{order-alike, order_waiting-set}
+use Rattle.engine_cells.proofs.Spotting.{spotted-gets, hashed-gets}
+use Rattle.engine_cells.proofs.Counting.{gets-set}
 use Rattle.engine_cells.proofs.Totals.{tally-set}
 use Rattle.engine_cells.proofs.tables.Tables.use_at.Goals as goal
 
@@ -26,6 +28,9 @@ invariant_of-self g c =
       aimed = pointed-alike cells _ c.self.inside.next_number h c.self.invariant.aimed;
       tickets = c.self.invariant.tickets;
       numbers = c.self.invariant.numbers;
+      spotted = spotted-gets g.K.PartialEq.eq cells (slice_set cells c.args.place (Some (record x { item = record x.item { entry = record x.item.entry { used = c.args.used; expires = c.args.expires } } }))) c.self.inside.keys c.args.place x (record x { item = record x.item { entry = record x.item.entry { used = c.args.used; expires = c.args.expires } } }) there (gets-set cells c.args.place x (record x { item = record x.item { entry = record x.item.entry { used = c.args.used; expires = c.args.expires } } }) there) (record { held = refl; hash = refl; key = λ key. refl }) c.self.invariant.spotted;
+      hashed = hashed-gets g.K.PartialEq.eq cells (slice_set cells c.args.place (Some (record x { item = record x.item { entry = record x.item.entry { used = c.args.used; expires = c.args.expires } } }))) c.self.inside.keys c.args.place x (record x { item = record x.item { entry = record x.item.entry { used = c.args.used; expires = c.args.expires } } }) there (gets-set cells c.args.place x (record x { item = record x.item { entry = record x.item.entry { used = c.args.used; expires = c.args.expires } } }) there) (record { held = refl; hash = refl; key = λ key. refl }) c.self.invariant.spotted _ refl c.self.invariant.hashed;
+      keys = c.self.invariant.keys;
     }
 
 pub returns : goal.returns

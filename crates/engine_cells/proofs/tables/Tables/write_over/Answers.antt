@@ -1,4 +1,4 @@
-use Rattle.std.proofs.Common.{◌≡◌, refl, ap, sym, ◌∙◌, ◌+◌, ◌<◌, is_some, Some, arith}
+use Rattle.std.proofs.Common.{◌≡◌, refl, ap, sym, ◌∙◌, ◌+◌, ◌<◌, is_some, Some, arith, true}
 use Rattle.std.specs.Prelude.{slice_set}
 use Rattle.engine_reference.specs.declared.data.Record.{Record}
 use Rattle.engine_cells.specs.declared.cell.Cell.{Cell}
@@ -11,6 +11,7 @@ use Rattle.engine_reference.specs.Records.{held_weight, changed_at}
 use Rattle.engine_cells.specs.Cells.{records_by_number}
 use Rattle.engine_cells.proofs.Counting.{gets-set}
 use Rattle.engine_cells.specs.Writing.{put_for}
+use Rattle.engine_cells.proofs.Spotting.{IsSoughtAs, hash-alike, alike-sought, spotted-gets, hashed-gets}
 use Rattle.engine_cells.proofs.Totals.{held-is, tally-has, tally-fits, fits-less, tally-replaced}
 use Rattle.engine_cells.proofs.tables.Tables.write_over.Goals as goal
 
@@ -43,6 +44,10 @@ invariant_of-self g c =
     let told = c.tell.ensures ∙ told-same tells c.args.cause c.replace-replaced.result c.self.inside.backlog in
     let less = told-room tells c.self.inside.backlog.notice_room in
     let made = c.add_write.ensures.added in
+    let seen = ap (λ t. kept_at t c.args.place) (sym c.self.view_is) ∙ kept-in cells c.args.place c.self.invariant.kept.apart ∙ there-record cells c.args.place x there in
+    let alike : g.K.PartialEq.eq x.item.entry.key d.item.entry.key ≡ true = ap (λ e. g.K.PartialEq.eq x.item.entry.key e.key) c.replace-replaced.ensures.after ∙ c.requires.alike x.item seen in
+    let sought : IsSoughtAs g.K.PartialEq.eq x d = record { held = refl; hash = refl; key = λ key. alike-sought g.K.PartialEq.eq x.item.entry.key d.item.entry.key key g.met.K.Eq.laws alike } in
+    let had_keys = c.self.invariant.keys in
     let kept = kept-alike cells (slice_set cells c.args.place (Some d)) c.self.inside.access.nodes c.self.inside.next_number h c.self.invariant.kept in
     record {
       kept = kept;
@@ -58,6 +63,10 @@ invariant_of-self g c =
           (pointed-alike cells (slice_set cells c.args.place (Some d)) c.self.inside.next_number h c.self.invariant.aimed));
       tickets = rw (made, told) (omega arith);
       numbers = rw (made, told) (omega arith);
+      spotted = spotted-gets g.K.PartialEq.eq cells (slice_set cells c.args.place (Some d)) c.self.inside.keys c.args.place x d there (gets-set cells c.args.place x d there) sought c.self.invariant.spotted;
+      hashed = rw (made, told) (hashed-gets g.K.PartialEq.eq cells (slice_set cells c.args.place (Some d)) c.self.inside.keys c.args.place x d there (gets-set cells c.args.place x d there) sought c.self.invariant.spotted _
+          (hash-alike g.S.Hasher.Hasher.finish g.S.Hasher.Hasher.write g.S.BuildHasher.build_hasher g.K.Hash.hash_input c.self.inside.backlog.hasher x.item.entry.key d.item.entry.key (g.met.K.Hash.respects_eq x.item.entry.key d.item.entry.key alike)) c.self.invariant.hashed);
+      keys = rw (made, told) (omega arith);
     }
 
 pub returns : goal.returns
