@@ -30,7 +30,7 @@ serial_is : (a b : NodeId) → same_id a b ≡ true → a.serial ≡ b.serial
 serial_is a b t = eqb-true a.serial b.serial (and_parts _ _ t).0
 
 -- names behind one of this serial are others
-others : (id : NodeId) (nodes : List TheNode) → LacksSerial id.serial nodes → EachNode (λ n. same_id n.id id ≡ false) nodes
+pub others : (id : NodeId) (nodes : List TheNode) → LacksSerial id.serial nodes → EachNode (λ n. same_id n.id id ≡ false) nodes
 others id [] h = tt
 others id (n ∷ nodes) h = (
   elim (cases_Bool (same_id n.id id)) [
@@ -212,7 +212,7 @@ module _ {K V : Type 0} where
                 let yes : same_id n.id id ≡ true = ap (λ x. same_id x id) same ∙ same_id-refl id in absurd (cc)) ∙ sym f
           ]
 
-  nodes_named : (cells : List (Option (Cell K V))) (all nodes : List TheNode) (next : ℕ) (i : ℕ) (c : Cell K V) (id : NodeId) → AreQueued cells all next → cell_at cells i ≡ Some c → c.nodes.access_queue ≡ Some id
+  pub nodes_named : (cells : List (Option (Cell K V))) (all nodes : List TheNode) (next : ℕ) (i : ℕ) (c : Cell K V) (id : NodeId) → AreQueued cells all next → cell_at cells i ≡ Some c → c.nodes.access_queue ≡ Some id
       → AreLinked cells nodes → EachNode (Names (node_number cells) (node_number cells) id c.item.number) nodes
   nodes_named cells all [] next i c id h there listed known = tt
   nodes_named cells all (n ∷ nodes) next i c id h there listed known =

@@ -11,3 +11,4 @@ pub mod Turned
 pub mod Walking
 pub mod Settling
 pub mod Spotting
+pub mod Standing

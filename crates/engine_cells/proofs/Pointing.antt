@@ -21,7 +21,7 @@ use Rattle.engine_cells.specs.declared.cell.Noted.TheVariants.{Hit, Miss}
 use Rattle.engine_cells.specs.declared.cell.PlacedWrite.{PlacedWrite}
 use Rattle.engine_pending.specs.Pending.{Pending, told_if, ticketed_at, without_ticketed, with_sent_of, ticket_sent}
 use Rattle.engine_pending.specs.declared.tickets.Ticketed.{Ticketed}
-use Rattle.engine_cells.specs.Cells.{cell_at, records_by_number, record_in, numbers_of, numbers_in, access_in, HaveOwnNumbers, AreQueued}
+use Rattle.engine_cells.specs.Cells.{cell_at, records_by_number, record_in, numbers_of, numbers_in, access_in, HaveOwnNumbers, AreLinked, AreQueued}
 use Rattle.engine_cells.specs.Kept.{Kept, is_admitted_as, is_removed_as}
 use Rattle.engine_pending.specs.Whole.{unsent_of, whole}
 use Rattle.engine_pending.proofs.Agreeing.{pending_agrees}
@@ -231,15 +231,16 @@ module _ {K V : Type 0} where
     pub first : slice_get (numbers_in cells nodes) 0 ≡ Some cell.item.number
     pub counts : is_some cell.item.counts ≡ true
 
-  pub front : (cells : List (Option (Cell K V))) (nodes : List (Node KeyHashDate)) (next : ℕ) (d : KeyHashDate) → AreQueued cells nodes next → option_map (λ n. n.element) (head nodes) ≡ Some d → Front cells nodes d.entry
-  front cells [] next d h e = absurd (cc)
-  front cells (n ∷ nodes) next d h e = go (cell_at cells d.entry) refl
+  -- and of a part of it
+  pub front-linked : (cells : List (Option (Cell K V))) (all nodes : List (Node KeyHashDate)) (next : ℕ) (d : KeyHashDate) → AreQueued cells all next → AreLinked cells nodes → option_map (λ n. n.element) (head nodes) ≡ Some d → Front cells nodes d.entry
+  front-linked cells all [] next d h known e = absurd (cc)
+  front-linked cells all (n ∷ nodes) next d h known e = go (cell_at cells d.entry) refl
     where
       is : n.element ≡ d
       is = cc
 
       mine : access_in cells d.entry ≡ Some n.id
-      mine = ap (λ x. access_in cells x.entry) (sym is) ∙ h.known.0
+      mine = ap (λ x. access_in cells x.entry) (sym is) ∙ known.0
 
       go : (o : Option (Cell K V)) → cell_at cells d.entry ≡ o → Front cells (n ∷ nodes) d.entry
       go None at = absurd (let f : None ≡ Some n.id = sym (ap (λ o. option_and_then (λ x. x.nodes.access_queue) o) at) ∙ mine in cc)
@@ -249,6 +250,9 @@ module _ {K V : Type 0} where
         first = ap (λ x. Some (unwrap_or (option_map (λ y. y.item.number) (cell_at cells x.entry)) 0)) is ∙ ap (λ o. Some (unwrap_or (option_map (λ y. y.item.number) o) 0)) at;
         counts = sym (h.admitted d.entry c at) ∙ ap (λ o. is_some o) (sym (ap (λ o. option_and_then (λ x. x.nodes.access_queue) o) at) ∙ mine);
       }
+
+  pub front : (cells : List (Option (Cell K V))) (nodes : List (Node KeyHashDate)) (next : ℕ) (d : KeyHashDate) → AreQueued cells nodes next → option_map (λ n. n.element) (head nodes) ≡ Some d → Front cells nodes d.entry
+  front cells nodes next d h e = front-linked cells nodes nodes next d h h.known e
 
   -- ---- a removal
 

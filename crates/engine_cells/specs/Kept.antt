@@ -1,5 +1,5 @@
 -- What a contract sees of the tables: the state of the reference cache, and the number of the record in each place.
-use Rattle.std.specs.Prelude.{ℕ, Bool, false, not, ◌==◌, ◌&&◌, List, Option, Some, None, is_some, slice_index_or}
+use Rattle.std.specs.Prelude.{◌≡◌, ℕ, Bool, true, false, not, ◌==◌, ◌&&◌, List, Option, Some, None, is_some, slice_get, slice_index_or}
 use Rattle.std.specs.Option.{option_and_then}
 use Rattle.engine_reference.specs.declared.data.Record.{Record}
 use Rattle.engine_reference.specs.Records.{record_at}
@@ -16,6 +16,10 @@ numbered_at numbers place = slice_index_or numbers place None
 -- the record in a place
 abbrev pub kept_at : {K V P S R : Type 0} → Kept K V P S R → ℕ → Option (Record K V)
 kept_at t place = option_and_then (λ n. record_at t.state.records n) (numbered_at t.numbers place)
+
+-- the place has the record of the first of these numbers, and it is admitted
+abbrev pub StandsFirst : {K V P S R : Type 0} → Kept K V P S R → List ℕ → ℕ → Type 0
+StandsFirst {K} {V} t numbers place = (r : Record K V) × (kept_at t place ≡ Some r) × (slice_get numbers 0 ≡ Some r.number) × (is_some r.counts ≡ true)
 
 -- there is a record, of this number, and it is admitted
 abbrev pub is_admitted_as : {K V : Type 0} → ℕ → Option (Record K V) → Bool

@@ -7,3 +7,4 @@ pub mod Looking
 pub mod Tallying
 pub mod Rooms
 pub mod Writing
+pub mod Stretches

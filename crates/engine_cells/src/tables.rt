@@ -13,11 +13,12 @@ ghost use Rattle.engine_cells.specs.Noting.{read_of, write_of, number_written, A
 ghost use Rattle.engine_reference.specs.Runs.{after_hit, after_read, after_removal, next_to_evict, is_due};
 ghost use Rattle.engine_reference.specs.Calls.{IsNew, without_room, without_notice, cleared_by, registered, sent, unsent_at, is_full};
 ghost use Rattle.engine_rules.specs.Hashing.{hash_of_key};
-ghost use Rattle.engine_cells.specs.Looking.{is_expired};
+ghost use Rattle.engine_reference.specs.Soundness.{AreOnce, IsIn};
+ghost use Rattle.engine_cells.specs.Looking.{is_expired, behind};
 ghost use Rattle.engine_reference.specs.declared.data.Read.{Read};
 ghost use Rattle.policy_sketch.specs.Counts.{incremented, grown};
 ghost use Rattle.engine_cells.specs.Writing.{put_for, with_put_for, IsNewcomer};
-ghost use Rattle.engine_cells.specs.Kept.{numbered_at, kept_at, is_admitted_as, is_removed_as};
+ghost use Rattle.engine_cells.specs.Kept.{numbered_at, kept_at, StandsFirst, is_admitted_as, is_removed_as};
 
 use crate::cell::{Cell, Noted, PlacedWrite};
 use crate::finding::{find_held, take_if};
@@ -366,6 +367,15 @@ impl<K: Eq + Hash, V, S: BuildHasher, R: Rules<K, V>> Tables<K, V, S, R> {
         self.tally.held
     }
 
+    /// What the admitted records weigh.
+    pub fn admitted_weight(&self) -> u128
+        ensures is { result ≡ admitted_weight self.now.state.records }
+        ensures light { result < 2 ^ 100 }
+    {
+        let _many = self.cells.len();
+        self.tally.weight
+    }
+
     /// The record in a place leaves, and is told where it was held and removals are told.
     pub fn leave(&mut self, place: usize, cause: RemovalCause)
     where
@@ -393,6 +403,29 @@ impl<K: Eq + Hash, V, S: BuildHasher, R: Rules<K, V>> Tables<K, V, S, R> {
             Some(date) => Some(date.entry),
             None => None,
         }
+    }
+
+    /// The place of the record behind that of a place on the access list.
+    pub fn next_used(&self, place: usize) -> Option<usize>
+        requires { (r : Record K V) × (kept_at self.now place ≡ Some r) × (is_some r.counts ≡ true) }
+        ensures next { (r : Record K V) → kept_at self.now place ≡ Some r → IfSome result (StandsFirst self.now (behind r.number self.now.state.access)) }
+        ensures last { (r : Record K V) → kept_at self.now place ≡ Some r → IfNone result (behind r.number self.now.state.access ≡ []) }
+    {
+        let Some(id) = self.cells[place].nodes.access_queue else {
+            unreachable!()
+        };
+        match self.access.peek_behind(id) {
+            Some(date) => Some(date.entry),
+            None => None,
+        }
+    }
+
+    /// No number stands on the access list twice, and each there is of an admitted record.
+    pub fn access_stands(&self)
+        ensures once { AreOnce self.now.state.access }
+        ensures admitted { (number : ℕ) → IsIn number self.now.state.access → is_admitted_as number (record_at self.now.state.records number) ≡ true }
+    {
+        names_stand(&self.access);
     }
 
     /// The place of the record whose write was applied longest ago.
@@ -651,6 +684,18 @@ impl<K: Eq + Hash, V, S: BuildHasher, R: Rules<K, V>> Tables<K, V, S, R> {
         let _ = &self.cells;
         if self.is_admitted_at(place, number) {
             self.use_again(place);
+        }
+    }
+
+    /// Whether the record of a number is there. It can only stand in this place.
+    pub fn has_record(&self, place: usize, number: u64) -> bool
+        requires { AimsOnlyAt self.now.numbers place number }
+        ensures there { result ≡ true → (r : Record K V) × (kept_at self.now place ≡ Some r) × (record_at self.now.state.records number ≡ Some r) }
+        ensures gone { result ≡ false → record_at self.now.state.records number ≡ None }
+    {
+        match self.cells.get(place) {
+            Some(cell) => cell.item.number == number,
+            None => false,
         }
     }
 

@@ -15,7 +15,8 @@ use Rattle.engine_reference.specs.State.{State, Answers}
 use Rattle.engine_reference.specs.Visible.{is_covered_by}
 use Rattle.engine_reference.proofs.SoundSteps.{left-is_sound, counted}
 use Rattle.engine_sweeping.specs.Fronts.{MayLeave, dies, cleared, excess, IsClean}
-use Rattle.engine_sweeping.specs.Stretches.{Stretch, StepsFor, KeepsRest}
+use Rattle.engine_cells.specs.Stretches.{Stretch, StepsFor}
+use Rattle.engine_sweeping.specs.Stretches.{KeepsRest}
 
 module _ {K V : Type 0} where
   fewer : (n : ℕ) (rs : List (Record K V)) (r : Record K V) → record_at rs n ≡ Some r → length (without_record n rs) < length rs

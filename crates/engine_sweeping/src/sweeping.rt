@@ -6,7 +6,8 @@ ghost use Rattle.engine_reference.specs.Soundness.{IsSound};
 ghost use Rattle.engine_reference.specs.State.{Answers};
 ghost use Rattle.engine_reference.specs.declared.data.Record.{Record};
 ghost use Rattle.engine_sweeping.specs.Fronts.{MayLeave, IsClean};
-ghost use Rattle.engine_sweeping.specs.Stretches.{Stretch, StepsFor, KeepsRest};
+ghost use Rattle.engine_cells.specs.Stretches.{Stretch, StepsFor};
+ghost use Rattle.engine_sweeping.specs.Stretches.{KeepsRest};
 
 use crate::fronts::next_leaving;
 use engine_cells::Tables;

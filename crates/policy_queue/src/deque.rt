@@ -6,8 +6,8 @@ ghost use Rattle.policy_queue.specs.Queue.{find, from_id, head, final, tail, to_
 ghost use Rattle.policy_queue.specs.Places.{order};
 
 use crate::places::{
-    Cursor, Seat, attach, cursor_from, cursor_leaving, detach, element_at, first_live, has_next,
-    id_from, make_room, place_of, walk_place,
+    Cursor, Seat, attach, cursor_from, cursor_leaving, detach, element_at, element_from,
+    first_live, has_next, id_from, make_room, place_of, walk_place,
 };
 use policy_base::{CacheRegion, Cells, NodeId};
 use std::alloc::Global;
@@ -327,6 +327,17 @@ impl<T: Drop> Deque<T> {
         match place_of(self.region, self.places.as_slice(), &self.nodes, id) {
             None => Err(Stale),
             Some(k) => Ok(id_from(self.region, self.places.as_slice(), &self.nodes, k + 1)),
+        }
+    }
+
+    /// The element behind the node of this name. `None` behind the last one, and for a name that is not there.
+    pub fn peek_behind(&self, id: NodeId) -> Option<&T>
+        ensures { option_copied result ≡ option_map (λ n. n.element) (head (tail (from_id id self.now.nodes))) }
+    {
+        let places = self.places.as_slice();
+        match place_of(self.region, places, &self.nodes, id) {
+            None => None,
+            Some(at) => element_from(self.region, places, &self.nodes, at + 1),
         }
     }
 

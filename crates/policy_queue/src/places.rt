@@ -1,6 +1,6 @@
 //! The array of places behind a queue. A place names a node of the slab; a move empties it and takes another at the end;
 //! when the array is full, the empty places are closed up.
-ghost use Rattle.std.specs.Prelude.{◌≡◌, ◌≢◌, ℕ, ◌+◌, ◌-◌, ◌*◌, ◌^◌, ◌<◌, ◌≤◌, List, [], ◌∷◌, ◌++◌, length, drop, take, min, IsSome, IsOk, OnOk, MatchOption, option_map, Some, None, slice_index_or, vec_len, vec_capacity};
+ghost use Rattle.std.specs.Prelude.{◌≡◌, ◌≢◌, ℕ, ◌+◌, ◌-◌, ◌*◌, ◌^◌, ◌<◌, ◌≤◌, List, [], ◌∷◌, ◌++◌, length, drop, take, min, IsSome, IsOk, OnOk, MatchOption, option_map, option_copied, Some, None, slice_index_or, vec_len, vec_capacity};
 ghost use Rattle.slab.specs.Slab.{slab_len, get, HasRoomFor};
 ghost use Rattle.policy_queue.specs.Queue.{find, head, to_give, cursor_at, cursor_moved, is_nonempty};
 ghost use Rattle.policy_queue.specs.Places.{vacant, order, nodes_of, seat_in, IsStored, Ends, EndsBut, AreArranged, SameNodes, IsUnplaced, IsAt, Empties, places_for};
@@ -250,6 +250,26 @@ pub(crate) fn id_from<T>(
             queue: region,
         }),
         None => unreachable!(),
+    }
+}
+
+/// The first element from `from` on.
+pub(crate) fn element_from<'a, T>(
+    region: CacheRegion,
+    places: &[u32],
+    nodes: &'a Cells<u32, Seat<T>>,
+    from: usize,
+) -> Option<&'a T>
+    requires place { from ≤ length places.now }
+    requires stored { IsStored places.now nodes.now }
+    ensures { option_copied result ≡ option_map (λ n. n.element) (head (nodes_of region nodes.now (order (drop from places.now)))) }
+{
+    let _region = region;
+    let k = first_live(places, from);
+    if k == places.len() {
+        None
+    } else {
+        Some(element_at(places, nodes, k))
     }
 }
 

@@ -1,0 +1,4 @@
+pub mod Contests
+pub mod Outcomes
+pub mod Displaced
+pub mod Stretching
