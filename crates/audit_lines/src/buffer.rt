@@ -167,8 +167,8 @@ fn append_within(bytes: &mut Vec<u8>, piece: &[u8])
     };
 }
 
-/// What stands at the front of the bytes.
-fn next_in(bytes: &[u8]) -> Next
+/// What stands at the front of the bytes: a line of at most 8192 bytes and its line feed, less than a line, or more bytes than a line may have.
+pub fn next_in(bytes: &[u8]) -> Next
     ensures { IsNext bytes.now result }
 {
     let end = bytes.len().min(MAX_LINE + 1);
@@ -180,7 +180,7 @@ fn next_in(bytes: &[u8]) -> Next
 }
 
 /// The line without one carriage return at its end.
-fn trim(line: &[u8]) -> &[u8]
+pub fn trim(line: &[u8]) -> &[u8]
     ensures line { result.now ≡ without_return line.now }
     ensures short { length result.now ≤ length line.now }
 {

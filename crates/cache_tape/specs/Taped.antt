@@ -1,5 +1,5 @@
 -- What a tape keeps.
-use Rattle.std.specs.Prelude.{◌≡◌, ℕ, ◌-◌, ◌<◌, ◌++◌, ◌∷◌, Bool, true, false, List, [], Option, Some, None, is_some, unwrap_or, MatchOption, option_map, if◌then◌else◌}
+use Rattle.std.specs.Prelude.{◌≡◌, ℕ, ◌-◌, ◌<◌, ◌++◌, ◌∷◌, Bool, true, false, List, [], Option, Some, None, is_some, unwrap_or, MatchOption, if◌then◌else◌}
 use Rattle.audit_model.specs.declared.event.Event.{Event}
 use Rattle.audit_model.specs.declared.transcript.Accepted.{Accepted}
 use Rattle.audit_model.specs.declared.transcript.Note.{Note}

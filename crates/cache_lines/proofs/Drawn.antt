@@ -1,0 +1,84 @@
+-- Identifiers drawn by one step after another.
+use Rattle.std.proofs.Common.{◌≡◌, ℕ, zero, suc, ◌+◌, true, false, List, [], ◌∷◌, ◌++◌, Option, ap, ◌∙◌, arith}
+use Rattle.std.specs.Prelude.{codes}
+use Rattle.std.proofs.lemmas.Bool.{and_parts}
+use Rattle.std.proofs.lemmas.Slice.Eq.{bytes_eq-Decides}
+use Rattle.audit_model.specs.Bytewise.{same}
+use Rattle.audit_model.specs.Grammar.{reading}
+use Rattle.audit_model.specs.History.{part_count}
+use Rattle.audit_model.specs.declared.config.Config.{Config}
+use Rattle.audit_model.specs.declared.transcript.Accepted.{Accepted}
+use Rattle.audit_model.specs.declared.transcript.Note.{Note}
+use Rattle.audit_model.specs.declared.transcript.Step.{Step}
+use Rattle.rand_core.specs.Stream.{Stream}
+use Rattle.cache_store.specs.Identifiers.{Register, KeepsIdentifiers, AreUsedUp, drawn, stream_after}
+use Rattle.cache_commands.specs.Drawing.{DrawsForParts}
+use Rattle.cache_commands.specs.Right.{step_saying}
+use Rattle.cache_commands.proofs.Drawn.{draws-none, spends-none}
+use Rattle.cache_lines.specs.Drawing.{Identifiers, Spends, StepDraws, StepsDraw}
+use Rattle.cache_commands.specs.Answered.{says_drop}
+use Rattle.cache_tape.specs.Taped.{step_held}
+
+pub keeps-more : (a b c : Stream) (x y z : Register) → KeepsIdentifiers a b x y → KeepsIdentifiers b c y z → KeepsIdentifiers a c x z
+keeps-more a b c x y z k l = record { stream = l.stream ∙ k.stream; registered = λ part id h. k.registered part id (l.registered part id h) }
+
+-- none is drawn
+pub spends-same : (a : Identifiers) → Spends a a
+spends-same a = spends-none a.stream a.registered
+
+stream_after-more : (m n : ℕ) (stream : Stream) → stream_after m (stream_after n stream) ≡ stream_after (m + n) stream
+stream_after-more zero n stream = let e : n ≡ 0 + n = omega arith in ap (λ k. stream_after k stream) e
+stream_after-more (suc m) n stream =
+    let e : suc (m + n) ≡ suc m + n = omega arith in ap (λ s. (drawn s).1) (stream_after-more m n stream) ∙ ap (λ k. stream_after k stream) e
+
+-- some are drawn, and more
+pub spends-more : (a b c : Identifiers) → Spends a b → Spends b c → Spends a c
+spends-more a b c s t = record {
+  number = t.number + s.number;
+  stream = t.stream ∙ ap (stream_after t.number) s.stream ∙ stream_after-more t.number s.number a.stream;
+  registered = λ part id h. s.registered part id (t.registered part id h);
+}
+
+-- what is registered no more makes no difference
+pub step-kept : (config : Config) (step : Step) (a b c : Identifiers) → StepDraws config step a b → KeepsIdentifiers b.stream c.stream b.registered c.registered → StepDraws config step a c
+step-kept config step a b c s k = record {
+  draws = record {
+    number = s.draws.number;
+    stream = k.stream ∙ s.draws.stream;
+    registered = λ part. let at = s.draws.registered part in (at.0, λ id h. at.1 id (k.registered part id h));
+  };
+  used_up = λ e. let u = s.used_up e in record { part = u.part; is_part = u.is_part; first = u.first; number = u.number; thousand = u.thousand; stream = k.stream ∙ u.stream; each = u.each };
+}
+
+-- one step more
+pub draws-more : (config : Config) (steps : List Step) (step : Step) (a b c : Identifiers) → StepsDraw config steps a b → StepDraws config step b c → StepsDraw config (steps ++ step ∷ []) a c
+draws-more config [] step a b c s t = record { before = b; behind = c; spends = s; step_draws = t; rest = spends-same c }
+draws-more config (x ∷ xs) step a b c s t = record { before = s.before; behind = s.behind; spends = s.spends; step_draws = s.step_draws; rest = draws-more config xs step s.behind b c s.rest t }
+
+-- more are drawn behind
+pub draws-spend : (config : Config) (steps : List Step) (a b c : Identifiers) → StepsDraw config steps a b → Spends b c → StepsDraw config steps a c
+draws-spend config [] a b c s t = spends-more a b c s t
+draws-spend config (x ∷ xs) a b c s t = record { before = s.before; behind = s.behind; spends = s.spends; step_draws = s.step_draws; rest = draws-spend config xs s.behind b c s.rest t }
+
+-- a step before others
+pub draws-first : (config : Config) (step : Step) (steps : List Step) (a b c : Identifiers) → StepDraws config step a b → StepsDraw config steps b c → StepsDraw config (step ∷ steps) a c
+draws-first config step steps a b c s t = record { before = a; behind = b; spends = spends-same a; step_draws = s; rest = t }
+
+-- a line that is held back draws none
+pub held-draws : (config : Config) (number : ℕ) (line : List ℕ) (a : Identifiers) → StepDraws config (step_held number line) a a
+held-draws config number line a = record {
+  draws = draws-none a.stream a.registered;
+  used_up = λ e. let no : false ≡ true = (and_parts (says_drop (reading config line)) false e).1 in cc;
+}
+
+-- a line's step, by what it wrote
+pub step-drawn : (config : Config) (number : ℕ) (line reply old new : List ℕ) (accepted : Option Accepted) (told : List Note) (a b : Identifiers)
+    → DrawsForParts a.stream b.stream a.registered b.registered
+    → (says_drop (reading config line) ≡ true → new ≡ old ++ codes "ERR id\n" → AreUsedUp (part_count config) a.stream b.stream a.registered)
+    → new ≡ old ++ reply → StepDraws config (step_saying number line reply accepted told) a b
+step-drawn config number line reply old new accepted told a b d used w = record {
+  draws = d;
+  used_up = λ e.
+      let both = and_parts (says_drop (reading config line)) (same reply (codes "ERR id\n")) e in
+      used both.0 (w ∙ ap (λ r. old ++ r) ((bytes_eq-Decides reply (codes "ERR id\n")).0 both.1));
+}

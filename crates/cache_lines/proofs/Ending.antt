@@ -1,0 +1,105 @@
+-- A line that was answered, and what was gathered of it.
+use Rattle.std.proofs.Common.{◌≡◌, ℕ, suc, Bool, true, false, List, [], ◌∷◌, ◌++◌, Option, Some, None, if◌then◌else◌, refl, sym, ap, ◌∙◌, subst}
+use Rattle.std.specs.Prelude.{IsTrue, is_some, not, ◌||◌}
+use Rattle.std.specs.List.{list_all}
+use Rattle.audit_model.specs.Commands.{is_sync}
+use Rattle.std.specs.Option.{option_map}
+use Rattle.std.proofs.lemmas.List.{append-nil}
+use Rattle.audit_model.specs.Grammar.{reading}
+use Rattle.audit_model.specs.Situation.{view_in}
+use Rattle.audit_model.specs.Steps.{action_by, effect_in}
+use Rattle.audit_model.specs.declared.transcript.Accepted.{Accepted}
+use Rattle.audit_model.specs.declared.transcript.Note.{Note}
+use Rattle.cache_store.specs.Promises.{Frame}
+use Rattle.cache_store.specs.Running.{is_timely}
+use Rattle.cache_store.specs.Values.{GivesNote, IsSoundStore, Values}
+use Rattle.cache_commands.specs.Answered.{Agrees, IsAnswered}
+use Rattle.cache_commands.specs.Order.{order_by}
+use Rattle.cache_commands.specs.Right.{KeepsFrame, held_when_run, step_saying}
+use Rattle.cache_commands.proofs.Ordering.{agrees-kept}
+use Rattle.cache_tape.specs.Taped.{Taped, drafts, ends, text_left}
+use Rattle.cache_lines.specs.Drawing.{identifiers_in}
+use Rattle.cache_lines.specs.Gathered.{IsFresh, gather, gathered, stage}
+use Rattle.cache_lines.specs.Lines.{IsPlain, says_quit}
+use Rattle.cache_lines.specs.Ran.{RanLine}
+use Rattle.cache_lines.proofs.Drawn.{step-drawn, step-kept}
+use Rattle.cache_lines.proofs.Knowing.{keys-known}
+use Rattle.cache_lines.proofs.Reading.{parted-reading, plain-reading, synced-where}
+
+-- what waits when the notes were taken into a step, or not
+abbrev pub waiting_left : Option Taped → List Note → List Note
+waiting_left tape waiting = if is_some tape then [] else waiting
+
+-- a reply and notes were gathered
+pub gathered-one : (was is : Values) (number : ℕ) (line old_text reply text : List ℕ) (accepted : Option Accepted) (told waiting : List Note) (tape : Option Taped)
+    → IsFresh (gathered (stage was old_text tape)) → text ≡ old_text ++ reply → waiting ≡ was.untaken ++ told → is.untaken ≡ waiting_left tape waiting
+    → gathered (stage is (text_left tape text) (option_map (ends (λ l. step_saying number l text accepted waiting)) (option_map (drafts line) tape)))
+    ≡ gather (gathered (stage was old_text tape)) (step_saying number line reply accepted told ∷ [])
+gathered-one was is number line old_text reply text accepted told waiting None fresh wrote noted left =
+    ap (λ t. record { text = t; kept = None; waiting = is.untaken }) (wrote ∙ ap (λ r. old_text ++ r) (sym (append-nil reply)))
+    ∙ ap (λ w. record { text = old_text ++ (reply ++ []); kept = None; waiting = w }) (left ∙ noted ∙ ap (λ n. was.untaken ++ n) (sym (append-nil told)))
+gathered-one was is number line old_text reply text accepted told waiting (Some t) fresh wrote noted left =
+    let said : text ≡ reply = wrote ∙ ap (λ o. o ++ reply) fresh.0 in
+    let notes : waiting ≡ told = noted ∙ ap (λ o. o ++ told) fresh.1 in
+    let kept : List ℕ → List Note → Option Taped = λ r ns. Some (record { records = t.records; begun = t.begun; steps = t.steps ++ step_saying number line r accepted ns ∷ []; spare = 0; drafted = None }) in
+    ap (λ o. record { text = o; kept = kept text waiting; waiting = is.untaken }) (sym fresh.0)
+    ∙ ap (λ w. record { text = old_text; kept = kept text waiting; waiting = w }) (left ∙ sym fresh.1)
+    ∙ ap (λ r. record { text = old_text; kept = kept r waiting; waiting = was.untaken }) said
+    ∙ ap (λ ns. record { text = old_text; kept = kept reply ns; waiting = was.untaken }) notes
+
+-- the line was answered, and its notes were taken
+pub ran-answered : (now number : ℕ) (line : List ℕ) (quit : Bool) (was mid is : Values) (old_text mid_text new_text : List ℕ) (accepted : Option Accepted) (tape new_tape : Option Taped)
+    → says_quit (reading was.frame.config line) ≡ quit → IsAnswered now (reading was.frame.config line) accepted was mid old_text mid_text → GivesNote mid is → IsSoundStore is
+    → IsFresh (gathered (stage was old_text tape)) → is.untaken ≡ waiting_left tape mid.untaken
+    → new_tape ≡ option_map (ends (λ l. step_saying number l mid_text accepted mid.untaken)) (option_map (drafts line) tape) → new_text ≡ text_left tape mid_text
+    → RanLine now number line quit (stage was old_text tape) (stage is new_text new_tape)
+ran-answered now number line quit was mid is old_text mid_text new_text accepted tape new_tape says a gives sound fresh left stepped texted =
+    let config = was.frame.config in
+    let r = reading config line in
+    record {
+      frame = subst (λ (f : Frame). KeepsFrame was.frame f now) (sym gives.frame) a.frame;
+      ran = λ s agrees.
+          let b = a.right s agrees in
+          record {
+            reply = b.reply;
+            accepted = accepted;
+            told = b.told;
+            right = b.right;
+            plain = subst (λ q. IsPlain (effect_in config (view_in config s) (action_by r) (step_saying number line b.reply accepted b.told)) q) says (plain-reading config s r number line b.reply accepted b.told);
+            says = says;
+            parted = parted-reading config was.frame.part_of s r accepted a.part;
+            left = gives.stands _ b.left;
+            timely =
+                subst (λ n. IsTrue (not (is_sync (action_by r)) || list_all (is_timely config was.frame.made n) (held_when_run config s (action_by r) (step_saying 0 [] b.reply accepted b.told)))) (sym agrees.at)
+                (synced-where _ _ (λ sync. a.timely sync _ b.left));
+            dropped_is = ap (λ (f : Frame). f.dropped) gives.frame ∙ b.dropped_is;
+            draws =
+                step-kept config _ (identifiers_in was) (identifiers_in mid) (identifiers_in is)
+                (step-drawn config number line b.reply old_text mid_text accepted b.told (identifiers_in was) (identifiers_in mid) a.draws a.used_up b.written) gives.identifiers;
+            ordered = λ places order plain agreed.
+                keys-known is.Used is.Stands places (order_by (suc places) r order) _ sound.ordered
+                (agrees-kept mid.Used is.Used places (order_by (suc places) r order) gives.used (a.order.moves places order plain agreed)) (gives.stands _ b.left);
+            gathered_is =
+                ap (λ o. gathered (stage is o new_tape)) texted
+                ∙ ap (λ t. gathered (stage is (text_left tape mid_text) t)) stepped
+                ∙ gathered-one was is number line old_text b.reply mid_text accepted b.told mid.untaken tape fresh b.written b.handed.added left;
+          };
+    }
+
+kept-where : (line : List ℕ) (tape : Option Taped) → is_some (option_map (drafts line) tape) ≡ is_some tape
+kept-where line None = refl
+kept-where line (Some t) = refl
+
+-- the same, with the tape as it was in between
+pub ran-drafted : (now number : ℕ) (line : List ℕ) (quit : Bool) (was mid is : Values) (old_text mid_text new_text : List ℕ) (accepted : Option Accepted) (tape mid_tape new_tape : Option Taped)
+    → mid_tape ≡ option_map (drafts line) tape
+    → says_quit (reading was.frame.config line) ≡ quit → IsAnswered now (reading was.frame.config line) accepted was mid old_text mid_text → GivesNote mid is → IsSoundStore is
+    → IsFresh (gathered (stage was old_text tape)) → is.untaken ≡ waiting_left mid_tape mid.untaken
+    → new_tape ≡ option_map (ends (λ l. step_saying number l mid_text accepted mid.untaken)) mid_tape → new_text ≡ text_left mid_tape mid_text
+    → RanLine now number line quit (stage was old_text tape) (stage is new_text new_tape)
+ran-drafted now number line quit was mid is old_text mid_text new_text accepted tape mid_tape new_tape drafted says a gives sound fresh left stepped texted =
+    let same : is_some mid_tape ≡ is_some tape = ap is_some drafted ∙ kept-where line tape in
+    ran-answered now number line quit was mid is old_text mid_text new_text accepted tape new_tape says a gives sound fresh
+    (left ∙ ap (λ b. if b then [] else mid.untaken) same)
+    (stepped ∙ ap (option_map (ends (λ l. step_saying number l mid_text accepted mid.untaken))) drafted)
+    (texted ∙ ap (λ b. if b then [] else mid_text) same)

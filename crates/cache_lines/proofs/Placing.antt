@@ -1,0 +1,97 @@
+-- A connection put in its place again.
+use Rattle.std.proofs.Common.{◌≡◌, ℕ, Bool, true, false, not, ◌==◌, List, [], ◌∷◌, map, cond, Some, if◌then◌else◌, refl, sym, ap, ◌∙◌}
+use Rattle.std.specs.Prelude.{is_some}
+use Rattle.std.specs.List.{find}
+use Rattle.std.proofs.lemmas.Bool.{eq-eqb}
+use Rattle.audit_model.specs.Situation.{Situation, Connection, HeldValue, connection_in, with_connection, without_number, without_waiting, is_overlong}
+use Rattle.cache_lines.specs.Lines.{situation_behind, set_in, IsThere}
+
+-- the connection under that number
+abbrev pub numbered : ℕ → Connection → Connection
+numbered n c = record c { number = n }
+
+abbrev pub swap : ℕ → Connection → Connection → Connection
+swap n c d = if d.number == n then numbered n c else d
+
+here : (n : ℕ) → (n == n) ≡ true
+here n = eq-eqb n n refl
+
+found-swapped : (n : ℕ) (c : Connection) (ds : List Connection) → is_some (find (λ d. d.number == n) ds) ≡ true → find (λ d. d.number == n) (map (swap n c) ds) ≡ Some (numbered n c)
+found-swapped n c [] h = let e : false ≡ true = h in cc
+found-swapped n c (d ∷ ds) h = go (found-swapped n c ds) (d.number == n) refl h
+  where
+    go : (is_some (find (λ k. k.number == n) ds) ≡ true → find (λ k. k.number == n) (map (swap n c) ds) ≡ Some (numbered n c)) → (b : Bool) → (d.number == n) ≡ b → is_some (cond b (Some d) (find (λ k. k.number == n) ds)) ≡ true → find (λ k. k.number == n) (map (swap n c) (d ∷ ds)) ≡ Some (numbered n c)
+    go next true e g =
+        ap (λ b. cond ((if b then numbered n c else d).number == n) (Some (if b then numbered n c else d)) (find (λ k. k.number == n) (map (swap n c) ds))) e
+        ∙ ap (λ b. cond b (Some (numbered n c)) (find (λ k. k.number == n) (map (swap n c) ds))) (here n)
+    go next false e g =
+        ap (λ b. cond ((if b then numbered n c else d).number == n) (Some (if b then numbered n c else d)) (find (λ k. k.number == n) (map (swap n c) ds))) e
+        ∙ ap (λ b. cond b (Some d) (find (λ k. k.number == n) (map (swap n c) ds))) e
+        ∙ next g
+
+pub swapped-again : (n : ℕ) (c d : Connection) (ks : List Connection) → map (swap n d) (map (swap n c) ks) ≡ map (swap n d) ks
+swapped-again n c d [] = refl
+swapped-again n c d (k ∷ ks) = ap (λ x. x ∷ map (swap n d) (map (swap n c) ks)) (go (k.number == n) refl) ∙ ap (λ xs. swap n d k ∷ xs) (swapped-again n c d ks)
+  where
+    go : (b : Bool) → (k.number == n) ≡ b → swap n d (swap n c k) ≡ swap n d k
+    go true e = ap (λ b. swap n d (if b then numbered n c else k)) e ∙ ap (λ b. if b then numbered n d else numbered n c) (here n) ∙ sym (ap (λ b. if b then numbered n d else k) e)
+    go false e = ap (λ b. swap n d (if b then numbered n c else k)) e
+
+pub dropped-swapped : (n : ℕ) (c : Connection) (ks : List Connection) → without_number n (map (swap n c) ks) ≡ without_number n ks
+dropped-swapped n c [] = refl
+dropped-swapped n c (k ∷ ks) = go (dropped-swapped n c ks) (k.number == n) refl
+  where
+    go : without_number n (map (swap n c) ks) ≡ without_number n ks → (b : Bool) → (k.number == n) ≡ b → without_number n (map (swap n c) (k ∷ ks)) ≡ without_number n (k ∷ ks)
+    go next true e =
+        ap (λ b. cond (not ((if b then numbered n c else k).number == n)) ((if b then numbered n c else k) ∷ without_number n (map (swap n c) ks)) (without_number n (map (swap n c) ks))) e
+        ∙ ap (λ b. cond (not b) (numbered n c ∷ without_number n (map (swap n c) ks)) (without_number n (map (swap n c) ks))) (here n)
+        ∙ next
+        ∙ sym (ap (λ b. cond (not b) (k ∷ without_number n ks) (without_number n ks)) e)
+    go next false e =
+        ap (λ b. cond (not ((if b then numbered n c else k).number == n)) ((if b then numbered n c else k) ∷ without_number n (map (swap n c) ks)) (without_number n (map (swap n c) ks))) e
+        ∙ ap (λ b. cond (not b) (k ∷ without_number n (map (swap n c) ks)) (without_number n (map (swap n c) ks))) e
+        ∙ ap (λ xs. k ∷ xs) next
+        ∙ sym (ap (λ b. cond (not b) (k ∷ without_number n ks) (without_number n ks)) e)
+
+-- the connection that was put there is found there
+pub found-there : (base : Situation) (held : List HeldValue) (n : ℕ) (c : Connection) → IsThere n base → is_overlong (numbered n c) ≡ false
+    → connection_in n (set_in base held (numbered n c)) ≡ Some (numbered n c)
+found-there base held n c there fits =
+    ap (λ b. find (λ d. d.number == n) (if b then without_number n base.connections else map (swap n c) base.connections)) fits ∙ found-swapped n c base.connections there
+
+-- what was put there before makes no difference
+pub set-again : (base : Situation) (held left : List HeldValue) (n : ℕ) (c d : Connection) → is_overlong (numbered n c) ≡ false
+    → set_in (set_in base held (numbered n c)) left (numbered n d) ≡ set_in base left (numbered n d)
+set-again base held left n c d fits =
+    ap (λ b. record base {
+      held = left;
+      connections = if is_overlong (numbered n d) then without_number n (if b then without_number n base.connections else map (swap n c) base.connections) else map (swap n d) (if b then without_number n base.connections else map (swap n c) base.connections);
+      pending = if is_overlong (numbered n d) then map (without_waiting n) (if b then map (without_waiting n) base.pending else base.pending) else (if b then map (without_waiting n) base.pending else base.pending);
+    }) fits
+    ∙ ap (λ ks. record base {
+      held = left;
+      connections = if is_overlong (numbered n d) then ks else map (swap n d) (map (swap n c) base.connections);
+      pending = if is_overlong (numbered n d) then map (without_waiting n) base.pending else base.pending;
+    }) (dropped-swapped n c base.connections)
+    ∙ ap (λ ks. record base {
+      held = left;
+      connections = if is_overlong (numbered n d) then without_number n base.connections else ks;
+      pending = if is_overlong (numbered n d) then map (without_waiting n) base.pending else base.pending;
+    }) (swapped-again n c d base.connections)
+
+-- nor where it closes
+pub quit-again : (base : Situation) (held left : List HeldValue) (n : ℕ) (c d : Connection) → is_overlong (numbered n c) ≡ false
+    → with_connection true (numbered n d) (record (set_in base held (numbered n c)) { held = left }) ≡ situation_behind true base left (numbered n d)
+quit-again base held left n c d fits =
+    ap (λ b. record base {
+      held = left;
+      connections = without_number n (if b then without_number n base.connections else map (swap n c) base.connections);
+      pending = map (without_waiting n) (if b then map (without_waiting n) base.pending else base.pending);
+    }) fits
+    ∙ ap (λ ks. record base { held = left; connections = ks; pending = map (without_waiting n) base.pending }) (dropped-swapped n c base.connections)
+
+-- as it now is, or closed by a `QUIT`
+pub ended-again : (base : Situation) (held left : List HeldValue) (n : ℕ) (c d : Connection) (quit : Bool) → is_overlong (numbered n c) ≡ false
+    → with_connection quit (numbered n d) (record (set_in base held (numbered n c)) { held = left }) ≡ situation_behind quit base left (numbered n d)
+ended-again base held left n c d true fits = quit-again base held left n c d fits
+ended-again base held left n c d false fits = set-again base held left n c d fits

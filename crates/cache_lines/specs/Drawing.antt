@@ -1,0 +1,52 @@
+-- The identifiers that steps draw, one step after another.
+use Rattle.std.specs.Prelude.{◌≡◌, ℕ, Bool, true, false, ◌&&◌, List, [], ◌∷◌, Some, Ok, codes}
+use Rattle.std.specs.Option.{option_eq}
+use Rattle.audit_model.specs.Bytewise.{same}
+use Rattle.audit_model.specs.Grammar.{Reading, reading}
+use Rattle.audit_model.specs.History.{part_count}
+use Rattle.audit_model.specs.declared.command.Command.TheVariants as says
+use Rattle.audit_model.specs.declared.config.Config.{Config}
+use Rattle.audit_model.specs.declared.transcript.Step.{Step}
+use Rattle.rand_core.specs.Stream.{Stream}
+use Rattle.cache_store.specs.Identifiers.{Register, DrawsAlone, AreUsedUp}
+use Rattle.cache_store.specs.Values.{Values}
+use Rattle.cache_commands.specs.Answered.{says_drop}
+use Rattle.cache_commands.specs.Drawing.{DrawsForParts}
+
+-- what a generator of identifiers will give, and which of them are registered in each part
+pub record Identifiers : Type 0 where
+  pub stream : Stream
+  pub registered : Register
+
+abbrev pub identifiers : Stream → Register → Identifiers
+identifiers stream registered = record { stream = stream; registered = registered }
+
+abbrev pub identifiers_in : Values → Identifiers
+identifiers_in v = identifiers v.stream v.registered
+
+-- a `DROPIF` that is refused with `ERR id`
+abbrev pub refuses_id : Config → Step → Bool
+refuses_id config step = says_drop (reading config step.line) && option_eq same step.reply (Some (codes "ERR id\n"))
+
+-- some are drawn, and none is registered that was not
+abbrev pub Spends : Identifiers → Identifiers → Type 0
+Spends old new = DrawsAlone old.stream new.stream old.registered new.registered
+
+-- The step draws some, and each part registers one of them at most; where it is refused for its identifier, one part drew a thousand, each
+-- of which was registered there.
+pub record StepDraws (config : Config) (step : Step) (old new : Identifiers) : Type 0 where
+  pub draws : DrawsForParts old.stream new.stream old.registered new.registered
+  pub used_up : refuses_id config step ≡ true → AreUsedUp (part_count config) old.stream new.stream old.registered
+
+-- a step draws after some were spent, and others draw after it
+pub record DrawsThen (config : Config) (step : Step) (Rest : Identifiers → Identifiers → Type 0) (old new : Identifiers) : Type 0 where
+  pub before : Identifiers
+  pub behind : Identifiers
+  pub spends : Spends old before
+  pub step_draws : StepDraws config step before behind
+  pub rest : Rest behind new
+
+-- the steps draw identifiers one after another; what is drawn for a line that is held back registers none
+abbrev pub StepsDraw : Config → List Step → Identifiers → Identifiers → Type 0
+StepsDraw config [] old new = Spends old new
+StepsDraw config (step ∷ steps) old new = DrawsThen config step (λ a b. StepsDraw config steps a b) old new

@@ -1,0 +1,55 @@
+-- The order of use of keys, step by step.
+use Rattle.std.specs.Prelude.{ℕ, suc, Bool, List, [], ◌∷◌, Some, if◌then◌else◌}
+use Rattle.audit_model.specs.Changes.{after_step}
+use Rattle.audit_model.specs.Follows.{placed_step_in}
+use Rattle.audit_model.specs.Grammar.{reading}
+use Rattle.audit_model.specs.Places.{due, first_due, left_after}
+use Rattle.audit_model.specs.Situation.{Situation, HeldValue, may_run_in}
+use Rattle.audit_model.specs.Steps.{Task, RunLines}
+use Rattle.audit_model.specs.declared.config.Config.{Config}
+use Rattle.audit_model.specs.declared.transcript.Step.{Step}
+use Rattle.cache_commands.specs.Order.{Order, Settled, Unknown, AgreesWith, order_by}
+use Rattle.cache_lines.specs.Lines.{effect_of_step}
+use Rattle.cache_store.specs.Recency.{AreKeysOf, IsPlainLru}
+
+-- a step ran; nothing is known behind one that is held back
+abbrev pub order_behind_step : Config → ℕ → Order → Step → Order
+order_behind_step config n order step = if step.held then Unknown else order_by n (reading config step.line) order
+
+-- these steps ran
+abbrev pub order_behind : Config → ℕ → Order → List Step → Order
+order_behind config n order [] = order
+order_behind config n order (step ∷ steps) = order_behind config n (order_behind_step config n order step) steps
+
+-- where a `SYNC` ran last, the values held have just the keys that are known
+abbrev pub HasKeys : Order → List HeldValue → Type 0
+HasKeys (Settled keys) held = AreKeysOf held keys
+HasKeys order held = Unit {0}
+
+-- so after each of these steps
+abbrev pub HaveKeys : Config → ℕ → Order → Situation → List Task → List Step → Type 0
+HaveKeys config n order s tasks [] = Unit {0}
+HaveKeys config n order s tasks (step ∷ steps) =
+    let now_due = due (may_run_in s) tasks in
+    let placed = placed_step_in config s (first_due now_due) step in
+    let t = after_step config s placed.task step placed.effect in
+    HasKeys (order_behind_step config n order step) t.held × HaveKeys config n (order_behind_step config n order step) t (left_after now_due) steps
+
+-- the same of a connection's lines
+abbrev pub HaveKeysBehind : Config → ℕ → ℕ → Order → Situation → List Step → Type 0
+HaveKeysBehind config number n order s [] = Unit {0}
+HaveKeysBehind config number n order s (step ∷ steps) =
+    let t = after_step config s (Some (RunLines number)) step (effect_of_step config number s step) in
+    HasKeys (order_behind_step config n order step) t.held × HaveKeysBehind config number n (order_behind_step config n order step) t steps
+
+-- Where a store that evicts the least recently used agreed with what was known, it agrees with what is known behind these steps, and after each
+-- of them just the keys that are known are held.
+abbrev pub OrdersSteps : Config → (old new : Bool → List (List ℕ) → Type 0) → Situation → List Task → List Step → Type 0
+OrdersSteps config old new s tasks steps =
+    (places : ℕ) (order : Order) → IsPlainLru config places → AgreesWith old places order
+    → AgreesWith new places (order_behind config (suc places) order steps) × HaveKeys config (suc places) order s tasks steps
+
+abbrev pub OrdersLines : Config → ℕ → (old new : Bool → List (List ℕ) → Type 0) → Situation → List Step → Type 0
+OrdersLines config number old new s steps =
+    (places : ℕ) (order : Order) → IsPlainLru config places → AgreesWith old places order
+    → AgreesWith new places (order_behind config (suc places) order steps) × HaveKeysBehind config number (suc places) order s steps

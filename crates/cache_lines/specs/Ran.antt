@@ -1,0 +1,86 @@
+-- What lines did.
+use Rattle.std.specs.Prelude.{◌≡◌, ℕ, suc, Bool, true, false, not, ◌||◌, List, [], ◌∷◌, Option, Ok, None, IsTrue}
+use Rattle.std.specs.List.{list_all}
+use Rattle.std.specs.Option.{option_map}
+use Rattle.audit_model.specs.Commands.{is_sync}
+use Rattle.audit_model.specs.Grammar.{reading}
+use Rattle.audit_model.specs.Situation.{Situation, HeldValue, live_at, view_in}
+use Rattle.audit_model.specs.Steps.{action_by, effect_in}
+use Rattle.audit_model.specs.declared.command.Command.TheVariants as says
+use Rattle.audit_model.specs.declared.config.Config.{Config}
+use Rattle.audit_model.specs.declared.transcript.Accepted.{Accepted}
+use Rattle.audit_model.specs.declared.transcript.Note.{Note}
+use Rattle.audit_model.specs.declared.transcript.Step.{Step}
+use Rattle.cache_store.specs.Recency.{IsPlainLru}
+use Rattle.cache_store.specs.Running.{is_timely}
+use Rattle.cache_commands.specs.Answered.{Agrees}
+use Rattle.cache_commands.specs.Order.{Order, AgreesWith, order_by}
+use Rattle.cache_commands.specs.Right.{DoesRight, KeepsFrame, step_saying, held_when_run, dropped_when_run}
+use Rattle.cache_tape.specs.Taped.{drafts}
+use Rattle.cache_lines.specs.Drawing.{StepDraws, StepsDraw, identifiers_in}
+use Rattle.cache_lines.specs.Gathered.{Stage, gather, gathered}
+use Rattle.cache_lines.specs.Lines.{IsPlain, IsThere, Runs, ends_quit, has_its_part, ready, says_quit, set_in, situation_behind, with_drops}
+use Rattle.cache_lines.specs.Making.{Making, making_of}
+use Rattle.cache_lines.specs.Ordered.{HasKeys, OrdersLines}
+use Rattle.cache_lines.specs.declared.running.Done.{Done}
+use Rattle.cache_lines.specs.declared.running.Done.TheVariants.{Stays, Quits, Misses}
+
+-- The line's step was right but for its turn, its values stand, and its reply and notes were gathered.
+pub record RanOne (making : Making) (number : ℕ) (s : Situation) (line : List ℕ) (quit : Bool) (old new : Stage) : Type 0 where
+  pub reply : List ℕ
+  pub accepted : Option Accepted
+  pub told : List Note
+  pub right : DoesRight making.config s (action_by (reading making.config line)) (step_saying 0 [] reply accepted told)
+  pub plain : IsPlain (effect_in making.config (view_in making.config s) (action_by (reading making.config line)) (step_saying number line reply accepted told)) quit
+  pub says : says_quit (reading making.config line) ≡ quit
+  pub parted : IsTrue (has_its_part making.part_of (effect_in making.config (view_in making.config s) (action_by (reading making.config line)) (step_saying number line reply accepted told)))
+  pub left : new.values.Stands (held_when_run making.config s (action_by (reading making.config line)) (step_saying 0 [] reply accepted told))
+  pub timely : IsTrue (not (is_sync (action_by (reading making.config line))) || list_all (is_timely making.config making.made s.latest) (held_when_run making.config s (action_by (reading making.config line)) (step_saying 0 [] reply accepted told)))
+  pub dropped_is : new.values.frame.dropped ≡ dropped_when_run making.config s (action_by (reading making.config line)) (step_saying 0 [] reply accepted told)
+  pub draws : StepDraws making.config (step_saying number line reply accepted told) (identifiers_in old.values) (identifiers_in new.values)
+  pub ordered : (places : ℕ) (order : Order) → IsPlainLru making.config places → AgreesWith old.values.Used places order
+      → AgreesWith new.values.Used places (order_by (suc places) (reading making.config line) order)
+      × HasKeys (order_by (suc places) (reading making.config line) order) (held_when_run making.config s (action_by (reading making.config line)) (step_saying 0 [] reply accepted told))
+  pub gathered_is : gathered new ≡ gather (gathered old) (step_saying number line reply accepted told ∷ [])
+
+-- the line ran in each situation that the values stood for
+pub record RanLine (now number : ℕ) (line : List ℕ) (quit : Bool) (old new : Stage) : Type 0 where
+  pub frame : KeepsFrame old.values.frame new.values.frame now
+  pub ran : (s : Situation) → Agrees old.values now s → RanOne (making_of old.values.frame) number s line quit old new
+
+-- the line is a `LOAD` of a key that has no live value
+pub record IsMiss (config : Config) (now : ℕ) (line : List ℕ) (Stands : List HeldValue → Type 0) : Type 0 where
+  pub key : List ℕ
+  pub reads : reading config line ≡ Ok (says.Load key)
+  pub none : (held : List HeldValue) → Stands held → live_at config now held key ≡ None
+
+-- such a line did nothing, and there is room for its step
+pub record MissedLine (now : ℕ) (line : List ℕ) (old new : Stage) : Type 0 where
+  pub is_miss : IsMiss old.values.frame.config now line old.values.Stands
+  pub drafted : new.tape ≡ option_map (drafts line) old.tape
+  pub text : new.text ≡ old.text
+
+-- the line ran, and may have closed its connection, or it did nothing
+abbrev pub RunsAs : (now number : ℕ) (line : List ℕ) → Done → (old new : Stage) → Type 0
+RunsAs now number line Stays old new = RanLine now number line false old new
+RunsAs now number line Quits old new = RanLine now number line true old new
+RunsAs now number line Misses old new = MissedLine now line old new
+
+-- the line did nothing
+abbrev pub misses : Done → Bool
+misses Stays = false
+misses Quits = false
+misses Misses = true
+
+-- From that situation, with those values held and those bytes unread, lines of the connection ran until those bytes were left, or the last one
+-- was a `QUIT`, and what they left stands.
+pub record RanLines (making : Making) (number : ℕ) (base : Situation) (held : List HeldValue) (bytes : List ℕ) (quit : Bool) (rest : List ℕ) (old new : Stage) : Type 0 where
+  pub steps : List Step
+  pub left : List HeldValue
+  pub stands : new.values.Stands left
+  pub runs : Runs making number (set_in base held (ready number bytes)) steps (situation_behind quit (with_drops new.values.frame.dropped base) left (ready number rest))
+  pub none_held : IsTrue (list_all (λ step. not step.held) steps)
+  pub quits : ends_quit making.config steps ≡ quit
+  pub draws : StepsDraw making.config steps (identifiers_in old.values) (identifiers_in new.values)
+  pub ordered : OrdersLines making.config number old.values.Used new.values.Used (set_in base held (ready number bytes)) steps
+  pub gathered_is : gathered new ≡ gather (gathered old) steps

@@ -1,0 +1,78 @@
+//! The notes that a line told, and its step.
+ghost use Rattle.std.specs.Prelude.{◌≡◌, ◌+◌, ◌<◌, ◌≤◌, ◌++◌, ◌∷◌, [], true, is_some, length, vec_len, vec_capacity, if◌then◌else◌};
+ghost use Rattle.std.specs.Option.{option_map};
+ghost use Rattle.cache_commands.specs.Right.{step_saying};
+ghost use Rattle.cache_store.specs.Values.{GivesNote};
+ghost use Rattle.cache_tape.specs.Taped.{IsDrafted, ends, text_left};
+
+use audit_model::{Accepted, Note};
+use cache_commands::Keyed;
+use cache_store::Store;
+use cache_tape::Tape;
+
+/// How many notes a line or an answer tells at most.
+pub fn most_notes<S: Store>(store: &Keyed<S>) -> usize
+    ensures { result ≡ (S.view store.now).count + 1 }
+{
+    store.sound();
+    store.store().len() + 1
+}
+
+/// Adds a note for which there is room.
+fn push_within(notes: &mut Vec<Note>, note: Note)
+    requires { vec_len notes.old < vec_capacity notes.old }
+    ensures items { notes.new.items ≡ notes.old.items ++ note ∷ [] }
+    ensures len { vec_len notes.new ≡ vec_len notes.old + 1 }
+    ensures capacity { vec_capacity notes.old ≤ vec_capacity notes.new }
+{
+    let Ok(()) = notes.push(note) else {
+        unreachable!();
+    };
+}
+
+/// Takes all notes that the store has, for which there is room; nothing else changes.
+pub fn drain<S: Store>(store: &mut Keyed<S>, notes: &mut Vec<Note>)
+    requires { vec_len notes.old + length (S.view store.old).untaken ≤ vec_capacity notes.old }
+    ensures drained { notes.new.items ≡ notes.old.items ++ (S.view store.old).untaken }
+    ensures none { (S.view store.new).untaken ≡ [] }
+    ensures gives { GivesNote (S.view store.old) (S.view store.new) }
+{
+    while let Some(note) = store.next_notice() {
+        push_within(notes, note);
+    }
+}
+
+/// Takes all notes that the store has, or none.
+fn drain_where<S: Store>(store: &mut Keyed<S>, takes: bool, notes: &mut Vec<Note>)
+    requires { takes ≡ true → vec_len notes.old + length (S.view store.old).untaken ≤ vec_capacity notes.old }
+    ensures drained { notes.new.items ≡ (if takes then notes.old.items ++ (S.view store.old).untaken else notes.old.items) }
+    ensures untaken { (S.view store.new).untaken ≡ (if takes then [] else (S.view store.old).untaken) }
+    ensures gives { GivesNote (S.view store.old) (S.view store.new) }
+{
+    if takes {
+        drain(store, notes);
+        return;
+    }
+}
+
+/// Adds the step of the line for which there is room, where a record is made: with what was written as its reply, and the notes that
+/// wait. Where none is made, both stay where they are.
+pub fn end_step<S: Store, T: Tape>(
+    store: &mut Keyed<S>,
+    tape: &mut T,
+    number: u64,
+    accepted: Option<Accepted>,
+    text: &mut Vec<u8>,
+    mut notes: Vec<Note>,
+)
+    requires drafted { IsDrafted (T.view tape.old) }
+    requires empty { notes.items ≡ [] }
+    requires room { is_some (T.view tape.old) ≡ true → length (S.view store.old).untaken ≤ vec_capacity notes }
+    ensures gives { GivesNote (S.view store.old) (S.view store.new) }
+    ensures untaken { (S.view store.new).untaken ≡ (if is_some (T.view tape.old) then [] else (S.view store.old).untaken) }
+    ensures step { T.view tape.new ≡ option_map (ends (λ line. step_saying number line text.old.items accepted (S.view store.old).untaken)) (T.view tape.old) }
+    ensures text { text.new.items ≡ text_left (T.view tape.old) text.old.items }
+{
+    drain_where(store, tape.keeps(), &mut notes);
+    tape.end(number, accepted, text, notes);
+}
