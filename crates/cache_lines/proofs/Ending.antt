@@ -10,6 +10,7 @@ use Rattle.audit_model.specs.Situation.{view_in}
 use Rattle.audit_model.specs.Steps.{action_by, effect_in}
 use Rattle.audit_model.specs.declared.transcript.Accepted.{Accepted}
 use Rattle.audit_model.specs.declared.transcript.Note.{Note}
+use Rattle.audit_model.specs.declared.transcript.Step.{Step}
 use Rattle.cache_store.specs.Promises.{Frame}
 use Rattle.cache_store.specs.Running.{is_timely}
 use Rattle.cache_store.specs.Values.{GivesNote, IsSoundStore, Values}
@@ -47,6 +48,12 @@ gathered-one was is number line old_text reply text accepted told waiting (Some 
     ∙ ap (λ r. record { text = old_text; kept = kept r waiting; waiting = was.untaken }) said
     ∙ ap (λ ns. record { text = old_text; kept = kept reply ns; waiting = was.untaken }) notes
 
+-- nothing waits beside a record
+pub fresh-ended : (is : Values) (new_text text : List ℕ) (waiting : List Note) (tape : Option Taped) (step : List ℕ → Step) (line : List ℕ) → is.untaken ≡ waiting_left tape waiting → new_text ≡ text_left tape text
+    → IsFresh (gathered (stage is new_text (option_map (ends step) (option_map (drafts line) tape))))
+fresh-ended is new_text text waiting None step line left texted = tt
+fresh-ended is new_text text waiting (Some t) step line left texted = (texted, left)
+
 -- the line was answered, and its notes were taken
 pub ran-answered : (now number : ℕ) (line : List ℕ) (quit : Bool) (was mid is : Values) (old_text mid_text new_text : List ℕ) (accepted : Option Accepted) (tape new_tape : Option Taped)
     → says_quit (reading was.frame.config line) ≡ quit → IsAnswered now (reading was.frame.config line) accepted was mid old_text mid_text → GivesNote mid is → IsSoundStore is
@@ -58,6 +65,7 @@ ran-answered now number line quit was mid is old_text mid_text new_text accepted
     let r = reading config line in
     record {
       frame = subst (λ (f : Frame). KeepsFrame was.frame f now) (sym gives.frame) a.frame;
+      fresh = subst (λ (t : Option Taped). IsFresh (gathered (stage is new_text t))) (sym stepped) (fresh-ended is new_text mid_text mid.untaken tape (λ l. step_saying number l mid_text accepted mid.untaken) line left texted);
       ran = λ s agrees.
           let b = a.right s agrees in
           record {

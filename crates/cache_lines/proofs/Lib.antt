@@ -5,4 +5,5 @@ mod LineRuns
 mod NotesTaken
 mod Placing
 mod Reading
+mod Rounds
 mod Stepping

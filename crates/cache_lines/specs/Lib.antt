@@ -4,3 +4,4 @@ pub mod Lines
 pub mod Making
 pub mod Ordered
 pub mod Ran
+pub mod Stops

@@ -18,7 +18,7 @@ use Rattle.cache_commands.specs.Order.{Order, AgreesWith, order_by}
 use Rattle.cache_commands.specs.Right.{DoesRight, KeepsFrame, step_saying, held_when_run, dropped_when_run}
 use Rattle.cache_tape.specs.Taped.{drafts}
 use Rattle.cache_lines.specs.Drawing.{StepDraws, StepsDraw, identifiers_in}
-use Rattle.cache_lines.specs.Gathered.{Stage, gather, gathered}
+use Rattle.cache_lines.specs.Gathered.{IsFresh, Stage, gather, gathered}
 use Rattle.cache_lines.specs.Lines.{IsPlain, IsThere, Runs, ends_quit, has_its_part, ready, says_quit, set_in, situation_behind, with_drops}
 use Rattle.cache_lines.specs.Making.{Making, making_of}
 use Rattle.cache_lines.specs.Ordered.{HasKeys, OrdersLines}
@@ -46,6 +46,7 @@ pub record RanOne (making : Making) (number : ℕ) (s : Situation) (line : List 
 -- the line ran in each situation that the values stood for
 pub record RanLine (now number : ℕ) (line : List ℕ) (quit : Bool) (old new : Stage) : Type 0 where
   pub frame : KeepsFrame old.values.frame new.values.frame now
+  pub fresh : IsFresh (gathered new)
   pub ran : (s : Situation) → Agrees old.values now s → RanOne (making_of old.values.frame) number s line quit old new
 
 -- the line is a `LOAD` of a key that has no live value
