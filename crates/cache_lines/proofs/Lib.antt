@@ -1,9 +1,12 @@
+mod AnsweredLine
 mod Drawn
-mod Ending
 mod Knowing
 mod LineRuns
+mod LoadWaits
 mod NotesTaken
 mod Placing
+mod ReadyEnds
+mod ReadyRuns
 mod Reading
 mod Rounds
 mod Stepping

@@ -1,7 +1,12 @@
+pub mod Bases
 pub mod Drawing
+pub mod Ended
 pub mod Gathered
 pub mod Lines
 pub mod Making
 pub mod Ordered
+pub mod Outputs
 pub mod Ran
 pub mod Stops
+pub mod Waiting
+pub mod Whole

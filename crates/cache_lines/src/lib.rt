@@ -1,10 +1,20 @@
 //! A connection's lines, over any store and any tape.
 #![tactic(auto)]
 
+mod base;
 mod draining;
+mod ending;
+mod joining;
 mod looping;
+mod output;
+mod readying;
 mod running;
 
+pub use base::Base;
 pub use draining::{drain, most_notes};
+pub use ending::{End, end_lines};
+pub use joining::join_load;
 pub use looping::{Stop, Stopped, run_lines};
+pub use output::Output;
+pub use readying::{Ended, run_ready};
 pub use running::{Done, run_line};

@@ -74,7 +74,7 @@ fn run_first<S: Store, T: Tape>(
 }
 
 /// What stands behind the first `used` bytes.
-fn behind(bytes: &[u8], used: usize) -> &[u8]
+pub fn behind(bytes: &[u8], used: usize) -> &[u8]
     requires { used ≤ length bytes.now }
     ensures { result.now ≡ drop used bytes.now }
 {

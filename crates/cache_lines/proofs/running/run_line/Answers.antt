@@ -6,7 +6,7 @@ use Rattle.cache_commands.specs.Answered.{IsAnswered}
 use Rattle.cache_commands.specs.Ran.{RunsRequest}
 use Rattle.cache_commands.specs.declared.running.Ran.TheVariants.{Answered}
 use Rattle.cache_lines.specs.Lines.{says_quit}
-use Rattle.cache_lines.proofs.Ending.{ran-drafted}
+use Rattle.cache_lines.proofs.AnsweredLine.{ran-drafted}
 use Rattle.cache_lines.proofs.running.run_line.Goals as goal
 
 pub returns-then-quits-clause-runs : goal.returns-then-quits-clause-runs

@@ -1,0 +1,27 @@
+-- What a connection's lines run over, as contracts see it.
+use Rattle.std.specs.Prelude.{ℕ, List, Option}
+use Rattle.cache_store.specs.Values.{Values}
+use Rattle.cache_tape.specs.Taped.{Taped}
+use Rattle.cache_lines.specs.Ended.{RunsReady}
+use Rattle.cache_lines.specs.Gathered.{IsFresh, Stage, gathered, stage}
+use Rattle.cache_lines.specs.Waiting.{UnderWay, under_way}
+use Rattle.cache_lines.specs.declared.base.Base.{Base}
+use Rattle.cache_lines.specs.declared.output.Output.{Output}
+use Rattle.cache_lines.specs.declared.readying.Ended.{Ended}
+
+-- what lines change, and the loads under way
+pub record Seen : Type 1 where
+  pub stage : Stage
+  pub loads : UnderWay
+
+-- by what the store and the tape show
+abbrev pub seen : {S T : Type 0} → (S → Values) → (T → Option Taped) → Base S T → Output → Seen
+seen view tape base output = record { stage = stage (view base.store) output.text.items (tape base.tape); loads = under_way base.loads }
+
+-- where a record is made, nothing waits beside it
+abbrev pub IsClear : Seen → Type 0
+IsClear x = IsFresh (gathered x.stage)
+
+-- lines of a connection that is ready ran, and ended so
+abbrev pub ReadyRan : (now number : ℕ) (bytes : List ℕ) → Ended → (old new : Seen) → Type 0
+ReadyRan now number bytes ended old new = RunsReady now number bytes ended.used ended.end old.stage new.stage old.loads new.loads

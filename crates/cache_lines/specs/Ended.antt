@@ -1,0 +1,116 @@
+-- How a connection's lines end.
+use Rattle.std.specs.Prelude.{◌≡◌, ℕ, ◌<◌, ◌≤◌, Bool, true, false, List, [], ◌∷◌, length, drop, Option, Some, None, Ok, IsTrue, if◌then◌else◌, unwrap_or}
+use Rattle.std.specs.Option.{option_map}
+use Rattle.audit_model.specs.Bytewise.{cut_at}
+use Rattle.audit_model.specs.Follows.{after_steps}
+use Rattle.audit_model.specs.Grammar.{reading}
+use Rattle.audit_model.specs.Situation.{Situation, Connection, HeldValue}
+use Rattle.audit_model.specs.Steps.{RunLines}
+use Rattle.audit_model.specs.Stream.{behind_lines}
+use Rattle.audit_model.specs.declared.command.Command.TheVariants as says
+use Rattle.audit_model.specs.declared.config.Config.{Config}
+use Rattle.audit_model.specs.declared.transcript.Step.{Step}
+use Rattle.audit_lines.specs.Next.{IsLine, IsPartial}
+use Rattle.cache_commands.specs.Answered.{Agrees}
+use Rattle.cache_commands.specs.Loading.{step_silent}
+use Rattle.cache_commands.specs.Right.{KeepsFrame}
+use Rattle.cache_tape.specs.Taped.{Taped, ends, spends, step_held}
+use Rattle.cache_lines.specs.Drawing.{StepsDraw, identifiers_in}
+use Rattle.cache_lines.specs.Gathered.{IsFresh, Stage, gather, gathered, spare_in}
+use Rattle.cache_lines.specs.Lines.{ArePartedIn, IsThere, are_timely, ends_quit, holding, ready, set_in, situation_behind, with_drops}
+use Rattle.cache_lines.specs.Making.{Making, making_of}
+use Rattle.cache_lines.specs.Ordered.{OrdersSteps}
+use Rattle.cache_lines.specs.Stops.{IsDraftOf, StopsFor, line_at}
+use Rattle.cache_lines.specs.Waiting.{UnderWay, is_load, load_sent_for, loads_in, waiting, when_waiting, with_under_way}
+use Rattle.cache_lines.specs.Whole.{held_line}
+use Rattle.cache_lines.specs.declared.ending.End.{End}
+use Rattle.cache_lines.specs.declared.ending.End.TheVariants as at
+use Rattle.cache_lines.specs.declared.looping.Stop.{Stop}
+use Rattle.cache_lines.specs.declared.looping.Stop.TheVariants.{More, TooLong, Held, Misses, Quit}
+
+-- how many lines can be added to the record without memory; none where none is made
+abbrev pub spare_of : Option Taped → ℕ
+spare_of tape = unwrap_or (spare_in tape) 0
+
+-- it stops so, and a `LOAD` that is to wait is one, with room for its step
+abbrev pub CanEnd : Config → List ℕ → Stop → Option Taped → Type 0
+CanEnd config rest More tape = IsPartial rest
+CanEnd config rest TooLong tape = 8192 < length (cut_at 10 rest).0
+CanEnd config rest (Held n) tape = IsLine rest n
+CanEnd config rest (Misses n) tape = IsLine rest n × (is_load (reading config (line_at rest n)) ≡ true) × IsDraftOf (line_at rest n) tape
+CanEnd config rest Quit tape = Unit {0}
+
+-- the line is held back
+pub record IsHeldBack (number : ℕ) (line : List ℕ) (tape new : Option Taped) (loads after : UnderWay) : Type 0 where
+  pub tape_is : new ≡ option_map (spends (step_held number line)) tape
+  pub loads_are : after ≡ loads
+
+-- the line is a `LOAD` that begins to wait
+pub record BeginsToWait (config : Config) (number : ℕ) (line : List ℕ) (tape new : Option Taped) (loads after : UnderWay) : Type 0 where
+  pub tape_is : (key : List ℕ) → reading config line ≡ Ok (says.Load key) → new ≡ option_map (ends (λ l. step_silent number l (load_sent_for key loads) None [])) tape
+  pub loads_are : (key : List ℕ) → reading config line ≡ Ok (says.Load key) → after ≡ when_waiting number key loads
+
+-- What ends lines that stopped so: one for which memory was wanted, or that has none to wait, is held back; a `LOAD` begins to wait.
+abbrev pub EndsBy : Config → ℕ → List ℕ → Stop → End → (tape new : Option Taped) (loads after : UnderWay) → Type 0
+EndsBy config number rest More end tape new loads after = (end ≡ at.More) × (new ≡ tape) × (after ≡ loads)
+EndsBy config number rest TooLong end tape new loads after = (end ≡ at.TooLong) × (new ≡ tape) × (after ≡ loads)
+EndsBy config number rest (Held n) end tape new loads after = (end ≡ at.Held) × IsHeldBack number (line_at rest n) tape new loads after
+EndsBy config number rest (Misses n) at.Held tape new loads after = IsHeldBack number (line_at rest n) tape new loads after
+EndsBy config number rest (Misses n) end tape new loads after = (end ≡ at.Waits) × BeginsToWait config number (line_at rest n) tape new loads after
+EndsBy config number rest Quit end tape new loads after = (end ≡ at.Quit) × (new ≡ tape) × (after ≡ loads)
+
+-- the last step is held
+abbrev pub ends_held : List Step → Bool
+ends_held [] = false
+ends_held (step ∷ []) = step.held
+ends_held (step ∷ next ∷ steps) = ends_held (next ∷ steps)
+
+abbrev pub holds_back : End → Bool
+holds_back at.More = false
+holds_back at.TooLong = false
+holds_back at.Held = true
+holds_back at.Waits = false
+holds_back at.Quit = false
+
+abbrev pub ends_by_quit : End → Bool
+ends_by_quit at.More = false
+ends_by_quit at.TooLong = false
+ends_by_quit at.Held = false
+ends_by_quit at.Waits = false
+ends_by_quit at.Quit = true
+
+abbrev pub waits_now : End → Bool
+waits_now at.More = false
+waits_now at.TooLong = false
+waits_now at.Held = false
+waits_now at.Waits = true
+waits_now at.Quit = false
+
+-- the connection then, with those bytes left: it runs lines, or its first line is held back, or a `LOAD` that waits for the first time
+abbrev pub left_by : ℕ → End → List ℕ → Connection
+left_by number at.More rest = ready number rest
+left_by number at.TooLong rest = ready number rest
+left_by number at.Held rest = holding number (held_line rest) (behind_lines 1 rest)
+left_by number at.Waits rest = waiting number (held_line rest) (behind_lines 1 rest) 1
+left_by number at.Quit rest = ready number rest
+
+-- Lines of a connection that is ready ran; the last one may be held, or a `QUIT`. What they leave stands for that situation.
+pub record RanReady (making : Making) (number : ℕ) (base : Situation) (held : List HeldValue) (bytes : List ℕ) (quit is_held : Bool) (target : List HeldValue → Situation) (old new : Stage) : Type 0 where
+  pub steps : List Step
+  pub left : List HeldValue
+  pub stands : new.values.Stands left
+  pub after : after_steps making.config (set_in base held (ready number bytes)) (RunLines number ∷ []) steps ≡ Some (target left)
+  pub parted : ArePartedIn making.config making.part_of (set_in base held (ready number bytes)) (RunLines number ∷ []) steps
+  pub timely : IsTrue (are_timely making.config making.made (set_in base held (ready number bytes)) (RunLines number ∷ []) steps)
+  pub ends : ends_held steps ≡ is_held
+  pub quits : ends_quit making.config steps ≡ quit
+  pub draws : StepsDraw making.config steps (identifiers_in old.values) (identifiers_in new.values)
+  pub ordered : OrdersSteps making.config old.values.Used new.values.Used (set_in base held (ready number bytes)) (RunLines number ∷ []) steps
+  pub gathered_is : gathered new ≡ gather (gathered old) steps
+
+-- Lines of a connection that is ready ran, as far as that many bytes, and ended so, in each situation that the values and the loads stood for.
+pub record RunsReady (now number : ℕ) (bytes : List ℕ) (used : ℕ) (end : End) (old new : Stage) (loads after : UnderWay) : Type 0 where
+  pub ran : (s : Situation) → Agrees old.values now s → IsThere number s → loads_in s ≡ loads
+      → RanReady (making_of old.values.frame) number s s.held bytes (ends_by_quit end) (holds_back end) (λ left. situation_behind (ends_by_quit end) (with_under_way after (with_drops new.values.frame.dropped s)) left (left_by number end (drop used bytes))) old new
+  pub frame : KeepsFrame old.values.frame new.values.frame now
+  pub fresh : IsFresh (gathered new)

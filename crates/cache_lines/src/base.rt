@@ -1,0 +1,14 @@
+//! What a connection's lines run over.
+
+use cache_commands::Keyed;
+use cache_loads::Loads;
+use cache_store::Store;
+use cache_tape::Tape;
+
+/// What a connection's lines run over: the store, the loads under way, and the tape of the record under way.
+#[derive(Drop)]
+pub struct Base<S: Store, T: Tape> {
+    pub store: Keyed<S>,
+    pub loads: Loads,
+    pub tape: T,
+}

@@ -1,0 +1,24 @@
+//! Replies on their way out.
+ghost use Rattle.std.specs.Prelude.{◌≡◌, []};
+
+use std::alloc::Global;
+
+/// The replies of a connection that were not taken.
+#[derive(Drop)]
+pub struct Output {
+    pub text: Vec<u8>,
+    /// Room for the reply to a `LOAD` that waits, for when the text is taken before.
+    pub spare: Vec<u8>,
+}
+
+impl Output {
+    /// No replies, which takes no memory.
+    pub fn new(alloc: Global) -> Output
+        ensures { result.text.items ≡ [] }
+    {
+        Output {
+            text: Vec::new(alloc),
+            spare: Vec::new(alloc),
+        }
+    }
+}

@@ -1,0 +1,61 @@
+//! The lines of a connection that is ready.
+ghost use Rattle.std.specs.Prelude.{◌≡◌, ◌+◌, ◌≤◌, true, length};
+ghost use Rattle.cache_loads.specs.Pending.{SameTaken};
+ghost use Rattle.cache_store.specs.Values.{IsMoment};
+ghost use Rattle.cache_tape.specs.Taped.{HasSpare};
+ghost use Rattle.cache_lines.specs.Bases.{IsClear, ReadyRan, seen};
+ghost use Rattle.cache_lines.specs.Ended.{spare_of, waits_now};
+ghost use Rattle.cache_lines.specs.Outputs.{IsRoomy};
+
+use crate::base::Base;
+use crate::ending::{End, end_lines};
+use crate::looping::{Stopped, behind, run_lines};
+use crate::output::Output;
+use cache_store::Store;
+use cache_tape::Tape;
+
+/// How a connection's lines ended, and how many bytes those had that ran, a `QUIT` aside.
+#[derive(Clone, Copy, PartialEq, Eq, Drop)]
+pub struct Ended {
+    pub used: usize,
+    pub end: End,
+}
+
+/// Runs the lines of a connection that is ready, which stand in these bytes, and holds the line back for which memory was wanted, in the
+/// room for one that the tape has. A `LOAD` of a key that has no live value waits.
+pub fn run_ready<S: Store, T: Tape>(
+    base: &mut Base<S, T>,
+    now: u64,
+    number: u64,
+    bytes: &[u8],
+    output: &mut Output,
+) -> Ended
+    requires in_time { IsMoment (S.view base.old.store) now }
+    requires fresh { IsClear (seen S.view T.view base.old output.old) }
+    requires spare { HasSpare (T.view base.old.tape) }
+    ensures ran { ReadyRan now number bytes.now result (seen S.view T.view base.old output.old) (seen S.view T.view base.new output.new) }
+    ensures used { result.used ≤ length bytes.now }
+    ensures room { waits_now result.end ≡ true → IsRoomy output.new }
+    ensures spare { spare_of (T.view base.old.tape) ≤ spare_of (T.view base.new.tape) + 1 }
+    ensures goes { SameTaken base.old.loads base.new.loads }
+{
+    let Stopped { used, stop } = run_lines(
+        &mut base.store,
+        &mut base.tape,
+        now,
+        number,
+        bytes,
+        &mut output.text,
+    );
+    base.store.sound();
+    let end = end_lines(
+        &mut base.loads,
+        &mut base.tape,
+        base.store.store().config(),
+        number,
+        behind(bytes, used),
+        stop,
+        output,
+    );
+    Ended { used, end }
+}
