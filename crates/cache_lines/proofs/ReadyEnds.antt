@@ -17,7 +17,7 @@ use Rattle.cache_store.specs.Promises.{Frame, no_deed}
 use Rattle.cache_store.specs.Values.{IsSoundStore, Values}
 use Rattle.cache_tape.specs.Taped.{Taped, ends, spends, step_held}
 use Rattle.cache_loads.specs.Pending.{when_joined, when_sent}
-use Rattle.cache_lines.specs.Ended.{BeginsToWait, EndsBy, IsHeldBack, RanReady, RunsReady, ends_by_quit, holds_back, left_by}
+use Rattle.cache_lines.specs.Ended.{BeginsToWait, EndsBy, EndsFor, IsHeldBack, RanReady, RunsReady, ends_by_quit, holds_back, left_by}
 use Rattle.cache_lines.specs.Gathered.{IsFresh, Stage, gather, gathered, stage}
 use Rattle.cache_lines.specs.Lines.{IsThere, ready, set_in, situation_behind, with_drops}
 use Rattle.cache_lines.specs.Making.{making_of}
@@ -55,8 +55,8 @@ gathered-waits values text number line load (Some t) drafted =
 quiet : (now number : ℕ) (bytes : List ℕ) (used : ℕ) (stop : Stop) (end : End) (old middle : Stage) (tape : Option Taped) (loads after : UnderWay) → RunsLines now number bytes used stop old middle
     → stops_by_quit stop ≡ ends_by_quit end → holds_back end ≡ false → left_by number end (drop used bytes) ≡ ready number (drop used bytes)
     → ((s : Situation) (left : List HeldValue) → IsThere number s → may_run_in (situation_behind (stops_by_quit stop) s left (ready number (drop used bytes))) number ≡ false)
-    → tape ≡ middle.tape → after ≡ loads → RunsReady now number bytes used end old (stage middle.values middle.text tape) loads after
-quiet now number bytes used stop end old middle tape loads after r quits back stands still taped same =
+    → EndsFor end (drop used bytes) → tape ≡ middle.tape → after ≡ loads → RunsReady now number bytes (drop used bytes) end old (stage middle.values middle.text tape) loads after
+quiet now number bytes used stop end old middle tape loads after r quits back stands still how taped same =
     let making = making_of old.values.frame in
     let rest = drop used bytes in
     let dropped = middle.values.frame.dropped in
@@ -70,6 +70,7 @@ quiet now number bytes used stop end old middle tape loads after r quits back st
           let d = subst (λ h. RanReady making number s s.held bytes (ends_by_quit end) h (λ left. situation_behind (ends_by_quit end) (with_under_way after (with_drops dropped s)) left (ready number rest)) old middle) (sym back) c in
           let e = subst (λ k. RanReady making number s s.held bytes (ends_by_quit end) (holds_back end) (λ left. situation_behind (ends_by_quit end) (with_under_way after (with_drops dropped s)) left k) old middle) (sym stands) d in
           subst (λ t. RanReady making number s s.held bytes (ends_by_quit end) (holds_back end) (λ left. situation_behind (ends_by_quit end) (with_under_way after (with_drops dropped s)) left (left_by number end rest)) old (stage middle.values middle.text t)) (sym taped) e;
+      ends = how;
       frame = r.frame;
       fresh = subst (λ t. IsFresh (gathered (stage middle.values middle.text t))) (sym taped) r.fresh;
     }
@@ -81,7 +82,7 @@ idle-by old middle config latest left sound same stands = subst (λ (k : Config)
 -- the line is held back
 held-back : (now number : ℕ) (bytes : List ℕ) (used n : ℕ) (stop : Stop) (old middle : Stage) (tape : Option Taped) (loads after : UnderWay) → RunsLines now number bytes used stop old middle
     → stops_by_quit stop ≡ false → IsLine (drop used bytes) n → IsSoundStore middle.values → IsHeldBack number (line_at (drop used bytes) n) middle.tape tape loads after
-    → RunsReady now number bytes used at.Held old (stage middle.values middle.text tape) loads after
+    → RunsReady now number bytes (drop used bytes) at.Held old (stage middle.values middle.text tape) loads after
 held-back now number bytes used n stop old middle tape loads after r quits line sound back =
     let making = making_of old.values.frame in
     let rest = drop used bytes in
@@ -95,6 +96,7 @@ held-back now number bytes used n stop old middle tape loads after r quits line 
           let lines = subst (λ q. RanLines making number s s.held bytes q rest old middle) quits (r.ran s agrees there) in
           let a = ready-held making number s s.held bytes rest held n old middle middle.text tape there lines line refl (idle-by old middle making.config s.latest lines.left sound same lines.stands) gathers in
           subst (λ u. RanReady making number s s.held bytes false true (λ left. set_in (with_under_way u (with_drops dropped s)) left (left_by number at.Held rest)) old (stage middle.values middle.text tape)) (under ∙ sym back.loads_are) a;
+      ends = (n, line);
       frame = r.frame;
       fresh = subst IsFresh (sym gathers) (fresh-gather (gathered middle) (step_held number held ∷ []) r.fresh);
     }
@@ -102,7 +104,7 @@ held-back now number bytes used n stop old middle tape loads after r quits line 
 -- a `LOAD` begins to wait
 waits : (now number : ℕ) (bytes : List ℕ) (used n : ℕ) (old middle : Stage) (tape : Option Taped) (loads after : UnderWay) → RunsLines now number bytes used (Misses n) old middle
     → IsSoundStore middle.values → BeginsToWait middle.values.frame.config number (line_at (drop used bytes) n) middle.tape tape loads after
-    → RunsReady now number bytes used at.Waits old (stage middle.values middle.text tape) loads after
+    → RunsReady now number bytes (drop used bytes) at.Waits old (stage middle.values middle.text tape) loads after
 waits now number bytes used n old middle tape loads after r sound begins =
     let making = making_of old.values.frame in
     let rest = drop used bytes in
@@ -126,6 +128,7 @@ waits now number bytes used n old middle tape loads after r sound begins =
           let b = subst (λ u. RanReady making number s s.held bytes false false (λ left. set_in (with_under_way u (with_drops dropped s)) left (waiting number line (behind_lines 1 rest) 1)) old (stage middle.values middle.text tape))
           (joined key s load sent ∙ ap (when_waiting number key) under ∙ sym (begins.loads_are key miss.reads)) a in
           subst (λ l. RanReady making number s s.held bytes false false (λ left. set_in (with_under_way after (with_drops dropped s)) left (waiting number l (behind_lines 1 rest) 1)) old (stage middle.values middle.text tape)) said b;
+      ends = (n, r.stops);
       frame = r.frame;
       fresh = subst IsFresh (sym gathers) (fresh-gather (gathered middle) (step_silent number line load None [] ∷ []) r.fresh);
     }
@@ -137,30 +140,30 @@ waits now number bytes used n old middle tape loads after r sound begins =
 -- LINES END
 pub ready-ends : (now number : ℕ) (bytes : List ℕ) (used : ℕ) (stop : Stop) (end : End) (old middle : Stage) (tape : Option Taped) (loads after : UnderWay) → RunsLines now number bytes used stop old middle
     → IsSoundStore middle.values → EndsBy middle.values.frame.config number (drop used bytes) stop end middle.tape tape loads after
-    → RunsReady now number bytes used end old (stage middle.values middle.text tape) loads after
+    → RunsReady now number bytes (drop used bytes) end old (stage middle.values middle.text tape) loads after
 ready-ends now number bytes used More end old middle tape loads after r sound by =
-    subst (λ e. RunsReady now number bytes used e old (stage middle.values middle.text tape) loads after) (sym by.0)
-    (quiet now number bytes used More at.More old middle tape loads after r refl refl refl (λ s left there. stops-partial s left number (drop used bytes) there r.stops) by.1 by.2)
+    subst (λ e. RunsReady now number bytes (drop used bytes) e old (stage middle.values middle.text tape) loads after) (sym by.0)
+    (quiet now number bytes used More at.More old middle tape loads after r refl refl refl (λ s left there. stops-partial s left number (drop used bytes) there r.stops) r.stops by.1 by.2)
 ready-ends now number bytes used TooLong end old middle tape loads after r sound by =
-    subst (λ e. RunsReady now number bytes used e old (stage middle.values middle.text tape) loads after) (sym by.0)
-    (quiet now number bytes used TooLong at.TooLong old middle tape loads after r refl refl refl (λ s left there. stops-long s left number (drop used bytes) (ap (λ b. b || false) (long_from (drop used bytes) r.stops))) by.1 by.2)
+    subst (λ e. RunsReady now number bytes (drop used bytes) e old (stage middle.values middle.text tape) loads after) (sym by.0)
+    (quiet now number bytes used TooLong at.TooLong old middle tape loads after r refl refl refl (λ s left there. stops-long s left number (drop used bytes) (ap (λ b. b || false) (long_from (drop used bytes) r.stops))) r.stops by.1 by.2)
 ready-ends now number bytes used Quit end old middle tape loads after r sound by =
-    subst (λ e. RunsReady now number bytes used e old (stage middle.values middle.text tape) loads after) (sym by.0)
-    (quiet now number bytes used Quit at.Quit old middle tape loads after r refl refl refl (λ s left there. stops-quit s left number (ready number (drop used bytes)) refl) by.1 by.2)
+    subst (λ e. RunsReady now number bytes (drop used bytes) e old (stage middle.values middle.text tape) loads after) (sym by.0)
+    (quiet now number bytes used Quit at.Quit old middle tape loads after r refl refl refl (λ s left there. stops-quit s left number (ready number (drop used bytes)) refl) tt by.1 by.2)
 ready-ends now number bytes used (Held n) end old middle tape loads after r sound by =
-    subst (λ e. RunsReady now number bytes used e old (stage middle.values middle.text tape) loads after) (sym by.0)
+    subst (λ e. RunsReady now number bytes (drop used bytes) e old (stage middle.values middle.text tape) loads after) (sym by.0)
     (held-back now number bytes used n (Held n) old middle tape loads after r refl r.stops sound by.1)
 ready-ends now number bytes used (Misses n) at.Held old middle tape loads after r sound by = held-back now number bytes used n (Misses n) old middle tape loads after r refl r.stops sound by
 ready-ends now number bytes used (Misses n) at.Waits old middle tape loads after r sound by = waits now number bytes used n old middle tape loads after r sound by.1
 ready-ends now number bytes used (Misses n) at.More old middle tape loads after r sound by = no by.0
   where
-    no : at.More ≡ at.Waits → RunsReady now number bytes used at.More old (stage middle.values middle.text tape) loads after
+    no : at.More ≡ at.Waits → RunsReady now number bytes (drop used bytes) at.More old (stage middle.values middle.text tape) loads after
     no e = absurd (cc)
 ready-ends now number bytes used (Misses n) at.TooLong old middle tape loads after r sound by = no by.0
   where
-    no : at.TooLong ≡ at.Waits → RunsReady now number bytes used at.TooLong old (stage middle.values middle.text tape) loads after
+    no : at.TooLong ≡ at.Waits → RunsReady now number bytes (drop used bytes) at.TooLong old (stage middle.values middle.text tape) loads after
     no e = absurd (cc)
 ready-ends now number bytes used (Misses n) at.Quit old middle tape loads after r sound by = no by.0
   where
-    no : at.Quit ≡ at.Waits → RunsReady now number bytes used at.Quit old (stage middle.values middle.text tape) loads after
+    no : at.Quit ≡ at.Waits → RunsReady now number bytes (drop used bytes) at.Quit old (stage middle.values middle.text tape) loads after
     no e = absurd (cc)

@@ -7,7 +7,7 @@ use Rattle.cache_lines.specs.Gathered.{IsFresh, Stage, gathered, stage}
 use Rattle.cache_lines.specs.Waiting.{UnderWay, under_way}
 use Rattle.cache_lines.specs.declared.base.Base.{Base}
 use Rattle.cache_lines.specs.declared.output.Output.{Output}
-use Rattle.cache_lines.specs.declared.readying.Ended.{Ended}
+use Rattle.cache_lines.specs.declared.ending.End.{End}
 
 -- what lines change, and the loads under way
 pub record Seen : Type 1 where
@@ -22,6 +22,6 @@ seen view tape base output = record { stage = stage (view base.store) output.tex
 abbrev pub IsClear : Seen → Type 0
 IsClear x = IsFresh (gathered x.stage)
 
--- lines of a connection that is ready ran, and ended so
-abbrev pub ReadyRan : (now number : ℕ) (bytes : List ℕ) → Ended → (old new : Seen) → Type 0
-ReadyRan now number bytes ended old new = RunsReady now number bytes ended.used ended.end old.stage new.stage old.loads new.loads
+-- lines of a connection that is ready ran until those bytes were left, and ended so
+abbrev pub ReadyRan : (now number : ℕ) (bytes rest : List ℕ) → End → (old new : Seen) → Type 0
+ReadyRan now number bytes rest end old new = RunsReady now number bytes rest end old.stage new.stage old.loads new.loads

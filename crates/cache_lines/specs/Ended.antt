@@ -108,9 +108,18 @@ pub record RanReady (making : Making) (number : ℕ) (base : Situation) (held : 
   pub ordered : OrdersSteps making.config old.values.Used new.values.Used (set_in base held (ready number bytes)) (RunLines number ∷ []) steps
   pub gathered_is : gathered new ≡ gather (gathered old) steps
 
--- Lines of a connection that is ready ran, as far as that many bytes, and ended so, in each situation that the values and the loads stood for.
-pub record RunsReady (now number : ℕ) (bytes : List ℕ) (used : ℕ) (end : End) (old new : Stage) (loads after : UnderWay) : Type 0 where
+-- Less than a line is left, or more than a line may have; or a line that is held back, or a `LOAD` that waits; or a `QUIT` ran.
+abbrev pub EndsFor : End → List ℕ → Type 0
+EndsFor at.More rest = IsPartial rest
+EndsFor at.TooLong rest = 8192 < length (cut_at 10 rest).0
+EndsFor at.Held rest = (n : ℕ) × IsLine rest n
+EndsFor at.Waits rest = (n : ℕ) × IsLine rest n
+EndsFor at.Quit rest = Unit {0}
+
+-- Lines of a connection that is ready ran until those bytes were left, and ended so, in each situation that the values and the loads stood for.
+pub record RunsReady (now number : ℕ) (bytes rest : List ℕ) (end : End) (old new : Stage) (loads after : UnderWay) : Type 0 where
   pub ran : (s : Situation) → Agrees old.values now s → IsThere number s → loads_in s ≡ loads
-      → RanReady (making_of old.values.frame) number s s.held bytes (ends_by_quit end) (holds_back end) (λ left. situation_behind (ends_by_quit end) (with_under_way after (with_drops new.values.frame.dropped s)) left (left_by number end (drop used bytes))) old new
+      → RanReady (making_of old.values.frame) number s s.held bytes (ends_by_quit end) (holds_back end) (λ left. situation_behind (ends_by_quit end) (with_under_way after (with_drops new.values.frame.dropped s)) left (left_by number end rest)) old new
+  pub ends : EndsFor end rest
   pub frame : KeepsFrame old.values.frame new.values.frame now
   pub fresh : IsFresh (gathered new)

@@ -16,5 +16,5 @@ pub use ending::{End, end_lines};
 pub use joining::join_load;
 pub use looping::{Stop, Stopped, run_lines};
 pub use output::Output;
-pub use readying::{Ended, run_ready};
+pub use readying::{Ended, run_ready, take_piece};
 pub use running::{Done, run_line};

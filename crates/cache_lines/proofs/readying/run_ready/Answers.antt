@@ -20,5 +20,5 @@ returns-clause-ran g c =
     let config : c.config.result.now ≡ values.frame.config = c.config.ensures ∙ ap (λ st. (g.S.Store.view st).frame.config) c.store.ensures in
     let by = subst (λ (k : Config). EndsBy k c.args.number (drop used c.args.bytes.now) stop end middle.tape tape loads after) config
     (subst (λ b. EndsBy c.config.result.now c.args.number b stop end middle.tape tape loads after) c.behind.ensures c.end_lines-end.ensures.ends) in
-    subst (λ t. RunsReady c.args.now c.args.number c.args.bytes.now used end old (stage values t tape) loads after) (sym c.end_lines-end.ensures.text)
+    subst (λ t. RunsReady c.args.now c.args.number c.args.bytes.now (drop used c.args.bytes.now) end old (stage values t tape) loads after) (sym c.end_lines-end.ensures.text)
     (ready-ends c.args.now c.args.number c.args.bytes.now used stop end old middle tape loads after c.run_lines-used.ensures.ran c.sound.ensures by)
