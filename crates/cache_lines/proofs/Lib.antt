@@ -1,5 +1,6 @@
 mod AnsweredLine
 mod Drawn
+mod HeldFeeds
 mod Knowing
 mod LineRuns
 mod LoadWaits

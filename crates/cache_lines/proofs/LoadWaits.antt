@@ -196,7 +196,7 @@ waits-draws config number line load a = record {
 }
 
 -- the values that it leaves held
-abbrev left_waiting : Config → Situation → List HeldValue → List ℕ → List HeldValue
+abbrev pub left_waiting : Config → Situation → List HeldValue → List ℕ → List HeldValue
 left_waiting config base held key = all_held_after config base.latest held (record no_deed { uses = Some key }) []
 
 pub waits-left : (config : Config) (base : Situation) (held : List HeldValue) (key : List ℕ) (Stands : List HeldValue → Type 0) → live_at config base.latest held key ≡ None

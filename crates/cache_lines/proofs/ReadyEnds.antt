@@ -53,7 +53,7 @@ gathered-waits values text number line load (Some t) drafted =
 
 -- nothing runs behind them
 quiet : (now number : ℕ) (bytes : List ℕ) (used : ℕ) (stop : Stop) (end : End) (old middle : Stage) (tape : Option Taped) (loads after : UnderWay) → RunsLines now number bytes used stop old middle
-    → stops_by_quit stop ≡ ends_by_quit end → holds_back end ≡ false → left_by number end (drop used bytes) ≡ ready number (drop used bytes)
+    → stops_by_quit stop ≡ ends_by_quit end → holds_back end ≡ false → left_by number end 1 (drop used bytes) ≡ ready number (drop used bytes)
     → ((s : Situation) (left : List HeldValue) → IsThere number s → may_run_in (situation_behind (stops_by_quit stop) s left (ready number (drop used bytes))) number ≡ false)
     → EndsFor end (drop used bytes) → tape ≡ middle.tape → after ≡ loads → RunsReady now number bytes (drop used bytes) end old (stage middle.values middle.text tape) loads after
 quiet now number bytes used stop end old middle tape loads after r quits back stands still how taped same =
@@ -69,7 +69,7 @@ quiet now number bytes used stop end old middle tape loads after r quits back st
           let c = subst (λ q. RanReady making number s s.held bytes q false (λ left. situation_behind q (with_under_way after (with_drops dropped s)) left (ready number rest)) old middle) quits b in
           let d = subst (λ h. RanReady making number s s.held bytes (ends_by_quit end) h (λ left. situation_behind (ends_by_quit end) (with_under_way after (with_drops dropped s)) left (ready number rest)) old middle) (sym back) c in
           let e = subst (λ k. RanReady making number s s.held bytes (ends_by_quit end) (holds_back end) (λ left. situation_behind (ends_by_quit end) (with_under_way after (with_drops dropped s)) left k) old middle) (sym stands) d in
-          subst (λ t. RanReady making number s s.held bytes (ends_by_quit end) (holds_back end) (λ left. situation_behind (ends_by_quit end) (with_under_way after (with_drops dropped s)) left (left_by number end rest)) old (stage middle.values middle.text t)) (sym taped) e;
+          subst (λ t. RanReady making number s s.held bytes (ends_by_quit end) (holds_back end) (λ left. situation_behind (ends_by_quit end) (with_under_way after (with_drops dropped s)) left (left_by number end 1 rest)) old (stage middle.values middle.text t)) (sym taped) e;
       ends = how;
       frame = r.frame;
       fresh = subst (λ t. IsFresh (gathered (stage middle.values middle.text t))) (sym taped) r.fresh;
@@ -95,7 +95,7 @@ held-back now number bytes used n stop old middle tape loads after r quits line 
       ran = λ s agrees there under.
           let lines = subst (λ q. RanLines making number s s.held bytes q rest old middle) quits (r.ran s agrees there) in
           let a = ready-held making number s s.held bytes rest held n old middle middle.text tape there lines line refl (idle-by old middle making.config s.latest lines.left sound same lines.stands) gathers in
-          subst (λ u. RanReady making number s s.held bytes false true (λ left. set_in (with_under_way u (with_drops dropped s)) left (left_by number at.Held rest)) old (stage middle.values middle.text tape)) (under ∙ sym back.loads_are) a;
+          subst (λ u. RanReady making number s s.held bytes false true (λ left. set_in (with_under_way u (with_drops dropped s)) left (left_by number at.Held 1 rest)) old (stage middle.values middle.text tape)) (under ∙ sym back.loads_are) a;
       ends = (n, line);
       frame = r.frame;
       fresh = subst IsFresh (sym gathers) (fresh-gather (gathered middle) (step_held number held ∷ []) r.fresh);

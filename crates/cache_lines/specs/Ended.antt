@@ -1,11 +1,12 @@
 -- How a connection's lines end.
-use Rattle.std.specs.Prelude.{◌≡◌, ℕ, ◌<◌, ◌≤◌, Bool, true, false, List, [], ◌∷◌, length, drop, Option, Some, None, Ok, IsTrue, if◌then◌else◌, unwrap_or}
+use Rattle.std.specs.Prelude.{◌≡◌, ℕ, ◌<◌, ◌≤◌, ◌++◌, Bool, true, false, List, [], ◌∷◌, length, drop, Option, Some, None, Ok, IsTrue, if◌then◌else◌, unwrap_or}
 use Rattle.std.specs.Option.{option_map}
 use Rattle.audit_model.specs.Bytewise.{cut_at}
 use Rattle.audit_model.specs.Follows.{after_steps}
 use Rattle.audit_model.specs.Grammar.{reading}
 use Rattle.audit_model.specs.Situation.{Situation, Connection, HeldValue}
-use Rattle.audit_model.specs.Steps.{RunLines}
+use Rattle.audit_model.specs.Places.{tasks_to_feed}
+use Rattle.audit_model.specs.Steps.{Task, RunLines}
 use Rattle.audit_model.specs.Stream.{behind_lines}
 use Rattle.audit_model.specs.declared.command.Command.TheVariants as says
 use Rattle.audit_model.specs.declared.config.Config.{Config}
@@ -21,7 +22,7 @@ use Rattle.cache_lines.specs.Lines.{ArePartedIn, IsThere, are_timely, ends_quit,
 use Rattle.cache_lines.specs.Making.{Making, making_of}
 use Rattle.cache_lines.specs.Ordered.{OrdersSteps}
 use Rattle.cache_lines.specs.Stops.{IsDraftOf, StopsFor, line_at}
-use Rattle.cache_lines.specs.Waiting.{UnderWay, is_load, load_sent_for, loads_in, waiting, when_waiting, with_under_way}
+use Rattle.cache_lines.specs.Waiting.{UnderWay, holding_load, is_load, load_sent_for, loads_in, waiting, when_waiting, with_under_way}
 use Rattle.cache_lines.specs.Whole.{held_line}
 use Rattle.cache_lines.specs.declared.ending.End.{End}
 use Rattle.cache_lines.specs.declared.ending.End.TheVariants as at
@@ -86,27 +87,32 @@ waits_now at.Held = false
 waits_now at.Waits = true
 waits_now at.Quit = false
 
--- the connection then, with those bytes left: it runs lines, or its first line is held back, or a `LOAD` that waits for the first time
-abbrev pub left_by : ℕ → End → List ℕ → Connection
-left_by number at.More rest = ready number rest
-left_by number at.TooLong rest = ready number rest
-left_by number at.Held rest = holding number (held_line rest) (behind_lines 1 rest)
-left_by number at.Waits rest = waiting number (held_line rest) (behind_lines 1 rest) 1
-left_by number at.Quit rest = ready number rest
+-- the connection then, with those bytes left: it runs lines, or its first line is held back, or a `LOAD` that waits for that many times
+abbrev pub left_by : ℕ → End → (times : ℕ) → List ℕ → Connection
+left_by number at.More times rest = ready number rest
+left_by number at.TooLong times rest = ready number rest
+left_by number at.Held times rest = holding number (held_line rest) (behind_lines 1 rest)
+left_by number at.Waits times rest = waiting number (held_line rest) (behind_lines 1 rest) times
+left_by number at.Quit times rest = ready number rest
 
--- Lines of a connection that is ready ran; the last one may be held, or a `QUIT`. What they leave stands for that situation.
-pub record RanReady (making : Making) (number : ℕ) (base : Situation) (held : List HeldValue) (bytes : List ℕ) (quit is_held : Bool) (target : List HeldValue → Situation) (old new : Stage) : Type 0 where
+-- Steps ran from that situation, all that were due by those tasks; the last one may be held, or a `QUIT`. What they leave stands for that
+-- situation.
+pub record RanTasks (making : Making) (s : Situation) (tasks : List Task) (quit is_held : Bool) (target : List HeldValue → Situation) (old new : Stage) : Type 0 where
   pub steps : List Step
   pub left : List HeldValue
   pub stands : new.values.Stands left
-  pub after : after_steps making.config (set_in base held (ready number bytes)) (RunLines number ∷ []) steps ≡ Some (target left)
-  pub parted : ArePartedIn making.config making.part_of (set_in base held (ready number bytes)) (RunLines number ∷ []) steps
-  pub timely : IsTrue (are_timely making.config making.made (set_in base held (ready number bytes)) (RunLines number ∷ []) steps)
+  pub after : after_steps making.config s tasks steps ≡ Some (target left)
+  pub parted : ArePartedIn making.config making.part_of s tasks steps
+  pub timely : IsTrue (are_timely making.config making.made s tasks steps)
   pub ends : ends_held steps ≡ is_held
   pub quits : ends_quit making.config steps ≡ quit
   pub draws : StepsDraw making.config steps (identifiers_in old.values) (identifiers_in new.values)
-  pub ordered : OrdersSteps making.config old.values.Used new.values.Used (set_in base held (ready number bytes)) (RunLines number ∷ []) steps
+  pub ordered : OrdersSteps making.config old.values.Used new.values.Used s tasks steps
   pub gathered_is : gathered new ≡ gather (gathered old) steps
+
+-- lines of a connection that is ready ran
+abbrev pub RanReady : (making : Making) (number : ℕ) (base : Situation) (held : List HeldValue) (bytes : List ℕ) (quit is_held : Bool) (target : List HeldValue → Situation) (old new : Stage) → Type 0
+RanReady making number base held bytes quit is_held target old new = RanTasks making (set_in base held (ready number bytes)) (RunLines number ∷ []) quit is_held target old new
 
 -- Less than a line is left, or more than a line may have; or a line that is held back, or a `LOAD` that waits; or a `QUIT` ran.
 abbrev pub EndsFor : End → List ℕ → Type 0
@@ -119,7 +125,20 @@ EndsFor at.Quit rest = Unit {0}
 -- Lines of a connection that is ready ran until those bytes were left, and ended so, in each situation that the values and the loads stood for.
 pub record RunsReady (now number : ℕ) (bytes rest : List ℕ) (end : End) (old new : Stage) (loads after : UnderWay) : Type 0 where
   pub ran : (s : Situation) → Agrees old.values now s → IsThere number s → loads_in s ≡ loads
-      → RanReady (making_of old.values.frame) number s s.held bytes (ends_by_quit end) (holds_back end) (λ left. situation_behind (ends_by_quit end) (with_under_way after (with_drops new.values.frame.dropped s)) left (left_by number end rest)) old new
+      → RanReady (making_of old.values.frame) number s s.held bytes (ends_by_quit end) (holds_back end) (λ left. situation_behind (ends_by_quit end) (with_under_way after (with_drops new.values.frame.dropped s)) left (left_by number end 1 rest)) old new
+  pub ends : EndsFor end rest
+  pub frame : KeepsFrame old.values.frame new.values.frame now
+  pub fresh : IsFresh (gathered new)
+
+-- the connection of that number, which holds its first line back and began to wait for it so often, with those bytes and a piece more
+abbrev pub held_with : ℕ → ℕ → List ℕ → List ℕ → Connection
+held_with number times bytes piece = holding_load number (held_line bytes) (behind_lines 1 bytes ++ piece) times
+
+-- A connection that holds a line back was fed: that line ran, or waits, and then lines ran until those bytes were left, and ended so.
+pub record RunsHeld (now number times : ℕ) (bytes piece rest : List ℕ) (end : End) (again : ℕ) (old new : Stage) (loads after : UnderWay) : Type 0 where
+  pub ran : (s : Situation) → Agrees old.values now s → IsThere number s → loads_in s ≡ loads
+      → RanTasks (making_of old.values.frame) (set_in s s.held (held_with number times bytes piece)) (tasks_to_feed number true) (ends_by_quit end) (holds_back end)
+      (λ left. situation_behind (ends_by_quit end) (with_under_way after (with_drops new.values.frame.dropped s)) left (left_by number end again rest)) old new
   pub ends : EndsFor end rest
   pub frame : KeepsFrame old.values.frame new.values.frame now
   pub fresh : IsFresh (gathered new)

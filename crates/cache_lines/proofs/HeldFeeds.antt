@@ -1,0 +1,186 @@
+-- A feed of a connection that holds a line back.
+use Rattle.std.proofs.Common.{◌≡◌, ℕ, suc, ◌+◌, Bool, true, false, not, ◌&&◌, List, [], ◌∷◌, ◌++◌, Option, Some, None, if◌then◌else◌, refl, sym, ap, ◌∙◌, subst}
+use Rattle.std.specs.Prelude.{Ok, IsTrue}
+use Rattle.std.specs.List.{list_all}
+use Rattle.std.proofs.lemmas.Bool.{and_from, eq-eqb}
+use Rattle.audit_laws.specs.Leading.{is_parted}
+use Rattle.audit_laws.specs.Placing.{placed_steps_in}
+use Rattle.audit_model.specs.Bytewise.{is_empty}
+use Rattle.audit_model.specs.Changes.{after_step, all_held_after}
+use Rattle.audit_model.specs.Follows.{after_steps, line_in, placed_step_in}
+use Rattle.audit_model.specs.Grammar.{reading}
+use Rattle.audit_model.specs.History.{Effect, Running}
+use Rattle.audit_model.specs.Obeys.{accepted_values}
+use Rattle.audit_model.specs.Places.{tasks_to_feed}
+use Rattle.audit_model.specs.Situation.{Situation, HeldValue, live_at, view_in}
+use Rattle.audit_model.specs.Steps.{Task, RunLines, RunHeld, action_by, effect_in, is_right}
+use Rattle.audit_model.specs.Stream.{behind_lines}
+use Rattle.audit_model.specs.declared.command.Command.TheVariants as says
+use Rattle.audit_model.specs.declared.config.Config.{Config}
+use Rattle.audit_model.specs.declared.transcript.Accepted.{Accepted}
+use Rattle.audit_model.specs.declared.transcript.Note.{Note}
+use Rattle.audit_model.specs.declared.transcript.Step.{Step}
+use Rattle.cache_commands.specs.Order.{AgreesWith, order_by}
+use Rattle.cache_commands.specs.Right.{held_when_run, placed_doing, step_saying}
+use Rattle.cache_loads.specs.Pending.{number_to_send, when_joined, when_sent}
+use Rattle.cache_store.specs.Promises.{no_deed}
+use Rattle.cache_tape.specs.Taped.{Taped}
+use Rattle.cache_lines.specs.Drawing.{identifiers_in}
+use Rattle.cache_lines.specs.Ended.{RanReady, RanTasks, ends_held, held_with}
+use Rattle.cache_lines.specs.Gathered.{Stage, gather, gathered, stage}
+use Rattle.cache_lines.specs.Lines.{IsThere, are_timely, ends_quit, has_its_part, is_timely_after, ready, says_quit, set_in, situation_behind, with_drops}
+use Rattle.cache_lines.specs.Making.{Making}
+use Rattle.cache_lines.specs.Ordered.{HasKeys, HaveKeys}
+use Rattle.cache_lines.specs.Ran.{RanOne}
+use Rattle.cache_lines.specs.Waiting.{waiting, with_under_way}
+use Rattle.cache_lines.specs.Whole.{held_line}
+use Rattle.cache_lines.proofs.Drawn.{draws-first, spends-same}
+use Rattle.cache_lines.proofs.LineRuns.{gather-more, timely-ended}
+use Rattle.cache_lines.proofs.LoadWaits.{after-waits, left_waiting, step_waits, stops-waiting, turn-right, waits-draws, waits-left, waits-right}
+use Rattle.cache_lines.proofs.Placing.{found-there}
+use Rattle.cache_lines.proofs.ReadyRuns.{cons-parted, stops-quit}
+use Rattle.cache_lines.proofs.Stepping.{after-held, right-in-turn}
+
+-- the tasks that are due while lines may run or not
+abbrev due_if : Bool → ℕ → List Task
+due_if may number = if may then RunLines number ∷ [] else []
+
+-- a step before others, of which the last one is a `QUIT` or not
+starts-quit : (config : Config) (x : Step) (xs : List Step) (quit : Bool) → (not x.held && says_quit (reading config x.line)) ≡ false → ends_quit config xs ≡ quit → ends_quit config (x ∷ xs) ≡ quit
+starts-quit config x [] quit one e = one ∙ e
+starts-quit config x (y ∷ ys) quit one e = e
+
+module _ (making : Making) (number : ℕ) (base : Situation) (held : List HeldValue) (times : ℕ) (bytes piece : List ℕ) where
+  -- the situation in which such a feed runs
+  abbrev fed : Situation
+  fed = set_in base held (held_with number times bytes piece)
+
+  -- the command that is held back runs
+  abbrev released : List ℕ → Option Accepted → List Note → Step
+  released reply accepted told = step_saying number (held_line bytes) reply accepted told
+
+  -- it is right
+  right-released : (quit : Bool) (old new : Stage) → IsThere number base → (one : RanOne making number fed (held_line bytes) quit old new)
+      → is_right making.config (placed_step_in making.config fed (Some (RunHeld number)) (released one.reply one.accepted one.told)) ≡ true
+  right-released quit old new there one =
+      subst (λ d. is_right making.config (placed_doing making.config fed (Some (RunHeld number)) d (action_by (reading making.config (held_line bytes))) (released one.reply one.accepted one.told)) ≡ true)
+      (sym (ap (line_in (Some (RunHeld number))) (found-there base held number (held_with number times bytes piece) there refl)))
+      (right-in-turn making.config fed (RunHeld number) number (held_line bytes) one.reply one.accepted one.told one.right (eq-eqb number number refl))
+
+  -- what it leaves
+  after-released : (quit : Bool) (old new : Stage) → IsThere number base → (one : RanOne making number fed (held_line bytes) quit old new)
+      → after_step making.config fed (Some (RunHeld number)) (released one.reply one.accepted one.told)
+      (effect_in making.config (view_in making.config fed) (action_by (reading making.config (held_line bytes))) (released one.reply one.accepted one.told))
+      ≡ situation_behind quit (with_drops new.values.frame.dropped base) (held_when_run making.config fed (action_by (reading making.config (held_line bytes))) (step_saying 0 [] one.reply one.accepted one.told)) (ready number (behind_lines 1 bytes ++ piece))
+  after-released quit old new there one =
+      after-held making.config base held number (held_with number times bytes piece) (held_line bytes) one.reply one.accepted one.told quit there refl one.plain
+      ∙ ap (λ b. situation_behind quit (with_drops b base) (held_when_run making.config fed (action_by (reading making.config (held_line bytes))) (step_saying 0 [] one.reply one.accepted one.told)) (ready number (behind_lines 1 bytes ++ piece))) (sym one.dropped_is)
+
+  starts : (x : Step) (xs : List Step) (b : Bool) → x.held ≡ false → ends_held xs ≡ b → ends_held (x ∷ xs) ≡ b
+  starts x [] b e h = e ∙ h
+  starts x (y ∷ ys) b e h = h
+
+  -- that command runs first, and lines behind it
+  pub feeds-held : (quit is_held : Bool) (target : List HeldValue → Situation) (old middle new : Stage) → IsThere number base
+      → (one : RanOne making number fed (held_line bytes) false old middle)
+      → RanReady making number (with_drops middle.values.frame.dropped base) (held_when_run making.config fed (action_by (reading making.config (held_line bytes))) (step_saying 0 [] one.reply one.accepted one.told)) (behind_lines 1 bytes ++ piece) quit is_held target middle new
+      → RanTasks making fed (tasks_to_feed number true) quit is_held target old new
+  feeds-held quit is_held target old middle new there one r =
+      let config = making.config in
+      let step = released one.reply one.accepted one.told in
+      let effect = effect_in config (view_in config fed) (action_by (reading config (held_line bytes))) step in
+      let right = right-released false old middle there one in
+      let after = after-released false old middle there one in
+      record {
+        steps = step ∷ r.steps;
+        left = r.left;
+        stands = r.stands;
+        after =
+            ap (λ b. if b then after_steps config (after_step config fed (Some (RunHeld number)) step effect) (RunLines number ∷ []) r.steps else None) right
+            ∙ ap (λ x. after_steps config x (RunLines number ∷ []) r.steps) after ∙ r.after;
+        parted = cons-parted making.part_of effect.value _ one.parted (ap (λ x. list_all (is_parted making.part_of) (accepted_values (placed_steps_in config x (RunLines number ∷ []) r.steps))) after ∙ r.parted);
+        timely = and_from _ _ (ap (is_timely_after config making.made effect) after ∙ timely-ended config making.made effect false (with_drops middle.values.frame.dropped base) _ (ready number (behind_lines 1 bytes ++ piece)) one.timely) (ap (λ x. are_timely config making.made x (RunLines number ∷ []) r.steps) after ∙ r.timely);
+        ends = starts step r.steps is_held refl r.ends;
+        quits = starts-quit config step r.steps quit one.says r.quits;
+        draws = draws-first config step r.steps (identifiers_in old.values) (identifiers_in middle.values) (identifiers_in new.values) one.draws r.draws;
+        ordered = λ places order plain agrees.
+            let b = one.ordered places order plain agrees in
+            let next = order_by (suc places) (reading config (held_line bytes)) order in
+            let a = r.ordered places next plain b.0 in
+            (a.0, (subst (λ (x : Situation). HasKeys next x.held) (sym after) b.1, subst (λ x. HaveKeys config (suc places) next x (RunLines number ∷ []) r.steps) (sym after) a.1));
+        gathered_is = r.gathered_is ∙ ap (λ g. gather g r.steps) one.gathered_is ∙ gather-more (gathered old) (step ∷ []) r.steps;
+      }
+
+  -- it is a `QUIT`, and nothing runs behind it
+  pub feeds-quit : (rest : List ℕ) (old new : Stage) → IsThere number base → RanOne making number fed (held_line bytes) true old new
+      → RanTasks making fed (tasks_to_feed number true) true false (λ left. situation_behind true (with_drops new.values.frame.dropped base) left (ready number rest)) old new
+  feeds-quit rest old new there one =
+      let config = making.config in
+      let step = released one.reply one.accepted one.told in
+      let effect = effect_in config (view_in config fed) (action_by (reading config (held_line bytes))) step in
+      let left = held_when_run config fed (action_by (reading config (held_line bytes))) (step_saying 0 [] one.reply one.accepted one.told) in
+      let after = after-released true old new there one in
+      let from = with_drops new.values.frame.dropped base in
+      let last = situation_behind true from left (ready number (behind_lines 1 bytes ++ piece)) in
+      record {
+        steps = step ∷ [];
+        left = left;
+        stands = one.left;
+        after =
+            ap (λ b. if b then after_steps config (after_step config fed (Some (RunHeld number)) step effect) (RunLines number ∷ []) [] else None) (right-released true old new there one)
+            ∙ ap (λ x. after_steps config x (RunLines number ∷ []) []) after
+            ∙ ap (λ b. if is_empty (due_if b number) then Some last else None) (stops-quit from left number (ready number (behind_lines 1 bytes ++ piece)) refl);
+        parted = cons-parted making.part_of effect.value [] one.parted refl;
+        timely = and_from _ _ (ap (is_timely_after config making.made effect) after ∙ timely-ended config making.made effect true from left (ready number (behind_lines 1 bytes ++ piece)) one.timely) refl;
+        ends = refl;
+        quits = one.says;
+        draws = draws-first config step [] (identifiers_in old.values) (identifiers_in new.values) (identifiers_in new.values) one.draws (spends-same (identifiers_in new.values));
+        ordered = λ places order plain agrees.
+            let b = one.ordered places order plain agrees in
+            let next = order_by (suc places) (reading config (held_line bytes)) order in
+            (b.0, (subst (λ (x : Situation). HasKeys next x.held) (sym after) b.1, tt));
+        gathered_is = one.gathered_is;
+      }
+
+  -- it is a `LOAD` that begins to wait
+  pub feeds-waits : (key : List ℕ) (load : Option ℕ) (old : Stage) (text : List ℕ) (tape : Option Taped) → IsThere number base → reading making.config (held_line bytes) ≡ Ok (says.Load key)
+      → load ≡ number_to_send key base.sent base.pending → live_at making.config base.latest held key ≡ None → old.values.Stands (all_held_after making.config base.latest held no_deed [])
+      → gathered (stage old.values text tape) ≡ gather (gathered old) (step_waits number (held_line bytes) load ∷ [])
+      → RanTasks making fed (tasks_to_feed number true) false false
+      (λ left. set_in (with_under_way (record { sent = when_sent load base.sent; pending = when_joined number key load base.pending }) base) left (waiting number (held_line bytes) (behind_lines 1 bytes ++ piece) (1 + times))) old (stage old.values text tape)
+  feeds-waits key load old text tape there reads is none stands gathers =
+      let config = making.config in
+      let line = held_line bytes in
+      let behind = behind_lines 1 bytes ++ piece in
+      let c = held_with number times bytes piece in
+      let step = step_waits number line load in
+      let left = left_waiting config base held key in
+      let joined = with_under_way (record { sent = when_sent load base.sent; pending = when_joined number key load base.pending }) base in
+      let right = turn-right config base held number c (RunHeld number) line (Running (says.Load key)) step there refl refl (ap action_by reads) (eq-eqb number number refl) (waits-right config base held number c key load refl is none) in
+      let after : after_step config fed (Some (RunHeld number)) step (effect_in config (view_in config fed) (action_by (reading config line)) step) ≡ set_in joined left (waiting number line behind (1 + times)) =
+      ap (λ r. after_step config fed (Some (RunHeld number)) step (effect_in config (view_in config fed) (action_by r) step)) reads
+      ∙ after-waits config base held left number c (waiting number line behind (1 + times)) (RunHeld number) key line load
+      (effect_in config (view_in config fed) (Running (says.Load key)) step) there refl is refl refl in
+      let last = set_in joined left (waiting number line behind (1 + times)) in
+      let placed = placed_step_in config fed (Some (RunHeld number)) step in
+      record {
+        steps = step ∷ [];
+        left = left;
+        stands = waits-left config base held key old.values.Stands none stands;
+        after =
+            ap (λ b. if b then after_steps config (after_step config fed (Some (RunHeld number)) step placed.effect) (RunLines number ∷ []) [] else None) right
+            ∙ ap (λ x. after_steps config x (RunLines number ∷ []) []) after
+            ∙ ap (λ b. if is_empty (due_if b number) then Some last else None) (stops-waiting joined left number line behind (1 + times) there);
+        parted = cons-parted making.part_of placed.effect.value [] (ap (λ r. has_its_part making.part_of (effect_in config (view_in config fed) (action_by r) step)) reads) refl;
+        timely =
+            and_from _ _
+            (ap (λ r. is_timely_after config making.made (effect_in config (view_in config fed) (action_by r) step) (after_step config fed (Some (RunHeld number)) step (effect_in config (view_in config fed) (action_by r) step))) reads) refl;
+        ends = refl;
+        quits = ap says_quit reads;
+        draws = draws-first config step [] (identifiers_in old.values) (identifiers_in old.values) (identifiers_in old.values) (waits-draws config number line load (identifiers_in old.values)) (spends-same (identifiers_in old.values));
+        ordered = λ places order plain agrees. (
+          subst (λ r. AgreesWith old.values.Used places (order_by (suc places) r order)) (sym reads) tt,
+          (subst (λ r. HasKeys (order_by (suc places) r order) (after_step config fed (Some (RunHeld number)) step placed.effect).held) (sym reads) tt, tt),
+        );
+        gathered_is = gathers;
+      }
