@@ -1,5 +1,5 @@
 -- A line that was answered, and what was gathered of it.
-use Rattle.std.proofs.Common.{◌≡◌, ℕ, suc, Bool, true, false, List, [], ◌∷◌, ◌++◌, Option, Some, None, if◌then◌else◌, refl, sym, ap, ◌∙◌, subst}
+use Rattle.std.proofs.Common.{◌≡◌, ℕ, suc, Bool, List, [], ◌∷◌, ◌++◌, Option, Some, None, if◌then◌else◌, refl, sym, ap, ◌∙◌, subst}
 use Rattle.std.specs.Prelude.{IsTrue, is_some, not, ◌||◌}
 use Rattle.std.specs.List.{list_all}
 use Rattle.audit_model.specs.Commands.{is_sync}
@@ -14,7 +14,7 @@ use Rattle.audit_model.specs.declared.transcript.Step.{Step}
 use Rattle.cache_store.specs.Promises.{Frame}
 use Rattle.cache_store.specs.Running.{is_timely}
 use Rattle.cache_store.specs.Values.{GivesNote, IsSoundStore, Values}
-use Rattle.cache_commands.specs.Answered.{Agrees, IsAnswered}
+use Rattle.cache_commands.specs.Answered.{IsAnswered}
 use Rattle.cache_commands.specs.Order.{order_by}
 use Rattle.cache_commands.specs.Right.{KeepsFrame, held_when_run, step_saying}
 use Rattle.cache_commands.proofs.Ordering.{agrees-kept}

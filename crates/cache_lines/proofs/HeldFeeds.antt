@@ -1,6 +1,6 @@
 -- A feed of a connection that holds a line back.
 use Rattle.std.proofs.Common.{◌≡◌, ℕ, suc, ◌+◌, Bool, true, false, not, ◌&&◌, List, [], ◌∷◌, ◌++◌, Option, Some, None, if◌then◌else◌, refl, sym, ap, ◌∙◌, subst}
-use Rattle.std.specs.Prelude.{Ok, IsTrue}
+use Rattle.std.specs.Prelude.{Ok}
 use Rattle.std.specs.List.{list_all}
 use Rattle.std.proofs.lemmas.Bool.{and_from, eq-eqb}
 use Rattle.audit_laws.specs.Leading.{is_parted}
@@ -9,7 +9,7 @@ use Rattle.audit_model.specs.Bytewise.{is_empty}
 use Rattle.audit_model.specs.Changes.{after_step, all_held_after}
 use Rattle.audit_model.specs.Follows.{after_steps, line_in, placed_step_in}
 use Rattle.audit_model.specs.Grammar.{reading}
-use Rattle.audit_model.specs.History.{Effect, Running}
+use Rattle.audit_model.specs.History.{Running}
 use Rattle.audit_model.specs.Obeys.{accepted_values}
 use Rattle.audit_model.specs.Places.{tasks_to_feed}
 use Rattle.audit_model.specs.Situation.{Situation, HeldValue, live_at, view_in}

@@ -1,6 +1,7 @@
 mod AnsweredLine
 mod Drawn
 mod HeldFeeds
+mod HeldRuns
 mod Knowing
 mod LineRuns
 mod LoadWaits
@@ -11,3 +12,4 @@ mod ReadyRuns
 mod Reading
 mod Rounds
 mod Stepping
+mod WholeLines

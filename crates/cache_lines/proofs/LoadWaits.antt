@@ -1,6 +1,6 @@
 -- Lines that end with a `LOAD` that begins to wait.
-use Rattle.std.proofs.Common.{◌≡◌, ℕ, suc, ◌+◌, arith, Bool, true, false, ◌&&◌, ◌||◌, ◌==◌, List, [], map, Option, Some, None, if◌then◌else◌, refl, ap, ◌∙◌, inl, inr}
-use Rattle.std.specs.Prelude.{Ok, codes, is_some, nat_le, ◌⊎◌}
+use Rattle.std.proofs.Common.{◌≡◌, ℕ, suc, Bool, true, false, ◌&&◌, ◌||◌, ◌==◌, List, [], map, Option, Some, None, if◌then◌else◌, refl, ap, ◌∙◌}
+use Rattle.std.specs.Prelude.{Ok, is_some}
 use Rattle.std.specs.List.{find}
 use Rattle.std.specs.Option.{option_map_or}
 use Rattle.std.proofs.lemmas.Bool.{and_from, eq-eqb}
@@ -8,28 +8,24 @@ use Rattle.std.proofs.Math.Bool.{or-false}
 use Rattle.audit_model.specs.Changes.{connection_after, join_by, join_load}
 use Rattle.audit_model.specs.Commands.{drops, quits}
 use Rattle.audit_model.specs.Follows.{line_in, placed_step_in}
-use Rattle.audit_model.specs.History.{Action, Effect, Running, Holding, Delivering, Abandoning}
+use Rattle.audit_model.specs.History.{Action, Effect, Running}
 use Rattle.audit_model.specs.Grammar.{reading}
-use Rattle.audit_model.specs.Loads.{key_loaded}
-use Rattle.audit_model.specs.Replies.{load_sent_by, outcome_text}
+use Rattle.audit_model.specs.Replies.{load_sent_by}
 use Rattle.audit_model.specs.Situation.{Situation, Connection, HeldValue, PendingLoad, connection_in, is_overlong, is_ready, live_at, load_in, may_run_in, view_in, with_connection, without_number, without_waiting}
-use Rattle.audit_model.specs.Steps.{Task, Deliver, RunAgain, action_by, action_in, action_of_line, effect_in, is_right, is_in_turn, is_held_rightly, is_task_of}
-use Rattle.audit_model.specs.Stream.{first_line, is_waiting}
+use Rattle.audit_model.specs.Steps.{Task, action_by, action_in, effect_in, is_right, is_in_turn, is_held_rightly, is_task_of}
+use Rattle.audit_model.specs.Stream.{first_line}
 use Rattle.audit_model.specs.declared.command.Command.TheVariants as says
 use Rattle.audit_model.specs.declared.config.Config.{Config}
-use Rattle.audit_model.specs.declared.event.Outcome.{Outcome}
-use Rattle.audit_model.specs.declared.transcript.Note.{Note}
 use Rattle.audit_model.specs.declared.transcript.Step.{Step}
 use Rattle.cache_loads.specs.Pending.{number_to_send, when_joined, when_sent}
 use Rattle.cache_commands.proofs.Answering.{same-refl}
 use Rattle.cache_commands.specs.Loading.{step_silent}
-use Rattle.cache_commands.specs.Right.{DoesRight, placed_doing, step_saying}
+use Rattle.cache_commands.specs.Right.{DoesRight, placed_doing}
 use Rattle.cache_lines.specs.Lines.{IsThere, Runs, ready, set_in, with_drops, has_its_part, is_timely_after, effect_of_step, says_quit}
-use Rattle.cache_lines.specs.Waiting.{waiting, when_waiting, with_loads, with_under_way}
+use Rattle.cache_lines.specs.Waiting.{waiting, with_loads, with_under_way}
 use Rattle.cache_lines.proofs.ReadyRuns.{find-dropped}
 use Rattle.cache_lines.proofs.Placing.{dropped-swapped, found-there, numbered, swap, swapped-again}
-use Rattle.std.proofs.Common.{not, subst, sym, take, ◌++◌, ◌∷◌}
-use Rattle.std.specs.Prelude.{IsTrue, unwrap_or}
+use Rattle.std.proofs.Common.{subst, sym, take, ◌++◌, ◌∷◌}
 use Rattle.std.proofs.lemmas.Bool.{and_parts}
 use Rattle.audit_model.specs.Changes.{after_step, all_held_after}
 use Rattle.audit_model.specs.Steps.{RunLines}

@@ -1,29 +1,24 @@
 -- What a line did, by how it is read.
-use Rattle.std.proofs.Common.{◌≡◌, ℕ, ◌≤◌, Bool, true, false, not, ◌||◌, List, length, Option, Some, None, Ok, Err, refl, sym, ap, ◌∙◌, subst, arith}
-use Rattle.std.specs.Prelude.{IsTrue, IfSome, decimal}
+use Rattle.std.proofs.Common.{◌≡◌, ℕ, ◌≤◌, Bool, true, false, not, ◌||◌, List, length, Option, Some, None, Ok, Err, refl, arith}
+use Rattle.std.specs.Prelude.{IfSome, decimal}
 use Rattle.std.proofs.lemmas.Bool.{eq-eqb}
-use Rattle.std.specs.List.{list_all}
 use Rattle.std.specs.Option.{option_map, option_map_or}
 use Rattle.audit_laws.specs.Leading.{is_parted}
-use Rattle.audit_model.specs.Commands.{is_sync}
 use Rattle.audit_lines.specs.Request.{IsFit}
 use Rattle.audit_lines.specs.declared.request.Request.{Request}
 use Rattle.audit_lines.specs.declared.request.Request.TheVariants as asks
-use Rattle.audit_model.specs.Grammar.{Reading, reading}
+use Rattle.audit_model.specs.Grammar.{Reading}
 use Rattle.audit_model.specs.History.{accepts_values}
 use Rattle.audit_model.specs.Replies.{Offer, offer_of, sum_with, taken_where, value_from}
-use Rattle.audit_model.specs.Situation.{Situation, HeldValue, view_in}
+use Rattle.audit_model.specs.Situation.{Situation, view_in}
 use Rattle.audit_model.specs.Steps.{action_by, effect_in}
 use Rattle.audit_model.specs.declared.command.Command.TheVariants as says
 use Rattle.audit_model.specs.declared.config.Config.{Config}
 use Rattle.audit_model.specs.declared.transcript.Accepted.{Accepted}
 use Rattle.audit_model.specs.declared.transcript.Note.{Note}
-use Rattle.cache_store.specs.Running.{is_timely}
 use Rattle.cache_commands.specs.Answered.{key_written}
-use Rattle.cache_commands.specs.Order.{MovesOrder}
 use Rattle.cache_commands.specs.Ran.{FitsStore}
-use Rattle.cache_commands.specs.Right.{RepliesRightly, step_saying}
-use Rattle.cache_commands.specs.Answered.{says_drop}
+use Rattle.cache_commands.specs.Right.{step_saying}
 use Rattle.cache_lines.specs.Lines.{IsPlain, says_quit}
 
 -- a step with a reply does nothing but to values, and closes its connection where it is a `QUIT`

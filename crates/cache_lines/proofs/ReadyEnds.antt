@@ -1,5 +1,5 @@
 -- How the lines of a connection that is ready end.
-use Rattle.std.proofs.Common.{◌≡◌, ℕ, Bool, true, false, ◌||◌, List, [], ◌∷◌, ◌++◌, drop, Option, Some, None, refl, sym, ap, ◌∙◌, subst}
+use Rattle.std.proofs.Common.{◌≡◌, ℕ, true, false, ◌||◌, List, [], ◌∷◌, ◌++◌, drop, Option, Some, None, refl, sym, ap, ◌∙◌, subst}
 use Rattle.std.specs.Prelude.{Ok, unwrap_or}
 use Rattle.std.specs.Option.{option_map}
 use Rattle.std.proofs.lemmas.List.{append-nil}
@@ -11,7 +11,6 @@ use Rattle.audit_model.specs.declared.command.Command.TheVariants as says
 use Rattle.audit_model.specs.declared.config.Config.{Config}
 use Rattle.audit_lines.specs.Next.{IsLine}
 use Rattle.audit_lines.proofs.Lines.{IsLine-first_line, long_from}
-use Rattle.cache_commands.specs.Answered.{Agrees}
 use Rattle.cache_commands.specs.Loading.{step_silent}
 use Rattle.cache_store.specs.Promises.{Frame, no_deed}
 use Rattle.cache_store.specs.Values.{IsSoundStore, Values}
@@ -30,6 +29,7 @@ use Rattle.cache_lines.specs.declared.ending.End.TheVariants as at
 use Rattle.cache_lines.specs.declared.looping.Stop.{Stop}
 use Rattle.cache_lines.specs.declared.looping.Stop.TheVariants.{More, TooLong, Held, Misses, Quit}
 use Rattle.cache_lines.proofs.LineRuns.{fresh-gather}
+use Rattle.cache_lines.proofs.WholeLines.{has-line}
 use Rattle.cache_lines.proofs.LoadWaits.{ready-waits}
 use Rattle.cache_lines.proofs.ReadyRuns.{ready-held, ready-stopped, stops-long, stops-partial, stops-quit}
 
@@ -41,7 +41,7 @@ gathered-held values text number line None =
     ap (λ t. record { text = t; kept = None; waiting = values.untaken }) (sym (append-nil text)) ∙ ap (λ n. record { text = text ++ []; kept = None; waiting = n }) (sym (append-nil values.untaken))
 gathered-held values text number line (Some t) = refl
 
-gathered-waits : (values : Values) (text : List ℕ) (number : ℕ) (line : List ℕ) (load : Option ℕ) (tape : Option Taped) → IsDraftOf line tape
+pub gathered-waits : (values : Values) (text : List ℕ) (number : ℕ) (line : List ℕ) (load : Option ℕ) (tape : Option Taped) → IsDraftOf line tape
     → gathered (stage values text (option_map (ends (λ l. step_silent number l load None [])) tape)) ≡ gather (gathered (stage values text tape)) (step_silent number line load None [] ∷ [])
 gathered-waits values text number line load None drafted =
     ap (λ t. record { text = t; kept = None; waiting = values.untaken }) (sym (append-nil text)) ∙ ap (λ n. record { text = text ++ []; kept = None; waiting = n }) (sym (append-nil values.untaken))
@@ -76,7 +76,7 @@ quiet now number bytes used stop end old middle tape loads after r quits back st
     }
 
 -- what the values stand for when nothing was done to them, by what the old ones were made with
-idle-by : (old middle : Stage) (config : Config) (latest : ℕ) (left : List HeldValue) → IsSoundStore middle.values → middle.values.frame.config ≡ config → middle.values.Stands left → middle.values.Stands (all_held_after config latest left no_deed [])
+pub idle-by : (old middle : Stage) (config : Config) (latest : ℕ) (left : List HeldValue) → IsSoundStore middle.values → middle.values.frame.config ≡ config → middle.values.Stands left → middle.values.Stands (all_held_after config latest left no_deed [])
 idle-by old middle config latest left sound same stands = subst (λ (k : Config). middle.values.Stands (all_held_after k latest left no_deed [])) same (sound.idle left latest stands)
 
 -- the line is held back
@@ -96,7 +96,7 @@ held-back now number bytes used n stop old middle tape loads after r quits line 
           let lines = subst (λ q. RanLines making number s s.held bytes q rest old middle) quits (r.ran s agrees there) in
           let a = ready-held making number s s.held bytes rest held n old middle middle.text tape there lines line refl (idle-by old middle making.config s.latest lines.left sound same lines.stands) gathers in
           subst (λ u. RanReady making number s s.held bytes false true (λ left. set_in (with_under_way u (with_drops dropped s)) left (left_by number at.Held 1 rest)) old (stage middle.values middle.text tape)) (under ∙ sym back.loads_are) a;
-      ends = (n, line);
+      ends = has-line rest n line;
       frame = r.frame;
       fresh = subst IsFresh (sym gathers) (fresh-gather (gathered middle) (step_held number held ∷ []) r.fresh);
     }
@@ -128,7 +128,7 @@ waits now number bytes used n old middle tape loads after r sound begins =
           let b = subst (λ u. RanReady making number s s.held bytes false false (λ left. set_in (with_under_way u (with_drops dropped s)) left (waiting number line (behind_lines 1 rest) 1)) old (stage middle.values middle.text tape))
           (joined key s load sent ∙ ap (when_waiting number key) under ∙ sym (begins.loads_are key miss.reads)) a in
           subst (λ l. RanReady making number s s.held bytes false false (λ left. set_in (with_under_way after (with_drops dropped s)) left (waiting number l (behind_lines 1 rest) 1)) old (stage middle.values middle.text tape)) said b;
-      ends = (n, r.stops);
+      ends = has-line rest n r.stops;
       frame = r.frame;
       fresh = subst IsFresh (sym gathers) (fresh-gather (gathered middle) (step_silent number line load None [] ∷ []) r.fresh);
     }

@@ -11,9 +11,9 @@ use Rattle.cache_tape.specs.Taped.{Taped, drafts}
 use Rattle.cache_lines.specs.Gathered.{IsFresh, Stage, gathered, stage}
 use Rattle.cache_lines.specs.Lines.{IsThere, ready, set_in, with_drops}
 use Rattle.cache_lines.specs.Making.{Making, making_of}
-use Rattle.cache_lines.specs.Ran.{IsMiss, MissedLine, RanLine, RanLines, RanOne}
-use Rattle.cache_lines.specs.Stops.{IsDraftOf, MissesAt, RunsFirst, RunsLines, StoppedBy, StopsFor, line_at, stops_by_quit}
-use Rattle.cache_lines.specs.declared.looping.First.TheVariants.{Ran, Stops}
+use Rattle.cache_lines.specs.Ran.{IsMiss, RanLine, RanLines, RanOne}
+use Rattle.cache_lines.specs.Stops.{IsDraftOf, MissesAt, RunsFirst, RunsLines, StopsFor, line_at, stops_by_quit}
+use Rattle.cache_lines.specs.declared.looping.First.TheVariants.{Stops}
 use Rattle.cache_lines.specs.declared.looping.Stop.{Stop}
 use Rattle.cache_lines.specs.declared.looping.Stop.TheVariants.{More, TooLong, Held, Misses, Quit}
 use Rattle.cache_lines.proofs.LineRuns.{ran-kept, ran-more}
@@ -45,7 +45,7 @@ ran-same making number base bytes rest old middle new values same r =
     subst (λ (v : Values). RanLines making number base base.held bytes false rest old (stage v new.text new.tape)) (sym values)
     (ran-kept making number base base.held bytes rest false old middle.values middle.text new.text middle.tape new.tape r one)
 
-draft-of : (line : List ℕ) (tape new : Option Taped) → new ≡ option_map (drafts line) tape → IsDraftOf line new
+pub draft-of : (line : List ℕ) (tape new : Option Taped) → new ≡ option_map (drafts line) tape → IsDraftOf line new
 draft-of line tape new e = subst (IsDraftOf line) (sym e) (go tape)
   where
     go : (tape : Option Taped) → IsDraftOf line (option_map (drafts line) tape)

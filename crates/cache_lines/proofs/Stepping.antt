@@ -1,5 +1,5 @@
 -- One line of a connection runs.
-use Rattle.std.proofs.Common.{◌≡◌, ℕ, Bool, true, false, ◌||◌, List, [], Option, Some, None, if◌then◌else◌, refl, ap, ◌∙◌}
+use Rattle.std.proofs.Common.{◌≡◌, ℕ, Bool, true, false, ◌||◌, List, [], Option, Some, if◌then◌else◌, refl, ap, ◌∙◌}
 use Rattle.std.specs.Option.{option_map_or}
 use Rattle.std.proofs.lemmas.Bool.{and_from}
 use Rattle.audit_model.specs.Changes.{after_step, join_load, connection_after}

@@ -1,12 +1,13 @@
 -- What a connection's lines run over, as contracts see it.
-use Rattle.std.specs.Prelude.{ℕ, List, Option}
-use Rattle.cache_store.specs.Values.{Values}
-use Rattle.cache_tape.specs.Taped.{Taped}
-use Rattle.cache_lines.specs.Ended.{RunsReady}
+use Rattle.std.specs.Prelude.{◌≡◌, ℕ, List, Option}
+use Rattle.cache_store.specs.Values.{IsMoment, Values}
+use Rattle.cache_tape.specs.Taped.{HasSpare, Taped}
+use Rattle.cache_lines.specs.Ended.{RunsHeld, RunsReady}
 use Rattle.cache_lines.specs.Gathered.{IsFresh, Stage, gathered, stage}
 use Rattle.cache_lines.specs.Waiting.{UnderWay, under_way}
 use Rattle.cache_lines.specs.declared.base.Base.{Base}
 use Rattle.cache_lines.specs.declared.output.Output.{Output}
+use Rattle.cache_lines.specs.declared.releasing.Fed.{Fed}
 use Rattle.cache_lines.specs.declared.ending.End.{End}
 
 -- what lines change, and the loads under way
@@ -22,6 +23,21 @@ seen view tape base output = record { stage = stage (view base.store) output.tex
 abbrev pub IsClear : Seen → Type 0
 IsClear x = IsFresh (gathered x.stage)
 
+-- the moment is one, nothing waits beside a record, and there is room to hold a line back
+pub record CanRun (now : ℕ) (x : Seen) : Type 0 where
+  pub in_time : IsMoment x.stage.values now
+  pub clear : IsClear x
+  pub spare : HasSpare x.stage.tape
+
+-- what is gathered and the loads under way are the same
+pub record LooksSame (old new : Seen) : Type 0 where
+  pub gathered_is : gathered new.stage ≡ gathered old.stage
+  pub loads_are : new.loads ≡ old.loads
+
 -- lines of a connection that is ready ran until those bytes were left, and ended so
 abbrev pub ReadyRan : (now number : ℕ) (bytes rest : List ℕ) → End → (old new : Seen) → Type 0
 ReadyRan now number bytes rest end old new = RunsReady now number bytes rest end old.stage new.stage old.loads new.loads
+
+-- a connection that holds a line back, and began to wait for it so often, was fed, and lines ran until those bytes were left, and ended so
+abbrev pub HeldRan : (now number times : ℕ) (bytes piece rest : List ℕ) → Fed → (old new : Seen) → Type 0
+HeldRan now number times bytes piece rest fed old new = RunsHeld now number times bytes piece rest fed.end fed.waited old.stage new.stage old.loads new.loads

@@ -1,10 +1,9 @@
 -- The identifiers that steps draw, one step after another.
-use Rattle.std.specs.Prelude.{◌≡◌, ℕ, Bool, true, false, ◌&&◌, List, [], ◌∷◌, Some, Ok, codes}
+use Rattle.std.specs.Prelude.{◌≡◌, Bool, true, ◌&&◌, List, [], ◌∷◌, Some, codes}
 use Rattle.std.specs.Option.{option_eq}
 use Rattle.audit_model.specs.Bytewise.{same}
-use Rattle.audit_model.specs.Grammar.{Reading, reading}
+use Rattle.audit_model.specs.Grammar.{reading}
 use Rattle.audit_model.specs.History.{part_count}
-use Rattle.audit_model.specs.declared.command.Command.TheVariants as says
 use Rattle.audit_model.specs.declared.config.Config.{Config}
 use Rattle.audit_model.specs.declared.transcript.Step.{Step}
 use Rattle.rand_core.specs.Stream.{Stream}

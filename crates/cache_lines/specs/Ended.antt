@@ -1,5 +1,5 @@
 -- How a connection's lines end.
-use Rattle.std.specs.Prelude.{◌≡◌, ℕ, ◌<◌, ◌≤◌, ◌++◌, Bool, true, false, List, [], ◌∷◌, length, drop, Option, Some, None, Ok, IsTrue, if◌then◌else◌, unwrap_or}
+use Rattle.std.specs.Prelude.{◌≡◌, ℕ, ◌<◌, ◌++◌, Bool, true, false, List, [], ◌∷◌, length, Option, Some, None, Ok, IsTrue, unwrap_or}
 use Rattle.std.specs.Option.{option_map}
 use Rattle.audit_model.specs.Bytewise.{cut_at}
 use Rattle.audit_model.specs.Follows.{after_steps}
@@ -21,9 +21,9 @@ use Rattle.cache_lines.specs.Gathered.{IsFresh, Stage, gather, gathered, spare_i
 use Rattle.cache_lines.specs.Lines.{ArePartedIn, IsThere, are_timely, ends_quit, holding, ready, set_in, situation_behind, with_drops}
 use Rattle.cache_lines.specs.Making.{Making, making_of}
 use Rattle.cache_lines.specs.Ordered.{OrdersSteps}
-use Rattle.cache_lines.specs.Stops.{IsDraftOf, StopsFor, line_at}
+use Rattle.cache_lines.specs.Stops.{IsDraftOf, line_at}
 use Rattle.cache_lines.specs.Waiting.{UnderWay, holding_load, is_load, load_sent_for, loads_in, waiting, when_waiting, with_under_way}
-use Rattle.cache_lines.specs.Whole.{held_line}
+use Rattle.cache_lines.specs.Whole.{has_line, held_line}
 use Rattle.cache_lines.specs.declared.ending.End.{End}
 use Rattle.cache_lines.specs.declared.ending.End.TheVariants as at
 use Rattle.cache_lines.specs.declared.looping.Stop.{Stop}
@@ -118,8 +118,8 @@ RanReady making number base held bytes quit is_held target old new = RanTasks ma
 abbrev pub EndsFor : End → List ℕ → Type 0
 EndsFor at.More rest = IsPartial rest
 EndsFor at.TooLong rest = 8192 < length (cut_at 10 rest).0
-EndsFor at.Held rest = (n : ℕ) × IsLine rest n
-EndsFor at.Waits rest = (n : ℕ) × IsLine rest n
+EndsFor at.Held rest = IsTrue (has_line rest)
+EndsFor at.Waits rest = IsTrue (has_line rest)
 EndsFor at.Quit rest = Unit {0}
 
 -- Lines of a connection that is ready ran until those bytes were left, and ended so, in each situation that the values and the loads stood for.

@@ -19,7 +19,7 @@ use Rattle.cache_commands.specs.Right.{DoesRight, KeepsFrame, step_saying, held_
 use Rattle.cache_tape.specs.Taped.{drafts}
 use Rattle.cache_lines.specs.Drawing.{StepDraws, StepsDraw, identifiers_in}
 use Rattle.cache_lines.specs.Gathered.{IsFresh, Stage, gather, gathered}
-use Rattle.cache_lines.specs.Lines.{IsPlain, IsThere, Runs, ends_quit, has_its_part, ready, says_quit, set_in, situation_behind, with_drops}
+use Rattle.cache_lines.specs.Lines.{IsPlain, Runs, ends_quit, has_its_part, ready, says_quit, set_in, situation_behind, with_drops}
 use Rattle.cache_lines.specs.Making.{Making, making_of}
 use Rattle.cache_lines.specs.Ordered.{HasKeys, OrdersLines}
 use Rattle.cache_lines.specs.declared.running.Done.{Done}

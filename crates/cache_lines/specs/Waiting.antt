@@ -1,5 +1,5 @@
 -- Connections whose `LOAD` waits, and the loads under way.
-use Rattle.std.specs.Prelude.{◌≡◌, ℕ, Bool, true, false, List, [], map, Option, Ok}
+use Rattle.std.specs.Prelude.{ℕ, Bool, true, false, List, [], map, Option, Ok}
 use Rattle.audit_model.specs.Grammar.{Reading}
 use Rattle.audit_model.specs.declared.command.Command.TheVariants as says
 use Rattle.audit_model.specs.Situation.{Situation, Connection, PendingLoad, Held, Waiting, without_waiting}

@@ -8,6 +8,7 @@ mod joining;
 mod looping;
 mod output;
 mod readying;
+mod releasing;
 mod running;
 
 pub use base::Base;
@@ -17,4 +18,5 @@ pub use joining::join_load;
 pub use looping::{Stop, Stopped, run_lines};
 pub use output::Output;
 pub use readying::{Ended, run_ready, take_piece};
+pub use releasing::{Fed, take_held};
 pub use running::{Done, run_line};

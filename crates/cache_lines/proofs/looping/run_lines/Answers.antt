@@ -1,9 +1,8 @@
-use Rattle.std.proofs.Common.{◌+◌, ◌∙◌, ◌≡◌, false, ap, arith, drop, length-drop, refl, subst, sym}
-use Rattle.std.specs.Prelude.{length}
+use Rattle.std.proofs.Common.{◌+◌, ◌∙◌, false, ap, arith, drop, length-drop, refl, subst, sym}
 use Rattle.std.proofs.lemmas.List.{drop-drop}
 use Rattle.cache_lines.specs.Gathered.{stage}
 use Rattle.cache_lines.specs.Making.{making_of}
-use Rattle.cache_lines.specs.Stops.{RunsFirst, stops_by_quit}
+use Rattle.cache_lines.specs.Stops.{RunsFirst}
 use Rattle.cache_lines.specs.declared.looping.First.TheVariants.{Ran, Stops}
 use Rattle.cache_lines.proofs.LineRuns.{ran-none}
 use Rattle.cache_lines.proofs.Rounds.{frames-more, line-next, lines-stop}
