@@ -1,0 +1,82 @@
+//! A piece of lines, over a tape that keeps nothing and over one that keeps records.
+ghost use Rattle.std.specs.Prelude.{◌<◌, IfOk};
+ghost use Rattle.cache_tape.specs.Taped.{HasSpare};
+
+use audit_lines::Buffer;
+use audit_model::{Config, EvictionPolicy, Weight};
+use cache_commands::Keyed;
+use cache_lines::{Base, End, Output, take_piece};
+use cache_loads::Loads;
+use cache_tape::{Bare, Kept, Tape};
+use plain_store::{FixedHasher, PlainStore};
+use rand_core::SeedableRng;
+use rand_xoshiro::SplitMix64;
+use std::alloc::{AllocError, Global};
+
+const PLAIN: Config = Config {
+    capacity: None,
+    policy: EvictionPolicy::Lru,
+    parts: 1,
+    weight: Weight::Bytes,
+    live_ms: None,
+    idle_ms: None,
+    own_deadlines: true,
+};
+
+/// A value is stored, looked up and deleted, and half a line is left.
+const PIECE: &[u8] = b"SET a - one\nGET a\r\nDEL a\nGET a\nGE";
+
+/// What is answered to it.
+const REPLIES: &[u8] = b"OK\nVAL one\nOK\nNONE\n";
+
+/// How the piece ends over that tape, which has room for one line, what was written and what is left.
+fn fed<T: Tape>(alloc: Global, tape: T) -> Result<(End, Vec<u8>, Buffer), AllocError>
+    requires { HasSpare (T.view tape) }
+{
+    let store = PlainStore::new(alloc, PLAIN, 5, SplitMix64::seed_from_u64(1), FixedHasher)?;
+    let mut base = Base {
+        store: Keyed::new(alloc, store)?,
+        loads: Loads::new(alloc, 0),
+        tape,
+    };
+    let mut unread = Buffer::new(alloc);
+    unread.reserve(PIECE.len())?;
+    let mut output = Output::new(alloc);
+    let end = take_piece(&mut base, 7, 1, &mut unread, PIECE, &mut output);
+    Ok((end, output.text, unread))
+}
+
+/// Whether the piece came to that end.
+fn ends_so(fed: Result<(End, Vec<u8>, Buffer), AllocError>, text: &[u8]) -> bool {
+    match fed {
+        Ok((end, written, unread)) => end == End::More
+            && written.as_slice() == text
+            && unread.as_slice() == b"GE".as_slice(),
+        Err(_) => false,
+    }
+}
+
+#[test]
+fn replies_stay_where_nothing_is_kept(rt: HostRuntime) {
+    let alloc = rt.alloc();
+    assert!(rt; ends_so(fed(alloc, Bare::new(alloc)), REPLIES));
+}
+
+/// A tape with a record under way and room for one line.
+fn started(alloc: Global) -> Result<Kept, AllocError>
+    ensures { IfOk result (λ tape. 0 < tape.spare) }
+{
+    let mut tape = Kept::new(alloc);
+    tape.start(1)?;
+    Ok(tape)
+}
+
+#[test]
+fn replies_go_into_the_record(rt: HostRuntime) {
+    let alloc = rt.alloc();
+    let came = match started(alloc) {
+        Ok(tape) => ends_so(fed(alloc, tape), b""),
+        Err(_) => false,
+    };
+    assert!(rt; came);
+}
