@@ -1,0 +1,8 @@
+//! A cache of one or several parts, lent by `&mut`.
+#![tactic(auto)]
+
+mod hashing;
+mod places;
+mod state;
+
+pub use state::LentState;

@@ -1,0 +1,133 @@
+//! Calls on the part at a place.
+ghost use Rattle.std.specs.Prelude.{◌≡◌, false, IfOk, IfErr, OnOk, OnErr, is_some, slice_get};
+ghost use Rattle.engine_reference.specs.Calls.{removal_rooms};
+ghost use Rattle.engine_reference.specs.Scanning.{NotesLookUp};
+ghost use Rattle.engine_lists.specs.Asking.{answers_of};
+ghost use Rattle.front_reference.specs.Parts.{Inserts, TakesOut};
+ghost use Rattle.front_reference.specs.Fronts.{CallsAt};
+ghost use Rattle.front_state.specs.Calls.{IsCauseOf, IsOpenAt, visible_of, held_of, ways_of};
+
+use engine_rules::{Names, Rules};
+use front_parts::{contains_key, get, insert, invalidate, remove};
+use front_reference::{At, CacheError};
+use moka_engine::BaseCache;
+use policy_base::Instant;
+use std::alloc::AllocError;
+use std::hash::{BuildHasher, Hash, Hasher};
+
+/// `get` of the part at a place.
+pub(crate) fn get_at<
+    K: Eq + Hash + Drop,
+    V: Clone + Drop,
+    S: BuildHasher,
+    R: Rules<K, V>,
+    Q: Names<K>,
+>(
+    parts: &mut Vec<BaseCache<K, V, S, R>>,
+    place: usize,
+    key: &Q,
+    hash: u64,
+    now: Instant,
+) -> Result<Option<V>, AllocError>
+    requires exact { (x y : V) → V.is_clone x y → y ≡ x }
+    requires there { IsOpenAt (ways_of R.weight_of R.created R.read R.updated R.covers K.eq S.Hasher.finish S.Hasher.write S.build_hasher K.hash_input) place (Q.named_key key.now) hash parts.old.items }
+    ensures found { IfOk result (λ found. found ≡ visible_of (ways_of R.weight_of R.created R.read R.updated R.covers K.eq S.Hasher.finish S.Hasher.write S.build_hasher K.hash_input) (slice_get parts.old.items place) now (Q.named_key key.now)) }
+    ensures used { OnOk result (CallsAt place (NotesLookUp (answers_of R.weight_of R.created R.read R.updated R.covers) K.eq (Q.named_key key.now) hash now false) parts.old.items parts.new.items) }
+    ensures err { OnErr result (parts.new.items ≡ parts.old.items) }
+{
+    let part = &mut parts[place];
+    let found = get(part, key, hash, now)?;
+    Ok(found)
+}
+
+/// Whether a key has a visible value in the part at a place.
+pub(crate) fn contains_key_at<K: Eq + Hash, V, S: BuildHasher, R: Rules<K, V>, Q: Names<K>>(
+    parts: &[BaseCache<K, V, S, R>],
+    place: usize,
+    key: &Q,
+    hash: u64,
+    now: Instant,
+) -> bool
+    requires there { IsOpenAt (ways_of R.weight_of R.created R.read R.updated R.covers K.eq S.Hasher.finish S.Hasher.write S.build_hasher K.hash_input) place (Q.named_key key.now) hash parts.now }
+    ensures { result ≡ is_some (visible_of (ways_of R.weight_of R.created R.read R.updated R.covers K.eq S.Hasher.finish S.Hasher.write S.build_hasher K.hash_input) (slice_get parts.now place) now (Q.named_key key.now)) }
+{
+    contains_key(&parts[place], key, hash, now)
+}
+
+/// `insert` into the part at a place.
+pub(crate) fn insert_at<K: Eq + Hash + Drop, V: Drop, S: BuildHasher, R: Rules<K, V>>(
+    parts: &mut Vec<BaseCache<K, V, S, R>>,
+    place: usize,
+    key: K,
+    hash: u64,
+    value: V,
+    at: At,
+) -> Result<(), CacheError>
+    requires there { IsOpenAt (ways_of R.weight_of R.created R.read R.updated R.covers K.eq S.Hasher.finish S.Hasher.write S.build_hasher K.hash_input) place key hash parts.old.items }
+    ensures inserts { OnOk result (CallsAt place (Inserts (answers_of R.weight_of R.created R.read R.updated R.covers) K.eq key hash value at.now at.step) parts.old.items parts.new.items) }
+    ensures err { OnErr result (parts.new.items ≡ parts.old.items) }
+    ensures cause { IfErr result (IsCauseOf (ways_of R.weight_of R.created R.read R.updated R.covers K.eq S.Hasher.finish S.Hasher.write S.build_hasher K.hash_input) (λ _. 1) (slice_get parts.old.items place)) }
+{
+    let part = &mut parts[place];
+    match insert(part, key, hash, value, at) {
+        Ok(()) => Ok(()),
+        Err(refused) => Err(refused),
+    }
+}
+
+/// `remove` from the part at a place.
+pub(crate) fn remove_at<
+    K: Eq + Hash + Clone + Drop,
+    V: Clone + Drop,
+    S: BuildHasher,
+    R: Rules<K, V>,
+    Q: Names<K>,
+>(
+    parts: &mut Vec<BaseCache<K, V, S, R>>,
+    place: usize,
+    key: &Q,
+    hash: u64,
+    now: Instant,
+) -> Result<Option<V>, CacheError>
+    requires exact_key { (x y : K) → K.is_clone x y → y ≡ x }
+    requires exact { (x y : V) → V.is_clone x y → y ≡ x }
+    requires there { IsOpenAt (ways_of R.weight_of R.created R.read R.updated R.covers K.eq S.Hasher.finish S.Hasher.write S.build_hasher K.hash_input) place (Q.named_key key.now) hash parts.old.items }
+    ensures value { IfOk result (λ value. value ≡ held_of (ways_of R.weight_of R.created R.read R.updated R.covers K.eq S.Hasher.finish S.Hasher.write S.build_hasher K.hash_input) (slice_get parts.old.items place) (Q.named_key key.now)) }
+    ensures takes_out { OnOk result (CallsAt place (TakesOut (answers_of R.weight_of R.created R.read R.updated R.covers) K.eq (Q.named_key key.now) now) parts.old.items parts.new.items) }
+    ensures err { OnErr result (parts.new.items ≡ parts.old.items) }
+    ensures cause { IfErr result (IsCauseOf (ways_of R.weight_of R.created R.read R.updated R.covers K.eq S.Hasher.finish S.Hasher.write S.build_hasher K.hash_input) removal_rooms (slice_get parts.old.items place)) }
+{
+    let part = &mut parts[place];
+    match remove(part, key, hash, now) {
+        Ok(value) => Ok(value),
+        Err(refused) => Err(refused),
+    }
+}
+
+/// `invalidate` of the part at a place.
+pub(crate) fn invalidate_at<
+    K: Eq + Hash + Clone + Drop,
+    V: Clone + Drop,
+    S: BuildHasher,
+    R: Rules<K, V>,
+    Q: Names<K>,
+>(
+    parts: &mut Vec<BaseCache<K, V, S, R>>,
+    place: usize,
+    key: &Q,
+    hash: u64,
+    now: Instant,
+) -> Result<(), CacheError>
+    requires exact_key { (x y : K) → K.is_clone x y → y ≡ x }
+    requires exact { (x y : V) → V.is_clone x y → y ≡ x }
+    requires there { IsOpenAt (ways_of R.weight_of R.created R.read R.updated R.covers K.eq S.Hasher.finish S.Hasher.write S.build_hasher K.hash_input) place (Q.named_key key.now) hash parts.old.items }
+    ensures takes_out { OnOk result (CallsAt place (TakesOut (answers_of R.weight_of R.created R.read R.updated R.covers) K.eq (Q.named_key key.now) now) parts.old.items parts.new.items) }
+    ensures err { OnErr result (parts.new.items ≡ parts.old.items) }
+    ensures cause { IfErr result (IsCauseOf (ways_of R.weight_of R.created R.read R.updated R.covers K.eq S.Hasher.finish S.Hasher.write S.build_hasher K.hash_input) removal_rooms (slice_get parts.old.items place)) }
+{
+    let part = &mut parts[place];
+    match invalidate(part, key, hash, now) {
+        Ok(()) => Ok(()),
+        Err(refused) => Err(refused),
+    }
+}

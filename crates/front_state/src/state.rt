@@ -1,0 +1,167 @@
+//! The state of a cache that is lent.
+ghost use Rattle.std.specs.Prelude.{◌≡◌, ◌<◌, ◌≤◌, ◌^◌, IfOk, IfErr, OnOk, OnErr, is_some};
+ghost use Rattle.engine_reference.specs.Calls.{removal_rooms};
+ghost use Rattle.front_reference.specs.Fronts.{ComesAfter};
+ghost use Rattle.front_state.specs.Calls.{InsertsIn, IsCauseIn, LooksUpIn, TakesOutIn, hash_in, held_value_in, visible_in, ways_of};
+
+use crate::hashing::{hash_key, place_of};
+use crate::places::{contains_key_at, get_at, insert_at, invalidate_at, remove_at};
+use engine_reference::Settings;
+use engine_rules::{Names, Rules};
+use front_keys::{LentKey, Shared};
+use front_reference::{At, CacheError, OpenTurn};
+use moka_engine::BaseCache;
+use policy_base::Instant;
+use std::alloc::{AllocError, Global};
+use std::hash::{BuildHasher, Hash, Hasher};
+use std::marker::Model;
+
+/// A cache of 2^bits parts that is lent by `&mut`, so that each call is alone. Each key belongs to the part that the upper bits of its hash say.
+/// Each call is told its moment and its step: moments never fall, steps rise. A call that is refused has changed nothing, its moment and step included.
+#[derive(Drop)]
+pub struct LentState<K: Eq + Hash, V, S: BuildHasher, R: Rules<K, V>> {
+    alloc: Global,
+    parts: Vec<BaseCache<Shared<K>, V, Shared<S>, Shared<R>>>,
+    bits: u32,
+    name: Option<String>,
+    capacity: Option<u64>,
+    settings: Settings,
+    hasher: Shared<S>,
+    rules: Shared<R>,
+    turns: Vec<OpenTurn<Shared<K>>>,
+    next_turn: u64,
+    moment: Instant,
+    step: u64,
+}
+
+impl<K: Eq + Hash, V, S: BuildHasher, R: Rules<K, V>> Model for LentState<K, V, S, R> {
+    ghost use Rattle.std.specs.Prelude.{option_map};
+    ghost use Rattle.std.specs.String.{string_bytes};
+    ghost use Rattle.front_reference.specs.Fronts.{Front};
+    ghost use Rattle.front_state.specs.Calls.{IsSteadyBy, ways_of};
+
+    ghost Value = { Front K V R.Predicate S R };
+
+    ghost view = { λ c. record {
+      parts = c.parts.items;
+      bits = c.bits;
+      name = option_map string_bytes c.name;
+      capacity = c.capacity;
+      common = record { settings = c.settings; hasher = c.hasher; rules = c.rules };
+      turns = c.turns.items;
+      next_turn = c.next_turn;
+      moment = c.moment;
+      step = c.step;
+    } };
+
+    ghost invariant = { λ c. ∥ IsSteadyBy (ways_of R.weight_of R.created R.read R.updated R.covers K.eq S.Hasher.finish S.Hasher.write S.build_hasher K.hash_input) (record {
+      parts = c.parts.items;
+      bits = c.bits;
+      name = option_map string_bytes c.name;
+      capacity = c.capacity;
+      common = record { settings = c.settings; hasher = c.hasher; rules = c.rules };
+      turns = c.turns.items;
+      next_turn = c.next_turn;
+      moment = c.moment;
+      step = c.step;
+    }) ∥₁ };
+}
+
+impl<K: Eq + Hash, V, S: BuildHasher, R: Rules<K, V>> LentState<K, V, S, R> {
+    /// The hash of a key, which the calls with a hash are handed.
+    pub fn hash(&self, key: &K) -> u64
+        ensures { result ≡ hash_in (ways_of R.weight_of R.created R.read R.updated R.covers K.eq S.Hasher.finish S.Hasher.write S.build_hasher K.hash_input) self.now key.now }
+    {
+        hash_key(&self.hasher, key)
+    }
+
+    /// A clone of the visible value of a key, of which it is a use.
+    pub fn get(&mut self, key: &K, at: At) -> Result<Option<V>, AllocError>
+    where
+        K: Drop,
+        V: Clone + Drop,
+        requires exact { (x y : V) → V.is_clone x y → y ≡ x }
+        requires follows { ComesAfter at.now at.step self.old }
+        ensures found { IfOk result (λ found. found ≡ visible_in (ways_of R.weight_of R.created R.read R.updated R.covers K.eq S.Hasher.finish S.Hasher.write S.build_hasher K.hash_input) self.old at.now key.now) }
+        ensures used { OnOk result (LooksUpIn (ways_of R.weight_of R.created R.read R.updated R.covers K.eq S.Hasher.finish S.Hasher.write S.build_hasher K.hash_input) key.now at self.old self.new) }
+        ensures err { OnErr result (self.new ≡ self.old) }
+    {
+        let At { now, step } = at;
+        let hash = hash_key(&self.hasher, key);
+        let place = place_of(self.bits, hash);
+        let found = get_at(&mut self.parts, place, &LentKey { key }, hash, now)?;
+        self.moment = now;
+        self.step = step;
+        Ok(found)
+    }
+
+    /// Whether a key has a visible value. It is no use of it.
+    pub fn contains_key(&self, key: &K, now: Instant) -> bool
+        ensures { result ≡ is_some (visible_in (ways_of R.weight_of R.created R.read R.updated R.covers K.eq S.Hasher.finish S.Hasher.write S.build_hasher K.hash_input) self.now now key.now) }
+    {
+        let hash = hash_key(&self.hasher, key);
+        let place = place_of(self.bits, hash);
+        contains_key_at(self.parts.as_slice(), place, &LentKey { key }, hash, now)
+    }
+
+    /// Inserts a value. A cache of capacity 0 takes none.
+    pub fn insert(&mut self, key: K, value: V, at: At) -> Result<(), CacheError>
+    where
+        K: Drop,
+        V: Drop,
+        requires follows { ComesAfter at.now at.step self.old }
+        ensures inserts { OnOk result (InsertsIn (ways_of R.weight_of R.created R.read R.updated R.covers K.eq S.Hasher.finish S.Hasher.write S.build_hasher K.hash_input) key value at self.old self.new) }
+        ensures err { OnErr result (self.new ≡ self.old) }
+        ensures cause { IfErr result (IsCauseIn (ways_of R.weight_of R.created R.read R.updated R.covers K.eq S.Hasher.finish S.Hasher.write S.build_hasher K.hash_input) (λ _. 1) self.old key) }
+    {
+        let At { now, step } = at;
+        let hash = hash_key(&self.hasher, &key);
+        let place = place_of(self.bits, hash);
+        let key = Shared::new(self.alloc, key)?;
+        insert_at(&mut self.parts, place, key, hash, value, At { now, step })?;
+        self.moment = now;
+        self.step = step;
+        Ok(())
+    }
+
+    /// Removes a key, whether its deadline has come or not, and answers its value.
+    pub fn remove(&mut self, key: &K, at: At) -> Result<Option<V>, CacheError>
+    where
+        K: Drop,
+        V: Clone + Drop,
+        requires exact { (x y : V) → V.is_clone x y → y ≡ x }
+        requires follows { ComesAfter at.now at.step self.old }
+        ensures value { IfOk result (λ value. value ≡ held_value_in (ways_of R.weight_of R.created R.read R.updated R.covers K.eq S.Hasher.finish S.Hasher.write S.build_hasher K.hash_input) self.old key.now) }
+        ensures takes_out { OnOk result (TakesOutIn (ways_of R.weight_of R.created R.read R.updated R.covers K.eq S.Hasher.finish S.Hasher.write S.build_hasher K.hash_input) key.now at self.old self.new) }
+        ensures err { OnErr result (self.new ≡ self.old) }
+        ensures cause { IfErr result (IsCauseIn (ways_of R.weight_of R.created R.read R.updated R.covers K.eq S.Hasher.finish S.Hasher.write S.build_hasher K.hash_input) removal_rooms self.old key.now) }
+    {
+        let At { now, step } = at;
+        let hash = hash_key(&self.hasher, key);
+        let place = place_of(self.bits, hash);
+        let value = remove_at(&mut self.parts, place, &LentKey { key }, hash, now)?;
+        self.moment = now;
+        self.step = step;
+        Ok(value)
+    }
+
+    /// Removes a key, whether its deadline has come or not.
+    pub fn invalidate(&mut self, key: &K, at: At) -> Result<(), CacheError>
+    where
+        K: Drop,
+        V: Clone + Drop,
+        requires exact { (x y : V) → V.is_clone x y → y ≡ x }
+        requires follows { ComesAfter at.now at.step self.old }
+        ensures takes_out { OnOk result (TakesOutIn (ways_of R.weight_of R.created R.read R.updated R.covers K.eq S.Hasher.finish S.Hasher.write S.build_hasher K.hash_input) key.now at self.old self.new) }
+        ensures err { OnErr result (self.new ≡ self.old) }
+        ensures cause { IfErr result (IsCauseIn (ways_of R.weight_of R.created R.read R.updated R.covers K.eq S.Hasher.finish S.Hasher.write S.build_hasher K.hash_input) removal_rooms self.old key.now) }
+    {
+        let At { now, step } = at;
+        let hash = hash_key(&self.hasher, key);
+        let place = place_of(self.bits, hash);
+        invalidate_at(&mut self.parts, place, &LentKey { key }, hash, now)?;
+        self.moment = now;
+        self.step = step;
+        Ok(())
+    }
+}
