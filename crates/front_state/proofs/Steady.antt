@@ -1,50 +1,37 @@
 -- A call that comes to the part of a key keeps the front steady.
-use Rattle.std.proofs.Common.{◌≡◌, refl, ap, sym, ◌∙◌, subst, ℕ, zero, suc, ◌^◌, ◌<◌, ◌≤◌, arith, Bool, true, List, [], ◌∷◌, length, get_or, Option, Some, None, inl, inr, ◌⊎◌}
+use Rattle.std.proofs.Common.{◌≡◌, refl, ap, sym, ◌∙◌, subst, ℕ, ◌^◌, ◌<◌, ◌≤◌, arith, Bool, true, List, [], ◌∷◌, length, get_or, Option, Some, None, inl, inr}
 use Rattle.std.proofs.Math.Logic.{∥∥₁_elim, ∥∥₁_map}
 use Rattle.std.proofs.Props.{props}
 use Rattle.std.proofs.lemmas.Bool.{eq-eqb}
-use Rattle.std.specs.Prelude.{slice_get, slice_set, option_map, ◌==◌}
+use Rattle.std.proofs.lemmas.Option.{slice_get_within, slice_get-get_or}
+use Rattle.std.specs.Prelude.{slice_get, option_map, ◌==◌, Result}
 use Rattle.std.specs.Cmp.{IsEquivalence}
 use Rattle.engine_reference.specs.Records.{held_entries}
+use Rattle.engine_reference.specs.Calls.{cleared_by}
 use Rattle.engine_reference.specs.Scanning.{NotesLookUp}
 use Rattle.engine_reference.specs.State.{State}
 use Rattle.engine_reference.specs.declared.data.Entry.{Entry}
 use Rattle.engine_reference.specs.Telling.{AreApart, entry_of}
 use Rattle.front_reference.specs.Keeping.{Common, IsKept}
 use Rattle.front_reference.specs.Parts.{IsCause, Inserts, TakesOut}
-use Rattle.front_reference.specs.Fronts.{Front, CallsAt, ComesAfter, passed, share_of, part_of}
+use Rattle.front_reference.specs.Wholes.{RunsPart}
+use Rattle.front_reference.specs.Fronts.{Front, CallsAll, CallsAt, ComesAfter, passed, share_of, part_of, CallsEach, CallsPart}
 use Rattle.engine_reference.specs.declared.data.Settings.{Settings}
 use Rattle.front_reference.specs.declared.errors.CacheError.{CacheError}
 use Rattle.front_reference.specs.declared.errors.CacheError.TheVariants as errors
-use Rattle.front_laws.proofs.Kept.{calls_keep}
-use Rattle.front_state.specs.Calls.{Ways, IsCauseOf, IsOpenAt, IsSteadyBy, LacksTickets, hash_in}
+use Rattle.front_reference.specs.Parts.{Coalesces, Computes}
+use Rattle.front_reference.specs.declared.data.At.{At}
+use Rattle.front_reference.specs.declared.data.Computed.{Computed}
+use Rattle.front_reference.specs.declared.data.Made.{Made}
+use Rattle.front_reference.specs.declared.data.Op.{Op}
+use Rattle.front_laws.proofs.Kept.{calls_keep, kept-coalesced, kept-computed}
+use Rattle.front_state.proofs.Lists.{length-set_at, one_set}
+use Rattle.front_state.specs.Calls.{Ways, IsCauseOf, IsOpenAt, IsSteadyBy, LacksTickets, hash_in, CoalescesIn, ComputesIn}
 
 -- what is there or not is known
 untruncated : {X : Type 0} (o : Option X) → ∥ o ≡ None ∥₁ → o ≡ None
 untruncated None h = refl
 untruncated (Some x) h = absurd (∥∥₁_elim h (Prim.hlevel props) (λ (e : Some x ≡ None). let no : ⊥ = cc in no))
-
-module _ {X : Type 0} where
-  pub there : (xs : List X) (i : ℕ) (x : X) → i < length xs → x ≡ get_or xs i x → slice_get xs i ≡ Some x
-  there [] i x low e = absurd (omega arith)
-  there (y ∷ xs) zero x low e = ap Some (sym e)
-  there (y ∷ xs) (suc i) x low e = there xs i x (omega arith) e
-
-  pub called_at : (Rel : X → X → Type 0) (xs : List X) (i : ℕ) (x t : X) → i < length xs → x ≡ get_or xs i x → Rel x t → CallsAt i Rel xs (slice_set xs i t)
-  called_at Rel xs i x t low e r = record { before = x; after = t; there = there xs i x low e; does = r; changed = refl }
-
-  pub length-set_at : (xs : List X) (i : ℕ) (x : X) → length (slice_set xs i x) ≡ length xs
-  length-set_at [] i x = refl
-  length-set_at (y ∷ xs) zero x = refl
-  length-set_at (y ∷ xs) (suc i) x = ap suc (length-set_at xs i x)
-
-  -- what stands in a list one of whose items was changed
-  pub one_set : (xs : List X) (i k : ℕ) (x y : X) → slice_get (slice_set xs i x) k ≡ Some y → ((k ≡ i) × (y ≡ x)) ⊎ (slice_get xs k ≡ Some y)
-  one_set [] i k x y e = absurd (cc)
-  one_set (z ∷ xs) zero zero x y e = inl (refl, cc)
-  one_set (z ∷ xs) zero (suc k) x y e = inr e
-  one_set (z ∷ xs) (suc i) zero x y e = inr e
-  one_set (z ∷ xs) (suc i) (suc k) x y e = elim (one_set xs i k x y e) [ inl same ↦ inl (ap suc same.0, same.1) | inr other ↦ inr other ]
 
 apart-untruncated : {K V : Type 0} (eq : K → K → Bool) (es : List (Entry K V)) → ∥ AreApart eq es ∥₁ → AreApart eq es
 apart-untruncated eq [] h = tt
@@ -122,3 +109,82 @@ module _ {K V P S R : Type 0} (ways : Ways K V P S R) where
 
   pub taking_out_keeps : IsEquivalence ways.eq → (key : K) (now step : ℕ) → KeepsPart key now step (TakesOut ways.answers ways.eq key now)
   taking_out_keeps laws key now step common belongs moment last s t later less own out old = (calls_keep K V P S R).taken_out common ways.eq laws belongs ways.answers moment last now step s t key later less out old
+
+  pub coalescing_keeps : {F : Type 0} → IsEquivalence ways.eq → (key : K) (h now step : ℕ) (Ignores : V → Bool → Type 0) (Makes : Made V F → Type 0) (answer : Made V F) (is_fresh : Bool)
+      → KeepsPart key now step (λ s t. Coalesces ways.answers ways.eq key h now step Ignores Makes s t answer is_fresh)
+  coalescing_keeps laws key h now step Ignores Makes answer is_fresh common belongs moment last s t later less own does old =
+      kept-coalesced common ways.eq belongs laws ways.answers Ignores Makes moment last now step s t key h answer is_fresh later less own does old
+
+  pub computing_keeps : {E : Type 0} → IsEquivalence ways.eq → (key : K) (h now step : ℕ) (Decides : Option V → Result (Op V) E → Type 0) (answer : Result (Computed V) E)
+      → KeepsPart key now step (λ s t. Computes ways.answers ways.eq key h now step Decides s t answer)
+  computing_keeps laws key h now step Decides answer common belongs moment last s t later less own does old =
+      kept-computed common ways.eq belongs laws ways.answers Decides moment last now step s t key h answer later less own does old
+
+  -- ---- what the calls say, where the code found the part
+
+  pub called_key : (f g : Front K V P S R) (now step place h : ℕ) (key : K) (Rel : ℕ → State K V P S R → State K V P S R → Type 0) (parts : List (State K V P S R))
+      → f ≡ g → h ≡ hash_in ways f key → place ≡ part_of f.bits h → CallsAt place (Rel h) f.parts parts
+      → CallsPart (hash_in ways g key) now step (Rel (hash_in ways g key)) g (passed now step (record f { parts = parts }))
+  called_key f g now step place h key Rel parts same hashed placed call =
+      subst (λ (x : Front K V P S R). CallsPart (hash_in ways x key) now step (Rel (hash_in ways x key)) x (passed now step (record f { parts = parts }))) same
+      (subst (λ n. CallsPart {K = K} {V = V} {P = P} {S = S} {R = R} n now step (Rel n) f (passed now step (record f { parts = parts }))) hashed
+      (record { parts = parts; call = subst (λ p. CallsAt p (Rel h) f.parts parts) placed call; changed = refl }))
+
+  pub coalesced_key : {F : Type 0} (f g : Front K V P S R) (at : At) (place h : ℕ) (key : K) (Ignores : V → Bool → Type 0) (Makes : Made V F → Type 0) (answer : Made V F) (is_fresh : Bool) (parts : List (State K V P S R))
+      → f ≡ g → h ≡ hash_in ways f key → place ≡ part_of f.bits h → CallsAt place (λ s t. Coalesces ways.answers ways.eq key h at.now at.step Ignores Makes s t answer is_fresh) f.parts parts
+      → CoalescesIn ways key at Ignores Makes g (passed at.now at.step (record f { parts = parts })) answer is_fresh
+  coalesced_key f g at place h key Ignores Makes answer is_fresh parts same hashed placed call =
+      called_key f g at.now at.step place h key (λ n s t. Coalesces ways.answers ways.eq key n at.now at.step Ignores Makes s t answer is_fresh) parts same hashed placed call
+
+  pub computed_key : {E : Type 0} (f g : Front K V P S R) (at : At) (place h : ℕ) (key : K) (Decides : Option V → Result (Op V) E → Type 0) (answer : Result (Computed V) E) (parts : List (State K V P S R))
+      → f ≡ g → h ≡ hash_in ways f key → place ≡ part_of f.bits h → CallsAt place (λ s t. Computes ways.answers ways.eq key h at.now at.step Decides s t answer) f.parts parts
+      → ComputesIn ways key at Decides g (passed at.now at.step (record f { parts = parts })) answer
+  computed_key f g at place h key Decides answer parts same hashed placed call =
+      called_key f g at.now at.step place h key (λ n s t. Computes ways.answers ways.eq key n at.now at.step Decides s t answer) parts same hashed placed call
+
+  -- ---- calls on all parts
+
+  pub called_all : (f g : Front K V P S R) (now step : ℕ) (Rel : State K V P S R → State K V P S R → Type 0) (parts : List (State K V P S R))
+      → f ≡ g → CallsEach Rel f.parts parts → CallsAll now step Rel g (passed now step (record f { parts = parts }))
+  called_all f g now step Rel parts same each = subst (λ (x : Front K V P S R). CallsAll now step Rel x (passed now step (record f { parts = parts }))) same (record { parts = parts; each = each; changed = refl })
+
+  abbrev pub KeepsEach : (now next : ℕ) → (State K V P S R → State K V P S R → Type 0) → Type 0
+  KeepsEach now next Rel = (common : Common S R) (belongs : K → Bool) (moment step : ℕ) (s t : State K V P S R)
+      → moment ≤ now → step ≤ next → Rel s t → IsKept 63 ways.eq common belongs moment step s → IsKept 63 ways.eq common belongs now next t
+
+  steady-each : (f : Front K V P S R) (now step : ℕ) (Rel : State K V P S R → State K V P S R → Type 0) (parts : List (State K V P S R))
+      → ComesAfter now step f → KeepsEach now step Rel → CallsEach Rel f.parts parts → IsSteadyBy ways f → IsSteadyBy ways (passed now step (record f { parts = parts }))
+  steady-each f now step Rel parts after keeps call k =
+      let rises = after.rises in
+      let less : f.step ≤ step = omega arith in
+      record {
+        kept = λ p t at.
+            let low = slice_get_within parts p t at in
+            let same = call.count in
+            let here = slice_get-get_or f.parts p t (omega arith) in
+            let d = call.each p (get_or f.parts p t) here in
+            let both : Some t ≡ Some d.0 = sym at ∙ d.1 in
+            let one : d.0 ≡ t = cc in
+            keeps f.common (λ key. part_of f.bits (hash_in ways f key) == p) f.moment f.step (get_or f.parts p t) t after.later less (subst (λ x. Rel (get_or f.parts p t) x) one d.2) (k.kept p (get_or f.parts p t) here);
+        count = call.count ∙ k.count;
+        few = k.few;
+        share = k.share ∙ ap (λ n. option_map (share_of n) f.capacity) (sym call.count);
+        turns = k.turns;
+      }
+
+  pub all_stay_steady : (f g : Front K V P S R) (now step : ℕ) (Rel : State K V P S R → State K V P S R → Type 0) (parts : List (State K V P S R))
+      → f ≡ g → ComesAfter now step g → KeepsEach now step Rel → CallsEach Rel f.parts parts → Keeps f → Keeps (passed now step (record f { parts = parts }))
+  all_stay_steady f g now step Rel parts same after keeps call k =
+      let late : ComesAfter now step f = subst (λ x. ComesAfter now step x) (sym same) after in
+      ∥∥₁_map k (λ x. steady-each f now step Rel parts late keeps call x)
+
+  pub running_keeps : IsEquivalence ways.eq → (now step : ℕ) → KeepsEach now step (RunsPart ways.answers now)
+  running_keeps laws now step common belongs moment last s t later less run old = (calls_keep K V P S R).ran common ways.eq laws belongs ways.answers moment last now step s t later less run.runs old
+
+  pub clearing_keeps : (now step : ℕ) → KeepsEach now step (λ s t. t ≡ cleared_by step s)
+  clearing_keeps now step common belongs moment last s t later less cleared old =
+      subst (λ x. IsKept 63 ways.eq common belongs now step x) (sym cleared)
+      ((calls_keep K V P S R).cleared common 63 ways.eq belongs now step step s ((calls_keep K V P S R).later common 63 ways.eq belongs moment last now step s later less old))
+
+  pub all_sent : (f : Front K V P S R) → Keeps f → (place : ℕ) (s : State K V P S R) → slice_get f.parts place ≡ Some s → s.unsent ≡ []
+  all_sent f k place s at = ∥∥₁_elim k (Prim.hlevel props) (λ x. (x.kept place s at).sent)

@@ -1,5 +1,5 @@
 -- What a call does to a front, said of the part that its key belongs to.
-use Rattle.std.specs.Prelude.{◌≡◌, ℕ, ◌+◌, ◌^◌, ◌<◌, ◌≤◌, Bool, false, List, Option, Some, None, length, slice_get}
+use Rattle.std.specs.Prelude.{◌≡◌, ℕ, ◌+◌, ◌^◌, ◌<◌, ◌≤◌, Bool, false, List, Option, Some, None, Result, length, slice_get}
 use Rattle.engine_rules.specs.Hashing.{hash_of_key}
 use Rattle.engine_reference.specs.Records.{held_entries}
 use Rattle.engine_reference.specs.Scanning.{NotesLookUp}
@@ -8,8 +8,11 @@ use Rattle.engine_reference.specs.Telling.{AreApart}
 use Rattle.engine_reference.specs.Visible.{visible_value}
 use Rattle.engine_reference.specs.declared.data.Settings.{Settings}
 use Rattle.front_reference.specs.Fronts.{Front, CallsPart, IsSteady, part_by_hash}
-use Rattle.front_reference.specs.Parts.{IsReady, Inserts, TakesOut, held_value}
+use Rattle.front_reference.specs.Parts.{IsReady, Coalesces, Computes, Inserts, TakesOut, held_value}
 use Rattle.front_reference.specs.declared.data.At.{At}
+use Rattle.front_reference.specs.declared.data.Computed.{Computed}
+use Rattle.front_reference.specs.declared.data.Made.{Made}
+use Rattle.front_reference.specs.declared.data.Op.{Op}
 use Rattle.front_reference.specs.declared.errors.CacheError.{CacheError}
 use Rattle.front_reference.specs.declared.errors.CacheError.TheVariants as errors
 use Rattle.engine_lists.specs.Asking.{answers_of}
@@ -93,3 +96,11 @@ module _ {K V P S R : Type 0} (ways : Ways K V P S R) where
   -- a key is taken out
   abbrev pub TakesOutIn : K → At → Front K V P S R → Front K V P S R → Type 0
   TakesOutIn key at = CallsKey key at (λ hash. TakesOut ways.answers ways.eq key at.now)
+
+  -- a coalesced call, over what its closures may answer: what it answers, and whether that was made now
+  abbrev pub CoalescesIn : {F : Type 0} → K → At → (Ignores : V → Bool → Type 0) → (Makes : Made V F → Type 0) → Front K V P S R → Front K V P S R → Made V F → (is_fresh : Bool) → Type 0
+  CoalescesIn key at Ignores Makes old new answer is_fresh = CallsKey key at (λ hash s t. Coalesces ways.answers ways.eq key hash at.now at.step Ignores Makes s t answer is_fresh) old new
+
+  -- a compute call, over what its closure may decide
+  abbrev pub ComputesIn : {E : Type 0} → K → At → (Decides : Option V → Result (Op V) E → Type 0) → Front K V P S R → Front K V P S R → Result (Computed V) E → Type 0
+  ComputesIn key at Decides old new answer = CallsKey key at (λ hash s t. Computes ways.answers ways.eq key hash at.now at.step Decides s t answer) old new

@@ -4,5 +4,6 @@
 mod hashing;
 mod places;
 mod state;
+mod wholes;
 
 pub use state::LentState;

@@ -1,15 +1,17 @@
 //! Calls on the part at a place.
-ghost use Rattle.std.specs.Prelude.{◌≡◌, false, IfOk, IfErr, OnOk, OnErr, is_some, slice_get};
+ghost use Rattle.std.specs.Prelude.{◌≡◌, false, Ok, IfOk, IfErr, OnOk, OnErr, is_some, slice_get};
+ghost use Rattle.std.specs.Fn.{FnOnceReturnsAt};
 ghost use Rattle.engine_reference.specs.Calls.{removal_rooms};
 ghost use Rattle.engine_reference.specs.Scanning.{NotesLookUp};
 ghost use Rattle.engine_lists.specs.Asking.{answers_of};
-ghost use Rattle.front_reference.specs.Parts.{Inserts, TakesOut};
+ghost use Rattle.front_reference.specs.Parts.{Coalesces, Computes, Inserts, TakesOut};
 ghost use Rattle.front_reference.specs.Fronts.{CallsAt};
 ghost use Rattle.front_state.specs.Calls.{IsCauseOf, IsOpenAt, visible_of, held_of, ways_of};
 
 use engine_rules::{Names, Rules};
-use front_parts::{contains_key, get, insert, invalidate, remove};
-use front_reference::{At, CacheError};
+use front_keys::IntoKey;
+use front_parts::{coalesce, compute, contains_key, get, insert, invalidate, remove};
+use front_reference::{At, CacheError, Computed, Made, Op};
 use moka_engine::BaseCache;
 use policy_base::Instant;
 use std::alloc::AllocError;
@@ -128,6 +130,73 @@ pub(crate) fn invalidate_at<
     let part = &mut parts[place];
     match invalidate(part, key, hash, now) {
         Ok(()) => Ok(()),
+        Err(refused) => Err(refused),
+    }
+}
+
+/// `coalesce` on the part at a place.
+pub(crate) fn coalesce_at<
+    K: Eq + Hash + Drop,
+    V: Clone + Drop,
+    S: BuildHasher,
+    R: Rules<K, V>,
+    F: Drop,
+    Q: IntoKey<K>,
+    P: FnOnce(&V) -> bool + Drop,
+    M: FnOnce() -> Result<Made<V, F>, AllocError> + Drop,
+>(
+    parts: &mut Vec<BaseCache<K, V, S, R>>,
+    place: usize,
+    name: Q,
+    hash: u64,
+    at: At,
+    replace_if: P,
+    make: M,
+) -> Result<(Made<V, F>, bool), CacheError>
+    requires there { IsOpenAt (ways_of R.weight_of R.created R.read R.updated R.covers K.eq S.Hasher.finish S.Hasher.write S.build_hasher K.hash_input) place (Q.named_key name) hash parts.old.items }
+    requires becomes { Q.can_become name }
+    requires exact { (x y : V) → V.is_clone x y → y ≡ x }
+    requires callable { P.IsAlwaysCallable replace_if × M.IsAlwaysCallable make }
+    ensures answer { IfOk result (λ answer. CallsAt place (λ s t. Coalesces (answers_of R.weight_of R.created R.read R.updated R.covers) K.eq (Q.named_key name) hash at.now at.step (FnOnceReturnsAt P.FnOnce replace_if) (λ made. M.post make (Ok made)) s t answer.0 answer.1) parts.old.items parts.new.items) }
+    ensures err { OnErr result (parts.new.items ≡ parts.old.items) }
+    ensures cause { IfErr result (IsCauseOf (ways_of R.weight_of R.created R.read R.updated R.covers K.eq S.Hasher.finish S.Hasher.write S.build_hasher K.hash_input) (λ _. 1) (slice_get parts.old.items place)) }
+{
+    let part = &mut parts[place];
+    match coalesce(part, name, hash, at, replace_if, make) {
+        Ok(answer) => Ok(answer),
+        Err(refused) => Err(refused),
+    }
+}
+
+/// `compute` on the part at a place.
+pub(crate) fn compute_at<
+    K: Eq + Hash + Clone + Drop,
+    V: Clone + Drop,
+    S: BuildHasher,
+    R: Rules<K, V>,
+    E: Drop,
+    Q: IntoKey<K>,
+    D: FnOnce(Option<V>) -> Result<Op<V>, E> + Drop,
+>(
+    parts: &mut Vec<BaseCache<K, V, S, R>>,
+    place: usize,
+    name: Q,
+    hash: u64,
+    at: At,
+    decide: D,
+) -> Result<Result<Computed<V>, E>, CacheError>
+    requires there { IsOpenAt (ways_of R.weight_of R.created R.read R.updated R.covers K.eq S.Hasher.finish S.Hasher.write S.build_hasher K.hash_input) place (Q.named_key name) hash parts.old.items }
+    requires becomes { Q.can_become name }
+    requires exact_key { (x y : K) → K.is_clone x y → y ≡ x }
+    requires exact { (x y : V) → V.is_clone x y → y ≡ x }
+    requires decides { D.IsAlwaysCallable decide }
+    ensures computes { IfOk result (λ answer. CallsAt place (λ s t. Computes (answers_of R.weight_of R.created R.read R.updated R.covers) K.eq (Q.named_key name) hash at.now at.step (λ seen decided. D.post decide seen decided) s t answer) parts.old.items parts.new.items) }
+    ensures err { OnErr result (parts.new.items ≡ parts.old.items) }
+    ensures cause { IfErr result (IsCauseOf (ways_of R.weight_of R.created R.read R.updated R.covers K.eq S.Hasher.finish S.Hasher.write S.build_hasher K.hash_input) removal_rooms (slice_get parts.old.items place)) }
+{
+    let part = &mut parts[place];
+    match compute(part, name, hash, at, decide) {
+        Ok(answer) => Ok(answer),
         Err(refused) => Err(refused),
     }
 }

@@ -1,15 +1,21 @@
 //! The state of a cache that is lent.
-ghost use Rattle.std.specs.Prelude.{◌≡◌, ◌<◌, ◌≤◌, ◌^◌, IfOk, IfErr, OnOk, OnErr, is_some};
-ghost use Rattle.engine_reference.specs.Calls.{removal_rooms};
-ghost use Rattle.front_reference.specs.Fronts.{ComesAfter};
-ghost use Rattle.front_state.specs.Calls.{InsertsIn, IsCauseIn, LooksUpIn, TakesOutIn, hash_in, held_value_in, visible_in, ways_of};
+ghost use Rattle.std.specs.Prelude.{◌≡◌, ◌<◌, ◌≤◌, ◌^◌, Ok, IfOk, IfErr, OnOk, OnErr, is_some};
+ghost use Rattle.std.specs.Fn.{FnOnceReturnsAt};
+ghost use Rattle.engine_reference.specs.Calls.{cleared_by, removal_rooms};
+ghost use Rattle.engine_lists.specs.Asking.{answers_of};
+ghost use Rattle.front_reference.specs.Fronts.{CallsAll, ComesAfter};
+ghost use Rattle.front_reference.specs.Wholes.{RunsPart};
+ghost use Rattle.front_state.specs.Calls.{CoalescesIn, ComputesIn, InsertsIn, IsCauseIn, LooksUpIn, TakesOutIn, hash_in, held_value_in, visible_in, ways_of};
 
 use crate::hashing::{hash_key, place_of};
-use crate::places::{contains_key_at, get_at, insert_at, invalidate_at, remove_at};
+use crate::places::{
+    coalesce_at, compute_at, contains_key_at, get_at, insert_at, invalidate_at, remove_at,
+};
+use crate::wholes::{clear_all, run_all};
 use engine_reference::Settings;
 use engine_rules::{Names, Rules};
-use front_keys::{LentKey, Shared};
-use front_reference::{At, CacheError, OpenTurn};
+use front_keys::{IntoKey, LentKey, Shared};
+use front_reference::{At, CacheError, Computed, Made, Op, OpenTurn};
 use moka_engine::BaseCache;
 use policy_base::Instant;
 use std::alloc::{AllocError, Global};
@@ -163,5 +169,102 @@ impl<K: Eq + Hash, V, S: BuildHasher, R: Rules<K, V>> LentState<K, V, S, R> {
         self.moment = now;
         self.step = step;
         Ok(())
+    }
+
+    /// The visible value of a key, of which it is a use, and false; or what `make` makes, and true: a value is then inserted. A visible value of which `replace_if` says yes counts as none.
+    /// Closures run before anything changes, and the key is made only where a value is inserted. `make` may be refused for memory, and then so is the call.
+    pub fn coalesce<
+        F: Drop,
+        Q: IntoKey<Shared<K>>,
+        P: FnOnce(&V) -> bool + Drop,
+        M: FnOnce() -> Result<Made<V, F>, AllocError> + Drop,
+    >(
+        &mut self,
+        name: Q,
+        hash: u64,
+        at: At,
+        replace_if: P,
+        make: M,
+    ) -> Result<(Made<V, F>, bool), CacheError>
+    where
+        K: Drop,
+        V: Clone + Drop,
+        requires hashed { hash ≡ hash_in (ways_of R.weight_of R.created R.read R.updated R.covers K.eq S.Hasher.finish S.Hasher.write S.build_hasher K.hash_input) self.old (Q.named_key name) }
+        requires becomes { Q.can_become name }
+        requires exact { (x y : V) → V.is_clone x y → y ≡ x }
+        requires callable { P.IsAlwaysCallable replace_if × M.IsAlwaysCallable make }
+        requires follows { ComesAfter at.now at.step self.old }
+        ensures answer { IfOk result (λ answer. CoalescesIn (ways_of R.weight_of R.created R.read R.updated R.covers K.eq S.Hasher.finish S.Hasher.write S.build_hasher K.hash_input) (Q.named_key name) at (FnOnceReturnsAt P.FnOnce replace_if) (λ made. M.post make (Ok made)) self.old self.new answer.0 answer.1) }
+        ensures err { OnErr result (self.new ≡ self.old) }
+        ensures cause { IfErr result (IsCauseIn (ways_of R.weight_of R.created R.read R.updated R.covers K.eq S.Hasher.finish S.Hasher.write S.build_hasher K.hash_input) (λ _. 1) self.old (Q.named_key name)) }
+    {
+        let At { now, step } = at;
+        let place = place_of(self.bits, hash);
+        let answer = coalesce_at(
+            &mut self.parts,
+            place,
+            name,
+            hash,
+            At { now, step },
+            replace_if,
+            make,
+        )?;
+        self.moment = now;
+        self.step = step;
+        Ok(answer)
+    }
+
+    /// Lets a closure decide by the visible value of a key what is to be done with it, and does so after the look-up's read. Where the closure fails nothing is done but that read, and its error is answered.
+    /// The closure runs before anything changes, and the key is made only where a value is put.
+    pub fn compute<E: Drop, Q: IntoKey<Shared<K>>, D: FnOnce(Option<V>) -> Result<Op<V>, E> + Drop>(
+        &mut self,
+        name: Q,
+        hash: u64,
+        at: At,
+        decide: D,
+    ) -> Result<Result<Computed<V>, E>, CacheError>
+    where
+        K: Drop,
+        V: Clone + Drop,
+        requires hashed { hash ≡ hash_in (ways_of R.weight_of R.created R.read R.updated R.covers K.eq S.Hasher.finish S.Hasher.write S.build_hasher K.hash_input) self.old (Q.named_key name) }
+        requires becomes { Q.can_become name }
+        requires exact { (x y : V) → V.is_clone x y → y ≡ x }
+        requires callable { D.IsAlwaysCallable decide }
+        requires follows { ComesAfter at.now at.step self.old }
+        ensures computes { IfOk result (λ answer. ComputesIn (ways_of R.weight_of R.created R.read R.updated R.covers K.eq S.Hasher.finish S.Hasher.write S.build_hasher K.hash_input) (Q.named_key name) at (λ seen decided. D.post decide seen decided) self.old self.new answer) }
+        ensures err { OnErr result (self.new ≡ self.old) }
+        ensures cause { IfErr result (IsCauseIn (ways_of R.weight_of R.created R.read R.updated R.covers K.eq S.Hasher.finish S.Hasher.write S.build_hasher K.hash_input) removal_rooms self.old (Q.named_key name)) }
+    {
+        let At { now, step } = at;
+        let place = place_of(self.bits, hash);
+        let answer = compute_at(&mut self.parts, place, name, hash, At { now, step }, decide)?;
+        self.moment = now;
+        self.step = step;
+        Ok(answer)
+    }
+
+    /// Runs maintenance of each part to its end, after which the counts are exact.
+    pub fn run_pending_tasks(&mut self, at: At)
+    where
+        K: Drop,
+        V: Drop,
+        requires { ComesAfter at.now at.step self.old }
+        ensures { CallsAll at.now at.step (RunsPart (answers_of R.weight_of R.created R.read R.updated R.covers) at.now) self.old self.new }
+    {
+        let At { now, step } = at;
+        run_all(&mut self.parts, now);
+        self.moment = now;
+        self.step = step;
+    }
+
+    /// Covers every value that was written at an earlier step.
+    pub fn invalidate_all(&mut self, at: At)
+        requires { ComesAfter at.now at.step self.old }
+        ensures { CallsAll at.now at.step (λ s t. t ≡ cleared_by at.step s) self.old self.new }
+    {
+        let At { now, step } = at;
+        clear_all(&mut self.parts, step);
+        self.moment = now;
+        self.step = step;
     }
 }

@@ -1,4 +1,4 @@
-use Rattle.front_state.proofs.Steady.{called_at}
+use Rattle.front_state.proofs.Lists.{called_at}
 use Rattle.front_state.proofs.places.get_at.Goals as goal
 
 pub returns-clause-used : goal.returns-clause-used

@@ -1,4 +1,5 @@
-use Rattle.front_state.proofs.Steady.{called_at, caused, there}
+use Rattle.front_state.proofs.Lists.{called_at, there}
+use Rattle.front_state.proofs.Steady.{caused}
 use Rattle.front_state.specs.Calls.{ways_of}
 use Rattle.front_state.proofs.places.insert_at.Goals as goal
 

@@ -1,5 +1,6 @@
 use Rattle.engine_reference.specs.Calls.{removal_rooms}
-use Rattle.front_state.proofs.Steady.{called_at, caused, there}
+use Rattle.front_state.proofs.Lists.{called_at, there}
+use Rattle.front_state.proofs.Steady.{caused}
 use Rattle.front_state.specs.Calls.{ways_of}
 use Rattle.front_state.proofs.places.invalidate_at.Goals as goal
 
