@@ -19,8 +19,8 @@ use policy_base::Instant;
 use std::alloc::AllocError;
 use std::hash::{BuildHasher, Hash, Hasher};
 
-/// A clone of the visible value of a key, unless `replace_if` says yes of it; then it is passed over, which the first of the two answers. No other value is asked about.
-fn look<
+/// A clone of the visible value of a key, unless `replace_if` says yes of it; then it is passed over, which the first of the two answers. No other value is asked about. It is no use of it.
+pub fn look<
     K: Eq + Hash,
     V: Clone,
     S: BuildHasher,

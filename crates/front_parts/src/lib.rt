@@ -6,7 +6,7 @@ mod computed;
 mod part;
 mod removals;
 
-pub use coalesced::coalesce;
+pub use coalesced::{coalesce, look};
 pub use computed::compute;
 pub use part::{contains_key, get, insert, insert_reserved, reserve_insert, run_pending_tasks};
 pub use removals::{invalidate, remove};

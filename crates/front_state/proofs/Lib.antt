@@ -1,3 +1,4 @@
 pub mod Lists
 pub mod Eaches
+pub mod Turned
 pub mod Steady

@@ -1,21 +1,22 @@
 -- A call that comes to the part of a key keeps the front steady.
-use Rattle.std.proofs.Common.{◌≡◌, refl, ap, sym, ◌∙◌, subst, ℕ, ◌^◌, ◌<◌, ◌≤◌, arith, Bool, true, List, [], ◌∷◌, length, get_or, Option, Some, None, inl, inr}
+use Rattle.std.proofs.Common.{◌≡◌, refl, ap, sym, ◌∙◌, subst, ℕ, ◌^◌, ◌<◌, ◌≤◌, arith, Bool, true, List, [], ◌∷◌, length, get_or, Option, Some, None, inl, inr, ◌+◌, ◌++◌}
 use Rattle.std.proofs.Math.Logic.{∥∥₁_elim, ∥∥₁_map}
 use Rattle.std.proofs.Props.{props}
 use Rattle.std.proofs.lemmas.Bool.{eq-eqb}
 use Rattle.std.proofs.lemmas.Option.{slice_get_within, slice_get-get_or}
-use Rattle.std.specs.Prelude.{slice_get, option_map, ◌==◌, Result}
+use Rattle.std.specs.Prelude.{slice_get, option_map, ◌==◌, Result, IfOk, Ok, Err}
 use Rattle.std.specs.Cmp.{IsEquivalence}
 use Rattle.engine_reference.specs.Records.{held_entries}
 use Rattle.engine_reference.specs.Calls.{cleared_by}
-use Rattle.engine_reference.specs.Scanning.{NotesLookUp}
+use Rattle.engine_reference.specs.Scanning.{NotesLookUp, past}
 use Rattle.engine_reference.specs.State.{State}
 use Rattle.engine_reference.specs.declared.data.Entry.{Entry}
 use Rattle.engine_reference.specs.Telling.{AreApart, entry_of}
+use Rattle.engine_reference.specs.Visible.{visible_value}
 use Rattle.front_reference.specs.Keeping.{Common, IsKept}
 use Rattle.front_reference.specs.Parts.{IsCause, Inserts, TakesOut}
 use Rattle.front_reference.specs.Wholes.{RunsPart}
-use Rattle.front_reference.specs.Fronts.{Front, CallsAll, CallsAt, ComesAfter, passed, share_of, part_of, CallsEach, CallsPart}
+use Rattle.front_reference.specs.Fronts.{Front, CallsAll, CallsAt, ComesAfter, passed, share_of, part_of, CallsEach, CallsPart, turn_of, part_by_hash}
 use Rattle.engine_reference.specs.declared.data.Settings.{Settings}
 use Rattle.front_reference.specs.declared.errors.CacheError.{CacheError}
 use Rattle.front_reference.specs.declared.errors.CacheError.TheVariants as errors
@@ -26,7 +27,14 @@ use Rattle.front_reference.specs.declared.data.Made.{Made}
 use Rattle.front_reference.specs.declared.data.Op.{Op}
 use Rattle.front_laws.proofs.Kept.{calls_keep, kept-coalesced, kept-computed}
 use Rattle.front_state.proofs.Lists.{length-set_at, one_set}
-use Rattle.front_state.specs.Calls.{Ways, IsCauseOf, IsOpenAt, IsSteadyBy, LacksTickets, hash_in, CoalescesIn, ComputesIn}
+use Rattle.front_reference.specs.Turns.{Begins, found_or, wait_or_lead, with_turn}
+use Rattle.front_reference.specs.declared.data.TurnKind.{TurnKind}
+use Rattle.front_reference.specs.declared.data.OpenTurn.{OpenTurn}
+use Rattle.front_reference.specs.declared.data.TurnStart.{TurnStart}
+use Rattle.front_reference.specs.declared.data.TurnStart.TheVariants.{Found, Wait, Lead}
+use Rattle.front_state.specs.Turning.{Leads, WaitsOrLeads}
+use Rattle.front_state.proofs.Turned.{turns-append}
+use Rattle.front_state.specs.Calls.{Ways, IsCauseOf, IsOpenAt, IsSteadyBy, LacksTickets, hash_in, CoalescesIn, ComputesIn, visible_of}
 
 -- what is there or not is known
 untruncated : {X : Type 0} (o : Option X) → ∥ o ≡ None ∥₁ → o ≡ None
@@ -36,6 +44,10 @@ untruncated (Some x) h = absurd (∥∥₁_elim h (Prim.hlevel props) (λ (e : S
 apart-untruncated : {K V : Type 0} (eq : K → K → Bool) (es : List (Entry K V)) → ∥ AreApart eq es ∥₁ → AreApart eq es
 apart-untruncated eq [] h = tt
 apart-untruncated eq (e ∷ es) h = (untruncated (entry_of eq es e.key) (∥∥₁_map h (λ k. k.0)), apart-untruncated eq es (∥∥₁_map h (λ k. k.1)))
+
+pub if_ok-map : {X E : Type 0} (A B : X → Type 0) (r : Result X E) → ((x : X) → A x → B x) → IfOk r A → IfOk r B
+if_ok-map A B (Ok x) f h = f x h
+if_ok-map A B (Err e) f h = h
 
 module _ {K V P S R : Type 0} (ways : Ways K V P S R) where
   pub caused : (rooms : Settings → ℕ) (o : Option (State K V P S R)) (s : State K V P S R) (e : CacheError) → o ≡ Some s → IsCause (rooms s.settings) s e → IsCauseOf ways rooms o e
@@ -188,3 +200,126 @@ module _ {K V P S R : Type 0} (ways : Ways K V P S R) where
 
   pub all_sent : (f : Front K V P S R) → Keeps f → (place : ℕ) (s : State K V P S R) → slice_get f.parts place ≡ Some s → s.unsent ≡ []
   all_sent f k place s at = ∥∥₁_elim k (Prim.hlevel props) (λ x. (x.kept place s at).sent)
+
+  -- ---- turns
+
+  steady-with_turn : IsEquivalence ways.eq → (f : Front K V P S R) (kind : TurnKind) (key : K) (h : ℕ) → h ≡ hash_in ways f key → turn_of ways.eq f.turns kind key ≡ None → IsSteadyBy ways f → IsSteadyBy ways (with_turn kind key h f)
+  steady-with_turn laws f kind key h is free k = record {
+    kept = k.kept;
+    count = k.count;
+    few = k.few;
+    share = k.share;
+    turns = turns-append ways.eq laws (ways.hash f.common.hasher) f.next_turn f.turns (record { number = f.next_turn; kind = kind; key = key; hash = h }) refl is free k.turns;
+  }
+
+  -- the turns with one that begins
+  abbrev pub BeginsTurn : TurnKind → K → ℕ → Front K V P S R → List (OpenTurn K) → Type 0
+  BeginsTurn kind key h f ts = ts ≡ (with_turn kind key h f).turns
+
+  pub begun_turns : (old before after : List (OpenTurn K)) (next : ℕ) (kind : TurnKind) (key : K) (h : ℕ) (t : OpenTurn K) → after ≡ before ++ t ∷ [] → before ≡ old → t ≡ (record { number = next; kind = kind; key = key; hash = h })
+      → after ≡ old ++ (record { number = next; kind = kind; key = key; hash = h }) ∷ []
+  begun_turns old before after next kind key h t pushed same is = pushed ∙ ap (λ xs. xs ++ t ∷ []) same ∙ ap (λ x. old ++ x ∷ []) is
+
+  pub noted_key : (place h now : ℕ) (ignored : Bool) (k key : K) (parts new : List (State K V P S R)) → k ≡ key → CallsAt place (NotesLookUp ways.answers ways.eq k h now ignored) parts new → CallsAt place (NotesLookUp ways.answers ways.eq key h now ignored) parts new
+  noted_key place h now ignored k key parts new is call = subst (λ x. CallsAt place (NotesLookUp ways.answers ways.eq x h now ignored) parts new) is call
+
+  pub leads_steadily : IsEquivalence ways.eq → (f g : Front K V P S R) (now step place h : ℕ) (kind : TurnKind) (key : K) (ignored : Bool) (parts : List (State K V P S R)) (ts : List (OpenTurn K))
+      → f ≡ g → ComesAfter now step g → h ≡ hash_in ways f key → place ≡ part_of f.bits h → turn_of ways.eq g.turns kind key ≡ None → CallsAt place (NotesLookUp ways.answers ways.eq key h now ignored) f.parts parts → BeginsTurn kind key h f ts → Keeps f
+      → Keeps (record (passed now step (record f { parts = parts })) { turns = ts; next_turn = f.next_turn + 1 })
+  leads_steadily laws f g now step place h kind key ignored parts ts same after is placed free call begun k =
+      let none : turn_of ways.eq f.turns kind key ≡ None = ap (λ (x : Front K V P S R). turn_of ways.eq x.turns kind key) same ∙ free in
+      subst (λ us. Keeps (record (passed now step (record f { parts = parts })) { turns = us; next_turn = f.next_turn + 1 })) (sym begun)
+      (∥∥₁_map (stays_steady f g now step place h key (NotesLookUp ways.answers ways.eq key h now ignored) parts same after is placed (looking_keeps laws key h now step ignored) call k)
+      (λ x. steady-with_turn laws (passed now step (record f { parts = parts })) kind key h is none x))
+
+  -- the part of a hash that is known
+  pub called_hash : (f g : Front K V P S R) (now step place h : ℕ) (Rel : State K V P S R → State K V P S R → Type 0) (parts : List (State K V P S R))
+      → f ≡ g → place ≡ part_of f.bits h → CallsAt place Rel f.parts parts → CallsPart h now step Rel g (passed now step (record f { parts = parts }))
+  called_hash f g now step place h Rel parts same placed call =
+      subst (λ (x : Front K V P S R). CallsPart h now step Rel x (passed now step (record f { parts = parts }))) same
+      (record { parts = parts; call = subst (λ p. CallsAt p Rel f.parts parts) placed call; changed = refl })
+
+  pub led : (f g : Front K V P S R) (at : At) (place h : ℕ) (kind : TurnKind) (key : K) (ignored : Bool) (parts : List (State K V P S R)) (ts : List (OpenTurn K))
+      → f ≡ g → place ≡ part_of f.bits h → CallsAt place (NotesLookUp ways.answers ways.eq key h at.now ignored) f.parts parts → BeginsTurn kind key h f ts
+      → Leads ways kind key h at ignored g (record (passed at.now at.step (record f { parts = parts })) { turns = ts; next_turn = f.next_turn + 1 }) f.next_turn
+  led f g at place h kind key ignored parts ts same placed call begun = record {
+    mid = passed at.now at.step (record f { parts = parts });
+    looks = called_hash f g at.now at.step place h (NotesLookUp ways.answers ways.eq key h at.now ignored) parts same placed call;
+    first = ap (λ (x : Front K V P S R). x.next_turn) same;
+    opens = ap (λ (us : List (OpenTurn K)). record (passed at.now at.step (record f { parts = parts })) { turns = us; next_turn = f.next_turn + 1 }) begun;
+  }
+
+  -- ---- what was looked at
+
+  pub found_by : (o : Option (State K V P S R)) (s : State K V P S R) (now : ℕ) (key : K) (ignored : Bool) (found : Option V) → o ≡ Some s → found ≡ past ignored (visible_value ways.answers ways.eq s now key) → found ≡ past ignored (visible_of ways o now key)
+  found_by o s now key ignored found at is = is ∙ ap (λ x. past ignored (visible_of ways x now key)) (sym at)
+
+  pub asked_by : (o : Option (State K V P S R)) (s : State K V P S R) (now : ℕ) (key : K) (Asks : V → Type 0) → o ≡ Some s → ((v : V) → visible_value ways.answers ways.eq s now key ≡ Some v → Asks v) → (v : V) → visible_of ways o now key ≡ Some v → Asks v
+  asked_by o s now key Asks at asked v is = asked v (sym (ap (λ x. visible_of ways x now key) at) ∙ is)
+
+  pub same_part : (f g : Front K V P S R) (place h : ℕ) → f ≡ g → place ≡ part_of f.bits h → slice_get f.parts place ≡ part_by_hash g h
+  same_part f g place h same placed = ap (λ n. slice_get f.parts n) placed ∙ ap (λ (x : Front K V P S R). part_by_hash x h) same
+
+  abbrev pub waiting : ℕ → TurnStart V
+  waiting n = Wait n
+
+  abbrev pub leading : ℕ → TurnStart V
+  leading n = Lead n
+
+  waits-or : (o : Option (OpenTurn K)) (n : ℕ) (kind : TurnKind) (key : K) (h : ℕ) (f : Front K V P S R) → Some n ≡ option_map (λ t. t.number) o → (waiting n, f) ≡ wait_or_lead o kind key h f
+  waits-or None n kind key h f e = absurd (let no : ⊥ = cc in no)
+  waits-or (Some t) n kind key h f e = let same : n ≡ t.number = cc in ap (λ m. (waiting m, f)) same
+
+  pub none_under : (o : Option (OpenTurn K)) → None ≡ option_map (λ t. t.number) o → o ≡ None
+  none_under None e = refl
+  none_under (Some t) e = absurd (let no : ⊥ = cc in no)
+
+  pub waited : (f g : Front K V P S R) (kind : TurnKind) (key : K) (h : ℕ) (at : At) (ignored : Bool) (n : ℕ) → Some n ≡ option_map (λ t. t.number) (turn_of ways.eq f.turns kind key)
+      → CallsPart h at.now at.step (NotesLookUp ways.answers ways.eq key h at.now ignored) f g → WaitsOrLeads ways kind key h at ignored f g (Wait n)
+  waited f g kind key h at ignored n is call = record {
+    mid = g;
+    looks = call;
+    ends = waits-or (turn_of ways.eq g.turns kind key) n kind key h g (is ∙ ap (λ (x : Front K V P S R). option_map (λ t. t.number) (turn_of ways.eq x.turns kind key)) (sym call.changed));
+  }
+
+  pub led_on : (f g : Front K V P S R) (kind : TurnKind) (key : K) (h : ℕ) (at : At) (ignored : Bool) (n : ℕ) → None ≡ option_map (λ t. t.number) (turn_of ways.eq f.turns kind key)
+      → Leads ways kind key h at ignored f g n → WaitsOrLeads ways kind key h at ignored f g (Lead n)
+  led_on f g kind key h at ignored n is l =
+      let none : turn_of ways.eq l.mid.turns kind key ≡ None = ap (λ (x : Front K V P S R). turn_of ways.eq x.turns kind key) l.looks.changed ∙ none_under (turn_of ways.eq f.turns kind key) is in
+      let first : n ≡ l.mid.next_turn = l.first ∙ ap (λ (x : Front K V P S R). x.next_turn) (sym l.looks.changed) in
+      record {
+        mid = l.mid;
+        looks = l.looks;
+        ends = ap (λ (x : Front K V P S R). (leading n, x)) l.opens ∙ ap (λ m. (leading m, with_turn kind key h l.mid)) first ∙ ap (λ o. wait_or_lead o kind key h l.mid) (sym none);
+      }
+
+  pub begun_found : (f g : Front K V P S R) (kind : TurnKind) (key : K) (h now step : ℕ) (Ignores : V → Bool → Type 0) (ignored : Bool) (value : V)
+      → ((v : V) → visible_of ways (part_by_hash f h) now key ≡ Some v → Ignores v ignored) → Some value ≡ past ignored (visible_of ways (part_by_hash f h) now key)
+      → CallsPart h now step (NotesLookUp ways.answers ways.eq key h now ignored) f g → Begins ways.answers ways.eq kind key h now step Ignores f g (Found value)
+  begun_found f g kind key h now step Ignores ignored value asked found call =
+      let seen = λ (o : Option (State K V P S R)). visible_of ways o now key in
+      record {
+        part = call.call.before;
+        there = call.call.there;
+        ignored = ignored;
+        asked = λ v is. asked v (ap seen call.call.there ∙ is);
+        mid = g;
+        looks = call;
+        ends = ap (λ o. found_or o (wait_or_lead (turn_of ways.eq g.turns kind key) kind key h g) g) (found ∙ ap (λ o. past ignored (seen o)) call.call.there);
+      }
+
+  pub begun_else : (f g : Front K V P S R) (kind : TurnKind) (key : K) (h : ℕ) (at : At) (Ignores : V → Bool → Type 0) (ignored : Bool) (start : TurnStart V)
+      → ((v : V) → visible_of ways (part_by_hash f h) at.now key ≡ Some v → Ignores v ignored) → None ≡ past ignored (visible_of ways (part_by_hash f h) at.now key)
+      → WaitsOrLeads ways kind key h at ignored f g start → Begins ways.answers ways.eq kind key h at.now at.step Ignores f g start
+  begun_else f g kind key h at Ignores ignored start asked found w =
+      let seen = λ (o : Option (State K V P S R)). visible_of ways o at.now key in
+      let there = w.looks.call.there in
+      record {
+        part = w.looks.call.before;
+        there = there;
+        ignored = ignored;
+        asked = λ v is. asked v (ap seen there ∙ is);
+        mid = w.mid;
+        looks = w.looks;
+        ends = w.ends ∙ ap (λ o. found_or o (wait_or_lead (turn_of ways.eq w.mid.turns kind key) kind key h w.mid) w.mid) (found ∙ ap (λ o. past ignored (seen o)) there);
+      }

@@ -4,6 +4,7 @@
 mod hashing;
 mod places;
 mod state;
+mod turns;
 mod wholes;
 
 pub use state::LentState;

@@ -1,8 +1,8 @@
 //! Calls on the part at a place.
-ghost use Rattle.std.specs.Prelude.{◌≡◌, false, Ok, IfOk, IfErr, OnOk, OnErr, is_some, slice_get};
+ghost use Rattle.std.specs.Prelude.{◌≡◌, false, Ok, Some, IfOk, IfErr, OnOk, OnErr, is_some, slice_get};
 ghost use Rattle.std.specs.Fn.{FnOnceReturnsAt};
 ghost use Rattle.engine_reference.specs.Calls.{removal_rooms};
-ghost use Rattle.engine_reference.specs.Scanning.{NotesLookUp};
+ghost use Rattle.engine_reference.specs.Scanning.{NotesLookUp, past};
 ghost use Rattle.engine_lists.specs.Asking.{answers_of};
 ghost use Rattle.front_reference.specs.Parts.{Coalesces, Computes, Inserts, TakesOut};
 ghost use Rattle.front_reference.specs.Fronts.{CallsAt};
@@ -10,7 +10,7 @@ ghost use Rattle.front_state.specs.Calls.{IsCauseOf, IsOpenAt, visible_of, held_
 
 use engine_rules::{Names, Rules};
 use front_keys::IntoKey;
-use front_parts::{coalesce, compute, contains_key, get, insert, invalidate, remove};
+use front_parts::{coalesce, compute, contains_key, get, insert, invalidate, look, remove};
 use front_reference::{At, CacheError, Computed, Made, Op};
 use moka_engine::BaseCache;
 use policy_base::Instant;
@@ -199,4 +199,46 @@ pub(crate) fn compute_at<
         Ok(answer) => Ok(answer),
         Err(refused) => Err(refused),
     }
+}
+
+/// `look` at the part at a place: whether what is visible is passed over, and a clone of what is not.
+pub(crate) fn look_at<
+    K: Eq + Hash,
+    V: Clone,
+    S: BuildHasher,
+    R: Rules<K, V>,
+    Q: Names<K>,
+    P: FnOnce(&V) -> bool + Drop,
+>(
+    parts: &[BaseCache<K, V, S, R>],
+    place: usize,
+    key: &Q,
+    hash: u64,
+    now: Instant,
+    replace_if: P,
+) -> Result<(bool, Option<V>), AllocError>
+    requires there { IsOpenAt (ways_of R.weight_of R.created R.read R.updated R.covers K.eq S.Hasher.finish S.Hasher.write S.build_hasher K.hash_input) place (Q.named_key key.now) hash parts.now }
+    requires exact { (x y : V) → V.is_clone x y → y ≡ x }
+    requires callable { P.IsAlwaysCallable replace_if }
+    ensures asked { IfOk result (λ looked. (value : V) → visible_of (ways_of R.weight_of R.created R.read R.updated R.covers K.eq S.Hasher.finish S.Hasher.write S.build_hasher K.hash_input) (slice_get parts.now place) now (Q.named_key key.now) ≡ Some value → FnOnceReturnsAt P.FnOnce replace_if value looked.0) }
+    ensures found { IfOk result (λ looked. looked.1 ≡ past looked.0 (visible_of (ways_of R.weight_of R.created R.read R.updated R.covers K.eq S.Hasher.finish S.Hasher.write S.build_hasher K.hash_input) (slice_get parts.now place) now (Q.named_key key.now))) }
+{
+    let looked = look(&parts[place], key, hash, now, replace_if)?;
+    Ok(looked)
+}
+
+/// Notes a look-up in the part at a place.
+pub(crate) fn note_at<K: Eq + Hash + Drop, V: Drop, S: BuildHasher, R: Rules<K, V>, Q: Names<K>>(
+    parts: &mut Vec<BaseCache<K, V, S, R>>,
+    place: usize,
+    key: &Q,
+    hash: u64,
+    now: Instant,
+    ignored: bool,
+)
+    requires there { IsOpenAt (ways_of R.weight_of R.created R.read R.updated R.covers K.eq S.Hasher.finish S.Hasher.write S.build_hasher K.hash_input) place (Q.named_key key.now) hash parts.old.items }
+    ensures { CallsAt place (NotesLookUp (answers_of R.weight_of R.created R.read R.updated R.covers) K.eq (Q.named_key key.now) hash now ignored) parts.old.items parts.new.items }
+{
+    let part = &mut parts[place];
+    part.note_look_up(key, hash, now, ignored);
 }

@@ -22,6 +22,8 @@ use std::alloc::{AllocError, Global};
 use std::hash::{BuildHasher, Hash, Hasher};
 use std::marker::Model;
 
+mod turning;
+
 /// A cache of 2^bits parts that is lent by `&mut`, so that each call is alone. Each key belongs to the part that the upper bits of its hash say.
 /// Each call is told its moment and its step: moments never fall, steps rise. A call that is refused has changed nothing, its moment and step included.
 #[derive(Drop)]

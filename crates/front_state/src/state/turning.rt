@@ -1,0 +1,169 @@
+//! Turns: calls that make a value, one at a time for a kind and a key.
+ghost use Rattle.std.specs.Prelude.{◌≡◌, ◌+◌, ◌<◌, ◌≤◌, ◌^◌, true, false, Some, None, IfOk, IfErr, OnOk, OnErr, is_none, is_some, option_map};
+ghost use Rattle.std.specs.Fn.{FnOnceReturnsAt};
+ghost use Rattle.engine_reference.specs.Scanning.{NotesLookUp, past};
+ghost use Rattle.engine_lists.specs.Asking.{answers_of};
+ghost use Rattle.front_reference.specs.Fronts.{CallsPart, ComesAfter, part_by_hash, turn_at, turn_of};
+ghost use Rattle.front_reference.specs.Turns.{Begins, abandoned, begun_compute};
+ghost use Rattle.front_reference.specs.declared.data.TurnKind.TheVariants as turns;
+ghost use Rattle.front_state.specs.Calls.{hash_in, visible_of, ways_of};
+ghost use Rattle.front_state.specs.Turning.{IsTurnCause, Leads, WaitsOrLeads};
+
+use crate::hashing::place_of;
+use crate::places::{look_at, note_at};
+use crate::state::LentState;
+use crate::turns::{find_turn, make_turn, place_of_turn};
+use engine_rules::{Names, Rules};
+use front_keys::{IntoKey, LentKey, Shared};
+use front_reference::{At, CacheError, TurnKind, TurnStart};
+use policy_base::Instant;
+use std::alloc::AllocError;
+use std::hash::{BuildHasher, Hash, Hasher};
+
+impl<K: Eq + Hash, V, S: BuildHasher, R: Rules<K, V>> LentState<K, V, S, R> {
+    /// Whether no turn of a kind and a key is under way.
+    pub fn is_turn_free(&self, kind: TurnKind, key: &K) -> bool
+        ensures { result ≡ is_none (turn_of K.eq self.now.turns kind key.now) }
+    {
+        self.turn_number(kind, &LentKey { key }).is_none()
+    }
+
+    /// The number of the turn of a kind and a key.
+    fn turn_number<Q: Names<Shared<K>>>(&self, kind: TurnKind, key: &Q) -> Option<u64>
+        ensures { result ≡ option_map (λ t. t.number) (turn_of K.eq self.now.turns kind (Q.named_key key.now)) }
+    {
+        find_turn(self.turns.as_slice(), kind, key)
+    }
+
+    /// A clone of the visible value of a key, unless `replace_if` says yes of it; then it is passed over, which the first of the two answers. It is no use of it.
+    fn look<Q: Names<Shared<K>>, P: FnOnce(&V) -> bool + Drop>(
+        &self,
+        key: &Q,
+        hash: u64,
+        now: Instant,
+        replace_if: P,
+    ) -> Result<(bool, Option<V>), AllocError>
+    where
+        V: Clone,
+        requires hashed { hash ≡ hash_in (ways_of R.weight_of R.created R.read R.updated R.covers K.eq S.Hasher.finish S.Hasher.write S.build_hasher K.hash_input) self.now (Q.named_key key.now) }
+        requires exact { (x y : V) → V.is_clone x y → y ≡ x }
+        requires callable { P.IsAlwaysCallable replace_if }
+        ensures asked { IfOk result (λ looked. (value : V) → visible_of (ways_of R.weight_of R.created R.read R.updated R.covers K.eq S.Hasher.finish S.Hasher.write S.build_hasher K.hash_input) (part_by_hash self.now hash) now (Q.named_key key.now) ≡ Some value → FnOnceReturnsAt P.FnOnce replace_if value looked.0) }
+        ensures found { IfOk result (λ looked. looked.1 ≡ past looked.0 (visible_of (ways_of R.weight_of R.created R.read R.updated R.covers K.eq S.Hasher.finish S.Hasher.write S.build_hasher K.hash_input) (part_by_hash self.now hash) now (Q.named_key key.now))) }
+    {
+        let place = place_of(self.bits, hash);
+        let looked = look_at(self.parts.as_slice(), place, key, hash, now, replace_if)?;
+        Ok(looked)
+    }
+
+    /// Notes a look-up of a key.
+    fn note<Q: Names<Shared<K>>>(&mut self, key: &Q, hash: u64, at: At, ignored: bool)
+    where
+        K: Drop,
+        V: Drop,
+        requires hashed { hash ≡ hash_in (ways_of R.weight_of R.created R.read R.updated R.covers K.eq S.Hasher.finish S.Hasher.write S.build_hasher K.hash_input) self.old (Q.named_key key.now) }
+        requires follows { ComesAfter at.now at.step self.old }
+        ensures { CallsPart hash at.now at.step (NotesLookUp (answers_of R.weight_of R.created R.read R.updated R.covers) K.eq (Q.named_key key.now) hash at.now ignored) self.old self.new }
+    {
+        let At { now, step } = at;
+        let place = place_of(self.bits, hash);
+        note_at(&mut self.parts, place, key, hash, now, ignored);
+        self.moment = now;
+        self.step = step;
+    }
+
+    /// Notes a look-up that found nothing, and begins a turn, whose number it answers.
+    fn lead<Q: IntoKey<Shared<K>>>(
+        &mut self,
+        kind: TurnKind,
+        name: Q,
+        hash: u64,
+        at: At,
+        ignored: bool,
+    ) -> Result<u64, CacheError>
+    where
+        K: Drop,
+        V: Drop,
+        requires hashed { hash ≡ hash_in (ways_of R.weight_of R.created R.read R.updated R.covers K.eq S.Hasher.finish S.Hasher.write S.build_hasher K.hash_input) self.old (Q.named_key name) }
+        requires becomes { Q.can_become name }
+        requires follows { ComesAfter at.now at.step self.old }
+        requires free { turn_of K.eq self.old.turns kind (Q.named_key name) ≡ None }
+        ensures leads { IfOk result (Leads (ways_of R.weight_of R.created R.read R.updated R.covers K.eq S.Hasher.finish S.Hasher.write S.build_hasher K.hash_input) kind (Q.named_key name) hash at ignored self.old self.new) }
+        ensures err { OnErr result (self.new ≡ self.old) }
+        ensures cause { IfErr result (IsTurnCause self.old.next_turn) }
+    {
+        let At { now, step } = at;
+        let place = place_of(self.bits, hash);
+        let number = self.next_turn;
+        let turn = make_turn(&mut self.turns, number, kind, name, hash)?;
+        note_at(&mut self.parts, place, &turn.key, hash, now, ignored);
+        self.turns.push_reserved(turn);
+        self.next_turn = number + 1;
+        self.moment = now;
+        self.step = step;
+        Ok(number)
+    }
+
+    /// Notes a look-up that found nothing, and waits for the turn of a kind and a key, or begins one.
+    fn wait_or_lead<Q: IntoKey<Shared<K>>>(
+        &mut self,
+        kind: TurnKind,
+        name: Q,
+        hash: u64,
+        at: At,
+        ignored: bool,
+    ) -> Result<TurnStart<V>, CacheError>
+    where
+        K: Drop,
+        V: Drop,
+        requires hashed { hash ≡ hash_in (ways_of R.weight_of R.created R.read R.updated R.covers K.eq S.Hasher.finish S.Hasher.write S.build_hasher K.hash_input) self.old (Q.named_key name) }
+        requires becomes { Q.can_become name }
+        requires follows { ComesAfter at.now at.step self.old }
+        ensures starts { IfOk result (WaitsOrLeads (ways_of R.weight_of R.created R.read R.updated R.covers K.eq S.Hasher.finish S.Hasher.write S.build_hasher K.hash_input) kind (Q.named_key name) hash at ignored self.old self.new) }
+        ensures err { OnErr result (self.new ≡ self.old) }
+        ensures cause { IfErr result (IsTurnCause self.old.next_turn) }
+    {
+        match self.turn_number(kind, &name) {
+            Some(number) => {
+                self.note(&name, hash, at, ignored);
+                Ok(TurnStart::Wait(number))
+            }
+            None => match self.lead(kind, name, hash, at, ignored) {
+                Ok(number) => Ok(TurnStart::Lead(number)),
+                Err(refused) => Err(refused),
+            },
+        }
+    }
+
+    /// Begins a call that makes a value: the visible value, of which it is a use; or the turn of this kind and key that is under way; or a new one, which the caller leads. A visible value of which `replace_if` says yes counts as none.
+    /// The key is made only where a turn begins.
+    pub fn begin<Q: IntoKey<Shared<K>>, P: FnOnce(&V) -> bool + Drop>(
+        &mut self,
+        kind: TurnKind,
+        name: Q,
+        hash: u64,
+        at: At,
+        replace_if: P,
+    ) -> Result<TurnStart<V>, CacheError>
+    where
+        K: Drop,
+        V: Clone + Drop,
+        requires hashed { hash ≡ hash_in (ways_of R.weight_of R.created R.read R.updated R.covers K.eq S.Hasher.finish S.Hasher.write S.build_hasher K.hash_input) self.old (Q.named_key name) }
+        requires becomes { Q.can_become name }
+        requires exact { (x y : V) → V.is_clone x y → y ≡ x }
+        requires callable { P.IsAlwaysCallable replace_if }
+        requires follows { ComesAfter at.now at.step self.old }
+        ensures begins { IfOk result (Begins (answers_of R.weight_of R.created R.read R.updated R.covers) K.eq kind (Q.named_key name) hash at.now at.step (FnOnceReturnsAt P.FnOnce replace_if) self.old self.new) }
+        ensures err { OnErr result (self.new ≡ self.old) }
+        ensures cause { IfErr result (IsTurnCause self.old.next_turn) }
+    {
+        let (ignored, found) = self.look(&name, hash, at.now, replace_if)?;
+        match found {
+            Some(value) => {
+                self.note(&name, hash, at, ignored);
+                Ok(TurnStart::Found(value))
+            }
+            None => self.wait_or_lead(kind, name, hash, at, ignored),
+        }
+    }
+}
