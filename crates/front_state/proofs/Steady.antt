@@ -4,7 +4,7 @@ use Rattle.std.proofs.Math.Logic.{∥∥₁_elim, ∥∥₁_map}
 use Rattle.std.proofs.Props.{props}
 use Rattle.std.proofs.lemmas.Bool.{eq-eqb}
 use Rattle.std.proofs.lemmas.Option.{slice_get_within, slice_get-get_or}
-use Rattle.std.specs.Prelude.{slice_get, option_map, ◌==◌, Result, IfOk, Ok, Err}
+use Rattle.std.specs.Prelude.{slice_get, option_map, ◌==◌, Result, IfOk, Ok, Err, remove}
 use Rattle.std.specs.Cmp.{IsEquivalence}
 use Rattle.engine_reference.specs.Records.{held_entries}
 use Rattle.engine_reference.specs.Calls.{cleared_by}
@@ -16,7 +16,7 @@ use Rattle.engine_reference.specs.Visible.{visible_value}
 use Rattle.front_reference.specs.Keeping.{Common, IsKept}
 use Rattle.front_reference.specs.Parts.{IsCause, Inserts, TakesOut}
 use Rattle.front_reference.specs.Wholes.{RunsPart}
-use Rattle.front_reference.specs.Fronts.{Front, CallsAll, CallsAt, ComesAfter, passed, share_of, part_of, CallsEach, CallsPart, turn_of, part_by_hash}
+use Rattle.front_reference.specs.Fronts.{Front, CallsAll, CallsAt, ComesAfter, passed, share_of, part_of, CallsEach, CallsPart, turn_of, part_by_hash, without_turn}
 use Rattle.engine_reference.specs.declared.data.Settings.{Settings}
 use Rattle.front_reference.specs.declared.errors.CacheError.{CacheError}
 use Rattle.front_reference.specs.declared.errors.CacheError.TheVariants as errors
@@ -27,13 +27,14 @@ use Rattle.front_reference.specs.declared.data.Made.{Made}
 use Rattle.front_reference.specs.declared.data.Op.{Op}
 use Rattle.front_laws.proofs.Kept.{calls_keep, kept-coalesced, kept-computed}
 use Rattle.front_state.proofs.Lists.{length-set_at, one_set}
-use Rattle.front_reference.specs.Turns.{Begins, found_or, wait_or_lead, with_turn}
+use Rattle.front_reference.specs.Turns.{Begins, found_or, wait_or_lead, with_turn, abandoned, begun_compute}
 use Rattle.front_reference.specs.declared.data.TurnKind.{TurnKind}
 use Rattle.front_reference.specs.declared.data.OpenTurn.{OpenTurn}
 use Rattle.front_reference.specs.declared.data.TurnStart.{TurnStart}
 use Rattle.front_reference.specs.declared.data.TurnStart.TheVariants.{Found, Wait, Lead}
 use Rattle.front_state.specs.Turning.{Leads, WaitsOrLeads}
-use Rattle.front_state.proofs.Turned.{turns-append}
+use Rattle.front_state.proofs.Turned.{turns-append, turns-without}
+use Rattle.front_reference.specs.declared.data.TurnKind.TheVariants as turns
 use Rattle.front_state.specs.Calls.{Ways, IsCauseOf, IsOpenAt, IsSteadyBy, LacksTickets, hash_in, CoalescesIn, ComputesIn, visible_of}
 
 -- what is there or not is known
@@ -323,3 +324,59 @@ module _ {K V P S R : Type 0} (ways : Ways K V P S R) where
         looks = w.looks;
         ends = w.ends ∙ ap (λ o. found_or o (wait_or_lead (turn_of ways.eq w.mid.turns kind key) kind key h w.mid) w.mid) (found ∙ ap (λ o. past ignored (seen o)) there);
       }
+
+  steady-passed : (f : Front K V P S R) (now step : ℕ) → ComesAfter now step f → IsSteadyBy ways f → IsSteadyBy ways (passed now step f)
+  steady-passed f now step after k =
+      let rises = after.rises in
+      let less : f.step ≤ step = omega arith in
+      record {
+        kept = λ p s at. (calls_keep K V P S R).later f.common 63 ways.eq (λ key. part_of f.bits (hash_in ways f key) == p) f.moment f.step now step s after.later less (k.kept p s at);
+        count = k.count;
+        few = k.few;
+        share = k.share;
+        turns = k.turns;
+      }
+
+  pub passes_steadily : (f g : Front K V P S R) (now step : ℕ) → f ≡ g → ComesAfter now step g → Keeps f → Keeps (passed now step f)
+  passes_steadily f g now step same after k = ∥∥₁_map k (λ x. steady-passed f now step (subst (λ y. ComesAfter now step y) (sym same) after) x)
+
+  pub computing_leads : IsEquivalence ways.eq → (f g : Front K V P S R) (now step h : ℕ) (kind : TurnKind) (key : K) (ts : List (OpenTurn K))
+      → f ≡ g → ComesAfter now step g → h ≡ hash_in ways f key → turn_of ways.eq g.turns kind key ≡ None → BeginsTurn kind key h f ts → Keeps f
+      → Keeps (record (passed now step f) { turns = ts; next_turn = f.next_turn + 1 })
+  computing_leads laws f g now step h kind key ts same after is free begun k =
+      let none : turn_of ways.eq f.turns kind key ≡ None = ap (λ (x : Front K V P S R). turn_of ways.eq x.turns kind key) same ∙ free in
+      subst (λ us. Keeps (record (passed now step f) { turns = us; next_turn = f.next_turn + 1 })) (sym begun)
+      (∥∥₁_map (passes_steadily f g now step same after k) (λ x. steady-with_turn laws (passed now step f) kind key h is none x))
+
+  pub led_computing : (f g : Front K V P S R) (now step h : ℕ) (kind : TurnKind) (key : K) (ts : List (OpenTurn K)) → f ≡ g → BeginsTurn kind key h f ts
+      → record (passed now step f) { turns = ts; next_turn = f.next_turn + 1 } ≡ with_turn kind key h (passed now step g)
+  led_computing f g now step h kind key ts same begun =
+      ap (λ (us : List (OpenTurn K)). record (passed now step f) { turns = us; next_turn = f.next_turn + 1 }) begun ∙ ap (λ (x : Front K V P S R). with_turn kind key h (passed now step x)) same
+
+  pub begun_waiting : (f g : Front K V P S R) (key : K) (h now step n : ℕ) → Some n ≡ option_map (λ t. t.number) (turn_of ways.eq f.turns turns.Compute key) → g ≡ passed now step f → (waiting n, g) ≡ begun_compute ways.eq key h now step f
+  begun_waiting f g key h now step n is same = ap (λ (x : Front K V P S R). (waiting n, x)) same ∙ waits-or (turn_of ways.eq f.turns turns.Compute key) n turns.Compute key h (passed now step f) is
+
+  pub begun_leading : (f g : Front K V P S R) (key : K) (h now step n : ℕ) → None ≡ option_map (λ t. t.number) (turn_of ways.eq f.turns turns.Compute key) → n ≡ f.next_turn → g ≡ with_turn turns.Compute key h (passed now step f)
+      → (leading n, g) ≡ begun_compute ways.eq key h now step f
+  begun_leading f g key h now step n is first same =
+      ap (λ (x : Front K V P S R). (leading n, x)) same ∙ ap (λ m. (leading m, with_turn turns.Compute key h (passed now step f))) first
+      ∙ ap (λ o. wait_or_lead o turns.Compute key h (passed now step f)) (sym (none_under (turn_of ways.eq f.turns turns.Compute key) is))
+
+  -- a turn ends
+  pub ends_steadily : IsEquivalence ways.eq → (f g : Front K V P S R) (now step n : ℕ) (ts : List (OpenTurn K)) → f ≡ g → ComesAfter now step g → ts ≡ without_turn n f.turns → Keeps f → Keeps (record (passed now step f) { turns = ts })
+  ends_steadily laws f g now step n ts same after gone k =
+      subst (λ us. Keeps (record (passed now step f) { turns = us })) (sym gone)
+      (∥∥₁_map (passes_steadily f g now step same after k) (λ x. record {
+        kept = x.kept;
+        count = x.count;
+        few = x.few;
+        share = x.share;
+        turns = turns-without ways.eq laws (ways.hash f.common.hasher) n f.next_turn f.turns x.turns;
+      }))
+
+  pub ended_turn : (f g : Front K V P S R) (now step n : ℕ) (ts : List (OpenTurn K)) → f ≡ g → ts ≡ without_turn n f.turns → record (passed now step f) { turns = ts } ≡ abandoned n now step g
+  ended_turn f g now step n ts same gone = ap (λ (us : List (OpenTurn K)). record (passed now step f) { turns = us }) gone ∙ ap (λ (x : Front K V P S R). abandoned n now step x) same
+
+  -- the turns that are left
+  pub left_turns : (f g : Front K V P S R) (n place : ℕ) (ts : List (OpenTurn K)) → f ≡ g → without_turn n g.turns ≡ remove g.turns place → ts ≡ remove f.turns place → ts ≡ without_turn n f.turns
+  left_turns f g n place ts same gone is = is ∙ ap (λ (x : Front K V P S R). remove x.turns place) same ∙ sym gone ∙ ap (λ (x : Front K V P S R). without_turn n x.turns) (sym same)

@@ -2,7 +2,7 @@
 use Rattle.std.proofs.Common.{◌≡◌, refl, ap, sym, ◌∙◌, subst, ℕ, zero, suc, ◌+◌, ◌≤◌, arith, Bool, true, false, cond, ◌&&◌, List, [], ◌∷◌, ◌++◌, drop, take, length, Option, Some, None, option_map, ◌==◌}
 use Rattle.std.proofs.lemmas.Bool.{eq-eqb, ne_eqb}
 use Rattle.std.specs.Cmp.{IsEquivalence}
-use Rattle.std.specs.Prelude.{slice_get, remove}
+use Rattle.std.specs.Prelude.{slice_get, remove, IfSome}
 use Rattle.engine_lists.proofs.Dropped.{drop-there, drop_past}
 use Rattle.front_reference.specs.declared.data.OpenTurn.{OpenTurn}
 use Rattle.front_reference.specs.declared.data.TurnKind.{TurnKind}
@@ -36,6 +36,10 @@ module _ {K : Type 0} where
   pub turn-found : (ts : List (OpenTurn K)) (i n : ℕ) (t : OpenTurn K) → slice_get ts i ≡ Some t → t.number ≡ n → turn_at (drop i ts) n ≡ turn_at ts n → without_turn n ts ≡ take i ts ++ without_turn n (drop i ts)
       → (u : OpenTurn K) × (slice_get ts i ≡ Some u) × (turn_at ts n ≡ Some u) × (without_turn n ts ≡ remove ts i)
   turn-found ts i n t there same at others = (t, there, sym at ∙ turn_at-here ts i n t there same, others ∙ ap (λ l. take i ts ++ l) (without_turn-here ts i n t there same))
+
+  pub found_in : (r : Option ℕ) (number : ℕ) (a b : List (OpenTurn K)) → a ≡ b → IfSome r (λ i. (t : OpenTurn K) × (slice_get a i ≡ Some t) × (turn_at a number ≡ Some t) × (without_turn number a ≡ remove a i))
+      → IfSome r (λ i. (t : OpenTurn K) × (slice_get b i ≡ Some t) × (turn_at b number ≡ Some t) × (without_turn number b ≡ remove b i))
+  found_in r number a b same h = subst (λ x. IfSome r (λ i. (t : OpenTurn K) × (slice_get x i ≡ Some t) × (turn_at x number ≡ Some t) × (without_turn number x ≡ remove x i))) same h
 
   pub turn_at-past : (ts : List (OpenTurn K)) (i n : ℕ) (t : OpenTurn K) → slice_get ts i ≡ Some t → (t.number ≡ n → ⊥) → turn_at (drop i ts) n ≡ turn_at ts n → turn_at (drop (i + 1) ts) n ≡ turn_at ts n
   turn_at-past ts i n t there other h =

@@ -1,11 +1,13 @@
 //! Turns: calls that make a value, one at a time for a kind and a key.
-ghost use Rattle.std.specs.Prelude.{◌≡◌, ◌+◌, ◌<◌, ◌≤◌, ◌^◌, true, false, Some, None, IfOk, IfErr, OnOk, OnErr, is_none, is_some, option_map};
+ghost use Rattle.std.specs.Prelude.{◌≡◌, ◌+◌, ◌<◌, ◌≤◌, ◌^◌, true, false, Some, None, IfOk, IfErr, IfSome, IfNone, OnOk, OnErr, is_none, is_some, length, option_map, remove, slice_get};
 ghost use Rattle.std.specs.Fn.{FnOnceReturnsAt};
 ghost use Rattle.engine_reference.specs.Scanning.{NotesLookUp, past};
 ghost use Rattle.engine_lists.specs.Asking.{answers_of};
-ghost use Rattle.front_reference.specs.Fronts.{CallsPart, ComesAfter, part_by_hash, turn_at, turn_of};
-ghost use Rattle.front_reference.specs.Turns.{Begins, abandoned, begun_compute};
+ghost use Rattle.front_reference.specs.Fronts.{CallsPart, ComesAfter, part_by_hash, passed, turn_at, turn_of, without_turn};
+ghost use Rattle.front_reference.specs.Turns.{Begins, abandoned, begun_compute, with_turn};
+ghost use Rattle.front_reference.specs.declared.data.OpenTurn.{OpenTurn};
 ghost use Rattle.front_reference.specs.declared.data.TurnKind.TheVariants as turns;
+ghost use Rattle.front_reference.specs.declared.errors.CacheError.TheVariants.{UnknownTurn};
 ghost use Rattle.front_state.specs.Calls.{hash_in, visible_of, ways_of};
 ghost use Rattle.front_state.specs.Turning.{IsTurnCause, Leads, WaitsOrLeads};
 
@@ -164,6 +166,115 @@ impl<K: Eq + Hash, V, S: BuildHasher, R: Rules<K, V>> LentState<K, V, S, R> {
                 Ok(TurnStart::Found(value))
             }
             None => self.wait_or_lead(kind, name, hash, at, ignored),
+        }
+    }
+
+    /// Lets time pass.
+    fn pass(&mut self, at: At)
+        requires { ComesAfter at.now at.step self.old }
+        ensures { self.new ≡ passed at.now at.step self.old }
+    {
+        let At { now, step } = at;
+        self.moment = now;
+        self.step = step;
+    }
+
+    /// Begins a turn of a compute call, whose number it answers.
+    fn lead_compute<Q: IntoKey<Shared<K>>>(
+        &mut self,
+        name: Q,
+        hash: u64,
+        at: At,
+    ) -> Result<u64, CacheError>
+    where
+        K: Drop,
+        requires hashed { hash ≡ hash_in (ways_of R.weight_of R.created R.read R.updated R.covers K.eq S.Hasher.finish S.Hasher.write S.build_hasher K.hash_input) self.old (Q.named_key name) }
+        requires becomes { Q.can_become name }
+        requires follows { ComesAfter at.now at.step self.old }
+        requires free { turn_of K.eq self.old.turns turns.Compute (Q.named_key name) ≡ None }
+        ensures number { IfOk result (λ number. number ≡ self.old.next_turn) }
+        ensures leads { OnOk result (self.new ≡ with_turn turns.Compute (Q.named_key name) hash (passed at.now at.step self.old)) }
+        ensures err { OnErr result (self.new ≡ self.old) }
+        ensures cause { IfErr result (IsTurnCause self.old.next_turn) }
+    {
+        let At { now, step } = at;
+        let number = self.next_turn;
+        let turn = make_turn(&mut self.turns, number, TurnKind::Compute, name, hash)?;
+        self.turns.push_reserved(turn);
+        self.next_turn = number + 1;
+        self.moment = now;
+        self.step = step;
+        Ok(number)
+    }
+
+    /// Begins a compute call, which looks nothing up: the turn of this key that is under way, or a new one, which the caller leads.
+    pub fn begin_compute<Q: IntoKey<Shared<K>>>(
+        &mut self,
+        name: Q,
+        hash: u64,
+        at: At,
+    ) -> Result<TurnStart<V>, CacheError>
+    where
+        K: Drop,
+        requires hashed { hash ≡ hash_in (ways_of R.weight_of R.created R.read R.updated R.covers K.eq S.Hasher.finish S.Hasher.write S.build_hasher K.hash_input) self.old (Q.named_key name) }
+        requires becomes { Q.can_become name }
+        requires follows { ComesAfter at.now at.step self.old }
+        ensures begins { IfOk result (λ start. (start, self.new) ≡ begun_compute K.eq (Q.named_key name) hash at.now at.step self.old) }
+        ensures err { OnErr result (self.new ≡ self.old) }
+        ensures cause { IfErr result (IsTurnCause self.old.next_turn) }
+    {
+        match self.turn_number(TurnKind::Compute, &name) {
+            Some(number) => {
+                self.pass(at);
+                Ok(TurnStart::Wait(number))
+            }
+            None => match self.lead_compute(name, hash, at) {
+                Ok(number) => Ok(TurnStart::Lead(number)),
+                Err(refused) => Err(refused),
+            },
+        }
+    }
+
+    /// The place of the turn of a number.
+    fn turn_place(&self, number: u64) -> Option<usize>
+        ensures found { IfSome result (λ i. (t : OpenTurn K) × (slice_get self.now.turns i ≡ Some t) × (turn_at self.now.turns number ≡ Some t) × (without_turn number self.now.turns ≡ remove self.now.turns i)) }
+        ensures within { IfSome result (λ i. i < length self.now.turns) }
+        ensures none { IfNone result (turn_at self.now.turns number ≡ None) }
+    {
+        place_of_turn(self.turns.as_slice(), number)
+    }
+
+    /// Ends the turn at a place.
+    fn end_turn(&mut self, place: usize, number: u64, at: At)
+    where
+        K: Drop,
+        requires follows { ComesAfter at.now at.step self.old }
+        requires within { place < length self.old.turns }
+        requires there { without_turn number self.old.turns ≡ remove self.old.turns place }
+        ensures { self.new ≡ abandoned number at.now at.step self.old }
+    {
+        let At { now, step } = at;
+        let _ended = self.turns.remove(place);
+        self.moment = now;
+        self.step = step;
+    }
+
+    /// Gives up a turn. Only a number under which no turn is under way is refused.
+    pub fn abandon(&mut self, number: u64, at: At) -> Result<(), CacheError>
+    where
+        K: Drop,
+        requires { ComesAfter at.now at.step self.old }
+        ensures ends { OnOk result (self.new ≡ abandoned number at.now at.step self.old) }
+        ensures known { OnOk result (is_some (turn_at self.old.turns number) ≡ true) }
+        ensures err { OnErr result (self.new ≡ self.old) }
+        ensures cause { IfErr result (λ e. (e ≡ UnknownTurn) × (turn_at self.old.turns number ≡ None)) }
+    {
+        match self.turn_place(number) {
+            Some(place) => {
+                self.end_turn(place, number, at);
+                Ok(())
+            }
+            None => Err(CacheError::UnknownTurn),
         }
     }
 }
