@@ -8,5 +8,7 @@ mod removals;
 
 pub use coalesced::{coalesce, look};
 pub use computed::compute;
-pub use part::{contains_key, get, insert, insert_reserved, reserve_insert, run_pending_tasks};
+pub use part::{
+    contains_key, get, insert, insert_or_back, insert_reserved, reserve_insert, run_pending_tasks,
+};
 pub use removals::{invalidate, remove};

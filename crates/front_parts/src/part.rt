@@ -117,6 +117,30 @@ pub fn insert<K: Eq + Hash + Drop, V: Drop, S: BuildHasher, R: Rules<K, V>>(
     Ok(())
 }
 
+/// Inserts a value, which is handed back where it is refused. A part of capacity 0 takes none, and nothing happens.
+pub fn insert_or_back<K: Eq + Hash + Drop, V: Drop, S: BuildHasher, R: Rules<K, V>>(
+    part: &mut BaseCache<K, V, S, R>,
+    key: K,
+    hash: u64,
+    value: V,
+    at: At,
+) -> Result<(), (CacheError, V)>
+    requires hashed { hash ≡ hash_of_key S.Hasher.finish S.Hasher.write S.build_hasher K.hash_input part.old.hasher key }
+    requires ready { IsReady part.old }
+    ensures inserts { OnOk result (Inserts (answers_of R.weight_of R.created R.read R.updated R.covers) K.eq key hash value at.now at.step part.old part.new) }
+    ensures err { OnErr result (part.new ≡ part.old) }
+    ensures back { IfErr result (λ refused. refused.1 ≡ value) }
+    ensures cause { IfErr result (λ refused. IsCause 1 part.old refused.0) }
+{
+    match reserve_insert(part) {
+        Ok(()) => {
+            insert_reserved(part, key, hash, value, at);
+            Ok(())
+        }
+        Err(refused) => Err((refused, value)),
+    }
+}
+
 /// A clone of the visible value of a key, of which it is a use.
 pub fn get<K: Eq + Hash + Drop, V: Clone + Drop, S: BuildHasher, R: Rules<K, V>, Q: Names<K>>(
     part: &mut BaseCache<K, V, S, R>,

@@ -16,7 +16,7 @@ use Rattle.engine_reference.specs.Visible.{visible_value}
 use Rattle.front_reference.specs.Keeping.{Common, IsKept}
 use Rattle.front_reference.specs.Parts.{IsCause, Inserts, TakesOut}
 use Rattle.front_reference.specs.Wholes.{RunsPart}
-use Rattle.front_reference.specs.Fronts.{Front, CallsAll, CallsAt, ComesAfter, passed, share_of, part_of, CallsEach, CallsPart, turn_of, part_by_hash, without_turn}
+use Rattle.front_reference.specs.Fronts.{turn_at, Front, CallsAll, CallsAt, ComesAfter, passed, share_of, part_of, CallsEach, CallsPart, turn_of, part_by_hash, without_turn}
 use Rattle.engine_reference.specs.declared.data.Settings.{Settings}
 use Rattle.front_reference.specs.declared.errors.CacheError.{CacheError}
 use Rattle.front_reference.specs.declared.errors.CacheError.TheVariants as errors
@@ -32,9 +32,10 @@ use Rattle.front_reference.specs.declared.data.TurnKind.{TurnKind}
 use Rattle.front_reference.specs.declared.data.OpenTurn.{OpenTurn}
 use Rattle.front_reference.specs.declared.data.TurnStart.{TurnStart}
 use Rattle.front_reference.specs.declared.data.TurnStart.TheVariants.{Found, Wait, Lead}
-use Rattle.front_state.specs.Turning.{Leads, WaitsOrLeads}
-use Rattle.front_state.proofs.Turned.{turns-append, turns-without}
+use Rattle.front_state.specs.Turning.{IsFinishCause, Leads, WaitsOrLeads, EndsTurn}
+use Rattle.front_state.proofs.Turned.{turns-append, turns-without, turn-hashed}
 use Rattle.front_reference.specs.declared.data.TurnKind.TheVariants as turns
+use Rattle.front_reference.specs.declared.data.Op.TheVariants as op
 use Rattle.front_state.specs.Calls.{Ways, IsCauseOf, IsOpenAt, IsSteadyBy, LacksTickets, hash_in, CoalescesIn, ComputesIn, visible_of}
 
 -- what is there or not is known
@@ -380,3 +381,53 @@ module _ {K V P S R : Type 0} (ways : Ways K V P S R) where
   -- the turns that are left
   pub left_turns : (f g : Front K V P S R) (n place : ℕ) (ts : List (OpenTurn K)) → f ≡ g → without_turn n g.turns ≡ remove g.turns place → ts ≡ remove f.turns place → ts ≡ without_turn n f.turns
   left_turns f g n place ts same gone is = is ∙ ap (λ (x : Front K V P S R). remove x.turns place) same ∙ sym gone ∙ ap (λ (x : Front K V P S R). without_turn n x.turns) (sym same)
+
+  -- the hash of a turn is its key's
+  pub turn_hashed : IsEquivalence ways.eq → (f g : Front K V P S R) (place : ℕ) (t : OpenTurn K) → f ≡ g → Keeps f → slice_get f.turns place ≡ Some t → t.hash ≡ hash_in ways f t.key
+  turn_hashed laws f g place t same k at = ∥∥₁_elim k (Prim.hlevel props) (λ x. turn-hashed ways.eq laws (ways.hash f.common.hasher) f.next_turn f.turns place t x.turns at)
+
+  -- a value is inserted for a turn, which ends
+  pub finishes_steadily : IsEquivalence ways.eq → (f g : Front K V P S R) (now step place n : ℕ) (t : OpenTurn K) (value : V) (parts : List (State K V P S R)) (ts : List (OpenTurn K))
+      → f ≡ g → ComesAfter now step g → t.hash ≡ hash_in ways f t.key → place ≡ part_of f.bits t.hash → CallsAt place (Inserts ways.answers ways.eq t.key t.hash value now step) f.parts parts → ts ≡ without_turn n f.turns → Keeps f
+      → Keeps (record (passed now step (record f { parts = parts })) { turns = ts })
+  finishes_steadily laws f g now step place n t value parts ts same after is placed call gone k =
+      subst (λ us. Keeps (record (passed now step (record f { parts = parts })) { turns = us })) (sym gone)
+      (∥∥₁_map (stays_steady f g now step place t.hash t.key (Inserts ways.answers ways.eq t.key t.hash value now step) parts same after is placed (inserting_keeps laws t.key t.hash value now step) call k) (λ x. record {
+        kept = x.kept;
+        count = x.count;
+        few = x.few;
+        share = x.share;
+        turns = turns-without ways.eq laws (ways.hash f.common.hasher) n f.next_turn f.turns x.turns;
+      }))
+
+  pub finished : (f g : Front K V P S R) (at : At) (place n : ℕ) (t : OpenTurn K) (value : V) (parts : List (State K V P S R)) (ts : List (OpenTurn K))
+      → f ≡ g → place ≡ part_of f.bits t.hash → CallsAt place (Inserts ways.answers ways.eq t.key t.hash value at.now at.step) f.parts parts → ts ≡ without_turn n f.turns
+      → EndsTurn ways n t (op.Put value) at g (record (passed at.now at.step (record f { parts = parts })) { turns = ts })
+  finished f g at place n t value parts ts same placed call gone = record {
+    mid = passed at.now at.step (record f { parts = parts });
+    writes = called_hash f g at.now at.step place t.hash (Inserts ways.answers ways.eq t.key t.hash value at.now at.step) parts same placed call;
+    ends = ap (λ (us : List (OpenTurn K)). record (passed at.now at.step (record f { parts = parts })) { turns = us }) gone;
+  }
+
+  pub finished_for : (f g : Front K V P S R) (at : At) (place n i : ℕ) (t : OpenTurn K) (value : V) (parts : List (State K V P S R)) (ts : List (OpenTurn K))
+      → f ≡ g → place ≡ part_of f.bits t.hash → CallsAt place (Inserts ways.answers ways.eq t.key t.hash value at.now at.step) f.parts parts → ts ≡ without_turn n f.turns → slice_get f.turns i ≡ Some t
+      → (u : OpenTurn K) → slice_get g.turns i ≡ Some u → EndsTurn ways n u (op.Put value) at g (record (passed at.now at.step (record f { parts = parts })) { turns = ts })
+  finished_for f g at place n i t value parts ts same placed call gone here u there =
+      let both : Some t ≡ Some u = sym here ∙ ap (λ (x : Front K V P S R). slice_get x.turns i) same ∙ there in
+      let one : t ≡ u = cc in
+      subst (λ x. EndsTurn ways n x (op.Put value) at g (record (passed at.now at.step (record f { parts = parts })) { turns = ts })) one (finished f g at place n t value parts ts same placed call gone)
+
+  pub cause_for : (f g : Front K V P S R) (rooms : Settings → ℕ) (place i : ℕ) (t : OpenTurn K) (e : CacheError) → f ≡ g → place ≡ part_of f.bits t.hash → slice_get f.turns i ≡ Some t → IsCauseOf ways rooms (slice_get f.parts place) e
+      → (u : OpenTurn K) → slice_get g.turns i ≡ Some u → IsCauseOf ways rooms (part_by_hash g u.hash) e
+  cause_for f g rooms place i t e same placed here cause u there =
+      let both : Some t ≡ Some u = sym here ∙ ap (λ (x : Front K V P S R). slice_get x.turns i) same ∙ there in
+      let one : t ≡ u = cc in
+      subst (λ o. IsCauseOf ways rooms o e) (same_part f g place t.hash same placed ∙ ap (λ (x : OpenTurn K). part_by_hash g x.hash) one) cause
+
+  pub finish-caused : (f : Front K V P S R) (n : ℕ) (e : CacheError) → ((t : OpenTurn K) → turn_at f.turns n ≡ Some t → IsCauseOf ways (λ s. 1) (part_by_hash f t.hash) e) → (t : OpenTurn K) → turn_at f.turns n ≡ Some t → IsFinishCause ways n f e
+  finish-caused f n errors.OutOfMemory h t at = h
+  finish-caused f n errors.UsedUp h t at = h
+  finish-caused f n errors.InvalidationClosuresDisabled h t at = h
+  finish-caused f n errors.IdsInUse h t at = h
+  finish-caused f n errors.UnknownTurn h t at = absurd (h t at)
+  finish-caused f n errors.Abandoned h t at = h

@@ -10,7 +10,9 @@ ghost use Rattle.front_state.specs.Calls.{IsCauseOf, IsOpenAt, visible_of, held_
 
 use engine_rules::{Names, Rules};
 use front_keys::IntoKey;
-use front_parts::{coalesce, compute, contains_key, get, insert, invalidate, look, remove};
+use front_parts::{
+    coalesce, compute, contains_key, get, insert, insert_or_back, invalidate, look, remove,
+};
 use front_reference::{At, CacheError, Computed, Made, Op};
 use moka_engine::BaseCache;
 use policy_base::Instant;
@@ -241,4 +243,26 @@ pub(crate) fn note_at<K: Eq + Hash + Drop, V: Drop, S: BuildHasher, R: Rules<K, 
 {
     let part = &mut parts[place];
     part.note_look_up(key, hash, now, ignored);
+}
+
+/// `insert` into the part at a place, of a value that is handed back where it is refused.
+pub(crate) fn insert_or_back_at<K: Eq + Hash + Drop, V: Drop, S: BuildHasher, R: Rules<K, V>>(
+    parts: &mut Vec<BaseCache<K, V, S, R>>,
+    place: usize,
+    key: K,
+    hash: u64,
+    value: V,
+    at: At,
+) -> Result<(), (CacheError, V)>
+    requires there { IsOpenAt (ways_of R.weight_of R.created R.read R.updated R.covers K.eq S.Hasher.finish S.Hasher.write S.build_hasher K.hash_input) place key hash parts.old.items }
+    ensures inserts { OnOk result (CallsAt place (Inserts (answers_of R.weight_of R.created R.read R.updated R.covers) K.eq key hash value at.now at.step) parts.old.items parts.new.items) }
+    ensures err { OnErr result (parts.new.items ≡ parts.old.items) }
+    ensures back { IfErr result (λ refused. refused.1 ≡ value) }
+    ensures cause { IfErr result (λ refused. IsCauseOf (ways_of R.weight_of R.created R.read R.updated R.covers K.eq S.Hasher.finish S.Hasher.write S.build_hasher K.hash_input) (λ _. 1) (slice_get parts.old.items place) refused.0) }
+{
+    let part = &mut parts[place];
+    match insert_or_back(part, key, hash, value, at) {
+        Ok(()) => Ok(()),
+        Err((refused, value)) => Err((refused, value)),
+    }
 }

@@ -5,19 +5,20 @@ ghost use Rattle.engine_reference.specs.Scanning.{NotesLookUp, past};
 ghost use Rattle.engine_lists.specs.Asking.{answers_of};
 ghost use Rattle.front_reference.specs.Fronts.{CallsPart, ComesAfter, part_by_hash, passed, turn_at, turn_of, without_turn};
 ghost use Rattle.front_reference.specs.Turns.{Begins, abandoned, begun_compute, with_turn};
+ghost use Rattle.front_reference.specs.declared.data.Op.TheVariants as op;
 ghost use Rattle.front_reference.specs.declared.data.OpenTurn.{OpenTurn};
 ghost use Rattle.front_reference.specs.declared.data.TurnKind.TheVariants as turns;
 ghost use Rattle.front_reference.specs.declared.errors.CacheError.TheVariants.{UnknownTurn};
-ghost use Rattle.front_state.specs.Calls.{hash_in, visible_of, ways_of};
-ghost use Rattle.front_state.specs.Turning.{IsTurnCause, Leads, WaitsOrLeads};
+ghost use Rattle.front_state.specs.Calls.{IsCauseOf, hash_in, visible_of, ways_of};
+ghost use Rattle.front_state.specs.Turning.{EndsTurn, FinishesBy, IsFinishCause, IsTurnCause, Leads, WaitsOrLeads};
 
 use crate::hashing::place_of;
-use crate::places::{look_at, note_at};
+use crate::places::{insert_or_back_at, look_at, note_at};
 use crate::state::LentState;
 use crate::turns::{find_turn, make_turn, place_of_turn};
 use engine_rules::{Names, Rules};
 use front_keys::{IntoKey, LentKey, Shared};
-use front_reference::{At, CacheError, TurnKind, TurnStart};
+use front_reference::{At, CacheError, Made, TurnKind, TurnStart};
 use policy_base::Instant;
 use std::alloc::AllocError;
 use std::hash::{BuildHasher, Hash, Hasher};
@@ -275,6 +276,81 @@ impl<K: Eq + Hash, V, S: BuildHasher, R: Rules<K, V>> LentState<K, V, S, R> {
                 Ok(())
             }
             None => Err(CacheError::UnknownTurn),
+        }
+    }
+
+    /// Ends the turn at a place with a value that is inserted under its key, or handed back where it is refused.
+    fn finish_with_value(
+        &mut self,
+        place: usize,
+        number: u64,
+        value: V,
+        at: At,
+    ) -> Result<(), (CacheError, V)>
+    where
+        K: Drop,
+        V: Drop,
+        requires follows { ComesAfter at.now at.step self.old }
+        requires within { place < length self.old.turns }
+        requires there { without_turn number self.old.turns ≡ remove self.old.turns place }
+        ensures ends { OnOk result ((t : OpenTurn K) → slice_get self.old.turns place ≡ Some t → EndsTurn (ways_of R.weight_of R.created R.read R.updated R.covers K.eq S.Hasher.finish S.Hasher.write S.build_hasher K.hash_input) number t (op.Put value) at self.old self.new) }
+        ensures err { OnErr result (self.new ≡ self.old) }
+        ensures back { IfErr result (λ refused. refused.1 ≡ value) }
+        ensures cause { IfErr result (λ refused. (t : OpenTurn K) → slice_get self.old.turns place ≡ Some t → IsCauseOf (ways_of R.weight_of R.created R.read R.updated R.covers K.eq S.Hasher.finish S.Hasher.write S.build_hasher K.hash_input) (λ _. 1) (part_by_hash self.old t.hash) refused.0) }
+    {
+        let At { now, step } = at;
+        let turn = &self.turns[place];
+        let hash = turn.hash;
+        let part = place_of(self.bits, hash);
+        let key = match turn.key.clone() {
+            Ok(key) => key,
+            Err(_) => return Err((CacheError::OutOfMemory, value)),
+        };
+        match insert_or_back_at(&mut self.parts, part, key, hash, value, At { now, step }) {
+            Ok(()) => {
+                let _ended = self.turns.remove(place);
+                self.moment = now;
+                self.step = step;
+                Ok(())
+            }
+            Err((refused, value)) => Err((refused, value)),
+        }
+    }
+
+    /// Ends a turn with what was made: a value is inserted under its key, whatever happened to the key meanwhile; what is no value changes nothing else. Where it is refused the outcome is handed back, and a turn that is under way stays so.
+    pub fn finish<F: Drop>(
+        &mut self,
+        number: u64,
+        end: Made<V, F>,
+        at: At,
+    ) -> Result<(), (CacheError, Made<V, F>)>
+    where
+        K: Drop,
+        V: Drop,
+        requires { ComesAfter at.now at.step self.old }
+        ensures ends { OnOk result (FinishesBy (ways_of R.weight_of R.created R.read R.updated R.covers K.eq S.Hasher.finish S.Hasher.write S.build_hasher K.hash_input) number end at self.old self.new) }
+        ensures known { OnOk result (is_some (turn_at self.old.turns number) ≡ true) }
+        ensures err { OnErr result (self.new ≡ self.old) }
+        ensures back { IfErr result (λ refused. refused.1 ≡ end) }
+        ensures cause { IfErr result (λ refused. IsFinishCause (ways_of R.weight_of R.created R.read R.updated R.covers K.eq S.Hasher.finish S.Hasher.write S.build_hasher K.hash_input) number self.old refused.0) }
+    {
+        let place = match self.turn_place(number) {
+            Some(place) => place,
+            None => return Err((CacheError::UnknownTurn, end)),
+        };
+        match end {
+            Made::Value(value) => match self.finish_with_value(place, number, value, at) {
+                Ok(()) => Ok(()),
+                Err((refused, value)) => Err((refused, Made::Value(value))),
+            },
+            Made::Nothing => {
+                self.end_turn(place, number, at);
+                Ok(())
+            }
+            Made::Fault(_fault) => {
+                self.end_turn(place, number, at);
+                Ok(())
+            }
         }
     }
 }
