@@ -2,3 +2,4 @@ pub mod Lists
 pub mod Eaches
 pub mod Turned
 pub mod Steady
+mod Newness

@@ -2,6 +2,7 @@
 #![tactic(auto)]
 
 mod hashing;
+mod making;
 mod places;
 mod state;
 mod turns;

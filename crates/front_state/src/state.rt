@@ -22,6 +22,7 @@ use std::alloc::{AllocError, Global};
 use std::hash::{BuildHasher, Hash, Hasher};
 use std::marker::Model;
 
+mod making;
 mod turning;
 
 /// A cache of 2^bits parts that is lent by `&mut`, so that each call is alone. Each key belongs to the part that the upper bits of its hash say.

@@ -1,0 +1,57 @@
+//! Making a cache.
+ghost use Rattle.std.specs.Prelude.{◌≤◌, IfOk, option_map};
+ghost use Rattle.std.specs.String.{string_bytes};
+ghost use Rattle.front_state.specs.Making.{IsMadeWith};
+
+use super::LentState;
+use crate::making::{for_part, new_parts};
+use engine_reference::Settings;
+use engine_rules::Rules;
+use front_keys::Shared;
+use policy_base::Instant;
+use std::alloc::{AllocError, Global};
+use std::hash::{BuildHasher, Hash};
+
+impl<K: Eq + Hash + Drop, V: Drop, S: BuildHasher + Drop, R: Rules<K, V> + Drop> LentState<
+    K,
+    V,
+    S,
+    R,
+> {
+    /// A cache of 2^bits parts, at most 2^16, that holds nothing. The capacity of its settings is that of all parts together, of which each gets its share; there is room for so many entries in all.
+    pub fn new(
+        alloc: Global,
+        name: Option<String>,
+        bits: u32,
+        initial_capacity: usize,
+        settings: Settings,
+        hasher: S,
+        rules: R,
+    ) -> Result<Self, AllocError>
+        requires few { bits ≤ 16 }
+        requires in_range { settings.made ≤ 18446744073709551614 }
+        ensures { IfOk result (IsMadeWith (option_map string_bytes name) bits settings hasher rules) }
+    {
+        let count = 2_usize.pow(bits);
+        let capacity = settings.capacity;
+        let settings = for_part(count as u64, settings);
+        let hasher = Shared::new(alloc, hasher)?;
+        let rules = Shared::new(alloc, rules)?;
+        let room = initial_capacity.div_ceil(count);
+        let parts = new_parts(alloc, count, room, settings, &hasher, &rules)?;
+        Ok(LentState {
+            alloc,
+            parts,
+            bits,
+            name,
+            capacity,
+            settings,
+            hasher,
+            rules,
+            turns: Vec::new(alloc),
+            next_turn: 0,
+            moment: Instant::from_nanos(settings.made),
+            step: 0,
+        })
+    }
+}
