@@ -1,5 +1,5 @@
 //! The state of a cache that is lent.
-ghost use Rattle.std.specs.Prelude.{◌≡◌, ◌<◌, ◌≤◌, ◌^◌, Ok, IfOk, IfErr, OnOk, OnErr, is_some};
+ghost use Rattle.std.specs.Prelude.{◌≡◌, ◌<◌, ◌^◌, Ok, IfOk, IfErr, OnOk, OnErr, is_some};
 ghost use Rattle.std.specs.Fn.{FnOnceReturnsAt};
 ghost use Rattle.engine_reference.specs.Calls.{cleared_by, removal_rooms};
 ghost use Rattle.engine_lists.specs.Asking.{answers_of};
@@ -23,6 +23,7 @@ use std::hash::{BuildHasher, Hash, Hasher};
 use std::marker::Model;
 
 mod making;
+mod reading;
 mod turning;
 
 /// A cache of 2^bits parts that is lent by `&mut`, so that each call is alone. Each key belongs to the part that the upper bits of its hash say.

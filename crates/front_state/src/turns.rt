@@ -1,5 +1,5 @@
 //! The turns that are under way.
-ghost use Rattle.std.specs.Prelude.{◌≡◌, ◌+◌, ◌<◌, ◌≤◌, ◌^◌, ◌&&◌, Some, None, IfOk, IfErr, IfSome, IfNone, OnOk, length, option_map, remove, slice_get};
+ghost use Rattle.std.specs.Prelude.{◌≡◌, ◌+◌, ◌<◌, ◌^◌, ◌&&◌, Some, None, IfOk, IfErr, IfSome, IfNone, OnOk, length, option_map, remove, slice_get};
 ghost use Rattle.std.specs.Vec.{vec_capacity, vec_len};
 ghost use Rattle.front_reference.specs.Fronts.{same_kind, turn_at, turn_of, without_turn};
 ghost use Rattle.front_reference.specs.declared.data.OpenTurn.{OpenTurn};

@@ -1,5 +1,5 @@
 //! Calls on all parts.
-ghost use Rattle.std.specs.Prelude.{◌≡◌, ℕ, [], Some, slice_get};
+ghost use Rattle.std.specs.Prelude.{◌≡◌, ℕ, [], Some, min, slice_get, sum_by};
 ghost use Rattle.engine_reference.specs.Calls.{cleared_by};
 ghost use Rattle.engine_reference.specs.State.{State};
 ghost use Rattle.engine_lists.specs.Asking.{answers_of};
@@ -39,4 +39,34 @@ pub(crate) fn clear_all<K: Eq + Hash, V, S: BuildHasher, R: Rules<K, V>>(
         let part = &mut parts[place];
         part.invalidate_all(step);
     }
+}
+
+/// How many records the parts admitted, as of their last runs.
+pub(crate) fn sum_numbers<K: Eq + Hash, V, S: BuildHasher, R: Rules<K, V>>(
+    parts: &[BaseCache<K, V, S, R>],
+) -> u64
+    ensures { result ≡ min (sum_by (λ s. s.number) parts.now) 18446744073709551615 }
+{
+    let mut total = 0u64;
+    let mut rest = parts;
+    while let Some((part, others)) = rest.split_first() {
+        total = total.saturating_add(part.entry_count());
+        rest = others;
+    }
+    total
+}
+
+/// What they weighed.
+pub(crate) fn sum_weights<K: Eq + Hash, V, S: BuildHasher, R: Rules<K, V>>(
+    parts: &[BaseCache<K, V, S, R>],
+) -> u64
+    ensures { result ≡ min (sum_by (λ s. s.weight) parts.now) 18446744073709551615 }
+{
+    let mut total = 0u64;
+    let mut rest = parts;
+    while let Some((part, others)) = rest.split_first() {
+        total = total.saturating_add(part.weighted_size());
+        rest = others;
+    }
+    total
 }

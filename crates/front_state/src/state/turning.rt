@@ -1,5 +1,5 @@
 //! Turns: calls that make a value, one at a time for a kind and a key.
-ghost use Rattle.std.specs.Prelude.{◌≡◌, ◌+◌, ◌<◌, ◌≤◌, ◌^◌, true, false, Some, None, IfOk, IfErr, IfSome, IfNone, OnOk, OnErr, is_none, is_some, length, option_map, remove, slice_get};
+ghost use Rattle.std.specs.Prelude.{◌≡◌, ◌+◌, ◌<◌, true, Some, None, IfOk, IfErr, IfSome, IfNone, OnOk, OnErr, is_none, is_some, length, option_map, remove, slice_get};
 ghost use Rattle.std.specs.Fn.{FnOnceReturnsAt};
 ghost use Rattle.engine_reference.specs.Scanning.{NotesLookUp, past};
 ghost use Rattle.engine_lists.specs.Asking.{answers_of};

@@ -1,0 +1,271 @@
+//! The builder.
+ghost use Rattle.std.specs.Prelude.{◌≡◌, ◌⊎◌, Some, None, true, false, IfOk, IfErr, OnOk};
+ghost use Rattle.front_builder.specs.Building.{IsBuilt, blank, fault_of, settings_of};
+ghost use Rattle.front_builder.specs.declared.errors.BuildError.TheVariants.{OutOfMemory};
+
+use crate::errors::BuildError;
+use crate::settling::{as_limit, bits_for, segments_fault, time_fault};
+use engine_reference::Settings;
+use engine_rules::{
+    Bundle, EvictionPolicy, ExpirationPolicy, Expiry, NoExpiry, NoPredicate, Predicate, WeighOne,
+    Weigher,
+};
+use front_state::LentState;
+use policy_base::Instant;
+use std::alloc::Global;
+use std::hash::{BuildHasher, Hash};
+use std::marker::PhantomData;
+use std::time::Duration;
+
+/// What is set of a cache beside its rules.
+#[derive(Drop)]
+pub struct Plan {
+    name: Option<String>,
+    max_capacity: Option<u64>,
+    initial_capacity: usize,
+    segments: usize,
+    policy: EvictionPolicy,
+    expiration: ExpirationPolicy,
+    tells: bool,
+    takes_predicates: bool,
+}
+
+/// What a cache is to be made with. At first nothing is set: no capacity, no times, TinyLFU, one segment, each value weighs one and does not expire by itself, removals are not told, and no predicates are taken.
+#[derive(Drop)]
+pub struct CacheBuilder<X, W, P, F> {
+    plan: Plan,
+    expiry: X,
+    weigher: W,
+    parts: PhantomData<(P, F)>,
+}
+
+impl CacheBuilder<NoExpiry, WeighOne, NoPredicate, ()> {
+    /// A builder of a cache that holds at most this weight.
+    pub fn new(max_capacity: u64) -> Self
+        ensures { result.plan ≡ record blank { max_capacity = Some max_capacity } }
+    {
+        CacheBuilder::default().max_capacity(max_capacity)
+    }
+}
+
+impl Default for CacheBuilder<NoExpiry, WeighOne, NoPredicate, ()> {
+    ghost use Rattle.std.specs.Prelude.{◌≡◌};
+    ghost use Rattle.front_builder.specs.Building.{blank};
+
+    ghost is_default = { λ b. b.plan ≡ blank };
+
+    fn default() -> Self {
+        CacheBuilder {
+            plan: Plan {
+                name: None,
+                max_capacity: None,
+                initial_capacity: 0,
+                segments: 1,
+                policy: EvictionPolicy::default(),
+                expiration: ExpirationPolicy::default(),
+                tells: false,
+                takes_predicates: false,
+            },
+            expiry: NoExpiry,
+            weigher: WeighOne,
+            parts: PhantomData,
+        }
+    }
+}
+
+impl<X, W, P, F> CacheBuilder<X, W, P, F> {
+    /// What the cache is called.
+    pub fn name(mut self, name: String) -> Self
+        ensures { result ≡ record self { plan = record self.plan { name = Some name } } }
+    {
+        self.plan.name = Some(name);
+        self
+    }
+
+    /// The weight that the cache holds at most, of all segments together.
+    pub fn max_capacity(mut self, max_capacity: u64) -> Self
+        ensures { result ≡ record self { plan = record self.plan { max_capacity = Some max_capacity } } }
+    {
+        self.plan.max_capacity = Some(max_capacity);
+        self
+    }
+
+    /// For how many entries there is room from the start.
+    pub fn initial_capacity(mut self, number_of_entries: usize) -> Self
+        ensures { result ≡ record self { plan = record self.plan { initial_capacity = number_of_entries } } }
+    {
+        self.plan.initial_capacity = number_of_entries;
+        self
+    }
+
+    /// Of how many segments the cache is made, each with its share of the capacity: so many, or the next power of two. From 1 to 65,536.
+    pub fn segments(mut self, segments: usize) -> Self
+        ensures { result ≡ record self { plan = record self.plan { segments = segments } } }
+    {
+        self.plan.segments = segments;
+        self
+    }
+
+    /// Which entries the cache lets go where it is too heavy. TinyLFU at first.
+    pub fn eviction_policy(mut self, policy: EvictionPolicy) -> Self
+        ensures { result ≡ record self { plan = record self.plan { policy = policy } } }
+    {
+        self.plan.policy = policy;
+        self
+    }
+
+    /// Removals are told, as notices to be taken.
+    pub fn eviction_listener(mut self) -> Self
+        ensures { result ≡ record self { plan = record self.plan { tells = true } } }
+    {
+        self.plan.tells = true;
+        self
+    }
+
+    /// How long after its write a value lives: at most 1000 years of 365 days.
+    pub fn time_to_live(mut self, duration: Duration) -> Self
+        ensures { result ≡ record self { plan = record self.plan { expiration = record self.plan.expiration { time_to_live = Some duration } } } }
+    {
+        self.plan.expiration.set_time_to_live(duration);
+        self
+    }
+
+    /// How long after its last use a value lives: at most 1000 years of 365 days.
+    pub fn time_to_idle(mut self, duration: Duration) -> Self
+        ensures { result ≡ record self { plan = record self.plan { expiration = record self.plan.expiration { time_to_idle = Some duration } } } }
+    {
+        self.plan.expiration.set_time_to_idle(duration);
+        self
+    }
+
+    /// How long each value lives by itself.
+    pub fn expire_after<Y>(self, expiry: Y) -> CacheBuilder<Y, W, P, F>
+    where
+        X: Drop,
+        ensures plan { result.plan ≡ self.plan }
+        ensures expiry { result.expiry ≡ expiry }
+        ensures weigher { result.weigher ≡ self.weigher }
+    {
+        CacheBuilder {
+            plan: self.plan,
+            expiry,
+            weigher: self.weigher,
+            parts: PhantomData,
+        }
+    }
+
+    /// What each value weighs.
+    pub fn weigher<U>(self, weigher: U) -> CacheBuilder<X, U, P, F>
+    where
+        W: Drop,
+        ensures plan { result.plan ≡ self.plan }
+        ensures expiry { result.expiry ≡ self.expiry }
+        ensures weigher { result.weigher ≡ weigher }
+    {
+        CacheBuilder {
+            plan: self.plan,
+            expiry: self.expiry,
+            weigher,
+            parts: PhantomData,
+        }
+    }
+
+    /// Predicates of a type are taken, which invalidate the values that they cover.
+    pub fn support_invalidation_closures<Q>(self) -> CacheBuilder<X, W, Q, F>
+        ensures plan { result.plan ≡ record self.plan { takes_predicates = true } }
+        ensures expiry { result.expiry ≡ self.expiry }
+        ensures weigher { result.weigher ≡ self.weigher }
+    {
+        let mut plan = self.plan;
+        plan.takes_predicates = true;
+        CacheBuilder {
+            plan,
+            expiry: self.expiry,
+            weigher: self.weigher,
+            parts: PhantomData,
+        }
+    }
+
+    /// What the making of a value may fail with.
+    pub fn faults<G>(self) -> CacheBuilder<X, W, P, G>
+        ensures plan { result.plan ≡ self.plan }
+        ensures expiry { result.expiry ≡ self.expiry }
+        ensures weigher { result.weigher ≡ self.weigher }
+    {
+        CacheBuilder {
+            plan: self.plan,
+            expiry: self.expiry,
+            weigher: self.weigher,
+            parts: PhantomData,
+        }
+    }
+
+    /// A cache that is lent, made at a moment, which hashes keys by this hasher. Where keys come from strangers it is to be one that they cannot foresee.
+    pub fn build_state<K: Eq + Hash + Drop, V: Drop, S: BuildHasher + Drop>(
+        self,
+        alloc: Global,
+        hasher: S,
+        moment: Instant,
+    ) -> Result<LentState<K, V, S, Bundle<X, W, P, F>>, BuildError>
+    where
+        X: Expiry<K, V> + Drop,
+        W: Weigher<K, V> + Drop,
+        P: Predicate<K, V>,
+        F: Drop,
+        ensures built { IfOk result (IsBuilt self.plan self.expiry self.weigher hasher moment) }
+        ensures sound { OnOk result (fault_of self.plan ≡ None) }
+        ensures cause { IfErr result (λ e. (fault_of self.plan ≡ Some e) ⊎ ((e ≡ OutOfMemory) × (fault_of self.plan ≡ None))) }
+    {
+        let CacheBuilder {
+            plan,
+            expiry,
+            weigher,
+            parts: _,
+        } = self;
+        if let Some(fault) = fault_of(&plan) {
+            return Err(fault);
+        }
+        let bits = bits_for(plan.segments);
+        let settings = settings_of(&plan, moment);
+        let rules = Bundle::new(expiry, weigher);
+        let state = LentState::new(
+            alloc,
+            plan.name,
+            bits,
+            plan.initial_capacity,
+            settings,
+            hasher,
+            rules,
+        )?;
+        Ok(state)
+    }
+}
+
+/// What is wrong with what is set, if anything: the first of it.
+fn fault_of(plan: &Plan) -> Option<BuildError>
+    ensures { result ≡ fault_of plan.now }
+{
+    let times = time_fault(
+        plan.expiration.time_to_live(),
+        plan.expiration.time_to_idle(),
+    );
+    match times {
+        Some(fault) => Some(fault),
+        None => segments_fault(plan.segments),
+    }
+}
+
+/// What all segments together are made with.
+fn settings_of(plan: &Plan, moment: Instant) -> Settings
+    ensures { result ≡ settings_of plan.now moment }
+{
+    Settings {
+        capacity: plan.max_capacity,
+        live: as_limit(plan.expiration.time_to_live()),
+        idle: as_limit(plan.expiration.time_to_idle()),
+        policy: plan.policy,
+        tells: plan.tells,
+        takes_predicates: plan.takes_predicates,
+        made: moment.as_nanos(),
+    }
+}

@@ -1,0 +1,71 @@
+//! What a cache shows of itself.
+ghost use Rattle.std.specs.Prelude.{◌≡◌, option_map};
+ghost use Rattle.std.specs.Duration.{as_nanos};
+ghost use Rattle.front_reference.specs.Wholes.{total_number, total_weight};
+ghost use Rattle.front_state.specs.Reading.{ShowsPolicy};
+
+use crate::state::LentState;
+use crate::wholes::{sum_numbers, sum_weights};
+use engine_rules::{Policy, Rules};
+use front_reference::At;
+use std::hash::{BuildHasher, Hash};
+use std::time::Duration;
+
+impl<K: Eq + Hash, V, S: BuildHasher, R: Rules<K, V>> LentState<K, V, S, R> {
+    /// What the cache is called, if it was given a name.
+    pub fn name(&self) -> Option<&str>
+        ensures { option_map (λ text. text.now) result ≡ self.now.name }
+    {
+        match &self.name {
+            Some(name) => Some(name.as_str()),
+            None => None,
+        }
+    }
+
+    /// The wanted capacity, the number of parts, and the times that the cache was made with, up to the last moment that there is.
+    pub fn policy(&self) -> Policy
+        ensures { ShowsPolicy self.now result }
+    {
+        Policy::new(
+            self.capacity,
+            self.parts.len(),
+            as_duration(self.settings.live),
+            as_duration(self.settings.idle),
+        )
+    }
+
+    /// How many entries there are, as of the last run of each part, up to 2^64 - 1.
+    pub fn entry_count(&self) -> u64
+        ensures { result ≡ total_number self.now }
+    {
+        sum_numbers(self.parts.as_slice())
+    }
+
+    /// What they weigh, as of the last run of each part, up to 2^64 - 1.
+    pub fn weighted_size(&self) -> u64
+        ensures { result ≡ total_weight self.now }
+    {
+        sum_weights(self.parts.as_slice())
+    }
+
+    /// The moment and the step of the last call. The next one comes at no earlier moment, and at a later step.
+    pub fn last_call(&self) -> At
+        ensures now { result.now ≡ self.now.moment }
+        ensures step { result.step ≡ self.now.step }
+    {
+        At {
+            now: self.moment,
+            step: self.step,
+        }
+    }
+}
+
+/// A time as it is shown.
+fn as_duration(nanos: Option<u64>) -> Option<Duration>
+    ensures { option_map as_nanos result ≡ nanos }
+{
+    match nanos {
+        Some(nanos) => Some(Duration::from_nanos(nanos)),
+        None => None,
+    }
+}

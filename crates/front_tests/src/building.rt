@@ -1,0 +1,141 @@
+use crate::script::Numbers;
+use front_builder::{BuildError, CacheBuilder};
+use policy_base::Instant;
+use std::alloc::{AllocError, Global};
+use std::hash::BuildHasherDefault;
+use std::time::Duration;
+
+/// A thousand years of 365 days, in seconds.
+const LONGEST: u64 = 31_536_000_000;
+
+/// A builder's settings: time to live and to idle in seconds, segments; and what comes of them: how many segments, or why not.
+#[derive(Clone, Copy)]
+struct Row {
+    live: u64,
+    idle: u64,
+    segments: usize,
+    built: Result<usize, BuildError>,
+}
+
+const ROWS: [Row; 9] = [
+    Row {
+        live: 2700,
+        idle: 900,
+        segments: 1,
+        built: Ok(1),
+    },
+    Row {
+        live: LONGEST,
+        idle: LONGEST,
+        segments: 3,
+        built: Ok(4),
+    },
+    Row {
+        live: 1,
+        idle: 1,
+        segments: 4,
+        built: Ok(4),
+    },
+    Row {
+        live: 1,
+        idle: 1,
+        segments: 5,
+        built: Ok(8),
+    },
+    Row {
+        live: LONGEST + 1,
+        idle: LONGEST + 1,
+        segments: 0,
+        built: Err(BuildError::TimeToLiveTooLong),
+    },
+    Row {
+        live: 1,
+        idle: LONGEST + 1,
+        segments: 0,
+        built: Err(BuildError::TimeToIdleTooLong),
+    },
+    Row {
+        live: 1,
+        idle: 1,
+        segments: 0,
+        built: Err(BuildError::NoSegments),
+    },
+    Row {
+        live: 1,
+        idle: 1,
+        segments: 65_537,
+        built: Err(BuildError::TooManySegments),
+    },
+    Row {
+        live: 1,
+        idle: 1,
+        segments: 2,
+        built: Ok(2),
+    },
+];
+
+fn build(alloc: Global, live: u64, idle: u64, segments: usize) -> Result<Numbers, BuildError> {
+    CacheBuilder::new(100)
+        .time_to_live(Duration::from_secs(live))
+        .time_to_idle(Duration::from_secs(idle))
+        .segments(segments)
+        .build_state(alloc, BuildHasherDefault::new(), Instant::from_nanos(5))
+}
+
+/// How many segments a cache of these settings shows, or why it is not built. Where memory was refused it is built once more.
+fn built(alloc: Global, row: &Row) -> Result<usize, BuildError> {
+    let first = build(alloc, row.live, row.idle, row.segments);
+    let state = match first {
+        Err(BuildError::OutOfMemory) => build(alloc, row.live, row.idle, row.segments)?,
+        Err(refused) => return Err(refused),
+        Ok(state) => state,
+    };
+    Ok(state.policy().num_segments())
+}
+
+fn first_wrong_row(alloc: Global) -> usize {
+    for place in 0..ROWS.len() {
+        if built(alloc, &ROWS[place]) != ROWS[place].built {
+            return place;
+        }
+    }
+    ROWS.len()
+}
+
+#[test]
+fn rows_of_builders(rt: HostRuntime) {
+    assert_eq!(rt; first_wrong_row(rt.alloc()), ROWS.len());
+}
+
+/// Whether a cache shows what its builder was told.
+fn shows(alloc: Global) -> Result<bool, BuildError> {
+    let state = build(alloc, 2700, 900, 1)?;
+    let policy = state.policy();
+    Ok(
+        policy.max_capacity() == Some(100)
+            && policy.time_to_live() == Some(Duration::from_secs(2700))
+            && policy.time_to_idle() == Some(Duration::from_secs(900))
+            && state.name().is_none()
+            && state.entry_count() == 0
+            && state.last_call().step == 0,
+    )
+}
+
+#[test]
+fn a_cache_shows_its_settings(rt: HostRuntime) {
+    assert!(rt; shows(rt.alloc()) == Ok(true) || shows(rt.alloc()) == Ok(true));
+}
+
+fn has_text(alloc: Global, refused: BuildError, text: &str) -> Result<bool, AllocError> {
+    Ok(format!(in alloc; "{refused}")?.as_str() == text)
+}
+
+#[test]
+fn a_refusal_has_a_text(rt: HostRuntime) {
+    let text = "the time to live is longer than 1000 years";
+    let fault = BuildError::TimeToLiveTooLong;
+    assert!(rt;
+        has_text(rt.alloc(), fault, text) == Ok(true)
+            || has_text(rt.alloc(), fault, text) == Ok(true)
+    );
+}

@@ -1,0 +1,75 @@
+use crate::script::{Call, Start, numbers, right_calls};
+use front_reference::{CacheError, TurnKind};
+use std::alloc::Global;
+
+const UNKNOWN: Result<(), CacheError> = Err(CacheError::UnknownTurn);
+
+/// One turn of a kind and a key; a value that was made is inserted whatever happened to the key meanwhile.
+const TURNS: [(u64, Call); 16] = [
+    (0, Call::Begin(TurnKind::Try, 7, Start::Lead(0))),
+    (0, Call::Begin(TurnKind::Try, 7, Start::Wait(0))),
+    (0, Call::Begin(TurnKind::With, 7, Start::Lead(1))),
+    (0, Call::IsFree(TurnKind::Optionally, 7, true)),
+    (0, Call::IsFree(TurnKind::With, 7, false)),
+    (1, Call::Insert(7, 1)),
+    (2, Call::Finish(0, 2, Ok(()))),
+    (2, Call::Get(7, Some(2))),
+    (2, Call::Begin(TurnKind::Try, 7, Start::Found(2))),
+    (3, Call::Finish(0, 3, UNKNOWN)),
+    (3, Call::Abandon(1, Ok(()))),
+    (3, Call::Abandon(1, UNKNOWN)),
+    (4, Call::BeginCompute(7, Start::Lead(2))),
+    (4, Call::BeginCompute(7, Start::Wait(2))),
+    (4, Call::Abandon(2, Ok(()))),
+    (4, Call::BeginCompute(7, Start::Lead(3))),
+];
+
+/// Values come, are used, leave, and are counted after a run.
+const VALUES: [(u64, Call); 16] = [
+    (0, Call::Get(1, None)),
+    (0, Call::Has(1, false)),
+    (0, Call::OrInsert(1, 3, (3, true))),
+    (0, Call::OrInsert(1, 6, (3, false))),
+    (1, Call::Insert(2, 20)),
+    (1, Call::Insert(3, 30)),
+    (1, Call::Has(3, true)),
+    (2, Call::Run),
+    (2, Call::Count(3)),
+    (3, Call::Remove(2, Some(20))),
+    (3, Call::Remove(2, None)),
+    (3, Call::Invalidate(3)),
+    (4, Call::Get(3, None)),
+    (5, Call::Clear),
+    (5, Call::Get(1, None)),
+    (6, Call::Run),
+];
+
+fn are_right(alloc: Global, segments: usize, calls: &[(u64, Call)]) -> bool {
+    match numbers(alloc, segments) {
+        Ok(mut state) => right_calls(alloc, &mut state, calls) == calls.len(),
+        Err(_) => match numbers(alloc, segments) {
+            Ok(mut state) => right_calls(alloc, &mut state, calls) == calls.len(),
+            Err(_) => false,
+        },
+    }
+}
+
+#[test]
+fn turns_of_one_part(rt: HostRuntime) {
+    assert!(rt; are_right(rt.alloc(), 1, &TURNS));
+}
+
+#[test]
+fn turns_of_four_parts(rt: HostRuntime) {
+    assert!(rt; are_right(rt.alloc(), 4, &TURNS));
+}
+
+#[test]
+fn values_of_one_part(rt: HostRuntime) {
+    assert!(rt; are_right(rt.alloc(), 1, &VALUES));
+}
+
+#[test]
+fn values_of_four_parts(rt: HostRuntime) {
+    assert!(rt; are_right(rt.alloc(), 4, &VALUES));
+}
