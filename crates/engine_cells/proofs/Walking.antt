@@ -1,10 +1,10 @@
 -- Walks over cells and queues.
-use Rattle.std.proofs.Common.{◌≡◌, refl, sym, ◌∙◌, ℕ, zero, suc, Bool, true, false, cond, eqb, List, [], ◌∷◌, Option, Some, None}
+use Rattle.std.proofs.Common.{◌≡◌, refl, sym, ◌∙◌, ℕ, ◌<◌, zero, suc, arith, length, Bool, true, false, cond, eqb, List, [], ◌∷◌, Option, Some, None}
 use Rattle.std.specs.Prelude.{IfSome, IfNone, OnOk, OnErr, Result, Ok, Err, option_map, is_some}
 use Rattle.engine_reference.specs.declared.data.Record.{Record}
 use Rattle.engine_reference.specs.Records.{record_at}
 use Rattle.engine_cells.specs.declared.cell.Cell.{Cell}
-use Rattle.engine_cells.specs.Cells.{cell_at, records_by_number, HaveOwnNumbers}
+use Rattle.engine_cells.specs.Cells.{cell_at, records_by_number, numbers_of, HaveOwnNumbers}
 use Rattle.engine_cells.proofs.Listed.{apart-later, first-alone}
 use Rattle.engine_cells.proofs.Placed.{record_at-put_among}
 
@@ -56,3 +56,13 @@ module _ {K V : Type 0} where
       go : (b : Bool) → cond b (Some c.item) (record_at (records_by_number cells) n) ≡ Some r → (record_at (records_by_number cells) n ≡ Some r → Stands cells r) → Stands (Some c ∷ cells) r
       go true e later = record { place = zero; cell = c; there = refl; is = cc }
       go false e later = later_place (Some c) cells r (later e)
+
+  -- each cell has its number
+  pub many-numbers : (cells : List (Option (Cell K V))) → length (numbers_of cells) ≡ length cells
+  many-numbers [] = refl
+  many-numbers (o ∷ cells) = let later = many-numbers cells in omega (arith, later)
+
+  pub numbers-within : (cells : List (Option (Cell K V))) (i : ℕ) (c : Cell K V) → cell_at cells i ≡ Some c → i < length (numbers_of cells)
+  numbers-within [] i c h = absurd (cc)
+  numbers-within (o ∷ cells) zero c h = omega arith
+  numbers-within (o ∷ cells) (suc i) c h = let later = numbers-within cells i c h in omega (arith, later)

@@ -206,6 +206,14 @@ impl<K: Eq + Hash, V, S: BuildHasher, R: Rules<K, V>> Tables<K, V, S, R> {
         }
     }
 
+    /// How many places there are at most: each record stands in one of them.
+    pub fn places(&self) -> usize
+        ensures most { length self.now.numbers ≤ result }
+        ensures stand { (r : Record K V) → record_at self.now.state.records r.number ≡ Some r → (i : ℕ) × (i < length self.now.numbers) × (kept_at self.now i ≡ Some r) }
+    {
+        self.cells.capacity()
+    }
+
     /// The place of a key's record, where it is held, by the key's hash.
     pub fn place_of<Q: Names<K>>(&self, key: &Q, hash: u64) -> Option<usize>
         requires hashed { hash ≡ hash_of_key S.Hasher.finish S.Hasher.write S.build_hasher K.hash_input self.now.state.hasher (Q.named_key key.now) }
@@ -374,6 +382,14 @@ impl<K: Eq + Hash, V, S: BuildHasher, R: Rules<K, V>> Tables<K, V, S, R> {
     {
         let _many = self.cells.len();
         self.tally.weight
+    }
+
+    /// How many records are admitted.
+    pub fn admitted_number(&self) -> u64
+        ensures { result ≡ admitted_number self.now.state.records }
+    {
+        let _many = self.cells.len();
+        self.tally.number as u64
     }
 
     /// The record in a place leaves, and is told where it was held and removals are told.

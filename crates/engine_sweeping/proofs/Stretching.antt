@@ -4,6 +4,8 @@ use Rattle.std.specs.Prelude.{min, nat_lt, nat_le}
 use Rattle.std.specs.List.{list_any}
 use Rattle.std.proofs.lemmas.Bool.{lt-ltb, le-leb, leb-true}
 use Rattle.std.proofs.lemmas.List.Sums.{sum_by-cons}
+use Rattle.std.proofs.Math.Logic.{∥∥₁_elim}
+use Rattle.std.proofs.Props.{props}
 use Rattle.policy_sketch.specs.Counts.{Sketch}
 use Rattle.engine_rules.specs.declared.causes.RemovalCause.{RemovalCause}
 use Rattle.engine_reference.specs.declared.data.Record.{Record}
@@ -130,7 +132,7 @@ module _ {K V P S R : Type 0} where
   -- a stretch that leaves the fronts clean, and then the counts, are a run to its end
   pub run-from : (answers : Answers K V P R) (now : ℕ) (refused : Bool) (old last new : State K V P S R) → Stretch answers now old last → IsApplied last
       → new ≡ record last { number = admitted_number last.records; weight = min (admitted_weight last.records) 18446744073709551615; ran = now; table_refused = refused }
-      → KeepsRest old last → IsClean now last → old.predicates ≡ [] → IsSound old → (refused ≡ false → lacks_table old ≡ false) → RunsToEnd answers now old new
+      → KeepsRest old last → IsClean now last → old.predicates ≡ [] → ∥ IsSound old ∥₁ → (refused ≡ false → lacks_table old ≡ false) → RunsToEnd answers now old new
   run-from answers now refused old last new h applied after rest clean none sound table = record {
     runs = record { stages = h.stages; last = last; steps = h.steps; applied = applied; refused = refused; after = after };
     done = subst (λ (s : State K V P S R). IsDone s) (sym after) (record {
@@ -138,7 +140,10 @@ module _ {K V P S R : Type 0} where
       ended = rest.predicates ∙ none;
       table = λ asked. rest.table (table asked);
     });
-    swept = λ sent.
-        let k = clean-swept now old last (rest.sound sound) (rest.unsent ∙ sent) applied clean in
-        subst (λ (s : State K V P S R). IsSwept now old s) (sym after) (record { live = k.live; clear = k.clear; idle = k.idle; own = k.own });
+    swept = λ sent. subst (λ (s : State K V P S R). IsSwept now old s) (sym after) (record {
+      live = λ r first. ∥∥₁_elim sound (Prim.hlevel props) (λ k. (clean-swept now old last (rest.sound k) (rest.unsent ∙ sent) applied clean).live r first);
+      clear = λ r first. ∥∥₁_elim sound (Prim.hlevel props) (λ k. (clean-swept now old last (rest.sound k) (rest.unsent ∙ sent) applied clean).clear r first);
+      idle = λ r first. ∥∥₁_elim sound (Prim.hlevel props) (λ k. (clean-swept now old last (rest.sound k) (rest.unsent ∙ sent) applied clean).idle r first);
+      own = λ later r there. ∥∥₁_elim sound (Prim.hlevel props) (λ k. (clean-swept now old last (rest.sound k) (rest.unsent ∙ sent) applied clean).own later r there);
+    });
   }

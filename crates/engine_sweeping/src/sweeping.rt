@@ -57,9 +57,10 @@ pub fn settle<K: Eq + Hash + Drop, V: Drop, S: BuildHasher, R: Rules<K, V>>(
 )
     requires applied { IsApplied tables.old.state }
     requires predicates { tables.old.state.predicates ≡ [] }
-    requires sound { IsSound tables.old.state }
+    requires sound { ∥ IsSound tables.old.state ∥₁ }
     requires table { table_refused ≡ false → lacks_table tables.old.state ≡ false }
-    ensures { (answers : Answers K V R.Predicate R) → RunsToEnd answers now tables.old.state tables.new.state }
+    ensures runs { (answers : Answers K V R.Predicate R) → RunsToEnd answers now tables.old.state tables.new.state }
+    ensures refused { tables.new.state.table_refused ≡ table_refused }
 {
     sweep(tables, now);
     tables.finish_run(now, table_refused);

@@ -1,0 +1,4 @@
+pub mod Constant
+pub mod Joining
+pub mod Covering
+pub mod Making
