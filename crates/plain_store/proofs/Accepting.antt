@@ -23,15 +23,16 @@ use Rattle.audit_model.specs.declared.transcript.RemovalCause.TheVariants.{Expir
 use Rattle.cache_store.specs.Handing.{AppendsNotes}
 use Rattle.cache_store.specs.Promises.{Done, accepting}
 use Rattle.cache_store.specs.Running.{weight_in}
-use Rattle.plain_table.specs.Items.{value_at, without, is_absent, are_apart}
-use Rattle.plain_table.proofs.Keys.{same-refl, same-flip_false, equal_from_same, same_from_equal}
-use Rattle.plain_table.proofs.Held.{key_from_some, absent_from_none, without-absent, absent-without, apart-without, none_from_absent, key_of}
-use Rattle.plain_sweep.specs.Holding.{plain, Corresponds}
-use Rattle.plain_sweep.specs.Swept.{note_of, exceeds, cause_at, cause_of_replaced}
-use Rattle.plain_sweep.proofs.Corresponding.{corresponds-without, corresponds-new, corresponds-left, value_at-append, value_at-without}
-use Rattle.plain_sweep.proofs.Sweeping.{Tells, left, left-append}
-use Rattle.plain_sweep.proofs.Truth.{Says, says_from, tell_truly, first_of-map, without-map, replaced_truly}
-use Rattle.plain_sweep.proofs.Weights.{over_is, exceeds-more}
+use Rattle.cache_values.specs.Held.{value_at, without, is_absent, are_apart, plain, Corresponds, exceeds, cause_of_replaced}
+use Rattle.cache_values.proofs.Keys.{same-refl, same-flip_false, equal_from_same, same_from_equal}
+use Rattle.cache_values.proofs.Held.{key_from_some, absent_from_none, without-absent, absent-without, apart-without, none_from_absent, key_of}
+use Rattle.plain_sweep.specs.Swept.{note_of, cause_at}
+use Rattle.cache_values.proofs.Corresponding.{corresponds-without, corresponds-new, corresponds-left, value_at-append, value_at-without, left, left-append}
+use Rattle.plain_sweep.proofs.Sweeping.{Tells}
+use Rattle.plain_sweep.proofs.Truth.{Says, says_from, tell_truly}
+use Rattle.cache_values.proofs.Truth.{first_of-map, without-map, replaced_truly}
+use Rattle.cache_values.proofs.Weights.{over_is}
+use Rattle.plain_sweep.proofs.Weights.{exceeds-more}
 use Rattle.plain_store.specs.Putting.{replaced_note}
 use Rattle.plain_store.specs.Standing.{limit_of, is_proper, Stands}
 use Rattle.plain_store.specs.Doing.{stands_after}

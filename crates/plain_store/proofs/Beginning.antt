@@ -4,7 +4,7 @@ use Rattle.std.proofs.Math.Nat.{div-lt_iff_lt-mul, mul-lt-mul_of_pos_right}
 use Rattle.std.proofs.lemmas.Bool.{ltb-true, false_from_ne_true}
 use Rattle.audit_model.specs.History.{part_count}
 use Rattle.audit_model.specs.declared.config.Config.{Config}
-use Rattle.plain_sweep.specs.Swept.{exceeds}
+use Rattle.cache_values.specs.Held.{exceeds}
 use Rattle.plain_store.specs.Parting.{part_at, part_by}
 use Rattle.plain_store.specs.Standing.{limit_of, AreKept}
 

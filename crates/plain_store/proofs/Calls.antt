@@ -2,12 +2,12 @@
 use Rattle.std.proofs.Common.{◌≡◌, ℕ, suc, Bool, cond, true, false, not, ◌&&◌, ◌||◌, List, [], ◌∷◌, ◌++◌, map, drop, length, Option, option_map, Some, None, if◌then◌else◌, nat_eq, refl, sym, ap, ◌∙◌, subst, arith}
 use Rattle.std.specs.List.{list_all, find, starts_with}
 use Rattle.std.specs.Option.{option_map_or, option_to_list}
-use Rattle.std.proofs.lemmas.Bool.{and_from, and_parts, not-true}
+use Rattle.std.proofs.lemmas.Bool.{and_from, and_parts}
 use Rattle.std.proofs.lemmas.List.{append-nil, length-map}
 use Rattle.std.proofs.lemmas.Option.{none-some}
 use Rattle.audit_model.specs.Bytewise.{same}
 use Rattle.audit_model.specs.Changes.{held_after, use_after}
-use Rattle.audit_model.specs.Commands.{Covering, Nothing, Everything, covers_key}
+use Rattle.audit_model.specs.Commands.{Covering, Nothing, covers_key}
 use Rattle.audit_model.specs.History.{Value}
 use Rattle.audit_model.specs.Notes.{are_true_notes, is_succeeded, is_true_note}
 use Rattle.audit_model.specs.Situation.{HeldValue, candidate_at, is_dead_at, is_live_at, live_at}
@@ -17,57 +17,23 @@ use Rattle.audit_model.specs.declared.transcript.RemovalCause.{RemovalCause}
 use Rattle.audit_model.specs.declared.transcript.RemovalCause.TheVariants.{Expired, Explicit, Replaced, Size}
 use Rattle.cache_store.specs.Handing.{AppendsNotes, TakesFirstNote, TellsNone}
 use Rattle.cache_store.specs.Promises.{Done, using, deleting, syncing, covering}
-use Rattle.plain_table.specs.Items.{value_at, without, is_absent, are_apart, used_at}
-use Rattle.plain_table.proofs.Keys.{same-refl, same-flip_false, equal_from_same, same_from_equal}
-use Rattle.plain_table.proofs.Held.{key_from_some, length-without, absent_from_none, without-absent, absent-without}
-use Rattle.plain_sweep.specs.Holding.{plain, Corresponds}
-use Rattle.plain_sweep.specs.Swept.{note_of, swept, covered_by, cause_of_deleted}
-use Rattle.plain_sweep.proofs.Sweeping.{left, swept_tells, kept_is}
-use Rattle.plain_sweep.proofs.Corresponding.{value_at-map, value_at-without, apart-map, corresponds-without, corresponds-left, corresponds-map}
-use Rattle.plain_sweep.proofs.Truth.{says_from, Says, tell_truly, first_of-map, without-map, deleted_truly}
-use Rattle.plain_store.specs.Putting.{if_live, live_in, Writes, deleted_note}
+use Rattle.cache_values.specs.Held.{value_at, without, is_absent, are_apart, plain, Corresponds, cause_of_deleted, if_live, live_in}
+use Rattle.plain_table.specs.Items.{used_at}
+use Rattle.cache_values.proofs.Keys.{same-refl, same-flip_false, equal_from_same, same_from_equal}
+use Rattle.cache_values.proofs.Held.{key_from_some, length-without, absent_from_none, without-absent, absent-without}
+use Rattle.plain_sweep.specs.Swept.{note_of, swept, covered_by}
+use Rattle.cache_values.proofs.Corresponding.{left, value_at-map, value_at-without, apart-map, corresponds-without, corresponds-left, corresponds-map}
+use Rattle.plain_sweep.proofs.Sweeping.{swept_tells, kept_is}
+use Rattle.plain_sweep.proofs.Truth.{says_from, Says, tell_truly}
+use Rattle.cache_values.proofs.Truth.{first_of-map, without-map, deleted_truly}
+use Rattle.plain_store.specs.Putting.{deleted_note}
 use Rattle.plain_store.specs.Standing.{Stands}
-use Rattle.plain_store.specs.Doing.{or_no, after_plain, corresponds-as, evictable_after, stands_after, none_succeeded, right_to_tell_none}
+use Rattle.cache_values.proofs.Steps.{or_no, after_plain, corresponds-as, none_succeeded, right_to_tell_none}
+use Rattle.plain_store.specs.Doing.{evictable_after, stands_after}
+use Rattle.cache_values.proofs.Live.{live_is}
 
 pub hands_none : (old new : List Note) → new ≡ old → AppendsNotes old new []
 hands_none old new e = record { added = e ∙ sym (append-nil old) }
-
--- ---- look-ups
-
--- the live value of a key, among the values held
-find_live : (config : Config) (now : ℕ) (key : List ℕ) (held : List HeldValue) → are_apart held ≡ true
-    → find (λ h. same key h.value.key && is_live_at config now h) held ≡ if_live config now (value_at held key)
-find_live config now key [] a = refl
-find_live config now key (h ∷ held) a =
-    go (same key h.value.key) (is_live_at config now h) refl refl (find_live config now key held (and_parts (is_absent h.value.key held) (are_apart held) a).1)
-  where
-    none_live : (xs : List HeldValue) → is_absent key xs ≡ true → find (λ g. same key g.value.key && is_live_at config now g) xs ≡ None
-    none_live [] absent = refl
-    none_live (g ∷ xs) absent =
-        let parts = and_parts (not (same key g.value.key)) (is_absent key xs) absent in
-        ap (λ b. cond (b && is_live_at config now g) (Some g) (find (λ g. same key g.value.key && is_live_at config now g) xs)) (not-true _ parts.0) ∙ none_live xs parts.1
-
-    go : (b l : Bool) → same key h.value.key ≡ b → is_live_at config now h ≡ l
-        → find (λ g. same key g.value.key && is_live_at config now g) held ≡ if_live config now (value_at held key)
-        → cond (b && l) (Some h) (find (λ g. same key g.value.key && is_live_at config now g) held) ≡ if_live config now (cond b (Some h) (value_at held key))
-    go true true e f next = ap (λ x. if x then Some h else None) (sym f)
-    go true false e f next =
-        none_live held (subst (λ k. is_absent k held ≡ true) (sym (equal_from_same key h.value.key e)) (and_parts (is_absent h.value.key held) (are_apart held) a).0)
-        ∙ ap (λ x. if x then Some h else None) (sym f)
-    go false l e f next = next
-
-if_live-plain : (config : Config) (now : ℕ) (o : Option HeldValue) → option_map plain (if_live config now o) ≡ if_live config now (option_map plain o)
-if_live-plain config now None = refl
-if_live-plain config now (Some h) = go (is_live_at config now h)
-  where
-    go : (b : Bool) → option_map plain (if b then Some h else None) ≡ (if b then Some (plain h) else None)
-    go true = refl
-    go false = refl
-
--- it is the live item
-pub live_is : (config : Config) (now : ℕ) (key : List ℕ) (items held : List HeldValue) → Corresponds items held
-    → option_map plain (find (λ h. same key h.value.key && is_live_at config now h) held) ≡ live_in config now items key
-live_is config now key items held c = ap (option_map plain) (find_live config now key held c.apart) ∙ if_live-plain config now (value_at held key) ∙ ap (if_live config now) (c.found key)
 
 pub bytes_are : (config : Config) (now : ℕ) (key : List ℕ) (items held : List HeldValue) → Corresponds items held
     → option_map (λ (h : HeldValue). h.value.bytes) (live_in config now items key) ≡ option_map (λ (v : Value). v.bytes) (live_at config now held key)

@@ -3,10 +3,10 @@ use Rattle.std.proofs.Common.{◌≡◌, ℕ, zero, suc, ◌+◌, ◌-◌, ◌<�
 use Rattle.std.proofs.lemmas.List.{take-append-le}
 use Rattle.std.proofs.lemmas.Bool.{cases_lt, eqb-true, eq-eqb, false_from_ne_true, both_ways}
 use Rattle.audit_model.specs.Bytewise.{same}
-use Rattle.plain_table.proofs.Keys.{same_from_equal, equal_from_same}
+use Rattle.cache_values.proofs.Keys.{same_from_equal, equal_from_same}
 use Rattle.rand_core.specs.Stream.{Stream, fill_bytes}
 use Rattle.uuid.specs.Parts.{v4_of_fill}
-use Rattle.cache_store.specs.Identifiers.{drawn, stream_after, identifier_at, Registers, DrawsAlone, AreUsedUp}
+use Rattle.cache_store.specs.Identifiers.{drawn, stream_after, identifier_at, Registers, AreUsedUp}
 use Rattle.plain_store.specs.Drawing.{Draws, DrawsSome, DrawsNone, Entries, is_registered}
 
 pub draws_none_yet : (old : Stream) (registered : List ℕ → Bool) → DrawsSome 0 old old registered

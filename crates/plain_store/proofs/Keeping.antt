@@ -1,12 +1,10 @@
 -- What holds of a plain store's items stays so.
 use Rattle.std.proofs.Common.{◌≡◌, ◌≢◌, ℕ, ◌==◌, ◌≤◌, ◌<◌, ◌+◌, ◌-◌, ◌*◌, Bool, cond, true, false, not, nat_le, List, [], ◌∷◌, map, length, Option, Some, None, if◌then◌else◌, refl, sym, ap, ◌∙◌, subst, arith}
 use Rattle.std.specs.Prelude.{get_or, slice_set}
-use Rattle.std.specs.List.{list_all, sum_by}
+use Rattle.std.specs.List.{list_all}
 use Rattle.std.specs.Option.{option_map_or}
 use Rattle.std.proofs.lemmas.Bool.{and_from, and_parts, not-true, eqb-true, eq-eqb, leb-true, false_from_ne_true, both_ways}
 use Rattle.std.proofs.lemmas.List.{length-map, length-set, get_or-set_same, get_or-set_other}
-use Rattle.std.proofs.lemmas.List.Sums.{sum_by-cons}
-use Rattle.std.proofs.lemmas.List.Sorted.{sum_by-IsPermutation}
 use Rattle.audit_model.specs.Bytewise.{same}
 use Rattle.audit_model.specs.History.{Value}
 use Rattle.audit_model.specs.Notes.{is_over, is_within}
@@ -15,18 +13,19 @@ use Rattle.audit_model.specs.declared.config.Config.{Config}
 use Rattle.audit_model.specs.declared.transcript.Note.{Note}
 use Rattle.audit_model.specs.declared.transcript.RemovalCause.{RemovalCause}
 use Rattle.cache_store.specs.Running.{weight_in, is_timely}
-use Rattle.plain_table.specs.Items.{value_at, without, are_apart, are_light, to_front, used_at}
-use Rattle.plain_table.proofs.Keys.{equal_from_same}
-use Rattle.plain_table.proofs.Held.{key_of, all-without_key, apart-without, absent-without, length-to_front, all_found, key_from_some}
-use Rattle.plain_sweep.specs.Holding.{plain, Corresponds}
+use Rattle.cache_values.specs.Held.{value_at, without, are_apart, plain, Corresponds, exceeds, live_in, if_live}
+use Rattle.plain_table.specs.Items.{are_light, to_front, used_at}
+use Rattle.cache_values.proofs.Keys.{equal_from_same}
+use Rattle.cache_values.proofs.Held.{key_of, all-without_key, apart-without, absent-without, all_found, key_from_some}
+use Rattle.plain_table.proofs.Held.{length-to_front}
 use Rattle.plain_sweep.specs.Evicted.{Evicts}
-use Rattle.plain_sweep.specs.Swept.{exceeds, cause_at, left_by, covered_by, swept}
+use Rattle.plain_sweep.specs.Swept.{cause_at, left_by, covered_by, swept}
 use Rattle.plain_sweep.proofs.Leavers.{evicts_all, evicts_apart, evicts_elsewhere}
-use Rattle.plain_sweep.proofs.Rotating.{weight_in-cons}
+use Rattle.cache_values.proofs.Weights.{weight_in-cons, over_is}
 use Rattle.plain_sweep.proofs.Sweeping.{kept_is, kept_all}
-use Rattle.plain_sweep.proofs.Corresponding.{apart-left, apart-map, permutation}
-use Rattle.plain_sweep.proofs.Weights.{over_is, exceeds-more}
-use Rattle.plain_store.specs.Putting.{live_in, if_live, Writes, weight_at}
+use Rattle.cache_values.proofs.Corresponding.{apart-left, apart-map}
+use Rattle.plain_sweep.proofs.Weights.{exceeds-more}
+use Rattle.plain_store.specs.Putting.{Writes, weight_at}
 use Rattle.plain_store.specs.Standing.{limit_of, is_proper, AreKept, Stands, WeighEach}
 use Rattle.plain_store.specs.Doing.{all_held}
 use Rattle.plain_store.specs.Laws.{parted_from}
@@ -294,15 +293,6 @@ all_timely config part_of made now items held k s =
         let clears = and_parts (is_clear config now h) (list_all (is_clear config now) xs) b in
         let both = and_parts (not h.covered) (not (is_dead_at config now h)) clears.0 in
         and_from _ _ (timely_from config made now h (not-true _ both.0) (not-true _ both.1)) (go xs clears.1)
-
-sum-plain : (held : List HeldValue) → sum_by (λ (h : HeldValue). h.value.weight) (map plain held) ≡ sum_by (λ (h : HeldValue). h.value.weight) held
-sum-plain [] = refl
-sum-plain (h ∷ held) =
-    sum_by-cons (λ (g : HeldValue). g.value.weight) (plain h) (map plain held) ∙ ap (λ n. h.value.weight + n) (sum-plain held) ∙ sym (sum_by-cons (λ (g : HeldValue). g.value.weight) h held)
-
--- the values held weigh what the items do
-pub weight_is : (items held : List HeldValue) → are_apart items ≡ true → Corresponds items held → sum_by (λ (h : HeldValue). h.value.weight) held ≡ sum_by (λ (h : HeldValue). h.value.weight) items
-weight_is items held a c = sym (sum-plain held) ∙ sym (sum_by-IsPermutation (λ (h : HeldValue). h.value.weight) (map plain held) items (permutation items held a c))
 
 -- covered values need no more room
 pub covered_room : (prefix : List ℕ) (len capacity : ℕ) (items new : List HeldValue) → new ≡ map (covered_by prefix) items → len + length items ≤ capacity → len + length new ≤ capacity

@@ -1,5 +1,5 @@
 -- A list of values for which the items stand: each may be evicted.
-use Rattle.std.proofs.Common.{◌≡◌, refl, ap, ◌∙◌, sym, ℕ, suc, ◌+◌, ◌≤◌, arith, Bool, cond, true, false, true≢false, not, ◌&&◌, ◌||◌, List, [], ◌∷◌, map, length, Option, option_map, Some, None}
+use Rattle.std.proofs.Common.{◌≡◌, refl, ap, ◌∙◌, sym, ℕ, suc, ◌≤◌, arith, Bool, cond, true, false, true≢false, not, ◌&&◌, ◌||◌, List, [], ◌∷◌, map, length, Option, option_map, Some, None}
 use Rattle.std.specs.List.{list_all}
 use Rattle.std.specs.Option.{option_map_or}
 use Rattle.std.specs.Prelude.{if◌then◌else◌}
@@ -9,9 +9,9 @@ use Rattle.audit_model.specs.History.{Value}
 use Rattle.audit_model.specs.Notes.{is_over}
 use Rattle.audit_model.specs.Situation.{HeldValue}
 use Rattle.audit_model.specs.declared.config.Config.{Config}
-use Rattle.plain_sweep.specs.Holding.{Corresponds, plain}
-use Rattle.plain_table.specs.Items.{are_apart, to_front, used_at, value_at, without}
-use Rattle.plain_store.specs.Doing.{corresponds-as}
+use Rattle.cache_values.specs.Held.{plain, are_apart, value_at, without}
+use Rattle.plain_table.specs.Items.{to_front, used_at}
+use Rattle.cache_values.proofs.Steps.{corresponds-as}
 use Rattle.plain_store.specs.Standing.{Stands}
 
 abbrev pub marked : HeldValue → HeldValue

@@ -14,14 +14,14 @@ use Rattle.audit_model.specs.declared.transcript.Note.{Note}
 use Rattle.audit_model.specs.declared.transcript.RemovalCause.TheVariants.{Expired, Explicit}
 use Rattle.cache_store.specs.Recency.{IsPlainLru, put_first, used_first}
 use Rattle.cache_store.specs.Running.{weight_in}
-use Rattle.plain_table.specs.Items.{value_at, without, is_absent, are_apart, used_at}
-use Rattle.plain_table.proofs.Held.{key_of, key_from_some, all_found, all-without_key}
-use Rattle.plain_table.proofs.Keys.{same-flip_false, equal_from_same, same_from_equal}
+use Rattle.cache_values.specs.Held.{value_at, without, is_absent, are_apart, exceeds, if_live}
+use Rattle.plain_table.specs.Items.{used_at}
+use Rattle.cache_values.proofs.Held.{key_of, key_from_some, all_found, all-without_key}
+use Rattle.cache_values.proofs.Keys.{same-flip_false, equal_from_same, same_from_equal}
 use Rattle.plain_sweep.specs.Evicted.{Evicts}
-use Rattle.plain_sweep.specs.Swept.{exceeds, left_by, swept}
+use Rattle.plain_sweep.specs.Swept.{left_by, swept}
 use Rattle.plain_sweep.proofs.Leavers.{evicts_all, evicts_cut}
 use Rattle.plain_store.specs.Standing.{limit_of, is_proper, AreKept, AreInOrder, HasParts}
-use Rattle.plain_store.specs.Putting.{if_live}
 use Rattle.plain_store.specs.Laws.{all_so, parted_from}
 use Rattle.plain_store.proofs.Calls.{looked_up}
 use Rattle.plain_store.proofs.Keeping.{first_weight}

@@ -1,28 +1,20 @@
 -- What a step leaves, and that its notes are true.
-use Rattle.std.proofs.Common.{◌≡◌, ℕ, suc, Bool, cond, true, false, not, ◌&&◌, ◌||◌, List, [], ◌∷◌, map, length, Option, option_map, Some, None, refl, sym, ap, ◌∙◌, arith}
+use Rattle.std.proofs.Common.{◌≡◌, ℕ, Bool, cond, true, false, not, ◌&&◌, ◌||◌, List, [], ◌∷◌, map, Option, option_map, Some, None, refl, sym, ap, ◌∙◌, arith}
 use Rattle.std.specs.List.{list_all, sum_by}
 use Rattle.std.proofs.lemmas.Bool.{and_from, and_parts}
-use Rattle.std.proofs.lemmas.List.{append-nil}
 use Rattle.std.proofs.lemmas.List.Sums.{sum_by-cons}
 use Rattle.std.proofs.lemmas.List.Sorted.{sum_by-IsPermutation}
 use Rattle.audit_model.specs.Changes.{left_held, held_after, all_held_after, use_after}
-use Rattle.audit_model.specs.Commands.{Deed, Covering, Nothing, covers_key}
+use Rattle.audit_model.specs.Commands.{Deed, Nothing}
 use Rattle.audit_model.specs.History.{Value}
-use Rattle.audit_model.specs.Notes.{are_true_notes, candidates_of, is_over, is_succeeded}
-use Rattle.audit_model.specs.Situation.{HeldValue, candidate_at}
+use Rattle.audit_model.specs.Notes.{is_over}
+use Rattle.audit_model.specs.Situation.{HeldValue}
 use Rattle.audit_model.specs.declared.config.Config.{Config}
 use Rattle.audit_model.specs.declared.transcript.Note.{Note}
-use Rattle.cache_store.specs.Promises.{no_deed}
-use Rattle.plain_table.specs.Items.{value_at, are_apart}
-use Rattle.plain_sweep.specs.Holding.{plain, Corresponds}
-use Rattle.plain_sweep.proofs.Corresponding.{value_at-map, apart-map, permutation}
+use Rattle.cache_values.specs.Held.{value_at, are_apart, plain, Corresponds}
+use Rattle.cache_values.proofs.Corresponding.{permutation}
 use Rattle.plain_store.specs.Standing.{are_evictable, Stands}
-
--- ---- tests of all values held
-
-pub or_no : (b : Bool) → (b || false) ≡ b
-or_no true = refl
-or_no false = refl
+use Rattle.cache_values.proofs.Steps.{corresponds-as, after_plain}
 
 abbrev fails : (HeldValue → Bool) → HeldValue → ℕ
 fails p h = cond (p h) 0 1
@@ -81,33 +73,9 @@ module _ (config : Config) (now : ℕ) (held : List HeldValue) (deed : Deed) (no
       ap (λ vs. list_all (λ (h : HeldValue). not (is_over config h.value.part vs) || h.evictable) (map (after values) xs)) (values-map (after values) (λ h. refl) xs)
       ∙ evictables values xs
 
-  -- a value that is neither used nor covered stays as it is
-  pub after_plain : (values : List Value) → deed.covers ≡ Nothing → (h : HeldValue) → use_after config now deed h ≡ h.last_use → plain (after values h) ≡ plain h
-  after_plain values none h used =
-      ap (λ u. record (plain h) { last_use = u; covered = h.covered || covers_key h.value.key deed.covers }) used
-      ∙ ap (λ c. record (plain h) { covered = h.covered || covers_key h.value.key c }) none
-      ∙ ap (λ b. record (plain h) { covered = b }) (or_no h.covered)
-
 same-some : (g : HeldValue → HeldValue) (f : HeldValue → HeldValue) (o : Option HeldValue) → ((h : HeldValue) → o ≡ Some h → plain (f h) ≡ g (plain h)) → option_map plain (option_map f o) ≡ option_map g (option_map plain o)
 same-some g f None e = refl
 same-some g f (Some h) e = ap (λ x. Some x) (e h refl)
-
-same-none : (f : HeldValue → HeldValue) (o : Option HeldValue) → ((h : HeldValue) → o ≡ Some h → plain (f h) ≡ plain h) → option_map plain (option_map f o) ≡ option_map plain o
-same-none f None e = refl
-same-none f (Some h) e = ap (λ x. Some x) (e h refl)
-
--- values that change in nothing that the items know
-pub corresponds-as : (f : HeldValue → HeldValue) (items held : List HeldValue) → ((h : HeldValue) → (f h).value.key ≡ h.value.key)
-    → ((key : List ℕ) (h : HeldValue) → value_at held key ≡ Some h → plain (f h) ≡ plain h) → Corresponds items held → Corresponds items (map f held)
-corresponds-as f items held same_key e c = record {
-  found = λ q. ap (option_map plain) (value_at-map f held q same_key) ∙ same-none f (value_at held q) (e q) ∙ c.found q;
-  number = lengths f held ∙ c.number;
-  apart = apart-map f held same_key ∙ c.apart;
-}
-  where
-    lengths : (f : HeldValue → HeldValue) (xs : List HeldValue) → length (map f xs) ≡ length xs
-    lengths f [] = refl
-    lengths f (x ∷ xs) = ap suc (lengths f xs)
 
 -- the step leaves values that stand for the items
 pub stands_after : (config : Config) (now : ℕ) (held : List HeldValue) (deed : Deed) (notes : List Note) (items : List HeldValue) → deed.covers ≡ Nothing
@@ -120,18 +88,3 @@ stands_after config now held deed notes items none used c =
       same = corresponds-as (held_after config now held deed notes values) items xs (λ h. refl) (λ key h e. after_plain config now held deed notes values none h (used key h e)) c;
       evictable = evictable_after config now held deed notes;
     }
-
--- ---- steps that write and delete nothing
-
-pub none_succeeded : (config : Config) (now : ℕ) (used : Option (List ℕ)) (covers : Covering) (synced : Bool) (held : List HeldValue)
-    → list_all (λ c. not (is_succeeded (record no_deed { uses = used; covers = covers; syncs = synced }) c)) (map (candidate_at config now) held) ≡ true
-none_succeeded config now used covers synced [] = refl
-none_succeeded config now used covers synced (h ∷ held) = none_succeeded config now used covers synced held
-
--- telling nothing is right
-pub right_to_tell_none : (config : Config) (now : ℕ) (used : Option (List ℕ)) (covers : Covering) (synced : Bool) (held : List HeldValue)
-    → let deed = record no_deed { uses = used; covers = covers; syncs = synced } in
-    are_true_notes config (map (candidate_at config now) held) deed (candidates_of config (map (candidate_at config now) held) deed) [] ≡ true
-right_to_tell_none config now used covers synced held =
-    ap (list_all (λ c. not (is_succeeded (record no_deed { uses = used; covers = covers; syncs = synced }) c))) (append-nil (map (candidate_at config now) held))
-    ∙ none_succeeded config now used covers synced held

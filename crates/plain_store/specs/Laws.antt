@@ -12,11 +12,9 @@ use Rattle.audit_model.specs.declared.config.Config.{Config}
 use Rattle.cache_store.specs.Promises.{no_deed}
 use Rattle.cache_store.specs.Recency.{AreKeysOf}
 use Rattle.cache_store.specs.Running.{is_bounded, weight_in}
-use Rattle.plain_table.specs.Items.{are_apart}
-use Rattle.plain_sweep.specs.Holding.{plain, Corresponds}
-use Rattle.plain_sweep.specs.Swept.{exceeds}
-use Rattle.plain_sweep.proofs.Corresponding.{permutation}
-use Rattle.plain_sweep.proofs.Weights.{same_weight}
+use Rattle.cache_values.specs.Held.{are_apart, plain, Corresponds, exceeds}
+use Rattle.cache_values.proofs.Corresponding.{permutation}
+use Rattle.cache_values.proofs.Weights.{same_weight}
 use Rattle.plain_store.specs.Standing.{is_proper, AreKept, Stands, AreInOrder}
 use Rattle.plain_store.specs.Doing.{stands_after}
 

@@ -1,5 +1,5 @@
 -- What a plain store shows.
-use Rattle.std.specs.Prelude.{◌≡◌, ℕ, ◌≤◌, ◌^◌, Bool, true, false, not, List, [], length, Option}
+use Rattle.std.specs.Prelude.{◌≡◌, ℕ, Bool, true, false, not, List, [], length, Option}
 use Rattle.std.specs.List.{list_all}
 use Rattle.audit_model.specs.History.{part_count}
 use Rattle.audit_model.specs.Situation.{HeldValue}

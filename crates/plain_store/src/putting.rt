@@ -3,9 +3,9 @@ ghost use Rattle.std.specs.Prelude.{◌≡◌, ◌≤◌, ◌<◌, ◌+◌, ◌+
 ghost use Rattle.std.specs.Option.{option_map};
 ghost use Rattle.std.specs.VecDeque.{deque_len, deque_capacity};
 ghost use Rattle.audit_model.specs.Situation.{is_dead_at};
-ghost use Rattle.plain_table.specs.Items.{held_of, value_at, without, to_front, used_at};
-ghost use Rattle.plain_sweep.specs.Swept.{cause_of_replaced, cause_of_deleted};
-ghost use Rattle.plain_store.specs.Putting.{live_in, Writes, replaced_note, deleted_note, weight_at};
+ghost use Rattle.plain_table.specs.Items.{held_of, to_front, used_at};
+ghost use Rattle.cache_values.specs.Held.{value_at, without, cause_of_replaced, cause_of_deleted, live_in};
+ghost use Rattle.plain_store.specs.Putting.{Writes, replaced_note, deleted_note, weight_at};
 
 use audit_model::{Config, Note, RemovalCause};
 use plain_sweep::{is_dead, is_live, tell};

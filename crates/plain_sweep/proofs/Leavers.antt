@@ -8,13 +8,13 @@ use Rattle.audit_model.specs.declared.config.Config.{Config}
 use Rattle.audit_model.specs.declared.transcript.Note.{Note}
 use Rattle.audit_model.specs.declared.transcript.RemovalCause.{RemovalCause}
 use Rattle.cache_store.specs.Running.{weight_in}
-use Rattle.plain_table.specs.Items.{are_apart, are_elsewhere, IsLastOf}
+use Rattle.cache_values.specs.Held.{are_apart, Corresponds, exceeds}
+use Rattle.plain_table.specs.Items.{are_elsewhere, IsLastOf}
 use Rattle.plain_sweep.specs.Evicted.{Evicts}
-use Rattle.plain_sweep.specs.Holding.{Corresponds}
-use Rattle.plain_sweep.specs.Swept.{note_of, exceeds, cause_evicted, cause_at, left_by, weight_by, visited, swept, Swept}
-use Rattle.plain_sweep.proofs.Corresponding.{apart-left}
-use Rattle.plain_sweep.proofs.Rotating.{weight_in-cons}
-use Rattle.plain_sweep.proofs.Sweeping.{Tells, left, kept_is, swept_tells, swept_number, kept_all, stays_elsewhere, stays_within, must_leave}
+use Rattle.plain_sweep.specs.Swept.{note_of, cause_evicted, cause_at, left_by, weight_by, visited, swept, Swept}
+use Rattle.cache_values.proofs.Corresponding.{apart-left, left}
+use Rattle.cache_values.proofs.Weights.{weight_in-cons}
+use Rattle.plain_sweep.proofs.Sweeping.{Tells, kept_is, swept_tells, swept_number, kept_all, stays_elsewhere, stays_within, must_leave}
 use Rattle.plain_sweep.proofs.Weights.{weigh_swept, swept_within}
 
 -- ---- one that leaves

@@ -1,5 +1,4 @@
 pub mod Sweeping
-pub mod Corresponding
 pub mod Rotating
 pub mod Truth
 pub mod Weights

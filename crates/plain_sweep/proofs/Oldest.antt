@@ -6,7 +6,8 @@ use Rattle.audit_model.specs.declared.transcript.Note.{Note}
 use Rattle.audit_model.specs.declared.transcript.RemovalCause.{RemovalCause}
 use Rattle.cache_store.specs.Running.{weight_in}
 use Rattle.plain_sweep.specs.Evicted.{of_part, of_others, Evicts, LeastUsedLeave}
-use Rattle.plain_sweep.specs.Swept.{exceeds, cause_at, left_by, weight_by, swept, Swept}
+use Rattle.cache_values.specs.Held.{exceeds}
+use Rattle.plain_sweep.specs.Swept.{cause_at, left_by, weight_by, swept, Swept}
 use Rattle.plain_sweep.proofs.Leavers.{evicts_weight}
 use Rattle.plain_sweep.proofs.Sweeping.{stays_elsewhere, stays_within, must_leave}
 use Rattle.plain_sweep.proofs.Weights.{exceeds-more}

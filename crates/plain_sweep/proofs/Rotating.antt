@@ -11,6 +11,7 @@ use Rattle.audit_model.specs.declared.transcript.RemovalCause.{RemovalCause}
 use Rattle.cache_store.specs.Running.{weight_in}
 use Rattle.plain_table.specs.Items.{are_light, EndsWith, AreSound}
 use Rattle.plain_sweep.specs.Swept.{cause_gone, left_by, told_by, swept, Swept}
+use Rattle.cache_values.proofs.Weights.{weight_in-cons}
 
 -- a list of some length has a last one
 pub ends : (xs : List HeldValue) → 0 < length xs → (h : HeldValue) × EndsWith xs h
@@ -116,16 +117,6 @@ module _ (config : Config) (now : ℕ) (all : List HeldValue) (old : List Note) 
       empty : (xs : List HeldValue) → length xs ≤ 0 → xs ≡ []
       empty [] l = refl
       empty (x ∷ xs) l = absurd (omega arith)
-
--- ---- sums from the start
-
-pub weight_in-cons : (part : ℕ) (h : HeldValue) (items : List HeldValue) → weight_in part (h ∷ items) ≡ cond (h.value.part == part) (h.value.weight) 0 + weight_in part items
-weight_in-cons part h items = go (h.value.part == part)
-  where
-    go : (b : Bool) → sum_by (λ (g : HeldValue). g.value.weight) (cond b (h ∷ filter (λ (g : HeldValue). g.value.part == part) items) (filter (λ (g : HeldValue). g.value.part == part) items))
-        ≡ cond b (h.value.weight) 0 + weight_in part items
-    go true = sum_by-cons (λ (g : HeldValue). g.value.weight) h (filter (λ (g : HeldValue). g.value.part == part) items)
-    go false = omega arith
 
 pub record Weighing (part weight : ℕ) (rest all : List HeldValue) : Type 0 where
   pub sum : weight + weight_in part rest ≡ weight_in part all

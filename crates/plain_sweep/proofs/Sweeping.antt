@@ -7,27 +7,18 @@ use Rattle.std.proofs.lemmas.List.Folds.{list_all-append}
 use Rattle.audit_model.specs.Bytewise.{same}
 use Rattle.audit_model.specs.Situation.{HeldValue, is_dead_at}
 use Rattle.audit_model.specs.declared.transcript.RemovalCause.TheVariants.{Expired, Explicit, Size}
-use Rattle.audit_model.specs.Values.{untold}
 use Rattle.audit_model.specs.declared.config.Config.{Config}
 use Rattle.audit_model.specs.declared.transcript.Note.{Note}
 use Rattle.audit_model.specs.declared.transcript.RemovalCause.{RemovalCause}
-use Rattle.plain_table.specs.Items.{value_at, without, is_absent, are_apart, covered_if}
-use Rattle.plain_table.proofs.Keys.{same-refl, same-flip_false}
-use Rattle.plain_table.proofs.Held.{key_of}
-use Rattle.plain_sweep.specs.Swept.{note_of, exceeds, cause_gone, cause_evicted, cause_at, left_by, told_by, weight_by, swept, Swept}
+use Rattle.cache_values.specs.Held.{value_at, without, is_absent, are_apart, exceeds}
+use Rattle.plain_table.specs.Items.{covered_if}
+use Rattle.cache_values.proofs.Keys.{same-refl, same-flip_false}
+use Rattle.plain_sweep.specs.Swept.{note_of, cause_gone, cause_evicted, cause_at, left_by, told_by, weight_by, swept, Swept}
+use Rattle.cache_values.proofs.Corresponding.{left, left-append}
 
 -- none of the notes tells the key
 abbrev pub tells_not : List ℕ → List Note → Bool
 tells_not key notes = list_all (λ n. not (same key n.key)) notes
-
-abbrev pub left : List Note → List HeldValue → List HeldValue
-left notes items = untold key_of notes items
-
--- ---- lists without those that notes tell
-
-pub left-append : (xs ys : List Note) (items : List HeldValue) → left (xs ++ ys) items ≡ left ys (left xs items)
-left-append [] ys items = refl
-left-append (n ∷ xs) ys items = left-append xs ys (without n.key items)
 
 pub left-cons : (notes : List Note) (h : HeldValue) (items : List HeldValue) → tells_not h.value.key notes ≡ true → left notes (h ∷ items) ≡ h ∷ left notes items
 left-cons [] h items e = refl

@@ -1,66 +1,15 @@
 -- What the values of a part weigh.
-use Rattle.std.proofs.Common.{◌≡◌, ℕ, ◌+◌, ◌-◌, ◌≤◌, ◌==◌, Bool, cond, true, false, ◌&&◌, nat_lt, List, [], ◌∷◌, map, Option, option_map, Some, None, if◌then◌else◌, refl, sym, ap, ◌∙◌, arith}
-use Rattle.std.specs.List.{filter, sum_by}
+use Rattle.std.proofs.Common.{◌≡◌, ℕ, ◌+◌, ◌-◌, ◌≤◌, ◌==◌, Bool, cond, true, false, ◌&&◌, List, [], ◌∷◌, Option, Some, None, if◌then◌else◌, refl, sym, ap, ◌∙◌, arith}
 use Rattle.std.proofs.lemmas.Bool.{lt-ltb, ltb-true}
-use Rattle.std.proofs.lemmas.List.Sums.{sum_by-cons}
-use Rattle.std.proofs.lemmas.List.Sorted.{sum_by-IsPermutation}
-use Rattle.audit_model.specs.History.{Value, share}
-use Rattle.audit_model.specs.Notes.{is_over}
 use Rattle.audit_model.specs.Situation.{HeldValue}
 use Rattle.audit_model.specs.declared.config.Config.{Config}
 use Rattle.audit_model.specs.declared.transcript.RemovalCause.{RemovalCause}
 use Rattle.cache_store.specs.Running.{weight_in}
-use Rattle.plain_table.specs.Items.{are_apart}
-use Rattle.plain_sweep.specs.Holding.{plain, Corresponds}
-use Rattle.plain_sweep.specs.Swept.{exceeds, cause_evicted, cause_at, left_by, weight_by, swept, Swept}
-use Rattle.plain_sweep.proofs.Corresponding.{permutation}
+use Rattle.cache_values.specs.Held.{exceeds}
+use Rattle.plain_sweep.specs.Swept.{cause_evicted, cause_at, left_by, weight_by, swept, Swept}
 use Rattle.std.proofs.lemmas.Option.{none-some}
-use Rattle.plain_sweep.proofs.Rotating.{weight_in-cons}
+use Rattle.cache_values.proofs.Weights.{weight_in-cons}
 use Rattle.plain_sweep.proofs.Sweeping.{stays_elsewhere}
-
--- what a value adds to the weight of a part
-abbrev pub adds : ℕ → HeldValue → ℕ
-adds part h = cond (h.value.part == part) h.value.weight 0
-
-pub weight_in-sum : (part : ℕ) (items : List HeldValue) → weight_in part items ≡ sum_by (adds part) items
-weight_in-sum part [] = refl
-weight_in-sum part (h ∷ items) = weight_in-cons part h items ∙ ap (λ n. adds part h + n) (weight_in-sum part items) ∙ sym (sum_by-cons (adds part) h items)
-
-sum-plain : (part : ℕ) (held : List HeldValue) → sum_by (adds part) (map plain held) ≡ sum_by (adds part) held
-sum-plain part [] = refl
-sum-plain part (h ∷ held) = sum_by-cons (adds part) (plain h) (map plain held) ∙ ap (λ n. adds part h + n) (sum-plain part held) ∙ sym (sum_by-cons (adds part) h held)
-
--- the values held weigh what the items do
-pub same_weight : (part : ℕ) (items held : List HeldValue) → are_apart items ≡ true → Corresponds items held → weight_in part held ≡ weight_in part items
-same_weight part items held a c =
-    weight_in-sum part held
-    ∙ sym (sum-plain part held)
-    ∙ sym (sum_by-IsPermutation (adds part) (map plain held) items (permutation items held a c))
-    ∙ sym (weight_in-sum part items)
-
--- as values
-pub weight-values : (part : ℕ) (held : List HeldValue)
-    → sum_by (λ (v : Value). v.weight) (filter (λ (v : Value). v.part == part) (map (λ (h : HeldValue). h.value) held)) ≡ weight_in part held
-weight-values part [] = refl
-weight-values part (h ∷ held) = go (h.value.part == part) (weight-values part held) ∙ sym (weight_in-cons part h held)
-  where
-    vs : List Value
-    vs = filter (λ (v : Value). v.part == part) (map (λ (h : HeldValue). h.value) held)
-
-    go : (b : Bool) → sum_by (λ (v : Value). v.weight) vs ≡ weight_in part held → sum_by (λ (v : Value). v.weight) (cond b (h.value ∷ vs) vs) ≡ cond b h.value.weight 0 + weight_in part held
-    go true next = sum_by-cons (λ (v : Value). v.weight) h.value vs ∙ ap (λ n. h.value.weight + n) next
-    go false next = let n = next in omega arith
-
-over-from : (capacity : Option ℕ) (config : Config) (part : ℕ) (values : List Value) (weight : ℕ) → sum_by (λ (v : Value). v.weight) (filter (λ (v : Value). v.part == part) values) ≡ weight
-    → is_over (record config { capacity = capacity }) part values ≡ exceeds (option_map (share config) capacity) weight
-over-from None config part values weight e = refl
-over-from (Some capacity) config part values weight e = ap (nat_lt (share config capacity)) e
-
--- a part is over its share where its items weigh more than that
-pub over_is : (config : Config) (part : ℕ) (items held : List HeldValue) → are_apart items ≡ true → Corresponds items held
-    → is_over config part (map (λ h. h.value) held) ≡ exceeds (option_map (share config) config.capacity) (weight_in part items)
-over_is config part items held a c =
-    over-from config.capacity config part (map (λ (h : HeldValue). h.value) held) (weight_in part items) (weight-values part held ∙ same_weight part items held a c)
 
 -- ---- limits
 

@@ -5,7 +5,8 @@ use Rattle.audit_model.specs.Situation.{HeldValue}
 use Rattle.audit_model.specs.declared.config.Config.{Config}
 use Rattle.audit_model.specs.declared.transcript.Note.{Note}
 use Rattle.cache_store.specs.Running.{weight_in}
-use Rattle.plain_sweep.specs.Swept.{exceeds, swept}
+use Rattle.cache_values.specs.Held.{exceeds}
+use Rattle.plain_sweep.specs.Swept.{swept}
 
 -- Of the values `all`, in their order of use, the least recently used of the part left, one after another, each while the part weighed more
 -- than the limit, and was told. All others stay in their order, those of other parts too. The part weighed `start`.

@@ -1,12 +1,13 @@
 -- What a sweep of all values, or an eviction from a part, leaves and tells.
-use Rattle.std.specs.Prelude.{ℕ, ◌-◌, ◌==◌, Bool, true, false, ◌&&◌, nat_lt, nat_eq, List, [], ◌∷◌, ◌++◌, Option, Some, None, if◌then◌else◌}
+use Rattle.std.specs.Prelude.{ℕ, ◌-◌, ◌==◌, Bool, true, ◌&&◌, nat_eq, List, [], ◌∷◌, ◌++◌, Option, Some, None, if◌then◌else◌}
 use Rattle.std.specs.List.{starts_with}
 use Rattle.audit_model.specs.Situation.{HeldValue, is_dead_at}
 use Rattle.audit_model.specs.declared.config.Config.{Config}
 use Rattle.audit_model.specs.declared.transcript.Note.{Note}
 use Rattle.audit_model.specs.declared.transcript.RemovalCause.{RemovalCause}
-use Rattle.audit_model.specs.declared.transcript.RemovalCause.TheVariants.{Expired, Explicit, Replaced, Size}
+use Rattle.audit_model.specs.declared.transcript.RemovalCause.TheVariants.{Expired, Explicit, Size}
 use Rattle.plain_table.specs.Items.{covered_if}
+use Rattle.cache_values.specs.Held.{exceeds}
 
 -- the note that tells a value
 abbrev pub note_of : RemovalCause → HeldValue → Note
@@ -15,11 +16,6 @@ note_of cause h = record { cause = cause; key = h.value.key; value = h.value.byt
 -- the value is covered, if its key begins so
 abbrev pub covered_by : List ℕ → HeldValue → HeldValue
 covered_by prefix h = covered_if (starts_with nat_eq h.value.key prefix) h
-
--- a weight is above a limit, if there is one
-abbrev pub exceeds : Option ℕ → ℕ → Bool
-exceeds None weight = false
-exceeds (Some limit) weight = nat_lt limit weight
 
 -- that is the part; any is, where none is named
 abbrev pub is_in : Option ℕ → ℕ → Bool
@@ -70,11 +66,3 @@ swept config now part limit weight [] = record { kept = []; told = []; weight = 
 swept config now part limit weight (h ∷ items) =
     let s = swept config now part limit weight items in
     visited (cause_at config now part (exceeds limit s.weight) h) h s
-
--- the cause of an older value that is written over
-abbrev pub cause_of_replaced : Bool → Bool → RemovalCause
-cause_of_replaced dead covered = if dead then Expired else (if covered then Explicit else Replaced)
-
--- the cause of a value that is deleted
-abbrev pub cause_of_deleted : Bool → RemovalCause
-cause_of_deleted dead = if dead then Expired else Explicit

@@ -4,7 +4,8 @@ ghost use Rattle.std.specs.VecDeque.{deque_len, deque_capacity};
 ghost use Rattle.cache_store.specs.Running.{weight_in};
 ghost use Rattle.plain_table.specs.Items.{held_of};
 ghost use Rattle.plain_sweep.specs.Evicted.{Evicts, LeastUsedLeave};
-ghost use Rattle.plain_sweep.specs.Swept.{cause_evicted, exceeds};
+ghost use Rattle.plain_sweep.specs.Swept.{cause_evicted};
+ghost use Rattle.cache_values.specs.Held.{exceeds};
 
 use crate::deadlines::is_dead;
 use crate::leaving::tell;

@@ -6,8 +6,9 @@ use Rattle.std.proofs.lemmas.List.{append-nil, append_assoc, length-append}
 use Rattle.std.proofs.lemmas.List.Folds.{list_all-append}
 use Rattle.audit_model.specs.Bytewise.{same}
 use Rattle.audit_model.specs.Situation.{HeldValue}
-use Rattle.plain_table.specs.Items.{value_at, without, is_absent, are_apart, are_elsewhere, IsLastOf}
-use Rattle.plain_table.proofs.Keys.{same-refl, same-flip_false}
+use Rattle.cache_values.specs.Held.{value_at, without, is_absent, are_apart}
+use Rattle.plain_table.specs.Items.{are_elsewhere, IsLastOf}
+use Rattle.cache_values.proofs.Keys.{same-refl, same-flip_false}
 use Rattle.plain_table.proofs.Listing.{Entry, item_of}
 
 -- ---- the way from the end

@@ -1,4 +1,3 @@
-pub mod Keys
 pub mod Held
 pub mod Listing
 pub mod Lasts

@@ -12,10 +12,12 @@ use Rattle.std.proofs.lemmas.List.{map-append, length-map}
 use Rattle.audit_model.specs.Bytewise.{same}
 use Rattle.audit_model.specs.Situation.{HeldValue}
 use Rattle.lru.specs.LruCache.{LruCache, lru_cache, promoted, put_entries}
-use Rattle.plain_table.specs.Items.{held_of, items_of, value_at, without, EndsWith, AreSound}
+use Rattle.plain_table.specs.Items.{held_of, items_of, EndsWith, AreSound}
+use Rattle.cache_values.specs.Held.{value_at, without}
 use Rattle.plain_table.specs.declared.kept.Kept.{Kept}
-use Rattle.plain_table.proofs.Keys.{equal_from_same}
-use Rattle.plain_table.proofs.Held.{key_from_some, all_found, sound-first, sound-without, sound-front, sound-new, sound-roomier, all_last}
+use Rattle.cache_values.proofs.Keys.{equal_from_same}
+use Rattle.cache_values.proofs.Held.{key_from_some, all_found}
+use Rattle.plain_table.proofs.Held.{sound-first, sound-without, sound-front, sound-new, sound-roomier, all_last}
 
 abbrev pub Entry : Type 0
 Entry = Vec ℕ Global × Kept

@@ -1,13 +1,12 @@
 -- What a table has, as values held.
-use Rattle.std.specs.Prelude.{◌≡◌, ℕ, ◌≤◌, ◌==◌, Bool, true, false, not, ◌&&◌, ◌||◌, nat_le, List, [], ◌∷◌, ◌++◌, length, map, Option}
-use Rattle.std.specs.List.{find, list_all}
+use Rattle.std.specs.Prelude.{◌≡◌, ℕ, ◌≤◌, ◌==◌, Bool, true, false, not, ◌||◌, nat_le, List, [], ◌∷◌, ◌++◌, length, map}
+use Rattle.std.specs.List.{list_all}
 use Rattle.std.specs.Option.{option_map_or}
 use Rattle.std.specs.declared.vec.Vec.{Vec}
 use Rattle.std.specs.declared.alloc.Global.{Global}
-use Rattle.audit_model.specs.Bytewise.{same}
 use Rattle.audit_model.specs.Situation.{HeldValue}
-use Rattle.audit_model.specs.Values.{without_key}
 use Rattle.plain_table.specs.declared.kept.Kept.{Kept}
+use Rattle.cache_values.specs.Held.{value_at, without, are_apart}
 
 -- a key with what is kept beside it, as a value held
 abbrev pub held_of : List ℕ → Kept → HeldValue
@@ -17,23 +16,6 @@ held_of key kept =
 -- the entries as values held, the last used first
 abbrev pub items_of : List (Vec ℕ Global × Kept) → List HeldValue
 items_of entries = map (λ e. held_of e.0.items e.1) entries
-
--- the key's value
-abbrev pub value_at : List HeldValue → List ℕ → Option HeldValue
-value_at items key = find (λ h. same key h.value.key) items
-
--- the values but the key's
-abbrev pub without : List ℕ → List HeldValue → List HeldValue
-without key items = without_key (λ h. h.value.key) key items
-
--- none of these has the key
-abbrev pub is_absent : List ℕ → List HeldValue → Bool
-is_absent key items = list_all (λ h. not (same key h.value.key)) items
-
--- no key twice
-abbrev pub are_apart : List HeldValue → Bool
-are_apart [] = true
-are_apart (h ∷ items) = is_absent h.value.key items && are_apart items
 
 -- none weighs more than 8192
 abbrev pub are_light : List HeldValue → Bool

@@ -3,7 +3,8 @@ ghost use Rattle.std.specs.Prelude.{◌≡◌, ℕ, ◌<◌, ◌≤◌, ◌^◌,
 ghost use Rattle.std.specs.Option.{option_map};
 ghost use Rattle.std.specs.List.{list_all};
 ghost use Rattle.audit_model.specs.Situation.{HeldValue};
-ghost use Rattle.plain_table.specs.Items.{held_of, items_of, value_at, without, are_apart, are_light, used_at, covered_if, to_front, are_elsewhere, EndsWith, IsLastOf, CopiesLast, AreSound};
+ghost use Rattle.plain_table.specs.Items.{held_of, items_of, are_light, used_at, covered_if, to_front, are_elsewhere, EndsWith, IsLastOf, CopiesLast, AreSound};
+ghost use Rattle.cache_values.specs.Held.{value_at, without, are_apart};
 ghost use Rattle.std.specs.Map.Iter.{ShowsInOrder, deref_pair};
 ghost use Rattle.std.specs.declared.vec.Vec.{Vec as Bytes};
 ghost use Rattle.std.specs.declared.alloc.Global.{Global as Heap};

@@ -1,5 +1,5 @@
 use Rattle.std.proofs.Common.{sym, ap, ◌∙◌}
-use Rattle.plain_sweep.specs.Swept.{cause_of_deleted}
+use Rattle.cache_values.specs.Held.{cause_of_deleted}
 use Rattle.plain_store.proofs.putting.cause_of_deleted.Goals as goal
 
 pub returns-then-is_dead : goal.returns-then-is_dead

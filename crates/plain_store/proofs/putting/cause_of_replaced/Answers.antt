@@ -1,5 +1,5 @@
 use Rattle.std.proofs.Common.{false, sym, ap, ◌∙◌}
-use Rattle.plain_sweep.specs.Swept.{cause_of_replaced}
+use Rattle.cache_values.specs.Held.{cause_of_replaced}
 use Rattle.plain_store.proofs.putting.cause_of_replaced.Goals as goal
 
 pub returns-then-is_dead : goal.returns-then-is_dead

@@ -1,7 +1,7 @@
 use Rattle.std.proofs.Common.{Some, None, if◌then◌else◌, option_map, sym, ap, ◌∙◌}
 use Rattle.audit_model.specs.Situation.{HeldValue}
 use Rattle.plain_table.specs.Items.{held_of}
-use Rattle.plain_store.specs.Putting.{if_live}
+use Rattle.cache_values.specs.Held.{if_live}
 use Rattle.plain_store.proofs.putting.live_bytes.Goals as goal
 
 pub returns-then-is_live : goal.returns-then-is_live

@@ -1,7 +1,8 @@
-use Rattle.std.proofs.Common.{◌≡◌, ◌∷◌, ◌++◌, [], Some, None, length, sym, ap, ◌∙◌, arith}
+use Rattle.std.proofs.Common.{◌≡◌, ◌∷◌, ◌++◌, Some, None, length, sym, ap, ◌∙◌, arith, []}
 use Rattle.std.proofs.lemmas.List.{length-append}
-use Rattle.plain_table.specs.Items.{held_of, value_at}
-use Rattle.plain_table.proofs.Held.{length-without, without-absent, absent_from_none}
+use Rattle.plain_table.specs.Items.{held_of}
+use Rattle.cache_values.specs.Held.{value_at}
+use Rattle.cache_values.proofs.Held.{length-without, without-absent, absent_from_none}
 use Rattle.plain_sweep.specs.Swept.{note_of}
 use Rattle.plain_store.specs.Putting.{replaced_note}
 use Rattle.plain_store.proofs.putting.put.Goals as goal

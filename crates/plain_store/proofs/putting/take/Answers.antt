@@ -1,6 +1,6 @@
-use Rattle.std.proofs.Common.{◌∷◌, ◌++◌, [], length, sym, ap, ◌∙◌, arith}
+use Rattle.std.proofs.Common.{◌∷◌, ◌++◌, length, sym, ap, ◌∙◌, arith, []}
 use Rattle.plain_table.specs.Items.{held_of}
-use Rattle.plain_table.proofs.Held.{length-without, length-without_at_most}
+use Rattle.cache_values.proofs.Held.{length-without, length-without_at_most}
 use Rattle.plain_sweep.specs.Swept.{note_of}
 use Rattle.plain_store.specs.Putting.{deleted_note}
 use Rattle.plain_store.proofs.putting.take.Goals as goal

@@ -1,4 +1,4 @@
-use Rattle.std.proofs.Common.{◌∷◌, [], ◌++◌, refl, sym, ap, ◌∙◌, subst, arith}
+use Rattle.std.proofs.Common.{◌∷◌, ◌++◌, refl, sym, ap, ◌∙◌, subst, arith, []}
 use Rattle.plain_table.specs.Items.{held_of}
 use Rattle.plain_sweep.specs.Evicted.{Evicts}
 use Rattle.plain_sweep.specs.Swept.{note_of}

@@ -1,6 +1,5 @@
 use Rattle.std.proofs.Common.{ap, sym, subst, arith, ◌∙◌}
-use Rattle.std.proofs.lemmas.Bool.{eq-eqb}
-use Rattle.std.proofs.lemmas.Bool.{false_from_ne_true, eqb-true}
+use Rattle.std.proofs.lemmas.Bool.{eq-eqb, false_from_ne_true, eqb-true}
 use Rattle.plain_table.specs.Items.{items_of, held_of}
 use Rattle.plain_sweep.proofs.Rotating.{Weighing, weighing_start, weighing_fits, weighing_more, weighing_skip, weighing_end}
 use Rattle.plain_sweep.proofs.weighing.weigh_part.Goals as goal

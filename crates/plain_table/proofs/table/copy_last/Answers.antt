@@ -1,5 +1,4 @@
-use Rattle.std.proofs.Common.{◌++◌, Some, sym, ap, ◌∙◌, arith}
-use Rattle.std.proofs.Common.{◌-◌, take, length}
+use Rattle.std.proofs.Common.{◌++◌, Some, sym, ap, ◌∙◌, arith, ◌-◌, take, length}
 use Rattle.plain_table.specs.Items.{items_of}
 use Rattle.plain_table.proofs.Listing.{Entry, item_of, pops, last_fits, none_at_last}
 use Rattle.plain_table.proofs.table.copy_last.Goals as goal

@@ -1,5 +1,4 @@
-use Rattle.std.proofs.Common.{sym, ap, ◌∙◌, option_map}
-use Rattle.std.proofs.Common.{◌||◌}
+use Rattle.std.proofs.Common.{sym, ap, ◌∙◌, option_map, ◌||◌}
 use Rattle.plain_table.specs.Items.{items_of, held_of, covered_if}
 use Rattle.plain_table.proofs.Held.{to_front-some, to_front-none}
 use Rattle.plain_table.proofs.Listing.{lookup_is, found_at, promoted_is}

@@ -1,4 +1,4 @@
-use Rattle.std.proofs.Common.{◌≡◌, ◌≤◌, ◌+◌, ◌-◌, ◌<◌, ◌∷◌, ◌++◌, Some, None, true, length, if◌then◌else◌, Bool, false, ◌||◌, not, refl, sym, ap, ◌∙◌, subst, arith}
+use Rattle.std.proofs.Common.{◌≡◌, ◌≤◌, ◌+◌, ◌-◌, ◌<◌, ◌∷◌, ◌++◌, Some, None, true, if◌then◌else◌, Bool, false, ◌||◌, not, refl, sym, ap, ◌∙◌, subst, arith}
 use Rattle.std.proofs.lemmas.List.{append_assoc}
 use Rattle.std.specs.Prelude.{IfSome, IsTrue}
 use Rattle.audit_model.specs.History.{Value}
@@ -7,7 +7,7 @@ use Rattle.plain_store.specs.State.{State}
 use Rattle.audit_model.specs.Situation.{HeldValue}
 use Rattle.cache_store.specs.Promises.{value_for}
 use Rattle.cache_store.specs.Running.{weight_in}
-use Rattle.plain_table.specs.Items.{without, value_at}
+use Rattle.cache_values.specs.Held.{without, value_at}
 use Rattle.plain_sweep.specs.Evicted.{Evicts}
 use Rattle.plain_sweep.specs.Swept.{swept}
 use Rattle.plain_sweep.proofs.Leavers.{evicts_all, evicts_tells, evicts_left}

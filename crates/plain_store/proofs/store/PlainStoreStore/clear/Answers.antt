@@ -1,9 +1,8 @@
-use Rattle.std.proofs.Common.{◌≡◌, ◌||◌, Bool, true, false, [], arith, refl, ◌∙◌}
+use Rattle.std.proofs.Common.{◌≡◌, ◌||◌, Bool, true, false, arith, refl, []}
 use Rattle.audit_model.specs.Commands.{Everything}
 use Rattle.plain_store.specs.Parting.{part_by}
 use Rattle.plain_store.proofs.Calls.{cover_does}
 use Rattle.plain_store.proofs.Keeping.{kept_covered, covered_room, weigh_same}
-use Rattle.std.proofs.lemmas.List.{length-map}
 use Rattle.plain_sweep.specs.Swept.{covered_by}
 use Rattle.plain_store.proofs.Marked.{plain_map}
 use Rattle.plain_store.proofs.store.PlainStoreStore.clear.Goals as goal

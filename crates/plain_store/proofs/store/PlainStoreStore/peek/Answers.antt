@@ -1,4 +1,4 @@
-use Rattle.std.proofs.Common.{sym, subst, ◌∙◌}
+use Rattle.std.proofs.Common.{◌∙◌}
 use Rattle.plain_store.proofs.Calls.{bytes_are}
 use Rattle.plain_store.proofs.store.PlainStoreStore.peek.Goals as goal
 

@@ -1,16 +1,12 @@
-use Rattle.std.proofs.Common.{ap, length, length-append, List, [], ◌++◌, ◌+◌, ◌≤◌, ℕ, Option, Some, None, Bool, true, false, ◌||◌, refl, ◌≡◌, ◌-◌, ◌<◌, subst, sym, ◌∙◌, arith}
+use Rattle.std.proofs.Common.{Bool, true, false, ◌||◌, refl, ◌≡◌, ◌-◌, ◌<◌, subst, sym, ◌∙◌, arith}
 use Rattle.cache_store.specs.Running.{weight_in}
-use Rattle.audit_model.specs.Situation.{HeldValue}
-use Rattle.audit_model.specs.declared.config.Config.{Config}
-use Rattle.audit_model.specs.declared.transcript.Note.{Note}
-use Rattle.plain_store.specs.Putting.{deleted_note}
-use Rattle.plain_table.specs.Items.{without}
+use Rattle.cache_values.specs.Held.{without}
 use Rattle.plain_store.specs.Laws.{parted_from}
 use Rattle.plain_store.specs.Parting.{part_by}
 use Rattle.plain_store.specs.Standing.{WeighEach}
 use Rattle.plain_store.proofs.Calls.{remove_does}
 use Rattle.plain_store.proofs.Keeping.{kept_without, weigh_set, weight_without_here, weight_without_elsewhere}
-use Rattle.plain_store.proofs.Marked.{few_without, plain_without}
+use Rattle.plain_store.proofs.Marked.{plain_without}
 use Rattle.plain_store.proofs.Ordering.{order_without}
 use Rattle.plain_store.proofs.store.PlainStoreStore.remove.Goals as goal
 

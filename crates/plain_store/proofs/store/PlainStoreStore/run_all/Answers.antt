@@ -1,17 +1,14 @@
 use Rattle.std.proofs.Common.{◌≡◌, refl, Bool, true, false, ◌||◌, not, None, length, sym, ap, ◌∙◌, subst, arith}
 use Rattle.std.specs.List.{sum_by}
-use Rattle.std.proofs.lemmas.List.{length-append}
-use Rattle.audit_model.specs.Changes.{all_held_after}
 use Rattle.audit_model.specs.Situation.{HeldValue}
-use Rattle.cache_store.specs.Promises.{Done, syncing}
-use Rattle.cache_store.specs.Handing.{AppendsNotes}
 use Rattle.plain_sweep.specs.Swept.{swept}
 use Rattle.plain_sweep.proofs.Sweeping.{kept_all}
 use Rattle.plain_store.specs.Standing.{Stands}
 use Rattle.plain_store.specs.Drawing.{is_registered}
 use Rattle.plain_store.specs.Parting.{part_by}
 use Rattle.plain_store.proofs.Calls.{run_does}
-use Rattle.plain_store.proofs.Keeping.{kept_swept, within_from, weight_is, all_timely}
+use Rattle.plain_store.proofs.Keeping.{kept_swept, within_from, all_timely}
+use Rattle.cache_values.proofs.Weights.{weight_is}
 use Rattle.plain_store.proofs.Ordering.{order_swept}
 use Rattle.plain_store.proofs.store.PlainStoreStore.run_all.Goals as goal
 

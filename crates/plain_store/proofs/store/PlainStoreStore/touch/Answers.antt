@@ -1,11 +1,11 @@
-use Rattle.std.proofs.Common.{◌≡◌, ◌||◌, Bool, true, false, List, [], ◌∷◌, ℕ, Option, Some, None, length, refl, ap, sym, ◌∙◌, arith, Bor}
+use Rattle.std.proofs.Common.{◌≡◌, ◌||◌, Bool, true, false, List, [], ℕ, Option, Some, None, length, refl, ap, sym, ◌∙◌, arith, Bor}
 use Rattle.std.specs.Prelude.{is_some, unwrap_or, option_map, if◌then◌else◌}
 use Rattle.std.proofs.lemmas.Option.{none-some}
 use Rattle.audit_model.specs.Situation.{HeldValue}
 use Rattle.plain_table.specs.Items.{to_front, used_at}
 use Rattle.plain_store.specs.Parting.{part_by}
 use Rattle.plain_store.specs.Putting.{Writes}
-use Rattle.plain_store.proofs.Calls.{hands_none, look_up_does}
+use Rattle.plain_store.proofs.Calls.{look_up_does}
 use Rattle.plain_store.proofs.Keeping.{looked_is, kept_if_used, room_if_used, weigh_same}
 use Rattle.plain_store.proofs.Marked.{plain_used}
 use Rattle.plain_store.proofs.Ordering.{order_used}

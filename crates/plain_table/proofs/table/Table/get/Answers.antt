@@ -1,5 +1,5 @@
 use Rattle.std.proofs.Common.{ap, ◌∙◌}
-use Rattle.plain_table.specs.Items.{value_at}
+use Rattle.cache_values.specs.Held.{value_at}
 use Rattle.plain_table.proofs.Listing.{lent_is}
 use Rattle.plain_table.proofs.table.Table.get.Goals as goal
 

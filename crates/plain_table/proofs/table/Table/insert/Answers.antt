@@ -1,10 +1,10 @@
-use Rattle.std.proofs.Common.{◌≡◌, ◌∷◌, ap, ◌∙◌, arith}
-use Rattle.std.proofs.Common.{ℕ, ◌≤◌}
+use Rattle.std.proofs.Common.{◌≡◌, ◌∷◌, ap, ◌∙◌, arith, ℕ, ◌≤◌}
 use Rattle.std.specs.Vec.{vec_len, vec_capacity}
 use Rattle.std.specs.declared.vec.Vec.{Vec}
 use Rattle.std.specs.declared.alloc.Global.{Global}
 use Rattle.lru.specs.LruCache.{LruCache, lru_cache}
-use Rattle.plain_table.specs.Items.{items_of, held_of, value_at}
+use Rattle.plain_table.specs.Items.{items_of, held_of}
+use Rattle.cache_values.specs.Held.{value_at}
 use Rattle.plain_table.specs.declared.kept.Kept.{Kept}
 use Rattle.plain_table.proofs.Listing.{put_is, sound_put}
 use Rattle.plain_table.proofs.table.Table.insert.Goals as goal

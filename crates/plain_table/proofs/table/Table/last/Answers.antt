@@ -1,5 +1,4 @@
-use Rattle.std.proofs.Common.{sym, ◌∙◌, subst}
-use Rattle.std.proofs.Common.{IfSome}
+use Rattle.std.proofs.Common.{sym, ◌∙◌, subst, IfSome}
 use Rattle.plain_table.specs.Items.{EndsWith, held_of}
 use Rattle.plain_table.proofs.Listing.{shows_last, shows_none}
 use Rattle.plain_table.proofs.table.Table.last.Goals as goal

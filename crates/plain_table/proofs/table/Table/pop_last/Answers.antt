@@ -1,5 +1,4 @@
-use Rattle.std.proofs.Common.{◌≡◌, ◌∷◌, sym, ap, ◌∙◌, subst}
-use Rattle.std.proofs.Common.{IfSome, ◌++◌, [], ◌-◌, take, length}
+use Rattle.std.proofs.Common.{◌≡◌, ◌∷◌, sym, ap, ◌∙◌, subst, IfSome, ◌++◌, ◌-◌, take, length, []}
 use Rattle.plain_table.specs.Items.{items_of, held_of}
 use Rattle.plain_table.proofs.Listing.{pops, sound_popped, none_at_last}
 use Rattle.plain_table.proofs.table.Table.pop_last.Goals as goal

@@ -1,6 +1,7 @@
 use Rattle.std.proofs.Common.{◌≡◌, ◌+◌, ◌++◌, IfSome, option_map, length, sym, ap, ◌∙◌, subst}
 use Rattle.std.proofs.lemmas.Option.{none-some}
-use Rattle.plain_table.specs.Items.{items_of, value_at, without, IsLastOf}
+use Rattle.plain_table.specs.Items.{items_of, IsLastOf}
+use Rattle.cache_values.specs.Held.{value_at, without}
 use Rattle.plain_table.proofs.Held.{sound-roomier}
 use Rattle.plain_table.proofs.Lasts.{last_found, last_gone, pops_last, one_less}
 use Rattle.plain_table.proofs.Listing.{item_of, entry_is, removed_is, sound_removed}

@@ -1,6 +1,5 @@
-use Rattle.std.proofs.Common.{ap, ◌∙◌}
-use Rattle.std.proofs.Common.{option_map}
-use Rattle.plain_table.specs.Items.{value_at, without}
+use Rattle.std.proofs.Common.{ap, ◌∙◌, option_map}
+use Rattle.cache_values.specs.Held.{value_at, without}
 use Rattle.plain_table.proofs.Listing.{item_of, entry_is, taken_key, removed_is, sound_removed}
 use Rattle.plain_table.proofs.table.Table.remove.Goals as goal
 

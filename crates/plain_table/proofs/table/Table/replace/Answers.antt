@@ -1,7 +1,7 @@
-use Rattle.std.proofs.Common.{◌∷◌, sym, ap, ◌∙◌}
-use Rattle.std.proofs.Common.{option_map}
+use Rattle.std.proofs.Common.{◌∷◌, sym, ap, ◌∙◌, option_map}
 use Rattle.std.proofs.lemmas.Bool.{le-leb}
-use Rattle.plain_table.specs.Items.{items_of, value_at, without, held_of}
+use Rattle.plain_table.specs.Items.{items_of, held_of}
+use Rattle.cache_values.specs.Held.{value_at, without}
 use Rattle.plain_table.proofs.Listing.{lookup_is, found_at, promoted_is, sound_promoted}
 use Rattle.plain_table.proofs.table.Table.replace.Goals as goal
 use Rattle.plain_table.proofs.table.Table.replace.Goals.{in-Some, in-None}

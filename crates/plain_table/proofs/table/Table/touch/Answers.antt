@@ -1,5 +1,6 @@
 use Rattle.std.proofs.Common.{sym, ap, ◌∙◌, option_map}
-use Rattle.plain_table.specs.Items.{items_of, held_of, to_front, used_at, value_at}
+use Rattle.plain_table.specs.Items.{items_of, held_of, to_front, used_at}
+use Rattle.cache_values.specs.Held.{value_at}
 use Rattle.plain_table.proofs.Held.{to_front-some, to_front-none}
 use Rattle.plain_table.proofs.Listing.{lookup_is, found_at, promoted_is, sound_promoted, light_of}
 use Rattle.plain_table.proofs.table.Table.touch.Goals as goal

@@ -1,18 +1,26 @@
--- Values held that are those of a table's items.
-use Rattle.std.proofs.Common.{◌≡◌, ℕ, suc, Bool, cond, true, false, not, ◌&&◌, List, [], ◌∷◌, ◌++◌, map, length, Option, option_map, Some, None, IsPermutation, refl, sym, ap, ◌∙◌, subst, arith}
-use Rattle.std.proofs.lemmas.Bool.{not-true, not_from_false, and_parts, and_from}
-use Rattle.std.proofs.lemmas.List.{length-append, length-map}
-use Rattle.std.proofs.lemmas.List.Folds.{list_all-append}
-use Rattle.std.proofs.lemmas.List.Sorted.{IsPermutation-refl, IsPermutation-cons, IsPermutation-trans, IsPermutation-map, IsPermutation-middle}
-use Rattle.std.proofs.lemmas.Option.{none-some}
+-- Values held that are those of some items.
 use Rattle.audit_model.specs.Bytewise.{same}
 use Rattle.audit_model.specs.Situation.{HeldValue}
+use Rattle.audit_model.specs.Values.{untold}
 use Rattle.audit_model.specs.declared.transcript.Note.{Note}
-use Rattle.plain_table.specs.Items.{value_at, without, is_absent, are_apart}
-use Rattle.plain_table.proofs.Keys.{same-refl, same-flip_false, equal_from_same, same_along}
-use Rattle.plain_table.proofs.Held.{absent_from_none, none_from_absent, absent-without, apart-without, length-without, without-absent}
-use Rattle.plain_sweep.specs.Holding.{plain, Corresponds}
-use Rattle.plain_sweep.proofs.Sweeping.{left}
+use Rattle.cache_values.specs.Held.{plain, Corresponds, value_at, without, is_absent, are_apart}
+use Rattle.cache_values.proofs.Held.{absent_from_none, none_from_absent, absent-without, apart-without, length-without, without-absent, key_of}
+use Rattle.cache_values.proofs.Keys.{same-refl, same-flip_false, equal_from_same, same_along}
+use Rattle.std.proofs.Common.{◌≡◌, ℕ, suc, Bool, cond, true, false, not, ◌&&◌, List, [], ◌∷◌, ◌++◌, map, length, Option, option_map, Some, None, IsPermutation, refl, sym, ap, ◌∙◌, subst, arith}
+use Rattle.std.proofs.lemmas.Bool.{not-true, and_parts, and_from, not_from_false}
+use Rattle.std.proofs.lemmas.List.Folds.{list_all-append}
+use Rattle.std.proofs.lemmas.List.Sorted.{IsPermutation-refl, IsPermutation-cons, IsPermutation-trans, IsPermutation-map, IsPermutation-middle}
+use Rattle.std.proofs.lemmas.List.{length-append, length-map}
+use Rattle.std.proofs.lemmas.Option.{none-some}
+
+abbrev pub left : List Note → List HeldValue → List HeldValue
+left notes items = untold key_of notes items
+
+-- ---- lists without those that notes tell
+
+pub left-append : (xs ys : List Note) (items : List HeldValue) → left (xs ++ ys) items ≡ left ys (left xs items)
+left-append [] ys items = refl
+left-append (n ∷ xs) ys items = left-append xs ys (without n.key items)
 
 -- ---- one key less
 

@@ -1,0 +1,2 @@
+//! Lists of values held, and that two of them correspond.
+#![tactic(auto)]
