@@ -165,7 +165,7 @@ module _ {K V : Type 0} where
       }
 
 module _ {K V P S R : Type 0} where
-  applied-weight : (s : State K V P S R) → IsSound s → Each (λ r. AreRising r.number r.applied (pending_of s)) s.records → admitted_weight (with_writes (pending_of s) s.records) ≡ held_weight s.records
+  pub applied-weight : (s : State K V P S R) → IsSound s → Each (λ r. AreRising r.number r.applied (pending_of s)) s.records → admitted_weight (with_writes (pending_of s) s.records) ≡ held_weight s.records
   applied-weight s sound rising =
       let h = all_applied s.next_number (pending_of s) s.records s.access (record {
         numbered = sound.records.numbered;
@@ -217,7 +217,7 @@ module _ {K V P S R : Type 0} where
         within = not_above s.settings.capacity (admitted_weight (changed_at r.number f s.records)) (admitted_weight s.records) (fewer-weight (changed_at r.number f s.records) s.records fewer) h.within;
       }
 
-  read-order : (answers : Answers K V P R) (o : Option (Record K V)) (hash now : ℕ) (s : State K V P S R) → IsSound (with_read answers o hash now s) → IsInOrder s → IsInOrder (with_read answers o hash now s)
+  pub read-order : (answers : Answers K V P R) (o : Option (Record K V)) (hash now : ℕ) (s : State K V P S R) → IsSound (with_read answers o hash now s) → IsInOrder s → IsInOrder (with_read answers o hash now s)
   read-order answers None hash now s sound h = order-same s (with_read answers None hash now s) sound refl refl refl h
   read-order answers (Some r) hash now s sound h =
       let f = λ (x : Record K V). record x { entry = used_entry answers s now x.entry } in

@@ -34,7 +34,7 @@ module _ {K V : Type 0} (eq : K → K → Bool) where
   RecordsApart [] = Unit {0}
   RecordsApart (x ∷ rs) = (x.is_held ≡ true → held_at eq rs x.entry.key ≡ None) × RecordsApart rs
 
-  entry-held : (rs : List (Record K V)) (key : K) → entry_of eq (held_entries rs) key ≡ option_map (λ r. r.entry) (held_at eq rs key)
+  pub entry-held : (rs : List (Record K V)) (key : K) → entry_of eq (held_entries rs) key ≡ option_map (λ r. r.entry) (held_at eq rs key)
   entry-held [] key = refl
   entry-held (x ∷ rs) key = go x.is_held (entry-held rs key)
     where
@@ -47,7 +47,7 @@ module _ {K V : Type 0} (eq : K → K → Bool) where
           by_key true = refl
           by_key false = later
 
-  to-records : (rs : List (Record K V)) → AreApart eq (held_entries rs) → RecordsApart rs
+  pub to-records : (rs : List (Record K V)) → AreApart eq (held_entries rs) → RecordsApart rs
   to-records [] h = tt
   to-records (x ∷ rs) h = go x.is_held refl h (λ k. to-records rs k)
     where
@@ -55,7 +55,7 @@ module _ {K V : Type 0} (eq : K → K → Bool) where
       go true t h later = ((λ held. none_from (λ r. r.entry) (held_at eq rs x.entry.key) (sym (entry-held rs x.entry.key) ∙ h.0)), later h.1)
       go false t h later = ((λ held. absurd (true≢false (sym held ∙ t))), later h)
 
-  from-records : (rs : List (Record K V)) → RecordsApart rs → AreApart eq (held_entries rs)
+  pub from-records : (rs : List (Record K V)) → RecordsApart rs → AreApart eq (held_entries rs)
   from-records [] h = tt
   from-records (x ∷ rs) h = go x.is_held refl (from-records rs h.1)
     where
@@ -96,7 +96,7 @@ module _ {K V : Type 0} (eq : K → K → Bool) where
   -- ---- what is found
 
   -- a record that does not answer to the key changes
-  unmatched-changed : (n : ℕ) (change : Record K V → Record K V) (key : K) (rs : List (Record K V)) → Each (λ x. x.number ≡ n → (eq key x.entry.key ≡ false) × (eq key (change x).entry.key ≡ false)) rs
+  pub unmatched-changed : (n : ℕ) (change : Record K V → Record K V) (key : K) (rs : List (Record K V)) → Each (λ x. x.number ≡ n → (eq key x.entry.key ≡ false) × (eq key (change x).entry.key ≡ false)) rs
       → held_at eq (changed_at n change rs) key ≡ held_at eq rs key
   unmatched-changed n change key [] h = refl
   unmatched-changed n change key (x ∷ rs) h = go (eqb x.number n) refl (unmatched-changed n change key rs h.1)
@@ -108,12 +108,12 @@ module _ {K V : Type 0} (eq : K → K → Bool) where
           ∙ sym (ap (λ c. cond c (Some x) (held_at eq rs key)) (and_left_false x.is_held (eq key x.entry.key) k.0))
       go false t later = ap (λ o. cond (x.is_held && eq key x.entry.key) (Some x) o) later
 
-  held-push : (rs : List (Record K V)) (x : Record K V) (key : K) → eq key x.entry.key ≡ false → held_at eq (rs ++ x ∷ []) key ≡ held_at eq rs key
+  pub held-push : (rs : List (Record K V)) (x : Record K V) (key : K) → eq key x.entry.key ≡ false → held_at eq (rs ++ x ∷ []) key ≡ held_at eq rs key
   held-push [] x key unlike = ap (λ c. cond c (Some x) None) (and_left_false x.is_held (eq key x.entry.key) unlike)
   held-push (r ∷ rs) x key unlike = ap (λ o. cond (r.is_held && eq key r.entry.key) (Some r) o) (held-push rs x key unlike)
 
   -- a change that keeps key and holding is found where the record was
-  found-changed : (n : ℕ) (change : Record K V → Record K V) → ((x : Record K V) → (change x).is_held ≡ x.is_held) → ((x : Record K V) → (change x).entry.key ≡ x.entry.key) → (rs : List (Record K V)) (key : K)
+  pub found-changed : (n : ℕ) (change : Record K V → Record K V) → ((x : Record K V) → (change x).is_held ≡ x.is_held) → ((x : Record K V) → (change x).entry.key ≡ x.entry.key) → (rs : List (Record K V)) (key : K)
       → (held_at eq (changed_at n change rs) key ≡ held_at eq rs key) ⊎ ((x : Record K V) × (held_at eq rs key ≡ Some x) × (x.number ≡ n) × (held_at eq (changed_at n change rs) key ≡ Some (change x)))
   found-changed n change held same [] key = inl refl
   found-changed n change held same (x ∷ rs) key = go (eqb x.number n) (x.is_held && eq key x.entry.key) refl refl (found-changed n change held same rs key)
@@ -133,7 +133,7 @@ module _ {K V : Type 0} (eq : K → K → Bool) where
           elim later [ inl e ↦ inl (skip ∙ e) | inr k ↦ inr (k.0, k.1, k.2, skip ∙ k.3) ]
 
 module _ {K V : Type 0} (eq : K → K → Bool) where
-  held_at-match : (rs : List (Record K V)) (key : K) (r : Record K V) → held_at eq rs key ≡ Some r → eq key r.entry.key ≡ true
+  pub held_at-match : (rs : List (Record K V)) (key : K) (r : Record K V) → held_at eq rs key ≡ Some r → eq key r.entry.key ≡ true
   held_at-match [] key r h = absurd (cc)
   held_at-match (x ∷ rs) key r h = go (x.is_held && eq key x.entry.key) refl h (held_at-match rs key r)
     where
@@ -149,7 +149,7 @@ module _ {K V : Type 0} (eq : K → K → Bool) (laws : IsEquivalence eq) where
       ap (λ c. cond c (Some x) (held_at eq rs a)) (ap (λ c. x.is_held && c) (laws.congr a b x.entry.key same) ∙ p.0) ∙ alike_none rs a b same p.1
 
   -- a record is no longer held: its key shows nothing, others what they showed
-  gone-changed : (n : ℕ) (change : Record K V → Record K V) → ((x : Record K V) → (change x).is_held ≡ false) → (rs : List (Record K V)) → RecordsApart eq rs → (key : K)
+  pub gone-changed : (n : ℕ) (change : Record K V → Record K V) → ((x : Record K V) → (change x).is_held ≡ false) → (rs : List (Record K V)) → RecordsApart eq rs → (key : K)
       → (held_at eq (changed_at n change rs) key ≡ held_at eq rs key) ⊎ (held_at eq (changed_at n change rs) key ≡ None)
   gone-changed n change out [] apart key = inl refl
   gone-changed n change out (x ∷ rs) apart key = go (eqb x.number n) (x.is_held && eq key x.entry.key) refl (gone-changed n change out rs apart.1 key)
@@ -254,7 +254,7 @@ module _ {K V P S R : Type 0} where
 
   -- ---- keys stay apart
 
-  removed-apart : (eq : K → K → Bool) → IsEquivalence eq → (s : State K V P S R) (o : Option (Record K V)) → RecordsApart eq s.records → RecordsApart eq (with_removed o s).records
+  pub removed-apart : (eq : K → K → Bool) → IsEquivalence eq → (s : State K V P S R) (o : Option (Record K V)) → RecordsApart eq s.records → RecordsApart eq (with_removed o s).records
   removed-apart eq laws s None h = h
   removed-apart eq laws s (Some r) h =
       let f = λ (x : Record K V). record x { is_held = false; writes = x.writes + 1 } in
@@ -264,7 +264,7 @@ module _ {K V P S R : Type 0} where
       all_mild f [] m = tt
       all_mild f (x ∷ rs) m = ((λ same. m x), all_mild f rs m)
 
-  read-apart : (eq : K → K → Bool) → IsEquivalence eq → (answers : Answers K V P R) (s : State K V P S R) (o : Option (Record K V)) (hash now : ℕ) → RecordsApart eq s.records → RecordsApart eq (with_read answers o hash now s).records
+  pub read-apart : (eq : K → K → Bool) → IsEquivalence eq → (answers : Answers K V P R) (s : State K V P S R) (o : Option (Record K V)) (hash now : ℕ) → RecordsApart eq s.records → RecordsApart eq (with_read answers o hash now s).records
   read-apart eq laws answers s None hash now h = h
   read-apart eq laws answers s (Some r) hash now h =
       apart-changed eq (alike eq laws) r.number f s.records (all_mild s.records) h
@@ -276,7 +276,7 @@ module _ {K V P S R : Type 0} where
       all_mild [] = tt
       all_mild (x ∷ rs) = ((λ same. ((λ held. held), (λ key. refl))), all_mild rs)
 
-  written-apart : (eq : K → K → Bool) → IsEquivalence eq → (answers : Answers K V P R) (s : State K V P S R) (key : K) (hash : ℕ) (value : V) (now step : ℕ) (o : Option (Record K V)) → held_at eq s.records key ≡ o → IsSound s → RecordsApart eq s.records
+  pub written-apart : (eq : K → K → Bool) → IsEquivalence eq → (answers : Answers K V P R) (s : State K V P S R) (key : K) (hash : ℕ) (value : V) (now step : ℕ) (o : Option (Record K V)) → held_at eq s.records key ≡ o → IsSound s → RecordsApart eq s.records
       → RecordsApart eq (with_written answers o s key hash value now step).records
   written-apart eq laws answers s key hash value now step None e sound h =
       apart-push eq laws s.records (record { number = s.next_number; hash = hash; entry = first_entry answers s key value now step; is_held = true; writes = 1; applied = 0; counts = None }) h e

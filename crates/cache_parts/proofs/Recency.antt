@@ -1,0 +1,364 @@
+-- Exact recency of a part.
+use Rattle.std.proofs.Common.{◌≡◌, refl, ap, sym, ◌∙◌, subst, ℕ, suc, ◌+◌, arith, MatchBool, Bool, true, false, true≢false, cond, not, ◌&&◌, List, [], ◌∷◌, ◌++◌, Option, Some, None, map, reverse, take, inl, inr, ◌⊎◌}
+use Rattle.std.specs.Prelude.{IsPermutation, option_map, if◌then◌else◌}
+use Rattle.std.specs.List.{list_any}
+use Rattle.std.proofs.lemmas.Bool.{ltb-false}
+use Rattle.std.proofs.lemmas.List.{take_all}
+use Rattle.std.proofs.lemmas.List.Sorted.{IsPermutation-trans, IsPermutation-reverse}
+use Rattle.audit_model.specs.Bytewise.{same}
+use Rattle.audit_model.specs.History.{weight_of}
+use Rattle.audit_model.specs.Recency as recent
+use Rattle.audit_model.specs.declared.config.Weight.{Weight}
+use Rattle.cache_store.specs.Recency.{put_first, used_first}
+use Rattle.engine_reference.specs.declared.data.Entry.{Entry}
+use Rattle.engine_reference.specs.declared.data.Unsent.{Unsent}
+use Rattle.engine_reference.specs.declared.data.Upsert.{Upsert}
+use Rattle.engine_reference.specs.declared.data.Write.TheVariants.{Put, Removed}
+use Rattle.engine_reference.specs.Admission.{is_above}
+use Rattle.engine_reference.specs.Calls.{with_read, used_entry, with_room, with_written, with_removed, removal_told, sent}
+use Rattle.engine_reference.specs.Records.{held_at, changed_at, admitted_weight, held_entries, held_weight}
+use Rattle.engine_reference.specs.Runs.{Runs, RunsToEnd, IsApplied, is_due}
+use Rattle.engine_reference.specs.Soundness.{Each}
+use Rattle.engine_reference.specs.Telling.{AreApart}
+use Rattle.engine_reference.specs.Times.{own_expiration}
+use Rattle.engine_reference.specs.Visible.{is_covered, is_visible, visible_record, passing}
+use Rattle.engine_reference.proofs.Accounts.{each-changed}
+use Rattle.engine_reference.proofs.SoundCalls.{held_at-only, held_at-each, each-push, used-sound}
+use Rattle.engine_laws.specs.Points.{IsInOrder}
+use Rattle.engine_laws.proofs.Fronting.{each-at}
+use Rattle.engine_laws.proofs.Ordering.{runs_stay_in_order, read-order}
+use Rattle.engine_laws.proofs.Shown.{RecordsApart, to-records, calls_keep_apart}
+use Rattle.engine_laws.proofs.Swept.{sent-one}
+use Rattle.cache_values.proofs.Keys.{same-refl}
+use Rattle.cache_parts.specs.Parts.{Part, Stored, service_answers, put, put_entry, nanos}
+use Rattle.cache_parts.specs.Recent.{IsLasting, IsUncovered, applied, keys_in, keys_used, IsPlain, IsRecent, IsFresh, RunKeepsRecent, CutRunKeepsRecent, LookUpMovesRecent, PutMovesRecent, AddMovesRecent, RemovalMovesRecent, TakingKeepsRecent, NewIsRecent, RecentAreHeld, RecencyIsKept}
+use Rattle.cache_parts.proofs.Draining.{keys-quiet}
+use Rattle.cache_parts.proofs.Facts.{fresh_is}
+use Rattle.cache_parts.proofs.Moving.{taking, read-moves, put-moves, removal-moves}
+use Rattle.cache_parts.proofs.Pending.{IsSteady, never-comes, keys-here, weight-here, run-front, run-still, applied-rest}
+use Rattle.cache_parts.proofs.Removing.{took_out}
+use Rattle.cache_parts.proofs.Writing.{Rec, same_laws, all_units, wrote}
+
+-- a key that goes first after its use went first
+pub put-used : (key : List ℕ) (keys : List (List ℕ)) → put_first key (used_first key keys) ≡ put_first key keys
+put-used key keys = go (list_any (λ k. same k key) keys)
+  where
+    again : (xs : List (List ℕ)) → recent.keys_without key (recent.keys_without key xs) ≡ recent.keys_without key xs
+    again [] = refl
+    again (x ∷ xs) = by_same (same x key) refl (again xs)
+      where
+        by_same : (b : Bool) → same x key ≡ b → recent.keys_without key (recent.keys_without key xs) ≡ recent.keys_without key xs
+            → recent.keys_without key (cond (not b) (x ∷ recent.keys_without key xs) (recent.keys_without key xs)) ≡ cond (not b) (x ∷ recent.keys_without key xs) (recent.keys_without key xs)
+        by_same true e later = later
+        by_same false e later = ap (λ b. cond (not b) (x ∷ recent.keys_without key (recent.keys_without key xs)) (recent.keys_without key (recent.keys_without key xs))) e ∙ ap (λ ks. x ∷ ks) later
+
+    go : (b : Bool) → put_first key (if b then put_first key keys else keys) ≡ put_first key keys
+    go false = refl
+    go true = ap (λ b. key ∷ cond (not b) (key ∷ recent.keys_without key (recent.keys_without key keys)) (recent.keys_without key (recent.keys_without key keys))) (same-refl key) ∙ ap (λ ks. key ∷ ks) (again keys)
+
+module _ {S : Type 0} where
+  -- what steps of a run need
+  pub steady : (n : ℕ) (s : Part S) (settled : Bool) (keys : List (List ℕ)) → IsPlain n s → IsRecent n s settled keys → IsSteady n s
+  steady n s settled keys p r = record { sound = p.in_order.sound; sent = p.sent; capacity = p.capacity; live = p.live; idle = p.idle; lasting = p.lasting; uncovered = r.uncovered }
+
+  -- of a settled part
+  rested : (n : ℕ) (s : Part S) (keys : List (List ℕ)) → IsRecent n s true keys → IsApplied s
+  rested n s keys r = let w = r.whole refl in record { reads = w.0; writes = w.1 }
+
+  -- its keys are those used last
+  whole_is : (n : ℕ) (s : Part S) (keys : List (List ℕ)) → IsRecent n s true keys → keys ≡ keys_used (applied s)
+  whole_is n s keys r = let w = r.whole refl in w.2 ∙ ap (λ (x : Part S). keys_used x) (sym (applied-rest s w.0 w.1))
+
+  -- what is held is seen
+  visible-held : (n now : ℕ) (s : Part S) (key : List ℕ) → IsSteady n s → visible_record service_answers same s now key ≡ held_at same s.records key
+  visible-held n now s key h = go (held_at same s.records key) refl
+    where
+      go : (o : Option Rec) → held_at same s.records key ≡ o → passing (λ (x : Rec). is_visible service_answers s now x.entry) o ≡ o
+      go None e = refl
+      go (Some r) e =
+          let there = held_at-only same s.records key r h.sound.records.numbered e in
+          let held = (held_at-each (λ (y : Rec). Unit {0}) same s.records key r (all_units s.records) e).1 in
+          ap (λ b. cond (not b && not (is_covered service_answers s r.entry)) (Some r) None) (never-comes n now s r h there held)
+          ∙ ap (λ b. cond (not b) (Some r) None) (each-at (IsUncovered s) s.records r.number r h.uncovered there held)
+
+  -- ---- runs
+
+  -- A RUN TO ITS END KEEPS THE KEYS USED LAST, as many as the capacity
+  pub run_keeps : RunKeepsRecent S
+  run_keeps n now s new settled keys p r run =
+      let k = run-front n now s new (steady n s settled keys p r) run.runs in
+      let a = k.2 in
+      let rest = applied-rest new a.reads a.writes in
+      let order = runs_stay_in_order (List ℕ) Stored (List ℕ) S Weight service_answers now s new p.in_order.sound p.sent (λ e. absurd (let is : suc n ≡ 0 = cc in omega (arith, is))) run in
+      let fits = ltb-false (suc n) (admitted_weight new.records) (ap (λ c. is_above c (admitted_weight new.records)) (sym k.1.capacity) ∙ order.within) in
+      let is : take (suc n) keys ≡ keys_used new =
+      r.cut ∙ sym k.0 ∙ ap (λ (x : Part S). take (suc n) (keys_used x)) rest ∙ take_all (suc n) (keys_used new) (omega (arith, fits, weight-here n new k.1 a.writes)) in
+      record {
+        cut = ap (take (suc n)) is ∙ ap (λ (x : Part S). take (suc n) (keys_used x)) (sym rest);
+        whole = λ e. (a.reads, a.writes, is);
+        uncovered = k.1.uncovered;
+      }
+
+  -- a run that may be cut keeps them too
+  pub cut_run_keeps : CutRunKeepsRecent S
+  cut_run_keeps n now s new settled keys p r run =
+      let k = run-front n now s new (steady n s settled keys p r) run in
+      record { cut = r.cut ∙ sym k.0; whole = λ e. absurd (true≢false (sym e)); uncovered = k.1.uncovered }
+
+  -- a run of a settled part leaves it so
+  pub still-recent : (n now : ℕ) (s mid : Part S) (keys : List (List ℕ)) → IsPlain n s → IsRecent n s true keys → Runs service_answers now s mid → IsRecent n mid true keys
+  still-recent n now s mid keys p r run =
+      let h = steady n s true keys p r in
+      let k = run-still n now s mid h (rested n s keys r) p.in_order.within run in
+      let f = run-front n now s mid h run in
+      let is : keys ≡ keys_used mid = (r.whole refl).2 ∙ ap (λ rs. reverse (keys_in rs s.access)) (sym k.records) ∙ ap (λ ns. reverse (keys_in mid.records ns)) (sym k.access) in
+      record {
+        cut = ap (take (suc n)) (is ∙ ap (λ (x : Part S). keys_used x) (sym (applied-rest mid f.2.reads f.2.writes)));
+        whole = λ e. (f.2.reads, f.2.writes, is);
+        uncovered = f.1.uncovered;
+      }
+
+  -- ---- a look-up
+
+  -- a read of a record that is held, or of none, puts the key first, where it is there
+  read-recent : (n now hash : ℕ) (s : Part S) (key : List ℕ) (keys : List (List ℕ)) (o : Option Rec) → IsSteady n s → RecordsApart same s.records → s.writes ≡ [] → held_at same s.records key ≡ o → keys ≡ keys_used (applied s)
+      → IsRecent n (with_read service_answers o hash now s) false (used_first key keys)
+  read-recent n now hash s key keys o h apart none e is = record {
+    cut = ap (take (suc n)) (ap (used_first key) is ∙ sym (read-moves n s h apart none key hash now o e));
+    whole = λ e. absurd (true≢false (sym e));
+    uncovered = uncovered o;
+  }
+    where
+      uncovered : (o : Option Rec) → Each (IsUncovered (with_read service_answers o hash now s)) (with_read service_answers o hash now s).records
+      uncovered None = h.uncovered
+      uncovered (Some r) =
+          each-changed r.number (λ x. record x { entry = used_entry service_answers s now x.entry }) (IsUncovered s) (IsUncovered s)
+          (λ x same k. k) (λ x other k. k) s.records h.sound.records.numbered h.uncovered
+
+  -- after a run, if one came
+  pub look-recent : (n now hash : ℕ) (s mid : Part S) (key : List ℕ) (keys : List (List ℕ)) → IsPlain n s → IsRecent n s true keys → (mid ≡ s) ⊎ Runs service_answers now s mid
+      → IsRecent n (with_read service_answers (visible_record service_answers same s now key) hash now mid) false (used_first key keys)
+  look-recent n now hash s mid key keys p r (inl e) =
+      let h = steady n s true keys p r in
+      subst (λ x. IsRecent n (with_read service_answers (visible_record service_answers same s now key) hash now x) false (used_first key keys)) (sym e)
+      (read-recent n now hash s key keys (visible_record service_answers same s now key) h (to-records same s.records p.apart) (rested n s keys r).writes (sym (visible-held n now s key h)) (whole_is n s keys r))
+  look-recent n now hash s mid key keys p r (inr run) =
+      let h = steady n s true keys p r in
+      let a = rested n s keys r in
+      let k = run-still n now s mid h a p.in_order.within run in
+      let f = run-front n now s mid h run in
+      read-recent n now hash mid key keys (visible_record service_answers same s now key) f.1 (subst (λ rs. RecordsApart same rs) (sym k.records) (to-records same s.records p.apart)) f.2.writes
+      (ap (λ rs. held_at same rs key) k.records ∙ sym (visible-held n now s key h)) (whole_is n mid keys (still-recent n now s mid keys p r run))
+
+  -- and so does a look-up
+  pub look_up_moves : LookUpMovesRecent S
+  look_up_moves n now hash s new key keys p r look =
+      subst (λ x. IsRecent n x false (used_first key keys)) (sym look.reads) (look-recent n now hash s look.mid key keys p r (go (is_due s now) look.maintains))
+    where
+      go : (b : Bool) → MatchBool b (RunsToEnd service_answers now s look.mid) (look.mid ≡ s) → (look.mid ≡ s) ⊎ Runs service_answers now s look.mid
+      go true run = inr run.runs
+      go false e = inl e
+
+  -- ---- a write
+
+  -- what the new entry is
+  entry-lasts : (n now step : ℕ) (s : Part S) (key : List ℕ) (value : Stored) → IsPlain n s → value.milliseconds ≡ None → ((put_entry s key value now step).weight ≡ 1) × ((put_entry s key value now step).expires ≡ None)
+  entry-lasts n now step s key value p brief = (ap (λ w. weight_of w value.bytes) p.rules, ap (λ o. own_expiration now (option_map nanos o)) brief)
+
+  -- what holds of the records and the rules after it
+  record PutLeaves (s t : Part S) : Type 0 where
+    lasting : Each IsLasting t.records
+    uncovered : Each (IsUncovered t) t.records
+    rules : t.rules ≡ s.rules
+
+  -- a write leaves them so
+  put-leaves : (n now hash step : ℕ) (s : Part S) (key : List ℕ) (value : Stored) → IsPlain n s → IsFresh step s → value.milliseconds ≡ None → Each (IsUncovered s) s.records
+      → PutLeaves s (put key hash value now step s)
+  put-leaves n now hash step s key value p fresh brief uncovered = go (held_at same s.records key)
+    where
+      e : Entry (List ℕ) Stored
+      e = put_entry s key value now step
+
+      lasts : (e.weight ≡ 1) × (e.expires ≡ None)
+      lasts = entry-lasts n now step s key value p brief
+
+      seen : is_covered service_answers s e ≡ false
+      seen = fresh_is s e fresh.cleared fresh.predicates
+
+      go : (o : Option Rec) → PutLeaves s (sent s.next_ticket (with_written service_answers o (with_room s) key hash value now step))
+      go None =
+          let x : Rec = record { number = s.next_number; hash = hash; entry = e; is_held = true; writes = 1; applied = 0; counts = None } in
+          let w : Upsert = record { number = s.next_number; write = 1; weight = e.weight; hash = hash; kept = held_weight (s.records ++ x ∷ []) } in
+          let u : Unsent = record { ticket = s.next_ticket; write = Put w } in
+          let t = with_written service_answers None (with_room s) key hash value now step in
+          subst (λ y. PutLeaves s y) (sym (sent-one u t (ap (λ us. us ++ u ∷ []) p.sent))) (record {
+            lasting = each-push IsLasting s.records x p.lasting (λ held. lasts);
+            uncovered = each-push (IsUncovered s) s.records x uncovered (λ held. seen);
+            rules = refl;
+          })
+      go (Some r) =
+          let f : Rec → Rec = λ x. record x { entry = e; writes = x.writes + 1 } in
+          let w : Upsert = record { number = r.number; write = r.writes + 1; weight = e.weight; hash = hash; kept = held_weight (changed_at r.number f s.records) } in
+          let u : Unsent = record { ticket = s.next_ticket; write = Put w } in
+          let t = with_written service_answers (Some r) (with_room s) key hash value now step in
+          let numbered = p.in_order.sound.records.numbered in
+          subst (λ y. PutLeaves s y) (sym (sent-one u t (ap (λ us. us ++ u ∷ []) p.sent))) (record {
+            lasting = each-changed r.number f IsLasting IsLasting
+                (λ x same k held. lasts) (λ x other k. k) s.records numbered p.lasting;
+            uncovered = each-changed r.number f (IsUncovered s) (IsUncovered s)
+                (λ x same k held. seen) (λ x other k. k) s.records numbered uncovered;
+            rules = refl;
+          })
+
+  -- a write puts its key first, where no other write waits
+  put-recent : (n now hash step : ℕ) (s : Part S) (key : List ℕ) (value : Stored) (keys : List (List ℕ)) → IsPlain n s → IsFresh step s → value.milliseconds ≡ None → IsSteady n s → s.writes ≡ [] → keys ≡ keys_used (applied s)
+      → IsPlain n (put key hash value now step s) × IsRecent n (put key hash value now step s) false (put_first key keys)
+  put-recent n now hash step s key value keys p fresh brief h none is =
+      let t = put key hash value now step s in
+      let w = wrote key hash value now step s p.in_order p.apart p.tells p.sent in
+      let k = put-leaves n now hash step s key value p fresh brief h.uncovered in (
+        record {
+          capacity = ap (λ c. c.capacity) w.settings ∙ p.capacity;
+          policy = ap (λ c. c.policy) w.settings ∙ p.policy;
+          tells = ap (λ c. c.tells) w.settings ∙ p.tells;
+          live = ap (λ c. c.live) w.settings ∙ p.live;
+          idle = ap (λ c. c.idle) w.settings ∙ p.idle;
+          rules = k.rules ∙ p.rules;
+          in_order = w.in_order;
+          sent = w.unsent;
+          apart = w.apart;
+          lasting = k.lasting;
+        },
+        record {
+          cut = ap (take (suc n)) (ap (put_first key) is ∙ sym (put-moves n s h (to-records same s.records p.apart) none p.policy p.rules key hash value now step));
+          whole = λ e. absurd (true≢false (sym e));
+          uncovered = k.uncovered;
+        },
+      )
+
+  -- and so from a settled part
+  pub put_moves : PutMovesRecent S
+  put_moves n now hash step s key value keys p fresh brief r = put-recent n now hash step s key value keys p fresh brief (steady n s true keys p r) (rested n s keys r).writes (whole_is n s keys r)
+
+  -- ---- a write after a look-up
+
+  -- a read leaves a part of a plain LRU namespace
+  read-plain : (n now hash : ℕ) (s : Part S) (o : Option Rec) → IsPlain n s → IsPlain n (with_read service_answers o hash now s)
+  read-plain n now hash s o p = go o (read-order service_answers o hash now s (used-sound service_answers o hash now s p.in_order.sound) p.in_order) ((calls_keep_apart (List ℕ) Stored (List ℕ) S Weight).read same same_laws service_answers s o hash now p.apart)
+    where
+      go : (o : Option Rec) → IsInOrder (with_read service_answers o hash now s) → AreApart same (held_entries (with_read service_answers o hash now s).records) → IsPlain n (with_read service_answers o hash now s)
+      go None order apart = record { capacity = p.capacity; policy = p.policy; tells = p.tells; live = p.live; idle = p.idle; rules = p.rules; in_order = order; sent = p.sent; apart = apart; lasting = p.lasting }
+      go (Some r) order apart = record {
+        capacity = p.capacity;
+        policy = p.policy;
+        tells = p.tells;
+        live = p.live;
+        idle = p.idle;
+        rules = p.rules;
+        in_order = order;
+        sent = p.sent;
+        apart = apart;
+        lasting = each-changed r.number (λ x. record x { entry = used_entry service_answers s now x.entry }) IsLasting IsLasting
+            (λ x same k. k) (λ x other k. k) s.records p.in_order.sound.records.numbered p.lasting;
+      }
+
+  -- what a read leaves of the writes and of what covers
+  read-fresh : (now hash step : ℕ) (s : Part S) (o : Option Rec) → IsFresh step s → IsFresh step (with_read service_answers o hash now s) × ((with_read service_answers o hash now s).writes ≡ s.writes)
+  read-fresh now hash step s None f = (record { cleared = f.cleared; predicates = f.predicates }, refl)
+  read-fresh now hash step s (Some r) f = (record { cleared = f.cleared; predicates = f.predicates }, refl)
+
+  -- a write after a look-up puts its key first
+  pub add_moves : AddMovesRecent S
+  add_moves n now hash step s key value keys p fresh brief r =
+      let h = steady n s true keys p r in
+      let o = visible_record service_answers same s now key in
+      let seen = sym (visible-held n now s key h) in
+      let none = (rested n s keys r).writes in
+      let t = with_read service_answers o hash now s in
+      let q = read-plain n now hash s o p in
+      let one = read-recent n now hash s key keys o h (to-records same s.records p.apart) none seen (whole_is n s keys r) in
+      let f = read-fresh now hash step s o fresh in
+      let is : used_first key keys ≡ keys_used (applied t) = ap (used_first key) (whole_is n s keys r) ∙ sym (read-moves n s h (to-records same s.records p.apart) none key hash now o seen) in
+      let k = put-recent n now hash step t key value (used_first key keys) q f.0 brief (steady n t false (used_first key keys) q one) (f.1 ∙ none) is in
+      (k.0, subst (λ ks. IsRecent n (put key hash value now step t) false ks) (put-used key keys) k.1)
+
+  -- ---- a removal
+
+  -- a removal takes its key out
+  pub removal_moves : RemovalMovesRecent S
+  removal_moves n now s key keys p r =
+      let h = steady n s true keys p r in
+      let cut = ap (take (suc n)) (ap (recent.keys_without key) (whole_is n s keys r) ∙ sym (removal-moves n s h (to-records same s.records p.apart) (rested n s keys r).writes key now)) in
+      let k = leaves (held_at same s.records key) refl in
+      (k.0, record { cut = cut; whole = λ e. absurd (true≢false (sym e)); uncovered = k.1 })
+    where
+      leaves : (o : Option Rec) → held_at same s.records key ≡ o → IsPlain n (taking s now o o) × Each (IsUncovered (taking s now o o)) (taking s now o o).records
+      leaves None e = (p, r.uncovered)
+      leaves (Some x) e =
+          let w = took_out key now s x p.in_order p.apart p.tells p.sent e in
+          let f : Rec → Rec = λ x. record x { is_held = false; writes = x.writes + 1 } in
+          let u : Unsent = record { ticket = s.next_ticket; write = Removed x.number } in
+          let t = removal_told service_answers x.entry now (with_removed (Some x) s) in
+          let t1 : Part S = record t { unsent = []; writes = s.writes ++ Removed x.number ∷ [] } in
+          let is = sent-one u t (ap (λ us. us ++ u ∷ []) p.sent) in
+          let numbered = p.in_order.sound.records.numbered in (
+            record {
+              capacity = ap (λ c. c.capacity) w.settings ∙ p.capacity;
+              policy = ap (λ c. c.policy) w.settings ∙ p.policy;
+              tells = ap (λ c. c.tells) w.settings ∙ p.tells;
+              live = ap (λ c. c.live) w.settings ∙ p.live;
+              idle = ap (λ c. c.idle) w.settings ∙ p.idle;
+              rules = ap (λ (y : Part S). y.rules) is ∙ p.rules;
+              in_order = w.in_order;
+              sent = w.unsent;
+              apart = w.apart;
+              lasting = subst (λ (y : Part S). Each IsLasting y.records) (sym is)
+                  (each-changed x.number f IsLasting IsLasting
+                  (λ y same k held. absurd (true≢false (sym held))) (λ y other k. k) s.records numbered p.lasting);
+            },
+            subst (λ (y : Part S). Each (IsUncovered y) y.records) (sym is)
+                (each-changed x.number f (IsUncovered s) (IsUncovered s)
+                (λ y same k held. absurd (true≢false (sym held))) (λ y other k. k) s.records numbered r.uncovered),
+          )
+
+  -- ---- notices, a new part, and the keys held
+
+  -- notices do not matter
+  pub taking_keeps : TakingKeepsRecent S
+  taking_keeps n s settled keys r = record { cut = r.cut ∙ ap (take (suc n)) (sym (keys-quiet s)); whole = r.whole; uncovered = r.uncovered }
+
+  -- a new part has no keys
+  pub new_is : NewIsRecent S
+  new_is n name settings hasher rules s new =
+      let is : [] ≡ keys_used s = ap (λ ns. reverse (keys_in s.records ns)) (sym new.access) in
+      record {
+        cut = ap (take (suc n)) (is ∙ ap (λ (x : Part S). keys_used x) (sym (applied-rest s new.reads new.writes)));
+        whole = λ e. (new.reads, new.writes, is);
+        uncovered = subst (λ rs. Each (IsUncovered s) rs) (sym new.records) tt;
+      }
+
+  -- the keys of a settled part are those held
+  pub held-steady : (n : ℕ) (s : Part S) (keys : List (List ℕ)) → IsSteady n s → IsRecent n s true keys → IsPermutation (map (λ (e : Entry (List ℕ) Stored). e.key) (held_entries s.records)) keys
+  held-steady n s keys h r =
+      let w = r.whole refl in
+      subst (λ ks. IsPermutation (map (λ (e : Entry (List ℕ) Stored). e.key) (held_entries s.records)) ks) (sym w.2)
+      (IsPermutation-trans (map (λ (e : Entry (List ℕ) Stored). e.key) (held_entries s.records)) (keys_in s.records s.access) (keys_used s) (keys-here n s h w.1) (IsPermutation-reverse (keys_in s.records s.access)))
+
+  -- and so where it is one of a plain LRU namespace
+  pub are_held : RecentAreHeld S
+  are_held n s keys p r = held-steady n s keys (steady n s true keys p r) r
+
+module _ (S : Type 0) where
+  -- all of it
+  pub recency_is_kept : RecencyIsKept S
+  recency_is_kept = record {
+    run = run_keeps;
+    cut_run = cut_run_keeps;
+    look_up = look_up_moves;
+    put = put_moves;
+    add = add_moves;
+    removal = removal_moves;
+    taking = taking_keeps;
+    new = new_is;
+    held = are_held;
+  }

@@ -1,0 +1,4 @@
+//! What a store keeps of each part of its cache between calls, and that each call keeps it.
+#![tactic(auto)]
+
+pub mod laws;
