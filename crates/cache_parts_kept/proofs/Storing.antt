@@ -148,7 +148,7 @@ module _ {S : Type 0} where
   keeps-look_up frame step now next part parts s new key hash at h there look = one-kept frame step now next part parts s (drained new) at h there (kept-looked_up frame part step now next s at.less at.rises (h.each part s there) key hash new look)
 
   -- a part takes values where the whole does
-  takes_values : (frame : Frame) (step : ℕ) (parts : List (Part S)) → AreKeptParts frame step parts → IsTrue (accepts_values frame.config.capacity) → takes_nothing (settings_of frame.config frame.made).capacity ≡ false
+  pub takes_values : (frame : Frame) (step : ℕ) (parts : List (Part S)) → AreKeptParts frame step parts → IsTrue (accepts_values frame.config.capacity) → takes_nothing (settings_of frame.config frame.made).capacity ≡ false
   takes_values frame step parts h accepts = go frame.config.capacity accepts
     where
       some : (n : ℕ) → (n ≡ 0 → ⊥) → takes_nothing (Some n) ≡ false

@@ -1,0 +1,164 @@
+-- The parts where a call changed one of them, or all: what was told is taken from them, and which ticket comes.
+use Rattle.std.proofs.Common.{◌≡◌, refl, ap, ◌∙◌, sym, subst, ℕ, zero, suc, ◌+◌, ◌≤◌, max, arith, Bool, true, false, List, [], ◌∷◌, ◌++◌, map, length, append-nil, Option, Some, None, slice_get, slice_set}
+use Rattle.std.specs.Prelude.{MatchOption, MatchBool, drop}
+use Rattle.std.proofs.lemmas.Option.{none-some}
+use Rattle.audit_model.specs.Bytewise.{same}
+use Rattle.audit_model.specs.declared.transcript.Note.{Note}
+use Rattle.engine_reference.specs.declared.data.Notice.{Notice}
+use Rattle.engine_reference.specs.declared.data.Write.{Write}
+use Rattle.engine_reference.specs.Calls.{MaintainsIfDue, cleared_by, removal_told, sent, unsent_at, with_predicate, with_read, with_removed, with_room, with_sent, with_written, without_notice, written}
+use Rattle.engine_reference.specs.Laws.{rest_of}
+use Rattle.engine_reference.specs.Records.{held_at}
+use Rattle.engine_reference.specs.Runs.{RunsToEnd}
+use Rattle.engine_reference.specs.Scanning.{NotesLookUp}
+use Rattle.engine_reference.specs.Visible.{visible_record}
+use Rattle.engine_reference.proofs.RestKept.{run-rest}
+use Rattle.front_reference.specs.Fronts.{CallsAt, CallsEach}
+use Rattle.front_reference.specs.Wholes.{first_or, next_told, taken_or, without_told}
+use Rattle.front_reference.specs.Parts.{taken_out}
+use Rattle.cache_parts.specs.Parts.{Part, Stored, note_from, put, service_answers, with_part}
+use Rattle.cache_parts.proofs.Accepting.{drained}
+use Rattle.cache_parts.proofs.Removing.{removed}
+use Rattle.cache_parts.proofs.Running.{Maintained, idle, ran}
+use Rattle.cache_parts.proofs.Syncing.{AllRan, none, next}
+use Rattle.cache_parts.proofs.Writing.{Rec}
+use Rattle.cache_parts_store.specs.View.{StoreOfParts, all_drained, greatest_ticket, waiting}
+
+module _ {S : Type 0} where
+  -- no notice waits in any of them
+  abbrev pub AreTaken : List (Part S) → Type 0
+  AreTaken parts = (k : ℕ) (s : Part S) → slice_get parts k ≡ Some s → s.notices ≡ []
+
+  taken-rest : (x : Part S) (parts : List (Part S)) → AreTaken (x ∷ parts) → AreTaken parts
+  taken-rest x parts taken k s there = taken (suc k) s there
+
+  -- ---- what was told is taken
+
+  pub drained-none : (s : Part S) → s.notices ≡ [] → drained s ≡ s
+  drained-none s e = ap (λ ns. record s { notices = ns }) (sym e)
+
+  pub all_drained-none : (parts : List (Part S)) → AreTaken parts → all_drained parts ≡ parts
+  all_drained-none [] taken = refl
+  all_drained-none (x ∷ parts) taken = ap (λ y. y ∷ all_drained parts) (drained-none x (taken 0 x refl)) ∙ ap (λ ys. x ∷ ys) (all_drained-none parts (taken-rest x parts taken))
+
+  pub waiting-none : (parts : List (Part S)) → AreTaken parts → waiting parts ≡ []
+  waiting-none [] taken = refl
+  waiting-none (x ∷ parts) taken = ap (λ ns. map note_from ns ++ waiting parts) (taken 0 x refl) ∙ waiting-none parts (taken-rest x parts taken)
+
+  -- one part changed
+  pub all_drained-set : (parts : List (Part S)) (k : ℕ) (t : Part S) → AreTaken parts → all_drained (slice_set parts k t) ≡ with_part k (drained t) parts
+  all_drained-set [] k t taken = refl
+  all_drained-set (x ∷ parts) zero t taken = ap (λ ys. drained t ∷ ys) (all_drained-none parts (taken-rest x parts taken))
+  all_drained-set (x ∷ parts) (suc k) t taken = ap (λ y. y ∷ all_drained (slice_set parts k t)) (drained-none x (taken 0 x refl)) ∙ ap (λ ys. x ∷ ys) (all_drained-set parts k t (taken-rest x parts taken))
+
+  pub waiting-set : (parts : List (Part S)) (k : ℕ) (s t : Part S) → AreTaken parts → slice_get parts k ≡ Some s → waiting (slice_set parts k t) ≡ map note_from t.notices
+  waiting-set [] k s t taken there = absurd (none-some s there)
+  waiting-set (x ∷ parts) zero s t taken there = ap (λ ns. map note_from t.notices ++ ns) (waiting-none parts (taken-rest x parts taken)) ∙ append-nil (map note_from t.notices)
+  waiting-set (x ∷ parts) (suc k) s t taken there = ap (λ ns. map note_from ns ++ waiting (slice_set parts k t)) (taken 0 x refl) ∙ waiting-set parts k s t (taken-rest x parts taken) there
+
+  -- ---- one notice is taken
+
+  pub taken-one : (parts : List (Part S)) (n : Notice (List ℕ) Stored) → next_told parts ≡ Some n → (waiting parts ≡ note_from n ∷ waiting (without_told parts)) × (all_drained (without_told parts) ≡ all_drained parts)
+  taken-one [] n told = absurd (none-some n told)
+  taken-one (s ∷ parts) n told = go s.notices refl told (λ t. taken-one parts n t)
+    where
+      Taken : (olds news : List (Part S)) → Type 0
+      Taken olds news = (waiting olds ≡ note_from n ∷ waiting news) × (all_drained news ≡ all_drained olds)
+
+      go : (ns : List (Notice (List ℕ) Stored)) → s.notices ≡ ns → first_or ns (next_told parts) ≡ Some n → (next_told parts ≡ Some n → Taken parts (without_told parts))
+          → (map note_from s.notices ++ waiting parts ≡ note_from n ∷ waiting (taken_or ns (without_notice s ∷ parts) (s ∷ without_told parts))) × (all_drained (taken_or ns (without_notice s ∷ parts) (s ∷ without_told parts)) ≡ all_drained (s ∷ parts))
+      go [] e told others =
+          let later = others told in (
+            ap (λ xs. map note_from xs ++ waiting parts) e ∙ later.0 ∙ ap (λ xs. note_from n ∷ (map note_from xs ++ waiting (without_told parts))) (sym e),
+            ap (λ ys. drained s ∷ ys) later.1,
+          )
+      go (x ∷ ns) e told others =
+          let is : x ≡ n = cc in (
+            ap (λ xs. map note_from xs ++ waiting parts) e ∙ ap (λ y. note_from y ∷ (map note_from ns ++ waiting parts)) is ∙ ap (λ xs. note_from n ∷ (map note_from (drop 1 xs) ++ waiting parts)) (sym e),
+            refl,
+          )
+
+  pub taken-all : (parts : List (Part S)) → next_told parts ≡ None → (waiting parts ≡ []) × (all_drained parts ≡ parts)
+  taken-all [] told = (refl, refl)
+  taken-all (s ∷ parts) told = go s.notices refl told (λ t. taken-all parts t)
+    where
+      go : (ns : List (Notice (List ℕ) Stored)) → s.notices ≡ ns → first_or ns (next_told parts) ≡ None → (next_told parts ≡ None → (waiting parts ≡ []) × (all_drained parts ≡ parts)) → (map note_from s.notices ++ waiting parts ≡ []) × (all_drained (s ∷ parts) ≡ s ∷ parts)
+      go [] e told others =
+          let later = others told in (
+            ap (λ xs. map note_from xs ++ waiting parts) e ∙ later.0,
+            ap (λ y. y ∷ all_drained parts) (drained-none s e) ∙ ap (λ ys. s ∷ ys) later.1,
+          )
+      go (x ∷ ns) e told others = absurd (none-some x (sym told))
+
+  -- ---- all parts ran
+
+  pub all-ran : (now : ℕ) (olds news : List (Part S)) → length news ≡ length olds → ((k : ℕ) (s : Part S) → slice_get olds k ≡ Some s → (t : Part S) × (slice_get news k ≡ Some t) × RunsToEnd service_answers now s t) → AllRan now olds (all_drained news) (waiting news)
+  all-ran now [] [] count each = none
+  all-ran now [] (t ∷ news) count each = absurd (omega (arith, count))
+  all-ran now (s ∷ olds) [] count each = absurd (omega (arith, count))
+  all-ran now (s ∷ olds) (t ∷ news) count each =
+      let x = each 0 s refl in
+      let is : x.0 ≡ t = cc in
+      next s t (subst (λ y. RunsToEnd service_answers now s y) is x.2) (all-ran now olds news (let same_rest : suc (length news) ≡ suc (length olds) = count in omega (arith, same_rest)) (λ k y there. each (suc k) y there))
+
+  -- ---- tickets
+
+  -- one was drawn at most
+  abbrev pub DrawsTicket : Part S → Part S → Type 0
+  DrawsTicket old new = new.next_ticket ≤ old.next_ticket + 1
+
+  pub ran-ticket : (now : ℕ) (s t : Part S) → RunsToEnd service_answers now s t → t.next_ticket ≡ s.next_ticket
+  ran-ticket now s t run = ap (λ r. r.next_ticket) (run-rest service_answers now s t run.runs)
+
+  pub maintained-ticket : (now : ℕ) (s t : Part S) → Maintained now s t → t.next_ticket ≡ s.next_ticket
+  maintained-ticket now s t (idle is) = ap (λ (x : Part S). x.next_ticket) is
+  maintained-ticket now s t (ran run) = ran-ticket now s t run
+
+  same-sent : (ticket : ℕ) (t : Part S) → (sent ticket t).next_ticket ≡ t.next_ticket
+  same-sent ticket t = go (unsent_at t.unsent ticket)
+    where
+      go : (o : Option Write) → (with_sent ticket o t).next_ticket ≡ t.next_ticket
+      go None = refl
+      go (Some w) = refl
+
+  pub put-ticket : (key : List ℕ) (hash : ℕ) (value : Stored) (now step : ℕ) (s : Part S) → (put key hash value now step s).next_ticket ≡ s.next_ticket + 1
+  put-ticket key hash value now step s = same-sent s.next_ticket (written service_answers same (with_room s) key hash value now step) ∙ go (held_at same s.records key)
+    where
+      go : (o : Option Rec) → (with_written service_answers o (with_room s) key hash value now step).next_ticket ≡ s.next_ticket + 1
+      go None = refl
+      go (Some r) = refl
+
+  pub removed-ticket : (key : List ℕ) (now : ℕ) (s : Part S) (r : Rec) → (removed key now s r).next_ticket ≡ s.next_ticket + 1
+  removed-ticket key now s r = same-sent s.next_ticket (removal_told service_answers r.entry now (with_removed (Some r) s))
+
+  pub read-ticket : (o : Option Rec) (hash now : ℕ) (s : Part S) → (with_read service_answers o hash now s).next_ticket ≡ s.next_ticket
+  read-ticket None hash now s = refl
+  read-ticket (Some r) hash now s = refl
+
+  pub greatest-with : (k : ℕ) (s new : Part S) (parts : List (Part S)) → slice_get parts k ≡ Some s → DrawsTicket s new → greatest_ticket (with_part k (drained new) parts) ≤ greatest_ticket parts + 1
+  greatest-with k s new [] there f = absurd (none-some s there)
+  greatest-with zero s new (x ∷ parts) there f = let is : x ≡ s = cc in let e = ap (λ (y : Part S). y.next_ticket) is in omega (arith, e, f)
+  greatest-with (suc k) s new (x ∷ parts) there f = let l = greatest-with k s new parts there f in omega (arith, l)
+
+  -- none is drawn where each part draws none
+  pub greatest-same : (olds news : List (Part S)) → length news ≡ length olds → ((k : ℕ) (s t : Part S) → slice_get olds k ≡ Some s → slice_get news k ≡ Some t → t.next_ticket ≡ s.next_ticket) → greatest_ticket news ≡ greatest_ticket olds
+  greatest-same [] [] count each = refl
+  greatest-same [] (t ∷ news) count each = absurd (omega (arith, count))
+  greatest-same (s ∷ olds) [] count each = absurd (omega (arith, count))
+  greatest-same (s ∷ olds) (t ∷ news) count each =
+      ap (λ n. max n (greatest_ticket news)) (each 0 s t refl refl)
+      ∙ ap (max s.next_ticket) (greatest-same olds news (let same_rest : suc (length news) ≡ suc (length olds) = count in omega (arith, same_rest)) (λ k x y there at. each (suc k) x y there at))
+
+  pub ticket_within : (parts : List (Part S)) (k : ℕ) (s : Part S) → slice_get parts k ≡ Some s → s.next_ticket ≤ greatest_ticket parts
+  ticket_within [] k s there = absurd (none-some s there)
+  ticket_within (x ∷ parts) zero s there = let is : x ≡ s = cc in let e = ap (λ (y : Part S). y.next_ticket) is in omega (arith, e)
+  ticket_within (x ∷ parts) (suc k) s there = let l = ticket_within parts k s there in omega (arith, l)
+
+  -- ---- the front's removal is that of the laws
+
+  pub removal-is : (key : List ℕ) (now : ℕ) (s : Part S) (r : Rec) → taken_out service_answers r now s ≡ removed key now s r
+  removal-is key now s r = go (unsent_at (with_removed (Some r) s).unsent s.next_ticket)
+    where
+      go : (o : Option Write) → removal_told service_answers r.entry now (with_sent s.next_ticket o (with_removed (Some r) s)) ≡ with_sent s.next_ticket o (removal_told service_answers r.entry now (with_removed (Some r) s))
+      go None = refl
+      go (Some w) = refl

@@ -1,0 +1,71 @@
+-- A store over the parts of a cache, and what it shows.
+use Rattle.std.specs.Prelude.{◌≡◌, ℕ, suc, ◌≤◌, ◌^◌, max, List, [], ◌∷◌, ◌++◌, map, length}
+use Rattle.rand_core.specs.Stream.{Stream}
+use Rattle.audit_model.specs.declared.transcript.Note.{Note}
+use Rattle.cache_store.specs.Promises.{Frame}
+use Rattle.cache_store.specs.Values.{Values, IsMoment}
+use Rattle.cache_parts.specs.Parts.{Part, Stands, items_of, note_from}
+use Rattle.cache_parts.specs.Recent.{IsRecentOver}
+use Rattle.cache_parts.proofs.Accepting.{drained}
+use Rattle.cache_parts_kept.specs.Keeping.{AreKeptParts, at_moment}
+use Rattle.cache_parts_kept.specs.Registering.{register_of}
+
+-- What it was made with, its parts, the notes that were taken from them and not from it, the generator of identifiers, and the step of the
+-- last call. `S` is the hasher of the parts.
+pub record StoreOfParts (S : Type 0) : Type 0 where
+  pub frame : Frame
+  pub parts : List (Part S)
+  pub queue : List Note
+  pub stream : Stream
+  pub step : ℕ
+
+module _ {S : Type 0} where
+  -- the greatest ticket to come
+  abbrev pub greatest_ticket : List (Part S) → ℕ
+  greatest_ticket [] = 0
+  greatest_ticket (s ∷ parts) = max s.next_ticket (greatest_ticket parts)
+
+  abbrev pub view : StoreOfParts S → Values
+  view a = record {
+    frame = a.frame;
+    Stands = Stands a.parts;
+    count = length (items_of 0 a.parts);
+    untaken = a.queue;
+    Used = IsRecentOver a.frame.config a.parts;
+    stream = a.stream;
+    registered = register_of a.parts;
+    spent = max a.step (greatest_ticket a.parts);
+  }
+
+  -- what is so between calls
+  pub record IsWhole (a : StoreOfParts S) : Type 0 where
+    pub kept : AreKeptParts a.frame a.step a.parts
+    pub small : length (items_of 0 a.parts) ≤ 2 ^ 50
+
+  -- a call comes at this moment and step: the step of the last call, or the next one
+  pub record ComesTo (a : StoreOfParts S) (now next : ℕ) : Type 0 where
+    pub moment : IsMoment (view a) now
+    pub rises : a.step ≤ next
+    pub one : next ≤ suc a.step
+
+  -- ---- notices
+
+  -- those that wait in the parts, the first part's first
+  abbrev pub waiting : List (Part S) → List Note
+  waiting [] = []
+  waiting (s ∷ parts) = map note_from s.notices ++ waiting parts
+
+  -- the parts without them
+  abbrev pub all_drained : List (Part S) → List (Part S)
+  all_drained [] = []
+  all_drained (s ∷ parts) = drained s ∷ all_drained parts
+
+  -- ---- what a call makes of the store
+
+  -- these are its parts then, and nothing was told
+  abbrev pub passed : (now next : ℕ) (parts : List (Part S)) → StoreOfParts S → StoreOfParts S
+  passed now next parts a = record a { frame = at_moment a.frame now; parts = parts; step = next }
+
+  -- these are its parts, and what they told was taken from them
+  abbrev pub after : (now next : ℕ) (parts : List (Part S)) → StoreOfParts S → StoreOfParts S
+  after now next parts a = record a { frame = at_moment a.frame now; parts = all_drained parts; queue = a.queue ++ waiting parts; step = next }

@@ -1,0 +1,4 @@
+//! Why a store of parts is a `Store`: one law for each of its calls.
+#![tactic(auto)]
+
+pub mod laws;
