@@ -52,7 +52,7 @@ share-positive : (capacity parts : ℕ) → 0 < capacity → 0 < parts → (capa
 share-positive capacity parts c p e = let one = le-div 1 (capacity + (parts - 1)) parts p (omega (arith, c, p)) in omega (arith, one, e)
 
 -- what is so of each record that is held is so of each entry that is found
-held-each : (Q : Kept → Type 0) (rs : List (Record (List ℕ) Stored)) (q : List ℕ) (e : Kept) → Each (λ r. r.is_held ≡ true → Q r.entry) rs → entry_of same (held_entries rs) q ≡ Some e → Q e
+pub held-each : (Q : Kept → Type 0) (rs : List (Record (List ℕ) Stored)) (q : List ℕ) (e : Kept) → Each (λ r. r.is_held ≡ true → Q r.entry) rs → entry_of same (held_entries rs) q ≡ Some e → Q e
 held-each Q [] q e all there = absurd (none-some e there)
 held-each Q (r ∷ rs) q e all there = go r.is_held refl there (λ k. held-each Q rs q e all.1 k)
   where
@@ -121,7 +121,7 @@ module _ {S : Type 0} where
       go j x found (no other) = kept-later frame j step now next x at.less at.rises (h.each j x (sym (with_part-other part j t parts other) ∙ found))
 
   -- all are changed
-  there-too : (news parts : List (Part S)) → length news ≡ length parts → (k : ℕ) (t : Part S) → slice_get news k ≡ Some t → (s : Part S) × (slice_get parts k ≡ Some s)
+  pub there-too : (news parts : List (Part S)) → length news ≡ length parts → (k : ℕ) (t : Part S) → slice_get news k ≡ Some t → (s : Part S) × (slice_get parts k ≡ Some s)
   there-too [] parts e k t there = absurd (none-some t there)
   there-too (x ∷ news) [] e k t there = absurd (omega (arith, e))
   there-too (x ∷ news) (y ∷ parts) e zero t there = (y, refl)

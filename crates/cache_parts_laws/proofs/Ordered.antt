@@ -225,7 +225,7 @@ module _ {S : Type 0} where
   -- ---- a store that was just made
 
   -- where no part has a record no value is held
-  none-yet : (first : ℕ) (parts : List (Part S)) → ((k : ℕ) (s : Part S) → slice_get parts k ≡ Some s → s.records ≡ []) → items_of first parts ≡ []
+  pub none-yet : (first : ℕ) (parts : List (Part S)) → ((k : ℕ) (s : Part S) → slice_get parts k ≡ Some s → s.records ≡ []) → items_of first parts ≡ []
   none-yet first [] each = refl
   none-yet first (s ∷ parts) each = ap (λ rs. map (held_of first s) (held_entries rs) ++ items_of (suc first) parts) (each 0 s refl) ∙ none-yet (suc first) parts (λ k x there. each (suc k) x there)
 

@@ -1,6 +1,8 @@
 -- The parts where a call changed one of them, or all: what was told is taken from them, and which ticket comes.
 use Rattle.std.proofs.Common.{◌≡◌, refl, ap, ◌∙◌, sym, subst, ℕ, zero, suc, ◌+◌, ◌≤◌, max, arith, Bool, true, false, List, [], ◌∷◌, ◌++◌, map, length, append-nil, Option, Some, None, slice_get, slice_set}
 use Rattle.std.specs.Prelude.{MatchOption, MatchBool, drop}
+use Rattle.std.specs.List.{sum_by}
+use Rattle.std.proofs.lemmas.List.Sums.{sum_by-cons}
 use Rattle.std.proofs.lemmas.Option.{none-some}
 use Rattle.audit_model.specs.Bytewise.{same}
 use Rattle.audit_model.specs.declared.transcript.Note.{Note}
@@ -100,6 +102,21 @@ module _ {S : Type 0} where
       let x = each 0 s refl in
       let is : x.0 ≡ t = cc in
       next s t (subst (λ y. RunsToEnd service_answers now s y) is x.2) (all-ran now olds news (let same_rest : suc (length news) ≡ suc (length olds) = count in omega (arith, same_rest)) (λ k y there. each (suc k) y there))
+
+  -- the parts without their notices
+  pub drained-at : (parts : List (Part S)) (k : ℕ) (t : Part S) → slice_get parts k ≡ Some t → slice_get (all_drained parts) k ≡ Some (drained t)
+  drained-at [] k t there = absurd (none-some t there)
+  drained-at (x ∷ parts) zero t there = let is : x ≡ t = cc in ap (λ (y : Part S). Some (drained y)) is
+  drained-at (x ∷ parts) (suc k) t there = drained-at parts k t there
+
+  pub drained-length : (parts : List (Part S)) → length (all_drained parts) ≡ length parts
+  drained-length [] = refl
+  drained-length (x ∷ parts) = ap suc (drained-length parts)
+
+  pub drained-sum : (f : Part S → ℕ) → ((x : Part S) → f (drained x) ≡ f x) → (parts : List (Part S)) → sum_by f (all_drained parts) ≡ sum_by f parts
+  drained-sum f each [] = refl
+  drained-sum f each (x ∷ parts) =
+      sum_by-cons f (drained x) (all_drained parts) ∙ ap (λ n. n + sum_by f (all_drained parts)) (each x) ∙ ap (λ n. f x + n) (drained-sum f each parts) ∙ sym (sum_by-cons f x parts)
 
   -- ---- tickets
 

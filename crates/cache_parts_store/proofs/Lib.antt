@@ -1,3 +1,5 @@
 pub mod Changing
 pub mod Standing
 pub mod Calling
+pub mod Covering
+pub mod Settling

@@ -12,12 +12,11 @@ use Rattle.cache_store.specs.Promises.{covering, deleting, syncing, using}
 use Rattle.cache_store.specs.Values.{AcceptsValue, Does, GivesNote, IsAcceptable, IsLive, IsMoment, IsSettled, IsSoundStore, IsSpent, LacksIdentifiers}
 use Rattle.engine_reference.specs.declared.data.Notice.{Notice}
 use Rattle.engine_reference.specs.Calls.{cleared_by, IsNew}
-use Rattle.engine_reference.specs.Runs.{RunsToEnd}
 use Rattle.engine_reference.specs.Scanning.{NotesLookUp}
 use Rattle.engine_reference.specs.Visible.{visible_value}
 use Rattle.front_reference.specs.Fronts.{CallsAt, CallsEach}
 use Rattle.front_reference.specs.Parts.{Inserts, TakesOut}
-use Rattle.front_reference.specs.Wholes.{DrawAll, DrawsInVain, next_told, registered_in, without_told}
+use Rattle.front_reference.specs.Wholes.{DrawAll, DrawsInVain, RunsPart, next_told, registered_in, without_told}
 use Rattle.cache_parts.specs.Parts.{Part, Stored, items_of, note_from, service_answers, settings_of}
 use Rattle.cache_parts.specs.Recent.{IsRecentOver}
 use Rattle.cache_parts.proofs.Judging.{IsBrief}
@@ -85,7 +84,7 @@ module _ (S : Type 0) where
   -- `run_all`: each part runs to its end, and its counts say what is held
   abbrev pub RunAllMeets : Type 0
   RunAllMeets =
-      (a : StoreOfParts S) (now next : ℕ) (parts : List (Part S)) → IsWhole a → ComesTo a now next → CallsEach (RunsToEnd service_answers now) a.parts parts
+      (a : StoreOfParts S) (now next : ℕ) (parts : List (Part S)) → IsWhole a → ComesTo a now next → CallsEach (RunsPart service_answers now) a.parts parts
       → Does now syncing (view a) (view (after now next parts a)) × IsWhole (after now next parts a) × IsSettled (view (after now next parts a)) (total_number parts) (total_weight parts)
 
   -- `sound`

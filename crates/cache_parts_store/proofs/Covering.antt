@@ -1,0 +1,208 @@
+-- A clear of all parts, a predicate in all, and identifiers drawn in vain.
+use Rattle.std.proofs.Common.{◌≡◌, refl, ap, ◌∙◌, sym, subst, ℕ, zero, suc, ◌+◌, ◌≤◌, ◌<◌, max, arith, Bool, true, false, ◌&&◌, ◌||◌, nat_eq, nat_lt, List, [], ◌∷◌, ◌++◌, length, Some, slice_get}
+use Rattle.std.specs.List.{list_any, starts_with}
+use Rattle.std.proofs.lemmas.Bool.{lt-ltb}
+use Rattle.std.proofs.lemmas.List.Folds.{list_any-append}
+use Rattle.std.proofs.lemmas.Option.{none-some}
+use Rattle.rand_core.specs.Stream.{Stream}
+use Rattle.audit_model.specs.Bytewise.{same}
+use Rattle.audit_model.specs.Commands.{Covering, Everything, Prefixed}
+use Rattle.audit_model.specs.declared.config.Weight.{Weight}
+use Rattle.cache_store.specs.Identifiers.{AreUsedUp, KeepsIdentifiers}
+use Rattle.cache_store.specs.Promises.{covering}
+use Rattle.cache_store.specs.Values.{Does}
+use Rattle.engine_reference.specs.declared.data.Registered.{Registered}
+use Rattle.engine_reference.specs.Calls.{cleared_by, with_predicate}
+use Rattle.engine_reference.specs.Records.{held_entries}
+use Rattle.engine_reference.specs.Telling.{entry_of}
+use Rattle.engine_reference.specs.Visible.{is_covered, is_covered_by}
+use Rattle.engine_identifiers.specs.Drawing.{is_registered}
+use Rattle.front_reference.specs.Fronts.{CallsEach}
+use Rattle.front_reference.specs.Wholes.{DrawAll, registered_in}
+use Rattle.cache_parts.proofs.Covering.{AllCover, CoversToo, none, next}
+use Rattle.cache_parts.proofs.Telling.{Kept}
+use Rattle.cache_parts.specs.Parts.{IsProper, Part, Stored, service_answers}
+use Rattle.cache_parts_laws.proofs.Lawful.{covers as covers_all}
+use Rattle.cache_parts_kept.specs.Registering.{HasNoMore, register_of}
+use Rattle.cache_parts_kept.proofs.Identifying.{identifier_clauses}
+use Rattle.cache_parts_kept.proofs.Storing.{calls_keep_parts, held-each, kept_is_enough, there-too}
+use Rattle.cache_parts_store.proofs.Calling.{comes, or-no}
+use Rattle.cache_parts_store.proofs.Changing.{greatest-same}
+use Rattle.cache_parts_store.proofs.Standing.{no_more-after, parted, parts_are}
+use Rattle.cache_parts_store.specs.Meets.{ClearMeets, DropMeets, LacksMeets}
+use Rattle.cache_parts_store.specs.View.{IsWhole, StoreOfParts, greatest_ticket, passed, view}
+
+or-yes : (b : Bool) → (b || true) ≡ true
+or-yes true = refl
+or-yes false = refl
+
+or-nothing : (b : Bool) → (b || false) ≡ b
+or-nothing true = refl
+or-nothing false = refl
+
+or-swap : (a b c : Bool) → (a || (b || c)) ≡ ((a || b) || c)
+or-swap true b c = refl
+or-swap false b c = refl
+
+less-later : (a b c n : ℕ) → a ≤ b → b < n → nat_lt a (max c n) ≡ true
+less-later a b c n le lt = lt-ltb a (max c n) (omega (arith, le, lt))
+
+-- all are covered where each is
+all-cover : {S : Type 0} (which : Covering) (olds news : List (Part S)) → length news ≡ length olds
+    → ((k : ℕ) (s : Part S) → slice_get olds k ≡ Some s → (t : Part S) × (slice_get news k ≡ Some t) × CoversToo which s t) → AllCover which olds news
+all-cover which [] [] count each = none
+all-cover which [] (t ∷ news) count each = absurd (omega (arith, count))
+all-cover which (s ∷ olds) [] count each = absurd (omega (arith, count))
+all-cover {S} which (s ∷ olds) (t ∷ news) count each =
+    let x = each 0 s refl in
+    let is : x.0 ≡ t = cc in
+    next s t (subst (λ (y : Part S). CoversToo which s y) is x.2) (all-cover which olds news (let same_rest : suc (length news) ≡ suc (length olds) = count in omega (arith, same_rest)) (λ k y there. each (suc k) y there))
+
+-- each entry was written at no later step
+steps-are : {S : Type 0} (a : StoreOfParts S) → IsWhole a → (k : ℕ) (s : Part S) → slice_get a.parts k ≡ Some s → (q : List ℕ) (e : Kept) → entry_of same (held_entries s.records) q ≡ Some e → e.step ≤ a.step
+steps-are a w k s there q e found = (held-each (IsProper a.frame k a.step) s.records q e (w.kept.each k s there).own.proper found).earlier
+
+-- no part registers another identifier
+pub keeps-each : {S : Type 0} (a : StoreOfParts S) (Rel : Part S → Part S → Type 0) (news : List (Part S)) → CallsEach Rel a.parts news → ((s t : Part S) → Rel s t → HasNoMore S s t) → KeepsIdentifiers a.stream a.stream (register_of a.parts) (register_of news)
+keeps-each {S} a Rel news calls more = identifier_clauses.keeps a.stream a.parts news (λ part t at.
+    let old = there-too news a.parts calls.count part t at in
+    let x = calls.each part old.0 old.1 in
+    let both : Some x.0 ≡ Some t = sym x.1 ∙ at in
+    let one : x.0 ≡ t = cc in
+    (old.0, old.1, more old.0 t (subst (λ (y : Part S). Rel old.0 y) one x.2)))
+
+-- ---- `clear`
+
+clear-covers : {S : Type 0} (step n : ℕ) (s : Part S) → step < n → ((q : List ℕ) (e : Kept) → entry_of same (held_entries s.records) q ≡ Some e → e.step ≤ step) → CoversToo Everything s (cleared_by n s)
+clear-covers step n s lt early = record {
+  records = refl;
+  writes = refl;
+  unsent = refl;
+  settings = refl;
+  covers = λ q e found. ap (λ b. b || list_any (λ p. covered e p) s.predicates) (less-later e.step step s.cleared n (early q e found) lt) ∙ sym (or-yes (is_covered service_answers s e));
+}
+  where
+    covered : Kept → Registered (List ℕ) → Bool
+    covered e p = nat_lt e.step p.step && service_answers.covers s.rules p.predicate e.key e.value
+
+pub clear : {S : Type 0} → ClearMeets S
+clear {S} a now n parts w at lt calls = (does, record { kept = calls_keep_parts.clear a.frame a.step now n a.parts parts (comes a w now n at) w.kept calls; small = (let l = no_more-after a w now (covering Everything) (passed now n parts a) refl does in let small = w.small in omega (arith, l, small)) })
+  where
+    cover : AllCover Everything a.parts parts
+    cover = all-cover Everything a.parts parts calls.count (λ k s there.
+        let x = calls.each k s there in
+        (x.0, x.1, subst (λ (y : Part S). CoversToo Everything s y) (sym x.2) (clear-covers a.step n s lt (steps-are a w k s there))))
+
+    tickets : greatest_ticket parts ≡ greatest_ticket a.parts
+    tickets = greatest-same a.parts parts calls.count (λ k s t there found.
+        let x = calls.each k s there in
+        let both : Some x.0 ≡ Some t = sym x.1 ∙ found in
+        let one : x.0 ≡ t = cc in
+        sym (ap (λ (y : Part S). y.next_ticket) one) ∙ ap (λ (y : Part S). y.next_ticket) x.2)
+
+    does : Does now (covering Everything) (view a) (view (passed now n parts a))
+    does = record {
+      done = λ held stands. covers_all S Everything a.frame.config a.frame.part_of now a.parts parts held a.queue a.queue cover (parted a w) stands (parts_are a w) refl;
+      frame = ap (λ b. record a.frame { dropped = b; latest = now }) (or-no a.frame.dropped);
+      used = tt;
+      drawn = keeps-each a (λ s t. t ≡ cleared_by n s) parts calls (λ s t is k e. ap (λ (y : Part S). is_registered y.predicates k) (sym is) ∙ e);
+      spent = let e = tickets in let one = at.one in omega (arith, e, one);
+    }
+
+-- ---- `drop_prefix`
+
+abbrev added : (prefix : List ℕ) (n id : ℕ) → Registered (List ℕ)
+added prefix n id = record { id = id; predicate = prefix; step = n }
+
+module _ {S : Type 0} (prefix : List ℕ) (step n : ℕ) where
+  drop-covers : (s : Part S) (id : ℕ) → step < n → ((q : List ℕ) (e : Kept) → entry_of same (held_entries s.records) q ≡ Some e → e.step ≤ step) → CoversToo (Prefixed prefix) s (with_predicate (added prefix n id) s)
+  drop-covers s id lt early = record {
+    records = refl;
+    writes = refl;
+    unsent = refl;
+    settings = refl;
+    covers = λ q e found. covers e (early q e found);
+  }
+    where
+      covers : (e : Kept) → e.step ≤ step → is_covered service_answers (with_predicate (added prefix n id) s) e ≡ (is_covered service_answers s e || starts_with nat_eq e.key prefix)
+      covers e le =
+          let less : nat_lt e.step n ≡ true = lt-ltb e.step n (omega (arith, le, lt)) in
+          ap (λ b. nat_lt e.step s.cleared || b)
+          (list_any-append (λ p. is_covered_by service_answers s.rules p e) s.predicates (added prefix n id ∷ [])
+          ∙ ap (λ b. list_any (λ p. is_covered_by service_answers s.rules p e) s.predicates || b) (or-nothing (is_covered_by service_answers s.rules (added prefix n id) e) ∙ ap (λ b. b && starts_with nat_eq e.key prefix) less))
+          ∙ or-swap (nat_lt e.step s.cleared) (list_any (λ p. is_covered_by service_answers s.rules p e) s.predicates) (starts_with nat_eq e.key prefix)
+
+  -- each part has its predicate
+  pub record EachRegistered (parts news : List (Part S)) : Type 0 where
+    pub count : length news ≡ length parts
+    pub each : (k : ℕ) (s : Part S) → slice_get parts k ≡ Some s → (id : ℕ) × (slice_get news k ≡ Some (with_predicate (added prefix n id) s))
+
+  registered-each : (parts : List (Part S)) (old new : Stream) (ids : List ℕ) → DrawAll parts old new ids → EachRegistered parts (registered_in prefix n ids parts)
+  registered-each [] old new ids d = record { count = ap (λ xs. length (registered_in {K = List ℕ} {V = Stored} {S = S} {R = Weight} prefix n xs [])) d.0; each = λ k s there. absurd (none-some s there) }
+  registered-each (s ∷ parts) old new ids (id, rest, mid, is, draws, others) =
+      subst (λ xs. EachRegistered (s ∷ parts) (registered_in prefix n xs (s ∷ parts))) (sym is) (behind (registered-each parts mid new rest others))
+    where
+      behind : EachRegistered parts (registered_in prefix n rest parts) → EachRegistered (s ∷ parts) (registered_in prefix n (id ∷ rest) (s ∷ parts))
+      behind later = record { count = ap suc later.count; each = at }
+        where
+          at : (k : ℕ) (x : Part S) → slice_get (s ∷ parts) k ≡ Some x → (i : ℕ) × (slice_get (registered_in prefix n (id ∷ rest) (s ∷ parts)) k ≡ Some (with_predicate (added prefix n i) x))
+          at zero x there = let one : s ≡ x = cc in (id, ap (λ (y : Part S). Some (with_predicate (added prefix n id) y)) one)
+          at (suc k) x there = later.each k x there
+
+first-of : {S : Type 0} (parts : List (Part S)) → 0 < length parts → (x : Part S) × (slice_get parts 0 ≡ Some x)
+first-of [] lt = absurd (omega (arith, lt))
+first-of (x ∷ parts) lt = (x, refl)
+
+pub drop : {S : Type 0} → DropMeets S
+drop {S} a now n prefix stream ids w at lt drawn = (does, record { kept = calls_keep_parts.cover a.frame a.step now n a.parts news (comes a w now n at) w.kept (kept_is_enough.covers n prefix a.parts a.stream stream ids drawn); small = (let l = no_more-after a w now (covering (Prefixed prefix)) b refl does in let small = w.small in omega (arith, l, small)) })
+  where
+    news : List (Part S)
+    news = registered_in prefix n ids a.parts
+
+    b : StoreOfParts S
+    b = record a { frame = record a.frame { dropped = true; latest = now }; parts = news; stream = stream; step = n }
+
+    stand : EachRegistered prefix a.step n a.parts news
+    stand = registered-each prefix a.step n a.parts a.stream stream ids drawn
+
+    cover : AllCover (Prefixed prefix) a.parts news
+    cover = all-cover (Prefixed prefix) a.parts news stand.count (λ k s there. let x = stand.each k s there in (with_predicate (added prefix n x.0) s, x.1, drop-covers prefix a.step n s x.0 lt (steps-are a w k s there)))
+
+    tickets : greatest_ticket news ≡ greatest_ticket a.parts
+    tickets = greatest-same a.parts news stand.count (λ k s t there found.
+        let x = stand.each k s there in
+        let both : Some (with_predicate (added prefix n x.0) s) ≡ Some t = sym x.1 ∙ found in
+        let one : with_predicate (added prefix n x.0) s ≡ t = cc in
+        sym (ap (λ (y : Part S). y.next_ticket) one))
+
+    some : 0 < length a.parts
+    some = let p = w.kept.placed [] in let m = w.kept.number in omega (arith, p, m)
+
+    does : Does now (covering (Prefixed prefix)) (view a) (view b)
+    does = record {
+      done = λ held stands. covers_all S (Prefixed prefix) a.frame.config a.frame.part_of now a.parts news held a.queue a.queue cover (parted a w) stands (parts_are a w) refl;
+      frame = ap (λ c. record a.frame { dropped = c; latest = now }) (sym (or-yes a.frame.dropped));
+      used = tt;
+      drawn = let one = first-of a.parts some in identifier_clauses.registers prefix n a.parts a.stream stream ids one.0 one.1 drawn;
+      spent = let e = tickets in let one = at.one in omega (arith, e, one);
+    }
+
+-- ---- and where none is drawn
+
+pub lacks : {S : Type 0} → LacksMeets S
+lacks {S} a stream w vain = (
+  record {
+    used_up = subst (λ n. AreUsedUp n a.stream stream (register_of a.parts)) w.kept.number (identifier_clauses.in_use a.parts a.stream stream vain);
+    registered = λ part id e. e;
+    stands = λ held stands. stands;
+    frame = refl;
+    dropped = go a.frame.dropped refl;
+    untaken = refl;
+    spent = refl;
+  },
+  record { kept = w.kept; small = w.small },
+)
+  where
+    go : (b : Bool) → a.frame.dropped ≡ b → a.frame.dropped ≡ true
+    go true e = e
+    go false e = absurd (identifier_clauses.dropped a.parts a.stream stream (kept_is_enough.undropped a.frame a.step a.parts w.kept e) vain)

@@ -1,0 +1,157 @@
+-- A run of all parts, and what is so of every store of parts.
+use Rattle.std.proofs.Common.{◌≡◌, refl, ap, ◌∙◌, sym, subst, ℕ, zero, suc, ◌+◌, ◌*◌, ◌≤◌, ◌<◌, ◌^◌, max, min, arith, Bool, true, false, List, [], ◌∷◌, ◌++◌, map, length, Some, slice_get}
+use Rattle.std.specs.List.{list_all, sum_by}
+use Rattle.std.proofs.lemmas.Option.{none-some}
+use Rattle.audit_model.specs.Notes.{is_within}
+use Rattle.audit_model.specs.Situation.{HeldValue}
+use Rattle.audit_model.specs.declared.transcript.Note.{Note}
+use Rattle.cache_store.specs.Handing.{AppendsNotes}
+use Rattle.cache_store.specs.Promises.{Done, syncing}
+use Rattle.cache_store.specs.Running.{is_timely}
+use Rattle.cache_store.specs.Values.{Does, IsSettled}
+use Rattle.engine_identifiers.specs.Drawing.{is_registered}
+use Rattle.front_reference.specs.Fronts.{CallsEach}
+use Rattle.front_reference.specs.Wholes.{RunsPart}
+use Rattle.cache_parts.proofs.Accepting.{drained}
+use Rattle.cache_parts.proofs.Counting.{CountsAreTold}
+use Rattle.cache_parts.proofs.Idling.{idle_does}
+use Rattle.cache_parts.proofs.Syncing.{AllRan}
+use Rattle.cache_parts.specs.Parts.{Part, Stands, items_of, service_answers, settings_of}
+use Rattle.cache_parts_laws.proofs.Lawful.{runs_all, sums, within}
+use Rattle.cache_parts_laws.proofs.Ordered.{none-yet, recency_clauses}
+use Rattle.cache_parts_kept.specs.Calling.{Comes, RunsDrained}
+use Rattle.cache_parts_kept.specs.Keeping.{AreKeptParts, at_moment}
+use Rattle.cache_parts_kept.proofs.Identifying.{identifier_clauses}
+use Rattle.cache_parts_kept.proofs.Storing.{calls_keep_parts, kept_is_enough, there-too}
+use Rattle.cache_parts_store.proofs.Calling.{comes, handed, or-no}
+use Rattle.cache_parts_store.proofs.Changing.{all-ran, drained-at, drained-length, drained-sum, greatest-same, ran-ticket, taken-all, taken-one, ticket_within}
+use Rattle.cache_parts_store.proofs.Covering.{keeps-each}
+use Rattle.cache_parts_store.proofs.Standing.{no_more-after, parted, parts_are, some_held, some_stand}
+use Rattle.cache_parts_store.specs.Meets.{Drains, NewMeets, NoticeMeets, RunAllMeets, SoundMeets, UsedUpMeets, total_number, total_weight}
+use Rattle.cache_parts_store.specs.View.{ComesTo, IsWhole, StoreOfParts, after, all_drained, greatest_ticket, view, waiting}
+
+settings : {S : Type 0} (a : StoreOfParts S) → IsWhole a → (k : ℕ) (s : Part S) → slice_get a.parts k ≡ Some s → s.settings ≡ settings_of a.frame.config a.frame.made
+settings a w k s there = ap (λ c. c.settings) (w.kept.each k s there).front.made
+
+-- ---- `run_all`
+
+module _ {S : Type 0} (a : StoreOfParts S) (w : IsWhole a) (now n : ℕ) (at : ComesTo a now n) (parts : List (Part S)) (calls : CallsEach (RunsPart service_answers now) a.parts parts) where
+  abbrev ran_to : StoreOfParts S
+  ran_to = after now n parts a
+
+  all : AllRan now a.parts (all_drained parts) (waiting parts)
+  all = all-ran now a.parts parts calls.count (λ k s there. let x = calls.each k s there in (x.0, x.1, x.2.runs))
+
+  -- each ran, and its notices were taken
+  runs : CallsEach (RunsDrained S now) a.parts (all_drained parts)
+  runs = record {
+    count = drained-length parts ∙ calls.count;
+    each = λ k s there. let x = calls.each k s there in (drained x.0, drained-at parts k x.0 x.1, record { new = x.0; runs = x.2.runs; is = refl });
+  }
+
+  done : (held : List HeldValue) → Stands a.parts held → Done a.frame.config now syncing held (Stands (all_drained parts)) (AppendsNotes a.queue (a.queue ++ waiting parts))
+  done held stands =
+      handed a w now syncing held _ (waiting parts)
+      (runs_all S a.frame.config a.frame.part_of a.frame.made now a.parts (all_drained parts) held (waiting parts) all (kept_is_enough.ready a.frame a.step now a.parts w.kept).0 (parted a w) stands
+      (λ k s there. kept_is_enough.knows a.frame a.step now k a.parts s held w.kept there))
+
+  tickets : greatest_ticket (all_drained parts) ≡ greatest_ticket a.parts
+  tickets = greatest-same a.parts (all_drained parts) runs.count (λ k s t there found.
+      let x = runs.each k s there in
+      let both : Some x.0 ≡ Some t = sym x.1 ∙ found in
+      let one : x.0 ≡ t = cc in
+      sym (ap (λ (y : Part S). y.next_ticket) one) ∙ ap (λ (y : Part S). y.next_ticket) x.2.is ∙ ran-ticket now s x.2.new x.2.runs)
+
+  ran-does : Does now syncing (view a) (view ran_to)
+  ran-does = record {
+    done = done;
+    frame = ap (λ c. record a.frame { dropped = c; latest = now }) (or-no a.frame.dropped);
+    used = (recency_clauses S).run_all a.frame a.step now a.parts (all_drained parts) (waiting parts) (kept_is_enough.recent a.frame a.step a.parts w.kept) all;
+    drawn = keeps-each a (RunsDrained S now) (all_drained parts) runs (λ s t x k e. identifier_clauses.run now s x.new x.runs.runs k (ap (λ (y : Part S). is_registered y.predicates k) (sym x.is) ∙ e));
+    spent = let e = tickets in let one = at.one in omega (arith, e, one);
+  }
+
+  ran-whole : IsWhole ran_to
+  ran-whole = record { kept = calls_keep_parts.run_all a.frame a.step now n a.parts (all_drained parts) (comes a w now n at) w.kept runs; small = (let l = no_more-after a w now syncing ran_to refl ran-does in let small = w.small in omega (arith, l, small)) }
+
+  -- the run alone, at the step of the last call
+  still : Comes a.frame a.step now a.step
+  still = record { less = at.moment.0; rises = omega arith; range = at.moment.1 }
+
+  weighs : (held : List HeldValue) → Stands (all_drained parts) held → sum_by (λ (h : HeldValue). h.value.weight) held ≤ 2 ^ 63
+  weighs held stands =
+      let l = kept_is_enough.weighs (at_moment a.frame now) n (all_drained parts) held ran-whole.kept stands in
+      let m = stands.same.number in
+      let small = ran-whole.small in
+      omega (arith, l, m, small)
+
+  counts : (held : List HeldValue) → Stands (all_drained parts) held → CountsAreTold (all_drained parts) held
+  counts held stands =
+      (sums S).after a.frame.part_of now a.parts (all_drained parts) (waiting parts) held all (kept_is_enough.ready a.frame a.step now a.parts w.kept).1 (parted ran_to ran-whole) stands (let l = weighs held stands in omega (arith, l))
+
+  counted : (held : List HeldValue) → Stands (all_drained parts) held → (total_number S parts ≡ length held) × (total_weight S parts ≡ sum_by (λ (h : HeldValue). h.value.weight) held)
+  counted held stands =
+      let c = counts held stands in
+      let number = sym (drained-sum (λ (x : Part S). x.number) (λ x. refl) parts) ∙ c.number in
+      let weight = sym (drained-sum (λ (x : Part S). x.weight) (λ x. refl) parts) ∙ c.weight in
+      let l = weighs held stands in
+      let m = stands.same.number in
+      let small = ran-whole.small in
+      (omega (arith, number, m, small), omega (arith, weight, l))
+
+  ran-settled : IsSettled (view ran_to) (total_number S parts) (total_weight S parts)
+  ran-settled = record {
+    held = counted;
+    within = λ held stands. (within S).within a.frame.config a.frame.part_of a.frame.made (all_drained parts) held (parted ran_to ran-whole) stands (parts_are ran_to ran-whole) (settings ran_to ran-whole)
+        (kept_is_enough.fits a.frame a.step now a.parts (all_drained parts) still w.kept runs);
+    timely = λ held stands. (within S).timely a.frame.config a.frame.part_of a.frame.made now (all_drained parts) held (parted ran_to ran-whole) stands (parts_are ran_to ran-whole) (settings ran_to ran-whole) w.kept.brief
+        (kept_is_enough.rested a.frame a.step now a.parts (all_drained parts) held (parted ran_to ran-whole) stands.same (parts_are ran_to ran-whole) (settings ran_to ran-whole) still w.kept runs);
+    released = identifier_clauses.released (all_drained parts) (λ part t found.
+        let old = there-too (all_drained parts) a.parts runs.count part t found in
+        let x = runs.each part old.0 old.1 in
+        let both : Some x.0 ≡ Some t = sym x.1 ∙ found in
+        let one : x.0 ≡ t = cc in
+        sym (ap (λ (y : Part S). y.predicates) one) ∙ ap (λ (y : Part S). y.predicates) x.2.is ∙ x.2.runs.done.ended);
+  }
+
+pub run_all : {S : Type 0} → RunAllMeets S
+run_all {S} a now n parts w at calls = (ran-does a w now n at parts calls, ran-whole a w now n at parts calls, ran-settled a w now n at parts calls)
+
+-- ---- `sound`
+
+pub sound : {S : Type 0} → SoundMeets S
+sound {S} a w = record {
+  some = some_held a w;
+  stands = some_stand a w;
+  counted = λ held stands. stands.same.number;
+  small = w.small;
+  parted = w.kept.placed;
+  idle = λ held now stands. idle_does a.frame.config a.frame.part_of now a.parts held (parted a w) (parts_are a w) stands;
+  bounded = λ held stands. (within S).bounded a.frame.config a.frame.part_of a.frame.made a.parts held (parted a w) stands (parts_are a w) (settings a w)
+      (kept_is_enough.lean a.frame a.step a.parts held (parted a w) stands.same (parts_are a w) (settings a w) w.kept);
+  ordered = λ held keys stands used. (recency_clauses S).ordered a.frame a.step a.parts held keys (kept_is_enough.recent a.frame a.step a.parts w.kept) stands used;
+}
+
+-- ---- notices, numbers, a store just made
+
+pub notice : {S : Type 0} → NoticeMeets S
+notice {S} a note rest w first =
+    (first, record { stands = λ held stands. stands; frame = refl; used = λ settled keys recent. recent; identifiers = record { stream = refl; registered = λ part id e. e }; spent = refl }, record { kept = w.kept; small = w.small })
+
+pub used_up : {S : Type 0} → UsedUpMeets S
+used_up {S} = record {
+  tickets = λ a part s there lack. (let l = ticket_within a.parts part s there in omega (arith, l, lack));
+  steps = λ a lack. omega (arith, lack);
+}
+
+pub made : {S : Type 0} → NewMeets S
+made {S} a name hasher number placed brief range first step new =
+    let none = none-yet 0 a.parts (λ k s there. (new k s there).records) in
+    let count = ap (λ xs. length xs) none in (
+      record { kept = subst (λ m. AreKeptParts a.frame m a.parts) (sym step) (calls_keep_parts.new a.frame name hasher a.parts number placed brief range first new); small = (let c = count in omega (arith, c)) },
+      count,
+      (recency_clauses S).new a.frame.config name (settings_of a.frame.config a.frame.made) hasher a.frame.config.weight a.parts new,
+    )
+
+pub drains : {S : Type 0} → Drains S
+drains {S} = record { taken = taken-one; done = taken-all }
