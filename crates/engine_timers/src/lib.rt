@@ -1,0 +1,7 @@
+//! When places expire: the first of them is found at once.
+#![tactic(auto)]
+
+mod expirations;
+mod names;
+
+pub use expirations::Expirations;
