@@ -12,3 +12,4 @@ pub mod Walking
 pub mod Settling
 pub mod Spotting
 pub mod Standing
+pub mod Again

@@ -1,5 +1,5 @@
 -- Cells and the spots of their keys' hashes.
-use Rattle.std.specs.Prelude.{◌≡◌, ℕ, Bool, true, false, ◌&&◌, List, Option, Some, None}
+use Rattle.std.specs.Prelude.{◌≡◌, ℕ, ◌==◌, Bool, true, false, ◌&&◌, List, Option, Some, None}
 use Rattle.engine_keys.specs.Spots.{Spots, IsUnder, LeavesFrom}
 use Rattle.engine_cells.specs.declared.cell.Cell.{Cell}
 use Rattle.engine_cells.specs.Cells.{cell_at}
@@ -15,6 +15,16 @@ module _ {K V : Type 0} where
   -- the hash of each held record is that of its key
   abbrev pub AreHashed : (K → ℕ) → List (Option (Cell K V)) → Type 0
   AreHashed hash_of cells = (i : ℕ) (c : Cell K V) → cell_at cells i ≡ Some c → c.item.is_held ≡ true → c.item.hash ≡ hash_of c.item.entry.key
+
+module _ {K V : Type 0} where
+  -- there is a cell, and its record has this number
+  abbrev pub is_numbered : ℕ → Option (Cell K V) → Bool
+  is_numbered number None = false
+  is_numbered number (Some c) = c.item.number == number
+
+  -- the record of a number, where it is there, is held and has this hash
+  abbrev pub IsHeldUnder : ℕ → ℕ → List (Option (Cell K V)) → Type 0
+  IsHeldUnder number hash cells = (i : ℕ) (c : Cell K V) → cell_at cells i ≡ Some c → is_numbered number (Some c) ≡ true → (c.item.is_held ≡ true) × (c.item.hash ≡ hash)
 
 -- a place leaves from under a hash, where it is to
 abbrev pub LeavesIf : Bool → Spots → Spots → ℕ → ℕ → Type 0

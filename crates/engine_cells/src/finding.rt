@@ -1,9 +1,9 @@
 //! Look-up by key and hash.
-ghost use Rattle.std.specs.Prelude.{◌≡◌, ◌≤◌, ℕ, true, Some, None, IfSome, IfNone, is_some};
+ghost use Rattle.std.specs.Prelude.{◌≡◌, ◌≤◌, ℕ, true, false, Some, None, IfSome, IfNone, is_some};
 ghost use Rattle.engine_reference.specs.Records.{held_at};
 ghost use Rattle.engine_keys.specs.Spots.{IsUnder};
 ghost use Rattle.engine_cells.specs.Cells.{cell_at, record_in, records_by_number};
-ghost use Rattle.engine_cells.specs.Spotted.{is_match, AreSpotted, HaveHash, LeavesIf};
+ghost use Rattle.engine_cells.specs.Spotted.{is_match, is_numbered, AreSpotted, HaveHash, IsHeldUnder, LeavesIf};
 
 use crate::cell::Cell;
 use engine_keys::Keys;
@@ -40,8 +40,34 @@ pub fn find_held<K: Eq, Q: Names<K>, V>(
     requires spotted { AreSpotted K.eq cells.now.slots keys.now }
     requires hashed { HaveHash K.eq (Q.named_key key.now) hash cells.now.slots }
     ensures found { IfSome result (λ i. held_at K.eq (records_by_number cells.now.slots) (Q.named_key key.now) ≡ record_in cells.now.slots i) }
+    ensures matched { IfSome result (λ i. is_match K.eq (Q.named_key key.now) (cell_at cells.now.slots i) ≡ true) }
     ensures there { IfSome result (λ i. is_some (cell_at cells.now.slots i) ≡ true) }
     ensures none { IfNone result (held_at K.eq (records_by_number cells.now.slots) (Q.named_key key.now) ≡ None) }
 {
     keys.get(hash, |place| is_match(cells, place, key))
+}
+
+/// Whether a place has the record of a number.
+fn is_numbered<K, V>(cells: &Slab<Cell<K, V>>, place: usize, number: u64) -> bool
+    ensures { result ≡ is_numbered number (cell_at cells.now.slots place) }
+{
+    match cells.get(place) {
+        Some(cell) => cell.item.number == number,
+        None => false,
+    }
+}
+
+/// The place of the record of a number, which is held under this hash where it is there.
+pub(crate) fn find_number<K: Eq, V>(
+    cells: &Slab<Cell<K, V>>,
+    keys: &Keys,
+    number: u64,
+    hash: u64,
+) -> Option<usize>
+    requires spotted { AreSpotted K.eq cells.now.slots keys.now }
+    requires held { IsHeldUnder number hash cells.now.slots }
+    ensures found { IfSome result (λ i. is_numbered number (cell_at cells.now.slots i) ≡ true) }
+    ensures none { IfNone result ((i : ℕ) → is_numbered number (cell_at cells.now.slots i) ≡ false) }
+{
+    keys.get(hash, |place| is_numbered(cells, place, number))
 }

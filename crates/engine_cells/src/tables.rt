@@ -38,6 +38,8 @@ use std::hash::{BuildHasher, Hash, Hasher};
 use std::marker::Model;
 use std::mem;
 
+mod again;
+
 /// The tables of a cache of one part. Each method that changes them makes one change, for which there is room.
 #[derive(Drop)]
 pub struct Tables<K: Eq + Hash, V, S: BuildHasher, R: Rules<K, V>> {
@@ -218,6 +220,7 @@ impl<K: Eq + Hash, V, S: BuildHasher, R: Rules<K, V>> Tables<K, V, S, R> {
     pub fn place_of<Q: Names<K>>(&self, key: &Q, hash: u64) -> Option<usize>
         requires hashed { hash ≡ hash_of_key S.Hasher.finish S.Hasher.write S.build_hasher K.hash_input self.now.state.hasher (Q.named_key key.now) }
         ensures found { IfSome result (λ i. (r : Record K V) × (kept_at self.now i ≡ Some r) × (held_at K.eq self.now.state.records (Q.named_key key.now) ≡ Some r)) }
+        ensures hash { IfSome result (λ i. (r : Record K V) → kept_at self.now i ≡ Some r → r.hash ≡ hash) }
         ensures none { IfNone result (held_at K.eq self.now.state.records (Q.named_key key.now) ≡ None) }
     {
         find_held(&self.cells, &self.keys, key, hash)

@@ -20,3 +20,9 @@ returns-clause-none g c =
     none-map _ _ (λ f. none-under eq cells c.args.keys.now (g.Q.Names.named_key c.args.key.now) c.args.hash c.requires.spotted c.requires.hashed (λ i u.
     let post = f i u in
     let off : is_match eq (g.Q.Names.named_key c.args.key.now) (cell_at cells i) ≡ false = search rules in off)) c.get.result c.get.ensures.none
+
+pub returns-clause-matched : goal.returns-clause-matched
+returns-clause-matched g c =
+    let eq = g.K.PartialEq.eq in
+    let cells = c.args.cells.now.slots in
+    found-map _ _ (λ i u. let here : is_match eq (g.Q.Names.named_key c.args.key.now) (cell_at cells i) ≡ true = search rules in here) c.get.result c.get.ensures.found

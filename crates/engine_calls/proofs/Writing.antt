@@ -1,0 +1,108 @@
+-- What a write makes of the tables is what the reference cache says.
+use Rattle.std.proofs.Common.{◌≡◌, refl, ap, sym, ◌∙◌, ℕ, ◌+◌, ◌-◌, ◌≤◌, Bool, true, false, cond, arith, List, [], ◌∷◌, ◌++◌, Option, Some, None}
+use Rattle.engine_rules.specs.declared.causes.RemovalCause.{RemovalCause}
+use Rattle.engine_reference.specs.declared.data.Entry.{Entry}
+use Rattle.engine_reference.specs.declared.data.Record.{Record}
+use Rattle.engine_reference.specs.declared.data.Write.TheVariants.{Removed}
+use Rattle.engine_reference.specs.Calls.{removal_rooms, with_reserved_removal, with_put, with_written, first_entry, next_entry, used_entry, with_read}
+use Rattle.engine_reference.specs.declared.data.Read.TheVariants.{Hit}
+use Rattle.engine_reference.specs.Records.{record_at, changed_at}
+use Rattle.engine_reference.specs.State.{State, Answers}
+use Rattle.engine_reference.specs.Visible.{told, cause_of_write}
+use Rattle.engine_cells.specs.Writing.{with_put_for}
+use Rattle.std.proofs.lemmas.Option.{same_Some}
+use Rattle.engine_cells.specs.Kept.{Kept, kept_at}
+use Rattle.engine_calls.proofs.Finding.{changed-alike, changed-none, kept-changed, kept-number}
+
+module _ {K V : Type 0} where
+  abbrev pub first_record : ℕ → ℕ → Entry K V → Record K V
+  first_record number hash e = record { number = number; hash = hash; entry = e; is_held = true; writes = 1; applied = 0; counts = None }
+
+  abbrev pub next_record : Entry K V → Record K V → Record K V
+  next_record e r = record r { entry = e; writes = r.writes + 1 }
+
+  abbrev pub used-as : ℕ → Option ℕ → Record K V → Record K V
+  used-as moment expires x = record x { entry = record x.entry { used = moment; expires = expires } }
+
+  abbrev pub marked : Record K V → Record K V
+  marked r = record r { is_held = false; writes = r.writes + 1 }
+
+module _ {K V P S R : Type 0} where
+  abbrev pub added : State K V P S R → Record K V → State K V P S R
+  added s r = with_put_for r (record s { records = s.records ++ r ∷ []; next_number = s.next_number + 1 })
+
+  -- as the tables write over the record in a place
+  abbrev pub over : State K V P S R → Entry K V → RemovalCause → Record K V → State K V P S R
+  over s e why r = with_put_for (next_record e r) (record s { records = changed_at r.number (next_record e) s.records; notices = told s.settings.tells why r.entry s.notices })
+
+  -- as they mark it
+  abbrev pub taken : State K V P S R → Record K V → State K V P S R
+  taken s r = record s {
+    records = changed_at r.number marked s.records;
+    unsent = s.unsent ++ (record { ticket = s.next_ticket; write = Removed r.number }) ∷ [];
+    next_ticket = s.next_ticket + 1;
+    reserved = s.reserved - 1;
+  }
+
+module _ {K V P S R : Type 0} (answers : Answers K V P R) where
+  abbrev over_with : State K V P S R → Record K V → Entry K V → RemovalCause → ℕ → State K V P S R
+  over_with s r e why hash = with_put answers r.number (r.writes + 1) e.weight hash (record s { records = changed_at r.number (next_record e) s.records; notices = told s.settings.tells why r.entry s.notices })
+
+  pub first-written : (s : State K V P S R) (key : K) (hash : ℕ) (value : V) (now step number : ℕ) (e : Entry K V) → e ≡ first_entry answers s key value now step → number ≡ s.next_number
+      → added s (first_record number hash e) ≡ with_written answers None s key hash value now step
+  first-written s key hash value now step number e ee en =
+      ap (λ m. added s (first_record m hash e)) en ∙ ap (λ x. added s (first_record s.next_number hash x)) ee
+
+  pub over-written : (s : State K V P S R) (key : K) (hash : ℕ) (value : V) (now step : ℕ) (e : Entry K V) (why : RemovalCause) (r : Record K V)
+      → e ≡ next_entry answers s r.entry key value now step → why ≡ cause_of_write answers s now r.entry → r.hash ≡ hash
+      → over s e why r ≡ with_written answers (Some r) s key hash value now step
+  over-written s key hash value now step e why r ee ew eh =
+      ap (λ x. over_with s r x why r.hash) ee
+      ∙ ap (λ w. over_with s r (next_entry answers s r.entry key value now step) w r.hash) ew
+      ∙ ap (λ h. over_with s r (next_entry answers s r.entry key value now step) (cause_of_write answers s now r.entry) h) eh
+
+  abbrev pub used : State K V P S R → ℕ → Record K V → Record K V
+  used s now r = record r { entry = used_entry answers s now r.entry }
+
+  -- a use of the record in a place, and its read
+  pub used-read : (s : State K V P S R) (r : Record K V) (hash now : ℕ) (expires : Option ℕ) → record_at s.records r.number ≡ Some r → expires ≡ (used_entry answers s now r.entry).expires
+      → record s { records = changed_at r.number (used-as now expires) s.records; reads = s.reads ++ Hit r.number hash ∷ [] } ≡ with_read answers (Some r) hash now s
+  used-read s r hash now expires there e =
+      ap (λ rs. record s { records = rs; reads = s.reads ++ Hit r.number hash ∷ [] })
+      (changed-alike r.number (used-as now expires) (used s now) s.records r there (ap (λ x. used-as now x r) e))
+
+  -- the read of a record that is gone
+  pub gone-read : (s : State K V P S R) (r : Record K V) (number hash now : ℕ) → r.number ≡ number → record_at s.records number ≡ None
+      → record s { reads = s.reads ++ Hit number hash ∷ [] } ≡ with_read answers (Some r) hash now s
+  gone-read s r number hash now same none =
+      ap (λ rs. record s { records = rs; reads = s.reads ++ Hit number hash ∷ [] }) (sym (changed-none number (used s now) s.records none))
+      ∙ ap (λ n. record s { records = changed_at n (used s now) s.records; reads = s.reads ++ Hit n hash ∷ [] }) (sym same)
+
+  -- a look-up uses the record in a place, and its read waits
+  pub used-in : (old mid new : Kept K V P S R) (place hash now moment : ℕ) (expires : Option ℕ) (r : Record K V) → kept_at old place ≡ Some r → moment ≡ now → expires ≡ (used_entry answers old.state now r.entry).expires
+      → (x : Record K V) × (kept_at old place ≡ Some x) × (mid ≡ record old { state = record old.state { records = changed_at x.number (used-as moment expires) old.state.records } })
+      → (x : Record K V) × (kept_at mid place ≡ Some x) × (new ≡ record mid { state = record mid.state { reads = mid.state.reads ++ Hit x.number hash ∷ [] } })
+      → new.state ≡ with_read answers (Some r) hash now old.state
+  used-in old mid new place hash now moment expires r there em ee u p =
+      let s = old.state in
+      let same : u.0 ≡ r = same_Some _ _ (sym u.1 ∙ there) in
+      let mids : mid ≡ record old { state = record s { records = changed_at r.number (used-as moment expires) s.records } } =
+      u.2 ∙ ap (λ (x : Record K V). record old { state = record s { records = changed_at x.number (used-as moment expires) s.records } }) same in
+      let is : p.0 ≡ used-as moment expires r = same_Some _ _ (sym p.1 ∙ ap (λ (t : Kept K V P S R). kept_at t place) mids ∙ kept-changed old place r (used-as moment expires) (λ x. refl) there) in
+      ap (λ (t : Kept K V P S R). t.state) p.2
+      ∙ ap (λ (t : Kept K V P S R). record t.state { reads = t.state.reads ++ Hit (p.0).number hash ∷ [] }) mids
+      ∙ ap (λ (x : Record K V). record s { records = changed_at r.number (used-as moment expires) s.records; reads = s.reads ++ Hit x.number hash ∷ [] }) is
+      ∙ ap (λ (m : ℕ). record s { records = changed_at r.number (used-as m expires) s.records; reads = s.reads ++ Hit r.number hash ∷ [] }) em
+      ∙ used-read s r hash now expires (kept-number old place r there) ee
+
+  -- a read of the record of a number, whichever it was
+  pub read-alike : (s : State K V P S R) (r x : Record K V) (hash now : ℕ) → x.number ≡ r.number → with_read answers (Some x) hash now s ≡ with_read answers (Some r) hash now s
+  read-alike s r x hash now same = ap (λ n. record s { records = changed_at n (used s now) s.records; reads = s.reads ++ Hit n hash ∷ [] }) same
+
+room-left : (n : ℕ) (tells : Bool) → cond tells 2 1 ≤ n → n - 1 ≡ cond tells ((n - cond tells 2 1) + 1) (n - cond tells 2 1)
+room-left n true enough = omega arith
+room-left n false enough = omega arith
+
+module _ {K V P S R : Type 0} where
+  pub removed-at : (s : State K V P S R) (r : Record K V) → removal_rooms s.settings ≤ s.reserved → taken s r ≡ with_reserved_removal (Some r) s
+  removed-at s r enough = ap (λ n. record (taken s r) { reserved = n }) (room-left s.reserved s.settings.tells enough)

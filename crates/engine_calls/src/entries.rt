@@ -1,0 +1,152 @@
+//! Entries as a write or a look-up leaves them, and what is told of them.
+ghost use Rattle.std.specs.Prelude.{◌≡◌, ℕ, ◌-◌, ◌<◌, ◌^◌, true, is_some, Some, if◌then◌else◌};
+ghost use Rattle.engine_rules.specs.Changes.{change_of};
+ghost use Rattle.engine_rules.specs.declared.causes.RemovalCause.TheVariants as cause;
+ghost use Rattle.engine_cells.specs.Kept.{kept_at};
+ghost use Rattle.engine_reference.specs.Asking.{answers_of};
+ghost use Rattle.engine_reference.specs.Calls.{first_entry, next_entry, used_entry};
+ghost use Rattle.engine_reference.specs.Times.{changed_expiration, has_come};
+ghost use Rattle.engine_reference.specs.Visible.{cause_of_write};
+ghost use Rattle.engine_reference.specs.declared.data.Record.{Record};
+
+use crate::looks::record_in;
+use crate::times::{is_dead, own_expiration, time_left};
+use engine_cells::Tables;
+use engine_reference::{Entry, Settings};
+use engine_rules::{Expiration, RemovalCause, Rules};
+use policy_base::Instant;
+use std::hash::{BuildHasher, Hash};
+
+/// The own expiration after an answer that may leave it as it is.
+fn changed(now: Instant, answer: Expiration, before: Option<u64>) -> Option<u64>
+    ensures { result ≡ changed_expiration now (change_of answer) before }
+{
+    match answer {
+        Expiration::Keep => before,
+        Expiration::Set(time) => own_expiration(now, time),
+    }
+}
+
+/// The entry of a key that is new.
+pub fn first_entry<K: Eq + Hash, V, S: BuildHasher, R: Rules<K, V>>(
+    tables: &Tables<K, V, S, R>,
+    key: K,
+    value: V,
+    now: Instant,
+    step: u64,
+) -> Entry<K, V>
+    ensures { result ≡ first_entry (answers_of R.weight_of R.created R.read R.updated R.covers) tables.now.state key value now step }
+{
+    let rules = tables.rules();
+    let weight = rules.weight(&key, &value);
+    let time = rules.created_expiration(&key, &value, now);
+    Entry {
+        key,
+        value,
+        step,
+        written: now.as_nanos(),
+        used: now.as_nanos(),
+        expires: own_expiration(now, time),
+        weight,
+    }
+}
+
+/// The entry in a place after a write over it.
+pub fn next_entry<K: Eq + Hash, V, S: BuildHasher, R: Rules<K, V>>(
+    tables: &Tables<K, V, S, R>,
+    place: usize,
+    key: K,
+    value: V,
+    now: Instant,
+    step: u64,
+) -> Entry<K, V>
+    requires { is_some (kept_at tables.now place) ≡ true }
+    ensures { (r : Record K V) → kept_at tables.now place ≡ Some r → result ≡ next_entry (answers_of R.weight_of R.created R.read R.updated R.covers) tables.now.state r.entry key value now step }
+{
+    let rules = tables.rules();
+    let before = record_in(tables, place).entry.expires;
+    let weight = rules.weight(&key, &value);
+    let mut entry = Entry {
+        key,
+        value,
+        step,
+        written: now.as_nanos(),
+        used: now.as_nanos(),
+        expires: before,
+        weight,
+    };
+    let left = time_left(tables.settings(), now.as_nanos(), &entry);
+    let answer = rules.updated_expiration(&entry.key, &entry.value, now, left);
+    entry.expires = changed(now, answer, before);
+    entry
+}
+
+/// The own expiration of the entry in a place after a look-up that found it.
+pub fn expires_after_use<K: Eq + Hash, V, S: BuildHasher, R: Rules<K, V>>(
+    tables: &Tables<K, V, S, R>,
+    place: usize,
+    now: Instant,
+) -> Option<u64>
+    requires there { is_some (kept_at tables.now place) ≡ true }
+    requires moment { (r : Record K V) → kept_at tables.now place ≡ Some r → r.entry.written < 2 ^ 64 - 1 }
+    ensures { (r : Record K V) → kept_at tables.now place ≡ Some r → result ≡ (used_entry (answers_of R.weight_of R.created R.read R.updated R.covers) tables.now.state now r.entry).expires }
+{
+    let entry = &record_in(tables, place).entry;
+    let left = time_left(tables.settings(), now.as_nanos(), entry);
+    let written = Instant::from_nanos(entry.written);
+    let rules = tables.rules();
+    let answer = rules.read_expiration(&entry.key, &entry.value, now, left, written);
+    changed(now, answer, entry.expires)
+}
+
+/// What a write tells of the value in a place that it replaces.
+pub fn cause_of_write<K: Eq + Hash, V, S: BuildHasher, R: Rules<K, V>>(
+    tables: &Tables<K, V, S, R>,
+    place: usize,
+    now: u64,
+) -> RemovalCause
+    requires { is_some (kept_at tables.now place) ≡ true }
+    ensures { (r : Record K V) → kept_at tables.now place ≡ Some r → result ≡ cause_of_write (answers_of R.weight_of R.created R.read R.updated R.covers) tables.now.state now r.entry }
+{
+    let entry = &record_in(tables, place).entry;
+    if is_dead(tables.settings(), now, entry) {
+        return RemovalCause::Expired;
+    }
+    if tables.is_over(entry) {
+        return RemovalCause::Explicit;
+    }
+    RemovalCause::Replaced
+}
+
+/// What a removal by key tells of an entry.
+pub fn cause_of_removal<K, V>(settings: Settings, now: u64, entry: &Entry<K, V>) -> RemovalCause
+    ensures { result ≡ (if has_come settings now entry.now then cause.Expired else cause.Explicit) }
+{
+    if is_dead(settings, now, entry) {
+        return RemovalCause::Expired;
+    }
+    RemovalCause::Explicit
+}
+
+/// The entry in a place, whose key and value are these.
+pub fn entry_of<K: Eq + Hash, V, S: BuildHasher, R: Rules<K, V>>(
+    tables: &Tables<K, V, S, R>,
+    place: usize,
+    key: K,
+    value: V,
+) -> Entry<K, V>
+    requires there { is_some (kept_at tables.now place) ≡ true }
+    requires parts { (r : Record K V) → kept_at tables.now place ≡ Some r → (key ≡ r.entry.key) × (value ≡ r.entry.value) }
+    ensures { (r : Record K V) → kept_at tables.now place ≡ Some r → result ≡ r.entry }
+{
+    let found = &record_in(tables, place).entry;
+    Entry {
+        key,
+        value,
+        step: found.step,
+        written: found.written,
+        used: found.used,
+        expires: found.expires,
+        weight: found.weight,
+    }
+}

@@ -1,0 +1,109 @@
+//! Predicates that invalidate what they cover, in two halves: an identifier and room, and then the predicate.
+ghost use Rattle.std.specs.Prelude.{◌≡◌, ◌+◌, ◌<◌, ◌≤◌, ◌^◌, ◌⊎◌, true, false, IfOk, OnOk, OnErr};
+ghost use Rattle.std.specs.Result.{IsErrOf};
+ghost use Rattle.engine_identifiers.specs.Drawing.{Draws, AreInUse, is_registered};
+ghost use Rattle.engine_reference.specs.Calls.{with_room, with_predicate, registered};
+
+use engine_cells::Tables;
+use engine_identifiers::draw;
+use engine_reference::Registered;
+use engine_rules::{Refusal, Rules};
+use rand_core::Rng;
+use std::hash::{BuildHasher, Hash};
+
+/// Makes room for a predicate, where predicates are taken.
+pub fn reserve<K: Eq + Hash, V, S: BuildHasher, R: Rules<K, V>>(
+    tables: &mut Tables<K, V, S, R>,
+) -> Result<(), Refusal>
+    ensures ok { OnOk result (tables.new ≡ record tables.old { state = with_room tables.old.state }) }
+    ensures err { OnErr result (tables.new ≡ tables.old) }
+    ensures takes { OnOk result (tables.old.state.settings.takes_predicates ≡ true) }
+    ensures disabled { IsErrOf result Refusal.InvalidationClosuresDisabled → tables.old.state.settings.takes_predicates ≡ false }
+    ensures used_up { IsErrOf result Refusal.UsedUp → 2 ^ 64 ≤ tables.old.state.next_ticket + tables.old.state.reserved + 1 }
+    ensures kinds { OnErr result ((IsErrOf result Refusal.OutOfMemory) ⊎ ((IsErrOf result Refusal.InvalidationClosuresDisabled) ⊎ (IsErrOf result Refusal.UsedUp))) }
+{
+    if !tables.settings().takes_predicates {
+        return Err(Refusal::InvalidationClosuresDisabled);
+    }
+    tables.make_room(1)?;
+    Ok(())
+}
+
+/// Draws an identifier under which no predicate is registered.
+pub fn draw_id<K: Eq + Hash, V, S: BuildHasher, R: Rules<K, V>, G: Rng>(
+    tables: &Tables<K, V, S, R>,
+    generator: &mut G,
+) -> Result<u128, Refusal>
+    ensures drawn { IfOk result (λ id. Draws (G.stream generator.old) (G.stream generator.new) (is_registered tables.now.state.predicates) id) }
+    ensures in_use { OnErr result (AreInUse (G.stream generator.old) (G.stream generator.new) (is_registered tables.now.state.predicates)) }
+    ensures kinds { OnErr result (IsErrOf result Refusal.IdsInUse) }
+{
+    match draw(generator, tables.predicates()) {
+        Some(id) => Ok(id),
+        None => Err(Refusal::IdsInUse),
+    }
+}
+
+/// Draws an identifier for a predicate and makes room for it. After a refusal nothing has changed; an identifier was drawn only where all that were are in use.
+pub fn prepare<K: Eq + Hash, V, S: BuildHasher, R: Rules<K, V>, G: Rng>(
+    tables: &mut Tables<K, V, S, R>,
+    generator: &mut G,
+) -> Result<u128, Refusal>
+    ensures ok { OnOk result (tables.new.state ≡ with_room tables.old.state) }
+    ensures drawn { IfOk result (λ id. Draws (G.stream generator.old) (G.stream generator.new) (is_registered tables.old.state.predicates) id) }
+    ensures err { OnErr result (tables.new ≡ tables.old) }
+    ensures takes { OnOk result (tables.old.state.settings.takes_predicates ≡ true) }
+    ensures disabled { IsErrOf result Refusal.InvalidationClosuresDisabled → tables.old.state.settings.takes_predicates ≡ false }
+    ensures in_use { IsErrOf result Refusal.IdsInUse → AreInUse (G.stream generator.old) (G.stream generator.new) (is_registered tables.old.state.predicates) }
+    ensures used_up { IsErrOf result Refusal.UsedUp → 2 ^ 64 ≤ tables.old.state.next_ticket + tables.old.state.reserved + 1 }
+    ensures only { OnErr result ((IsErrOf result Refusal.IdsInUse) ⊎ (G.stream generator.new ≡ G.stream generator.old)) }
+    ensures kinds { OnErr result ((IsErrOf result Refusal.OutOfMemory) ⊎ ((IsErrOf result Refusal.InvalidationClosuresDisabled) ⊎ ((IsErrOf result Refusal.IdsInUse) ⊎ (IsErrOf result Refusal.UsedUp)))) }
+{
+    reserve(tables)?;
+    match draw_id(tables, generator) {
+        Ok(id) => Ok(id),
+        Err(_refusal) => {
+            tables.release_room();
+            Err(Refusal::IdsInUse)
+        }
+    }
+}
+
+/// Registers a predicate under its identifier, for which there is room: it covers what was written at earlier steps.
+pub fn commit<K: Eq + Hash, V, S: BuildHasher, R: Rules<K, V>>(
+    tables: &mut Tables<K, V, S, R>,
+    id: u128,
+    predicate: R::Predicate,
+    step: u64,
+)
+    requires { 0 < tables.old.state.reserved }
+    ensures { tables.new.state ≡ registered (record { id = id; predicate = predicate; step = step }) tables.old.state }
+{
+    tables.register(Registered {
+        id,
+        predicate,
+        step,
+    });
+}
+
+/// Draws an identifier and registers a predicate under it. After a refusal nothing has changed.
+pub fn invalidate<K: Eq + Hash, V, S: BuildHasher, R: Rules<K, V>, G: Rng>(
+    tables: &mut Tables<K, V, S, R>,
+    predicate: R::Predicate,
+    step: u64,
+    generator: &mut G,
+) -> Result<u128, Refusal>
+    ensures ok { IfOk result (λ id. tables.new.state ≡ with_predicate (record { id = id; predicate = predicate; step = step }) tables.old.state) }
+    ensures drawn { IfOk result (λ id. Draws (G.stream generator.old) (G.stream generator.new) (is_registered tables.old.state.predicates) id) }
+    ensures err { OnErr result (tables.new ≡ tables.old) }
+    ensures takes { OnOk result (tables.old.state.settings.takes_predicates ≡ true) }
+    ensures disabled { IsErrOf result Refusal.InvalidationClosuresDisabled → tables.old.state.settings.takes_predicates ≡ false }
+    ensures in_use { IsErrOf result Refusal.IdsInUse → AreInUse (G.stream generator.old) (G.stream generator.new) (is_registered tables.old.state.predicates) }
+    ensures used_up { IsErrOf result Refusal.UsedUp → 2 ^ 64 ≤ tables.old.state.next_ticket + tables.old.state.reserved + 1 }
+    ensures only { OnErr result ((IsErrOf result Refusal.IdsInUse) ⊎ (G.stream generator.new ≡ G.stream generator.old)) }
+    ensures kinds { OnErr result ((IsErrOf result Refusal.OutOfMemory) ⊎ ((IsErrOf result Refusal.InvalidationClosuresDisabled) ⊎ ((IsErrOf result Refusal.IdsInUse) ⊎ (IsErrOf result Refusal.UsedUp)))) }
+{
+    let id = prepare(tables, generator)?;
+    commit(tables, id, predicate, step);
+    Ok(id)
+}

@@ -1,0 +1,40 @@
+//! What a cache shows of its settings.
+ghost use Rattle.std.specs.Prelude.{◌≡◌, option_map};
+ghost use Rattle.std.specs.Duration.{as_nanos};
+ghost use Rattle.engine_reference.specs.Calls.{removal_rooms};
+
+use engine_reference::Settings;
+use engine_rules::Policy;
+use std::time::Duration;
+
+/// A time of so many nanoseconds, where there is one.
+fn time_of(nanos: Option<u64>) -> Option<Duration>
+    ensures { option_map as_nanos result ≡ nanos }
+{
+    match nanos {
+        Some(nanos) => Some(Duration::from_nanos(nanos)),
+        None => None,
+    }
+}
+
+/// The settings of a cache of one part, as it shows them.
+pub fn policy_of(settings: Settings) -> Policy
+    ensures capacity { result.max_capacity ≡ settings.capacity }
+    ensures parts { result.num_segments ≡ 1 }
+    ensures live { option_map as_nanos result.time_to_live ≡ settings.live }
+    ensures idle { option_map as_nanos result.time_to_idle ≡ settings.idle }
+{
+    Policy::new(
+        settings.capacity,
+        1,
+        time_of(settings.live),
+        time_of(settings.idle),
+    )
+}
+
+/// For how much a removal by key needs room: its own write, and where removals are told its notice.
+pub fn rooms_of_removal(settings: Settings) -> u64
+    ensures { result ≡ removal_rooms settings }
+{
+    if settings.tells { 2 } else { 1 }
+}

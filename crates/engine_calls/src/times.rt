@@ -1,0 +1,90 @@
+//! Deadlines.
+ghost use Rattle.std.specs.Prelude.{◌≡◌, ◌≤◌, ℕ, option_map};
+ghost use Rattle.std.specs.Duration.{as_nanos};
+ghost use Rattle.policy_base.specs.Info.{kept_time};
+ghost use Rattle.engine_reference.specs.Times.{end_of, is_reached, has_come, own_expiration, earlier_of, time_left};
+
+use engine_reference::{Entry, Settings};
+use policy_base::{Instant, MAX_NANOS};
+use std::time::Duration;
+
+/// Whether a time that began at a moment has ended.
+fn has_ended(time: Option<u64>, since: u64, now: u64) -> bool
+    ensures { result ≡ is_reached (end_of since time) now }
+{
+    match time {
+        None => false,
+        Some(time) => since.saturating_add(time).min(MAX_NANOS) <= now,
+    }
+}
+
+/// Whether a moment is there and has been reached.
+fn is_over(moment: Option<u64>, now: u64) -> bool
+    ensures { result ≡ is_reached moment now }
+{
+    match moment {
+        None => false,
+        Some(moment) => moment <= now,
+    }
+}
+
+/// Whether the deadline of an entry has come.
+pub fn is_dead<K, V>(settings: Settings, now: u64, entry: &Entry<K, V>) -> bool
+    ensures { result ≡ has_come settings now entry.now }
+{
+    is_over(entry.expires, now)
+        || has_ended(settings.live, entry.written, now)
+        || has_ended(settings.idle, entry.used, now)
+}
+
+/// A moment as an own expiration is kept: a multiple of 4096 nanoseconds.
+fn kept(moment: Instant) -> u64
+    ensures { result ≡ kept_time moment }
+{
+    (moment.as_nanos() / 4096 * 4096).min(0xFFFF_FFFF_FFFF_E000)
+}
+
+/// An own expiration, so long after a moment, as it is kept.
+pub fn own_expiration(now: Instant, time: Option<Duration>) -> Option<u64>
+    ensures { result ≡ own_expiration now (option_map as_nanos time) }
+{
+    match time {
+        Some(time) => Some(kept(now.saturating_add(time))),
+        None => None,
+    }
+}
+
+/// The end of a time that began at a moment.
+fn end_of(since: u64, time: Option<u64>) -> Option<u64>
+    ensures { result ≡ end_of since time }
+{
+    match time {
+        Some(time) => Some(since.saturating_add(time).min(MAX_NANOS)),
+        None => None,
+    }
+}
+
+/// The earlier of two moments, of those that there are.
+fn earlier_of(a: Option<u64>, b: Option<u64>) -> Option<u64>
+    ensures { result ≡ earlier_of a b }
+{
+    match (a, b) {
+        (None, b) => b,
+        (Some(a), None) => Some(a),
+        (Some(a), Some(b)) => Some(a.min(b)),
+    }
+}
+
+/// How long it is until an entry's deadline: nothing where it has come.
+pub fn time_left<K, V>(settings: Settings, now: u64, entry: &Entry<K, V>) -> Option<Duration>
+    ensures { option_map as_nanos result ≡ time_left settings now entry.now }
+{
+    let ends = earlier_of(
+        end_of(entry.written, settings.live),
+        end_of(entry.used, settings.idle),
+    );
+    match earlier_of(entry.expires, ends) {
+        Some(deadline) => Some(Duration::from_nanos(deadline.saturating_sub(now))),
+        None => None,
+    }
+}

@@ -1,0 +1,217 @@
+//! Writes, and removals by key.
+ghost use Rattle.std.specs.Prelude.{◌≡◌, ℕ, ◌+◌, ◌<◌, ◌≤◌, ◌^◌, ◌⊎◌, true, is_some, Option, Some, None, IfOk, OnOk, OnErr, option_map, option_copied};
+ghost use Rattle.std.specs.Result.{IsErrOf};
+ghost use Rattle.engine_calls.specs.Bounds.{AreBounded};
+ghost use Rattle.engine_cells.specs.Kept.{kept_at};
+ghost use Rattle.engine_reference.specs.Asking.{answers_of};
+ghost use Rattle.engine_reference.specs.Calls.{removal_rooms, removal_told, with_removal_room, with_reserved_removal, with_written, written};
+ghost use Rattle.engine_reference.specs.Records.{held_at};
+ghost use Rattle.engine_reference.specs.declared.data.Record.{Record};
+ghost use Rattle.engine_rules.specs.Hashing.{hash_of_key};
+
+use crate::entries::{cause_of_removal, cause_of_write, entry_of, first_entry, next_entry};
+use crate::looks::held;
+use crate::settings::rooms_of_removal;
+use engine_cells::Tables;
+use engine_reference::{Entry, Record};
+use engine_rules::{Names, Refusal, Rules};
+use policy_base::Instant;
+use std::alloc::AllocError;
+use std::hash::{BuildHasher, Hash, Hasher};
+
+/// Writes a value under a key that is new.
+fn write_first<K: Eq + Hash, V, S: BuildHasher, R: Rules<K, V>>(
+    tables: &mut Tables<K, V, S, R>,
+    key: K,
+    hash: u64,
+    value: V,
+    now: Instant,
+    step: u64,
+)
+    requires hashed { hash ≡ hash_of_key S.Hasher.finish S.Hasher.write S.build_hasher K.hash_input tables.old.state.hasher key }
+    requires room { 0 < tables.old.state.reserved }
+    requires absent { held_at K.eq tables.old.state.records key ≡ None }
+    ensures { tables.new.state ≡ with_written (answers_of R.weight_of R.created R.read R.updated R.covers) None tables.old.state key hash value now step }
+{
+    let entry = first_entry(tables, key, value, now, step);
+    let number = tables.next_number();
+    let added = Record {
+        number,
+        hash,
+        entry,
+        is_held: true,
+        writes: 1,
+        applied: 0,
+        counts: None,
+    };
+    let _place = tables.add(added);
+}
+
+/// Writes a value over the one in a place.
+fn write_over<K: Eq + Hash + Drop, V: Drop, S: BuildHasher, R: Rules<K, V>>(
+    tables: &mut Tables<K, V, S, R>,
+    place: usize,
+    key: K,
+    hash: u64,
+    value: V,
+    now: Instant,
+    step: u64,
+)
+    requires room { 0 < tables.old.state.reserved }
+    requires bounded { AreBounded tables.old.state }
+    requires held { (r : Record K V) × (kept_at tables.old place ≡ Some r) × (held_at K.eq tables.old.state.records key ≡ Some r) × (r.hash ≡ hash) }
+    ensures { tables.new.state ≡ written (answers_of R.weight_of R.created R.read R.updated R.covers) K.eq tables.old.state key hash value now step }
+{
+    let _hash = hash;
+    tables.tickets_last();
+    let cause = cause_of_write(tables, place, now.as_nanos());
+    let entry = next_entry(tables, place, key, value, now, step);
+    tables.write_over(place, entry, cause);
+}
+
+/// Writes a value under its key, for which there is room. What it replaces is told.
+pub fn write<K: Eq + Hash + Drop, V: Drop, S: BuildHasher, R: Rules<K, V>>(
+    tables: &mut Tables<K, V, S, R>,
+    key: K,
+    hash: u64,
+    value: V,
+    now: Instant,
+    step: u64,
+)
+    requires hashed { hash ≡ hash_of_key S.Hasher.finish S.Hasher.write S.build_hasher K.hash_input tables.old.state.hasher key }
+    requires room { 0 < tables.old.state.reserved }
+    requires bounded { AreBounded tables.old.state }
+    ensures { tables.new.state ≡ written (answers_of R.weight_of R.created R.read R.updated R.covers) K.eq tables.old.state key hash value now step }
+{
+    match tables.place_of(&key, hash) {
+        Some(place) => write_over(tables, place, key, hash, value, now, step),
+        None => write_first(tables, key, hash, value, now, step),
+    }
+}
+
+/// Clones of a record's key and value.
+fn clone_parts<K: Clone + Drop, V: Clone>(found: &Record<K, V>) -> Result<(K, V), AllocError>
+    requires exact_key { (x y : K) → K.is_clone x y → y ≡ x }
+    requires exact { (x y : V) → V.is_clone x y → y ≡ x }
+    ensures { IfOk result (λ parts. parts ≡ (found.now.entry.key, found.now.entry.value)) }
+{
+    let key = found.entry.key.clone()?;
+    let value = found.entry.value.clone()?;
+    Ok((key, value))
+}
+
+/// Clones of the key and the value that are held under a key.
+fn clone_held<K: Eq + Hash + Clone + Drop, Q: Names<K>, V: Clone, S: BuildHasher, R: Rules<K, V>>(
+    tables: &Tables<K, V, S, R>,
+    key: &Q,
+    hash: u64,
+) -> Result<Option<(K, V)>, AllocError>
+    requires hashed { hash ≡ hash_of_key S.Hasher.finish S.Hasher.write S.build_hasher K.hash_input tables.now.state.hasher (Q.named_key key.now) }
+    requires exact_key { (x y : K) → K.is_clone x y → y ≡ x }
+    requires exact { (x y : V) → V.is_clone x y → y ≡ x }
+    ensures { IfOk result (λ parts. parts ≡ option_map (λ r. (r.entry.key, r.entry.value)) (held_at K.eq tables.now.state.records (Q.named_key key.now))) }
+{
+    match held(tables, key, hash) {
+        Some(found) => {
+            let parts = clone_parts(found)?;
+            Ok(Some(parts))
+        }
+        None => Ok(None),
+    }
+}
+
+/// Makes room for a removal.
+fn make_removal_room<K: Eq + Hash, V, S: BuildHasher, R: Rules<K, V>>(
+    tables: &mut Tables<K, V, S, R>,
+) -> Result<(), Refusal>
+    ensures ok { OnOk result (tables.new ≡ record tables.old { state = record tables.old.state { reserved = tables.old.state.reserved + removal_rooms tables.old.state.settings } }) }
+    ensures err { OnErr result (tables.new ≡ tables.old) }
+    ensures used_up { IsErrOf result Refusal.UsedUp → 2 ^ 64 ≤ tables.old.state.next_ticket + tables.old.state.reserved + removal_rooms tables.old.state.settings }
+    ensures only { OnErr result ((IsErrOf result Refusal.OutOfMemory) ⊎ (IsErrOf result Refusal.UsedUp)) }
+{
+    let by = rooms_of_removal(tables.settings());
+    tables.make_room(by)?;
+    Ok(())
+}
+
+/// Clones of the key and value that are held under a key, and room for its removal, and for its notice where removals are told.
+pub fn prepare_removal<
+    K: Eq + Hash + Clone + Drop,
+    Q: Names<K>,
+    V: Clone + Drop,
+    S: BuildHasher,
+    R: Rules<K, V>,
+>(tables: &mut Tables<K, V, S, R>, key: &Q, hash: u64) -> Result<Option<(K, V)>, Refusal>
+    requires hashed { hash ≡ hash_of_key S.Hasher.finish S.Hasher.write S.build_hasher K.hash_input tables.old.state.hasher (Q.named_key key.now) }
+    requires exact_key { (x y : K) → K.is_clone x y → y ≡ x }
+    requires exact { (x y : V) → V.is_clone x y → y ≡ x }
+    ensures ok { OnOk result (tables.new.state ≡ with_removal_room (held_at K.eq tables.old.state.records (Q.named_key key.now)) tables.old.state) }
+    ensures parts { IfOk result (λ parts. parts ≡ option_map (λ r. (r.entry.key, r.entry.value)) (held_at K.eq tables.old.state.records (Q.named_key key.now))) }
+    ensures err { OnErr result (tables.new ≡ tables.old) }
+    ensures used_up { IsErrOf result Refusal.UsedUp → 2 ^ 64 ≤ tables.old.state.next_ticket + tables.old.state.reserved + removal_rooms tables.old.state.settings }
+    ensures only { OnErr result ((IsErrOf result Refusal.OutOfMemory) ⊎ (IsErrOf result Refusal.UsedUp)) }
+{
+    match clone_held(tables, key, hash)? {
+        Some(parts) => {
+            make_removal_room(tables)?;
+            Ok(Some(parts))
+        }
+        None => Ok(None),
+    }
+}
+
+/// Removes the key of the record in a place, in the room that was made for it.
+fn remove_at<K: Eq + Hash, V, S: BuildHasher, R: Rules<K, V>, Q: Names<K>>(
+    tables: &mut Tables<K, V, S, R>,
+    place: usize,
+    key: &Q,
+)
+    requires room { removal_rooms tables.old.state.settings ≤ tables.old.state.reserved }
+    requires bounded { AreBounded tables.old.state }
+    requires held { (r : Record K V) × (kept_at tables.old place ≡ Some r) × (held_at K.eq tables.old.state.records (Q.named_key key.now) ≡ Some r) }
+    ensures { tables.new.state ≡ with_reserved_removal (held_at K.eq tables.old.state.records (Q.named_key key.now)) tables.old.state }
+{
+    let _key = key;
+    tables.tickets_last();
+    tables.mark_removed(place);
+}
+
+/// Removes a key in the room that was made for it, and answers its entry as it is now, of whose key and value these are clones, and the ticket of the removal.
+pub fn remove_reserved<K: Eq + Hash + Drop, Q: Names<K>, V: Drop, S: BuildHasher, R: Rules<K, V>>(
+    tables: &mut Tables<K, V, S, R>,
+    key: &Q,
+    hash: u64,
+    parts: (K, V),
+) -> Option<(Entry<K, V>, u64)>
+    requires hashed { hash ≡ hash_of_key S.Hasher.finish S.Hasher.write S.build_hasher K.hash_input tables.old.state.hasher (Q.named_key key.now) }
+    requires room { removal_rooms tables.old.state.settings ≤ tables.old.state.reserved }
+    requires bounded { AreBounded tables.old.state }
+    requires parts { (r : Record K V) → held_at K.eq tables.old.state.records (Q.named_key key.now) ≡ Some r → (parts.0 ≡ r.entry.key) × (parts.1 ≡ r.entry.value) }
+    ensures removed { tables.new.state ≡ with_reserved_removal (held_at K.eq tables.old.state.records (Q.named_key key.now)) tables.old.state }
+    ensures entry { result ≡ option_map (λ r. (r.entry, tables.old.state.next_ticket)) (held_at K.eq tables.old.state.records (Q.named_key key.now)) }
+{
+    match tables.place_of(key, hash) {
+        Some(place) => {
+            let ticket = tables.next_ticket();
+            let entry = entry_of(tables, place, parts.0, parts.1);
+            remove_at(tables, place, key);
+            Some((entry, ticket))
+        }
+        None => None,
+    }
+}
+
+/// Tells an entry that was removed by its key, where removals are told.
+pub fn tell_removed<K: Eq + Hash + Drop, V: Drop, S: BuildHasher, R: Rules<K, V>>(
+    tables: &mut Tables<K, V, S, R>,
+    entry: Entry<K, V>,
+    now: Instant,
+)
+    requires { tables.old.state.settings.tells ≡ true → 0 < tables.old.state.reserved }
+    ensures { tables.new.state ≡ removal_told (answers_of R.weight_of R.created R.read R.updated R.covers) entry now tables.old.state }
+{
+    if tables.settings().tells {
+        let cause = cause_of_removal(tables.settings(), now.as_nanos(), &entry);
+        tables.tell_removed(cause, entry);
+    }
+}
