@@ -1,0 +1,3 @@
+pub mod RunsKeep
+pub mod Keeping
+pub mod Afterwards

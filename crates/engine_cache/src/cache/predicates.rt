@@ -1,0 +1,85 @@
+//! Predicates that invalidate what they cover.
+ghost use Rattle.std.specs.Prelude.{◌≡◌, ◌+◌, ◌-◌, ◌<◌, ◌≤◌, ◌^◌, ◌⊎◌, true, false, IfOk, OnOk, OnErr};
+ghost use Rattle.std.specs.Result.{IsErrOf};
+ghost use Rattle.engine_identifiers.specs.Drawing.{Draws, AreInUse, is_registered};
+ghost use Rattle.engine_reference.specs.Calls.{with_room, with_predicate, without_room, registered};
+
+use crate::cache::BaseCache;
+use engine_calls::{commit, draw_id, invalidate, prepare, reserve};
+use engine_rules::{Refusal, Rules};
+use rand_core::Rng;
+use std::hash::{BuildHasher, Hash};
+
+impl<K: Eq + Hash, V, S: BuildHasher, R: Rules<K, V>> BaseCache<K, V, S, R> {
+    /// Registers a predicate under an identifier that is drawn, and answers the identifier. It covers what was written at earlier steps.
+    pub fn invalidate_entries_if<G: Rng>(
+        &mut self,
+        predicate: R::Predicate,
+        step: u64,
+        generator: &mut G,
+    ) -> Result<u128, Refusal>
+        ensures ok { IfOk result (λ id. self.new ≡ with_predicate (record { id = id; predicate = predicate; step = step }) self.old) }
+        ensures drawn { IfOk result (λ id. Draws (G.stream generator.old) (G.stream generator.new) (is_registered self.old.predicates) id) }
+        ensures err { OnErr result (self.new ≡ self.old) }
+        ensures takes { OnOk result (self.old.settings.takes_predicates ≡ true) }
+        ensures disabled { IsErrOf result Refusal.InvalidationClosuresDisabled → self.old.settings.takes_predicates ≡ false }
+        ensures in_use { IsErrOf result Refusal.IdsInUse → AreInUse (G.stream generator.old) (G.stream generator.new) (is_registered self.old.predicates) }
+        ensures used_up { IsErrOf result Refusal.UsedUp → 2 ^ 64 ≤ self.old.next_ticket + self.old.reserved + 1 }
+        ensures only { OnErr result ((IsErrOf result Refusal.IdsInUse) ⊎ (G.stream generator.new ≡ G.stream generator.old)) }
+        ensures kinds { OnErr result ((IsErrOf result Refusal.OutOfMemory) ⊎ ((IsErrOf result Refusal.InvalidationClosuresDisabled) ⊎ ((IsErrOf result Refusal.IdsInUse) ⊎ (IsErrOf result Refusal.UsedUp)))) }
+    {
+        invalidate(&mut self.tables, predicate, step, generator)
+    }
+
+    /// The first half of `invalidate_entries_if`: draws the identifier and makes room, which `commit_predicate` takes.
+    pub fn prepare_predicate<G: Rng>(&mut self, generator: &mut G) -> Result<u128, Refusal>
+        ensures ok { OnOk result (self.new ≡ with_room self.old) }
+        ensures drawn { IfOk result (λ id. Draws (G.stream generator.old) (G.stream generator.new) (is_registered self.old.predicates) id) }
+        ensures err { OnErr result (self.new ≡ self.old) }
+        ensures takes { OnOk result (self.old.settings.takes_predicates ≡ true) }
+        ensures disabled { IsErrOf result Refusal.InvalidationClosuresDisabled → self.old.settings.takes_predicates ≡ false }
+        ensures in_use { IsErrOf result Refusal.IdsInUse → AreInUse (G.stream generator.old) (G.stream generator.new) (is_registered self.old.predicates) }
+        ensures used_up { IsErrOf result Refusal.UsedUp → 2 ^ 64 ≤ self.old.next_ticket + self.old.reserved + 1 }
+        ensures only { OnErr result ((IsErrOf result Refusal.IdsInUse) ⊎ (G.stream generator.new ≡ G.stream generator.old)) }
+        ensures kinds { OnErr result ((IsErrOf result Refusal.OutOfMemory) ⊎ ((IsErrOf result Refusal.InvalidationClosuresDisabled) ⊎ ((IsErrOf result Refusal.IdsInUse) ⊎ (IsErrOf result Refusal.UsedUp)))) }
+    {
+        prepare(&mut self.tables, generator)
+    }
+
+    /// Makes room for a predicate, which `commit_predicate` takes, and draws nothing.
+    pub fn reserve_predicate(&mut self) -> Result<(), Refusal>
+        ensures ok { OnOk result (self.new ≡ with_room self.old) }
+        ensures err { OnErr result (self.new ≡ self.old) }
+        ensures takes { OnOk result (self.old.settings.takes_predicates ≡ true) }
+        ensures disabled { IsErrOf result Refusal.InvalidationClosuresDisabled → self.old.settings.takes_predicates ≡ false }
+        ensures used_up { IsErrOf result Refusal.UsedUp → 2 ^ 64 ≤ self.old.next_ticket + self.old.reserved + 1 }
+        ensures kinds { OnErr result ((IsErrOf result Refusal.OutOfMemory) ⊎ ((IsErrOf result Refusal.InvalidationClosuresDisabled) ⊎ (IsErrOf result Refusal.UsedUp))) }
+    {
+        reserve(&mut self.tables)
+    }
+
+    /// Draws an identifier under which no predicate is registered.
+    pub fn draw_predicate_id<G: Rng>(&self, generator: &mut G) -> Result<u128, Refusal>
+        ensures drawn { IfOk result (λ id. Draws (G.stream generator.old) (G.stream generator.new) (is_registered self.now.predicates) id) }
+        ensures in_use { OnErr result (AreInUse (G.stream generator.old) (G.stream generator.new) (is_registered self.now.predicates)) }
+        ensures kinds { OnErr result (IsErrOf result Refusal.IdsInUse) }
+    {
+        draw_id(&self.tables, generator)
+    }
+
+    /// The second half, which is not refused: registers a predicate under its identifier, in the room that was made for it.
+    pub fn commit_predicate(&mut self, id: u128, predicate: R::Predicate, step: u64)
+        requires { 0 < self.old.reserved }
+        ensures { self.new ≡ registered (record { id = id; predicate = predicate; step = step }) self.old }
+    {
+        commit(&mut self.tables, id, predicate, step);
+    }
+
+    /// Gives up the room of one write or predicate, where `prepare_predicate` or `reserve_write` made it and nothing takes it.
+    pub fn release_room(&mut self)
+        requires { 0 < self.old.reserved }
+        ensures { self.new ≡ without_room self.old }
+    {
+        self.tables.release_room();
+    }
+}

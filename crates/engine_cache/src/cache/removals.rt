@@ -1,0 +1,82 @@
+//! Removal by key, in one call or in two halves.
+ghost use Rattle.std.specs.Prelude.{◌≡◌, ◌+◌, ◌<◌, ◌≤◌, ◌^◌, ◌⊎◌, length, slice_get, Some, IfOk, OnOk, OnErr, option_map};
+ghost use Rattle.std.specs.Result.{IsErrOf};
+ghost use Rattle.engine_reference.specs.Calls.{removal_rooms, removed_by, with_removal_room, with_reserved_removal};
+ghost use Rattle.engine_reference.specs.Records.{held_at};
+ghost use Rattle.engine_reference.specs.declared.data.Record.{Record};
+ghost use Rattle.engine_rules.specs.Hashing.{hash_of_key};
+
+use crate::cache::BaseCache;
+use engine_calls::{prepare_removal, remove_reserved};
+use engine_reference::Entry;
+use engine_rules::{Names, Refusal, Rules};
+use std::hash::{BuildHasher, Hash, Hasher};
+
+impl<K: Eq + Hash, V, S: BuildHasher, R: Rules<K, V>> BaseCache<K, V, S, R> {
+    /// Removes a key, whether its deadline has come or not, and answers its entry and the ticket of the removal.
+    /// Where removals are told, `notify_invalidate` is to tell the entry.
+    pub fn remove_entry<Q: Names<K>>(
+        &mut self,
+        key: &Q,
+        hash: u64,
+        _step: u64,
+    ) -> Result<Option<(Entry<K, V>, u64)>, Refusal>
+    where
+        K: Clone + Drop,
+        V: Clone + Drop,
+        requires hashed { hash ≡ hash_of_key S.Hasher.finish S.Hasher.write S.build_hasher K.hash_input self.old.hasher (Q.named_key key.now) }
+        requires exact_key { (x y : K) → K.is_clone x y → y ≡ x }
+        requires exact { (x y : V) → V.is_clone x y → y ≡ x }
+        ensures removed { OnOk result (self.new ≡ removed_by K.eq (Q.named_key key.now) self.old) }
+        ensures entry { IfOk result (λ gone. gone ≡ option_map (λ r. (r.entry, self.old.next_ticket)) (held_at K.eq self.old.records (Q.named_key key.now))) }
+        ensures err { OnErr result (self.new ≡ self.old) }
+        ensures used_up { IsErrOf result Refusal.UsedUp → 2 ^ 64 ≤ self.old.next_ticket + self.old.reserved + removal_rooms self.old.settings }
+        ensures only { OnErr result ((IsErrOf result Refusal.OutOfMemory) ⊎ (IsErrOf result Refusal.UsedUp)) }
+    {
+        match self.prepare_removal(key, hash)? {
+            Some(parts) => Ok(self.remove_reserved(key, hash, parts)),
+            None => Ok(None),
+        }
+    }
+
+    /// The first half of `remove_entry`: clones of the key and value that are held, and room for the removal, and for its notice where removals are told.
+    pub fn prepare_removal<Q: Names<K>>(
+        &mut self,
+        key: &Q,
+        hash: u64,
+    ) -> Result<Option<(K, V)>, Refusal>
+    where
+        K: Clone + Drop,
+        V: Clone + Drop,
+        requires hashed { hash ≡ hash_of_key S.Hasher.finish S.Hasher.write S.build_hasher K.hash_input self.old.hasher (Q.named_key key.now) }
+        requires exact_key { (x y : K) → K.is_clone x y → y ≡ x }
+        requires exact { (x y : V) → V.is_clone x y → y ≡ x }
+        ensures ok { OnOk result (self.new ≡ with_removal_room (held_at K.eq self.old.records (Q.named_key key.now)) self.old) }
+        ensures parts { IfOk result (λ parts. parts ≡ option_map (λ r. (r.entry.key, r.entry.value)) (held_at K.eq self.old.records (Q.named_key key.now))) }
+        ensures err { OnErr result (self.new ≡ self.old) }
+        ensures used_up { IsErrOf result Refusal.UsedUp → 2 ^ 64 ≤ self.old.next_ticket + self.old.reserved + removal_rooms self.old.settings }
+        ensures only { OnErr result ((IsErrOf result Refusal.OutOfMemory) ⊎ (IsErrOf result Refusal.UsedUp)) }
+    {
+        prepare_removal(&mut self.tables, key, hash)
+    }
+
+    /// The second half, which is not refused: removes the key in the room that was made for it, and answers its entry as it is now and the ticket of the removal.
+    /// The key and value are those of the first half. A key that maintenance took meanwhile is not there: nothing changes, and the room is to be given up by `release_room`.
+    pub fn remove_reserved<Q: Names<K>>(
+        &mut self,
+        key: &Q,
+        hash: u64,
+        parts: (K, V),
+    ) -> Option<(Entry<K, V>, u64)>
+    where
+        K: Drop,
+        V: Drop,
+        requires hashed { hash ≡ hash_of_key S.Hasher.finish S.Hasher.write S.build_hasher K.hash_input self.old.hasher (Q.named_key key.now) }
+        requires room { removal_rooms self.old.settings ≤ self.old.reserved }
+        requires parts { (r : Record K V) → held_at K.eq self.old.records (Q.named_key key.now) ≡ Some r → (parts.0 ≡ r.entry.key) × (parts.1 ≡ r.entry.value) }
+        ensures removed { self.new ≡ with_reserved_removal (held_at K.eq self.old.records (Q.named_key key.now)) self.old }
+        ensures entry { result ≡ option_map (λ r. (r.entry, self.old.next_ticket)) (held_at K.eq self.old.records (Q.named_key key.now)) }
+    {
+        remove_reserved(&mut self.tables, key, hash, parts)
+    }
+}

@@ -1,0 +1,101 @@
+//! What a cache holds, and a look-up that passes over values.
+ghost use Rattle.std.specs.Prelude.{◌≡◌, ◌<◌, ℕ, Some, None, IfOk, OnErr, MatchOption, option_map};
+ghost use Rattle.std.specs.Fn.{FnOnceReturnsAt};
+ghost use Rattle.engine_rules.specs.Hashing.{hash_of_key};
+ghost use Rattle.engine_reference.specs.Asking.{answers_of};
+ghost use Rattle.engine_reference.specs.Records.{held_at};
+ghost use Rattle.engine_reference.specs.Visible.{visible_value};
+ghost use Rattle.engine_reference.specs.Scanning.{LooksUpPast};
+
+use crate::cache::BaseCache;
+use crate::noting::note_read;
+use engine_calls::{clone_found, clone_key, clone_value, find, held, look_up, pass_over};
+use engine_rules::{Names, Rules};
+use policy_base::Instant;
+use std::alloc::AllocError;
+use std::hash::{BuildHasher, Hash, Hasher};
+
+impl<K: Eq + Hash, V, S: BuildHasher, R: Rules<K, V>> BaseCache<K, V, S, R> {
+    /// How many segments `keys` has: one.
+    pub fn num_cht_segments(&self) -> usize
+        ensures { result ≡ 1 }
+    {
+        1
+    }
+
+    /// A clone of the visible value of a key. It is no use of it.
+    pub fn scanning_get(&self, key: &K, now: Instant) -> Result<Option<V>, AllocError>
+    where
+        V: Clone,
+        requires exact { (x y : V) → V.is_clone x y → y ≡ x }
+        ensures { IfOk result (λ found. found ≡ visible_value (answers_of R.weight_of R.created R.read R.updated R.covers) K.eq self.now now key.now) }
+    {
+        let hash = self.hash(key);
+        self.get_with_hash_without_recording(key, hash, now)
+    }
+
+    /// The visible value of a key, without a clone. It is no use of it.
+    pub fn peek<Q: Names<K>>(&self, key: &Q, hash: u64, now: Instant) -> Option<&V>
+        requires hashed { hash ≡ hash_of_key S.Hasher.finish S.Hasher.write S.build_hasher K.hash_input self.now.hasher (Q.named_key key.now) }
+        ensures { option_map (λ value. value.now) result ≡ visible_value (answers_of R.weight_of R.created R.read R.updated R.covers) K.eq self.now now (Q.named_key key.now) }
+    {
+        match look_up(&self.tables, key, hash, now.as_nanos()) {
+            Some(found) => Some(&found.entry.value),
+            None => None,
+        }
+    }
+
+    /// A clone of the value that is held under a key, whether it is visible or not. It is no use of it.
+    pub fn held_value_with_hash<Q: Names<K>>(
+        &self,
+        key: &Q,
+        hash: u64,
+    ) -> Result<Option<V>, AllocError>
+    where
+        V: Clone,
+        requires hashed { hash ≡ hash_of_key S.Hasher.finish S.Hasher.write S.build_hasher K.hash_input self.now.hasher (Q.named_key key.now) }
+        requires exact { (x y : V) → V.is_clone x y → y ≡ x }
+        ensures { IfOk result (λ found. found ≡ option_map (λ r. r.entry.value) (held_at K.eq self.now.records (Q.named_key key.now))) }
+    {
+        clone_value(held(&self.tables, key, hash))
+    }
+
+    /// A clone of the key that is stored for a key, whether its value is visible or not.
+    pub fn get_key_with_hash<Q: Names<K>>(
+        &self,
+        key: &Q,
+        hash: u64,
+    ) -> Result<Option<K>, AllocError>
+    where
+        K: Clone + Drop,
+        requires hashed { hash ≡ hash_of_key S.Hasher.finish S.Hasher.write S.build_hasher K.hash_input self.now.hasher (Q.named_key key.now) }
+        requires exact_key { (x y : K) → K.is_clone x y → y ≡ x }
+        ensures { IfOk result (λ found. found ≡ option_map (λ r. r.entry.key) (held_at K.eq self.now.records (Q.named_key key.now))) }
+    {
+        clone_key(held(&self.tables, key, hash))
+    }
+
+    /// A clone of the visible value of a key, of which it is a use. A value of which `ignore_if` says yes counts as not found, and is not used; no other value is asked about.
+    pub fn get_with_hash_and_ignore_if<Q: Names<K>, F: FnOnce(&V) -> bool + Drop>(
+        &mut self,
+        key: &Q,
+        hash: u64,
+        now: Instant,
+        ignore_if: F,
+    ) -> Result<Option<V>, AllocError>
+    where
+        K: Drop,
+        V: Clone + Drop,
+        requires hashed { hash ≡ hash_of_key S.Hasher.finish S.Hasher.write S.build_hasher K.hash_input self.old.hasher (Q.named_key key.now) }
+        requires exact { (x y : V) → V.is_clone x y → y ≡ x }
+        requires callable { F.IsAlwaysCallable ignore_if }
+        ensures found { IfOk result (λ found. LooksUpPast (answers_of R.weight_of R.created R.read R.updated R.covers) K.eq (Q.named_key key.now) hash now (FnOnceReturnsAt F.FnOnce ignore_if) self.old self.new found) }
+        ensures err { OnErr result (self.new ≡ self.old) }
+    {
+        let seen = find(&self.tables, key, hash, now.as_nanos());
+        let found = pass_over(&self.tables, seen, ignore_if);
+        let value = clone_found(&self.tables, found)?;
+        note_read(&mut self.tables, found, hash, now);
+        Ok(value)
+    }
+}
