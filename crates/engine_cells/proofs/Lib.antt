@@ -13,3 +13,5 @@ pub mod Settling
 pub mod Spotting
 pub mod Standing
 pub mod Again
+pub mod InOrder
+pub mod Sorting

@@ -8,3 +8,4 @@ pub mod Tallying
 pub mod Rooms
 pub mod Writing
 pub mod Stretches
+pub mod Listing

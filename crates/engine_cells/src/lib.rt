@@ -3,6 +3,7 @@
 
 mod cell;
 mod finding;
+mod listing;
 mod looking;
 mod rooms;
 mod tables;

@@ -140,6 +140,13 @@ impl<K, V, O, W, S, R: Rules<K, V>> Backlog<K, V, O, W, S, R> {
         self.cleared
     }
 
+    /// An empty list, over the memory of these.
+    pub fn empty<T>(&self) -> Vec<T>
+        ensures { result.items ≡ [] }
+    {
+        Vec::new(*self.predicates.allocator())
+    }
+
     /// The predicates.
     pub fn predicates(&self) -> &[Registered<R::Predicate>]
         ensures { result.now ≡ self.now.predicates }

@@ -5,7 +5,7 @@ ghost use Rattle.engine_rules.specs.Hashing.{hash_of_key};
 ghost use Rattle.engine_reference.specs.Asking.{answers_of};
 ghost use Rattle.engine_reference.specs.Records.{held_at};
 ghost use Rattle.engine_reference.specs.Visible.{visible_value};
-ghost use Rattle.engine_reference.specs.Scanning.{LooksUpPast};
+ghost use Rattle.engine_reference.specs.Scanning.{held_keys, LooksUpPast};
 
 use crate::cache::BaseCache;
 use crate::noting::note_read;
@@ -21,6 +21,20 @@ impl<K: Eq + Hash, V, S: BuildHasher, R: Rules<K, V>> BaseCache<K, V, S, R> {
         ensures { result ≡ 1 }
     {
         1
+    }
+
+    /// Clones of the keys of all that is held in the segment, dead and covered values among them, or `None` where there is no such segment.
+    pub fn keys(&self, segment: usize) -> Result<Option<Vec<K>>, AllocError>
+    where
+        K: Clone + Drop,
+        requires exact_key { (x y : K) → K.is_clone x y → y ≡ x }
+        ensures { IfOk result (λ keys. MatchOption keys (0 < segment) (λ found. (segment ≡ 0) × (found.items ≡ held_keys self.now.records))) }
+    {
+        if segment > 0 {
+            return Ok(None);
+        }
+        let found = self.tables.keys()?;
+        Ok(Some(found))
     }
 
     /// A clone of the visible value of a key. It is no use of it.

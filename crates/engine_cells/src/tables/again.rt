@@ -1,15 +1,18 @@
 //! Records that were found before, found again.
-ghost use Rattle.std.specs.Prelude.{◌≡◌, ℕ, ◌+◌, ◌<◌, ◌^◌, true, [], ◌∷◌, ◌++◌, length, Some, None, IfSome, IfNone};
+ghost use Rattle.std.specs.Prelude.{◌≡◌, ℕ, ◌+◌, ◌<◌, ◌^◌, true, [], ◌∷◌, ◌++◌, length, Some, None, IfSome, IfNone, IfOk};
 ghost use Rattle.engine_reference.specs.Records.{record_at};
+ghost use Rattle.engine_reference.specs.Scanning.{held_keys};
 ghost use Rattle.engine_reference.specs.declared.data.Read.{Read};
 ghost use Rattle.engine_reference.specs.declared.data.Record.{Record};
 ghost use Rattle.engine_cells.specs.Kept.{kept_at};
 
 use crate::cell::Noted;
 use crate::finding::find_number;
+use crate::listing::push_held_keys;
 use crate::rooms::grow;
 use crate::tables::Tables;
 use engine_rules::Rules;
+use std::alloc::AllocError;
 use std::hash::{BuildHasher, Hash};
 
 impl<K: Eq + Hash, V, S: BuildHasher, R: Rules<K, V>> Tables<K, V, S, R> {
@@ -49,6 +52,18 @@ impl<K: Eq + Hash, V, S: BuildHasher, R: Rules<K, V>> Tables<K, V, S, R> {
             records,
             0,
         )
+    }
+
+    /// Clones of the keys of all held records, in the order in which these were made.
+    pub fn keys(&self) -> Result<Vec<K>, AllocError>
+    where
+        K: Clone + Drop,
+        requires exact_key { (x y : K) → K.is_clone x y → y ≡ x }
+        ensures { IfOk result (λ keys. keys.items ≡ held_keys self.now.state.records) }
+    {
+        let mut keys = self.backlog.empty();
+        push_held_keys(&self.cells, self.backlog.empty(), &mut keys)?;
+        Ok(keys)
     }
 
     /// There is a ticket for each write that has room, and one more.
