@@ -15,3 +15,4 @@ pub mod Standing
 pub mod Again
 pub mod InOrder
 pub mod Sorting
+pub mod Awaits

@@ -9,3 +9,4 @@ pub mod Rooms
 pub mod Writing
 pub mod Stretches
 pub mod Listing
+pub mod Awaiting

@@ -4,11 +4,14 @@ ghost use Rattle.engine_reference.specs.Records.{settled_in};
 ghost use Rattle.engine_reference.specs.Runs.{first_of};
 ghost use Rattle.engine_reference.specs.declared.data.Record.{Record};
 ghost use Rattle.engine_cells.specs.Cells.{cell_at, record_in, records_by_number, numbers_in, HaveOwnNumbers, AreLinked};
+ghost use Rattle.engine_cells.specs.Awaiting.{AreAwaited};
 ghost use Rattle.engine_cells.specs.Looking.{is_expired, is_settled_as};
+ghost use Rattle.engine_cells.specs.declared.cell.Cell.{Cell};
 
 use crate::cell::Cell;
 use engine_reference::Record;
-use policy_base::KeyHashDate;
+use engine_timers::Expirations;
+use policy_base::{Instant, KeyHashDate, MAX_NANOS};
 use policy_queue::Deque;
 use slab::Slab;
 
@@ -22,8 +25,8 @@ fn is_expired<K, V>(found: &Record<K, V>, now: u64) -> bool
     }
 }
 
-/// The place of a held record whose own expiration was reached. A stand-in for the first timer: it looks at every record.
-pub fn first_due<K, V>(cells: &Slab<Cell<K, V>>, now: u64) -> Option<usize>
+/// The place of a held record whose own expiration was reached, by a look at every record.
+fn first_due<K, V>(cells: &Slab<Cell<K, V>>, now: u64) -> Option<usize>
     ensures found { IfSome result (λ i. (c : Cell K V) × (cell_at cells.now.slots i ≡ Some c) × (is_expired now c.item ≡ true)) }
     ensures none { IfNone result ((i : ℕ) (c : Cell K V) → cell_at cells.now.slots i ≡ Some c → is_expired now c.item ≡ false) }
 {
@@ -33,6 +36,41 @@ pub fn first_due<K, V>(cells: &Slab<Cell<K, V>>, now: u64) -> Option<usize>
         }
     }
     None
+}
+
+/// Whether a place has a held record whose own expiration was reached.
+fn is_expired_at<K, V>(cells: &Slab<Cell<K, V>>, place: usize, now: u64) -> bool
+    ensures { result ≡ true → (c : Cell K V) × (cell_at cells.now.slots place ≡ Some c) × (is_expired now c.item ≡ true) }
+{
+    match cells.get(place) {
+        Some(cell) => is_expired(&cell.item, now),
+        None => false,
+    }
+}
+
+/// The place of a held record whose own expiration was reached, by the first timer. Every record is looked at only where
+/// there was no memory for a timer.
+pub fn first_expired<K, V>(
+    cells: &Slab<Cell<K, V>>,
+    expirations: &Expirations,
+    now: u64,
+) -> Option<usize>
+    requires { ∥ AreAwaited cells.now.slots expirations.now ∥₁ }
+    ensures found { IfSome result (λ i. (c : Cell K V) × (cell_at cells.now.slots i ≡ Some c) × (is_expired now c.item ≡ true)) }
+    ensures none { IfNone result ((i : ℕ) (c : Cell K V) → cell_at cells.now.slots i ≡ Some c → is_expired now c.item ≡ false) }
+{
+    if MAX_NANOS < now || !expirations.is_whole() {
+        return first_due(cells, now);
+    }
+    match expirations.first_due(Instant::from_nanos(now)) {
+        Some(place) => {
+            if is_expired_at(cells, place, now) {
+                return Some(place);
+            }
+            first_due(cells, now)
+        }
+        None => None,
+    }
 }
 
 /// Whether the record in a place is settled.

@@ -22,13 +22,14 @@ ghost use Rattle.engine_cells.specs.Kept.{numbered_at, kept_at, StandsFirst, is_
 
 use crate::cell::{Cell, Noted, PlacedWrite};
 use crate::finding::{find_held, take_if};
-use crate::looking::{first_due, first_settled};
+use crate::looking::{first_expired, first_settled};
 use crate::rooms::grow;
 use crate::tally::Tally;
 use engine_keys::Keys;
 use engine_pending::Backlog;
 use engine_reference::{Entry, Notice, Record, Registered, Settings, Upsert, Write};
 use engine_rules::{Names, Refusal, RemovalCause, Rules};
+use engine_timers::Expirations;
 use policy_base::{CacheRegion, DeqNodes, KeyHashDate, NodeId};
 use policy_queue::{Deque, names_stand};
 use policy_sketch::FrequencySketch;
@@ -49,6 +50,7 @@ pub struct Tables<K: Eq + Hash, V, S: BuildHasher, R: Rules<K, V>> {
     tally: Tally,
     next_number: u64,
     keys: Keys,
+    expirations: Expirations,
     backlog: Backlog<K, V, Noted, PlacedWrite, S, R>,
 }
 
@@ -62,6 +64,7 @@ impl<K: Eq + Hash, V, S: BuildHasher, R: Rules<K, V>> Model for Tables<K, V, S, 
     ghost use Rattle.engine_cells.specs.Kept.{Kept};
     ghost use Rattle.engine_cells.specs.Tallying.{IsTallied};
     ghost use Rattle.engine_cells.specs.Spotted.{AreSpotted, AreHashed};
+    ghost use Rattle.engine_cells.specs.Awaiting.{AreAwaited};
     ghost use Rattle.engine_rules.specs.Hashing.{hash_of_key};
 
     ghost Value = { Kept K V R.Predicate S R };
@@ -71,7 +74,7 @@ impl<K: Eq + Hash, V, S: BuildHasher, R: Rules<K, V>> Model for Tables<K, V, S, 
       numbers = numbers_of c.cells.slots;
     } };
 
-    // cells and queues fit together; each record has room in both queues and for its notice, and what is reserved serves a write; what waits, and the hashes of keys, lead to their records
+    // cells and queues fit together; each record has room in both queues and for its notice, and what is reserved serves a write; what waits, and the hashes of keys, lead to their records; what expires has a timer
     ghost invariant = { λ c. record {
       kept : FitsQueue c.cells.slots c.access c.next_number;
       listed : FitsQueue (all_turned c.cells.slots) c.order c.next_number;
@@ -86,6 +89,7 @@ impl<K: Eq + Hash, V, S: BuildHasher, R: Rules<K, V>> Model for Tables<K, V, S, 
       spotted : AreSpotted K.eq c.cells.slots c.keys;
       hashed : AreHashed (hash_of_key S.Hasher.finish S.Hasher.write S.build_hasher K.hash_input c.backlog.hasher) c.cells.slots;
       keys : c.backlog.reserved ≤ c.keys.space;
+      awaited : ∥ AreAwaited c.cells.slots c.expirations ∥₁;
     } };
 }
 
@@ -115,6 +119,7 @@ impl<K: Eq + Hash, V, S: BuildHasher, R: Rules<K, V>> Tables<K, V, S, R> {
             },
             next_number: 0,
             keys: Keys::new(alloc),
+            expirations: Expirations::new(alloc),
             backlog,
         })
     }
@@ -234,6 +239,7 @@ impl<K: Eq + Hash, V, S: BuildHasher, R: Rules<K, V>> Tables<K, V, S, R> {
         let cell = &mut self.cells[place];
         cell.item.entry.used = used;
         cell.item.entry.expires = expires;
+        self.expirations.set(place, expires);
     }
 
     /// Moves the number of the record in a place to the back of the access list, where it is admitted.
@@ -263,9 +269,11 @@ impl<K: Eq + Hash, V, S: BuildHasher, R: Rules<K, V>> Tables<K, V, S, R> {
         self.tally = self.tally.with(&added);
         let write = put_of(&added, self.tally.held);
         let hash = added.hash;
+        let expires = added.entry.expires;
         let nodes = DeqNodes::new(None, None, None);
         let place = self.cells.insert_reserved(Cell { item: added, nodes });
         self.keys.put(hash, place);
+        self.expirations.set(place, expires);
         self.backlog.add_write(PlacedWrite { place, write });
         self.next_number += 1;
         place
@@ -284,12 +292,14 @@ impl<K: Eq + Hash, V, S: BuildHasher, R: Rules<K, V>> Tables<K, V, S, R> {
         ensures { (r : Record K V) × (kept_at self.old place ≡ Some r) × (self.new ≡ record self.old { state = with_put_for (record r { entry = entry; writes = r.writes + 1 }) (record self.old.state { records = changed_at r.number (λ x. record x { entry = entry; writes = x.writes + 1 }) self.old.state.records; notices = told self.old.state.settings.tells cause r.entry self.old.state.notices }) }) }
     {
         let _many = self.cells.len();
+        let expires = entry.expires;
         let cell = &mut self.cells[place];
         let others = self.tally.without(&cell.item);
         let replaced = mem::replace(&mut cell.item.entry, entry);
         cell.item.writes += 1;
         self.tally = others.with(&cell.item);
         let write = put_of(&cell.item, self.tally.held);
+        self.expirations.set(place, expires);
         self.backlog.tell(true, cause, replaced);
         self.backlog.add_write(PlacedWrite { place, write });
     }
@@ -311,6 +321,7 @@ impl<K: Eq + Hash, V, S: BuildHasher, R: Rules<K, V>> Tables<K, V, S, R> {
         cell.item.writes += 1;
         self.tally = others.with(&cell.item);
         take_if(&mut self.keys, was_held, hash, place);
+        self.expirations.set(place, None);
         let write = Write::Removed(number);
         self.backlog.add_write(PlacedWrite { place, write });
     }
@@ -410,6 +421,7 @@ impl<K: Eq + Hash, V, S: BuildHasher, R: Rules<K, V>> Tables<K, V, S, R> {
         take_off(&mut self.access, nodes.access_queue);
         take_off(&mut self.order, nodes.write_queue);
         take_if(&mut self.keys, item.is_held, item.hash, place);
+        self.expirations.set(place, None);
         self.backlog.tell(item.is_held, cause, item.entry);
     }
 
@@ -471,7 +483,7 @@ impl<K: Eq + Hash, V, S: BuildHasher, R: Rules<K, V>> Tables<K, V, S, R> {
         ensures found { IfSome result (λ i. (r : Record K V) × (kept_at self.now i ≡ Some r) × (is_expired now r ≡ true)) }
         ensures none { IfNone result ((r : Record K V) → record_at self.now.state.records r.number ≡ Some r → is_expired now r ≡ false) }
     {
-        first_due(&self.cells, now)
+        first_expired(&self.cells, &self.expirations, now)
     }
 
     /// Whether the admitted records weigh more than the capacity.

@@ -12,6 +12,8 @@ use Rattle.engine_cells.specs.Cells.{records_by_number}
 use Rattle.engine_cells.specs.Writing.{put_for}
 use Rattle.engine_cells.proofs.Spotting.{none-matches, spotted-inserted, hashed-inserted}
 use Rattle.engine_cells.proofs.Totals.{held-is, tally-fits, tally-insert}
+use Rattle.std.proofs.Math.Logic.{∥∥₁_map}
+use Rattle.engine_cells.proofs.Awaits.{awaited-gets}
 use Rattle.engine_cells.proofs.tables.Tables.add.Goals as goal
 
 pub invariant_of-self : goal.invariant_of-self
@@ -50,6 +52,7 @@ invariant_of-self g c =
       spotted = spotted-inserted g.K.PartialEq.eq old new c.self.inside.keys c.put.new.self i x g.met.K.Eq.laws vacant gets c.requires.newcomer.held c.put.ensures alone c.self.invariant.spotted;
       hashed = rw made (hashed-inserted g.K.PartialEq.eq old new c.self.inside.keys c.put.new.self i x g.met.K.Eq.laws vacant gets c.requires.newcomer.held c.put.ensures alone c.self.invariant.spotted _ mine c.self.invariant.hashed);
       keys = rw made (omega (arith, space, had_keys));
+      awaited = ∥∥₁_map c.self.invariant.awaited (λ k. awaited-gets old new c.self.inside.expirations c.set.new.self i x gets c.set.ensures.others c.set.ensures.whole (λ held. c.set.ensures.set) k);
     }
 
 pub returns-clause-place : goal.returns-clause-place

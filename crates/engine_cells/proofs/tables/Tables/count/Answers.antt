@@ -12,6 +12,8 @@ use Rattle.engine_cells.proofs.Counting.{counted, has-room, gets-set, pointed-ge
 use Rattle.engine_cells.proofs.Turned.{ordered, order-has_node, order-has_room}
 use Rattle.engine_cells.proofs.Spotting.{spotted-gets, hashed-gets}
 use Rattle.engine_cells.proofs.Totals.{tally-has, tally-fits, fits-less, tally-replaced}
+use Rattle.std.proofs.Math.Logic.{∥∥₁_map}
+use Rattle.engine_cells.proofs.Awaits.{awaited-alike}
 use Rattle.engine_cells.proofs.tables.Tables.count.Goals as goal
 
 pub index-requires : goal.index-requires
@@ -61,6 +63,7 @@ invariant_of-self g c =
       spotted = spotted-gets g.K.PartialEq.eq cells (slice_set cells c.args.place (Some d)) c.self.inside.keys c.args.place y d there (gets-set cells c.args.place y d there) (record { held = refl; hash = refl; key = λ key. refl }) c.self.invariant.spotted;
       hashed = hashed-gets g.K.PartialEq.eq cells (slice_set cells c.args.place (Some d)) c.self.inside.keys c.args.place y d there (gets-set cells c.args.place y d there) (record { held = refl; hash = refl; key = λ key. refl }) c.self.invariant.spotted _ refl c.self.invariant.hashed;
       keys = c.self.invariant.keys;
+      awaited = ∥∥₁_map c.self.invariant.awaited (λ k. awaited-alike cells c.self.inside.expirations c.args.place y d there refl refl k);
     }
 
 pub returns : goal.returns

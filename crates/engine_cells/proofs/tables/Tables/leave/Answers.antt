@@ -9,6 +9,8 @@ use Rattle.engine_cells.proofs.Turned.{order-kept_left, order-left, order_waitin
 use Rattle.engine_cells.specs.Cells.{all_turned}
 use Rattle.engine_cells.proofs.Spotting.{unholds-lost, spotted-unholds, hashed-unholds, space-unholds}
 use Rattle.engine_cells.proofs.Totals.{tally-has, tally-remove}
+use Rattle.std.proofs.Math.Logic.{∥∥₁_map}
+use Rattle.engine_cells.proofs.Awaits.{awaited-loses}
 use Rattle.engine_cells.proofs.tables.Tables.leave.Goals as goal
 
 pub take_off-requires : goal.take_off-requires
@@ -51,6 +53,7 @@ invariant_of-self g c =
       spotted = spotted-unholds g.K.PartialEq.eq old new c.self.inside.keys c.take_if.new.keys c.args.place x there unholds c.take_if.ensures c.self.invariant.spotted;
       hashed = rw told (hashed-unholds g.K.PartialEq.eq old new c.self.inside.keys c.take_if.new.keys c.args.place x there unholds c.take_if.ensures c.self.invariant.spotted _ c.self.invariant.hashed);
       keys = rw told (omega (arith, space, c.self.invariant.keys));
+      awaited = ∥∥₁_map c.self.invariant.awaited (λ k. awaited-loses old new c.self.inside.expirations c.set.new.self c.args.place loses c.set.ensures.others c.set.ensures.whole k);
     }
 
 pub returns : goal.returns

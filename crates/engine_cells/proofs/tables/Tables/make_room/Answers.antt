@@ -43,6 +43,7 @@ invariant_of-self g c =
       spotted = rw slots (spotted-roomier g.K.PartialEq.eq cells c.self.inside.keys c.grow-has_grown.new.keys grown.keys c.self.invariant.spotted);
       hashed = rw slots c.self.invariant.hashed;
       keys = omega (arith, grown.keys.space, c.self.invariant.keys);
+      awaited = rw slots c.self.invariant.awaited;
     }
 
 pub invariant_of-self-2 : goal.invariant_of-self-2
@@ -87,6 +88,7 @@ invariant_of-self-2 g c =
       spotted = rw slots (spotted-roomier g.K.PartialEq.eq cells c.self.inside.keys c.grow-has_grown.new.keys grown.keys c.self.invariant.spotted);
       hashed = rw slots c.self.invariant.hashed;
       keys = omega (arith, k, more);
+      awaited = rw slots c.self.invariant.awaited;
     }))
     (λ (e : c.make_room.new.self ≡ c.self.inside.backlog).
     rw e (record {
@@ -103,5 +105,6 @@ invariant_of-self-2 g c =
       spotted = rw slots (spotted-roomier g.K.PartialEq.eq cells c.self.inside.keys c.grow-has_grown.new.keys grown.keys c.self.invariant.spotted);
       hashed = rw slots c.self.invariant.hashed;
       keys = omega (arith, k, more);
+      awaited = rw slots c.self.invariant.awaited;
     }))
     c.make_room.result c.make_room.ensures.ok c.make_room.ensures.err

@@ -30,6 +30,7 @@ invariant_of-self g c =
       spotted = rw slots (spotted-roomier g.K.PartialEq.eq cells c.self.inside.keys c.grow.new.keys grown.keys c.self.invariant.spotted);
       hashed = rw slots c.self.invariant.hashed;
       keys = omega (arith, grown.keys.space, c.self.invariant.keys);
+      awaited = rw slots c.self.invariant.awaited;
     }
 
 pub returns : goal.returns

@@ -1,4 +1,4 @@
-use Rattle.std.proofs.Common.{refl, ap, sym, ◌∙◌, ◌+◌, ◌<◌, is_some, Some, false, arith}
+use Rattle.std.proofs.Common.{refl, ap, sym, ◌∙◌, ◌+◌, ◌<◌, is_some, Some, false, true≢false, arith}
 use Rattle.std.specs.Prelude.{slice_set}
 use Rattle.engine_reference.specs.declared.data.Record.{Record}
 use Rattle.engine_cells.specs.declared.cell.Cell.{Cell}
@@ -11,6 +11,8 @@ use Rattle.engine_cells.proofs.Counting.{gets-set}
 use Rattle.engine_reference.specs.declared.data.Write.TheVariants as Write
 use Rattle.engine_cells.proofs.Spotting.{unholds-changed, spotted-unholds, hashed-unholds, space-unholds}
 use Rattle.engine_cells.proofs.Totals.{tally-has, tally-fits, fits-less, tally-replaced}
+use Rattle.std.proofs.Math.Logic.{∥∥₁_map}
+use Rattle.engine_cells.proofs.Awaits.{awaited-gets}
 use Rattle.engine_cells.proofs.tables.Tables.mark_removed.Goals as goal
 
 pub index_mut-cell-requires : goal.index_mut-cell-requires
@@ -59,6 +61,7 @@ invariant_of-self g c =
       spotted = spotted-unholds g.K.PartialEq.eq cells (slice_set cells c.args.place (Some d)) c.self.inside.keys c.take_if.new.keys c.args.place x there unholds c.take_if.ensures c.self.invariant.spotted;
       hashed = rw made (hashed-unholds g.K.PartialEq.eq cells (slice_set cells c.args.place (Some d)) c.self.inside.keys c.take_if.new.keys c.args.place x there unholds c.take_if.ensures c.self.invariant.spotted _ c.self.invariant.hashed);
       keys = rw made (omega (arith, space, c.self.invariant.keys));
+      awaited = ∥∥₁_map c.self.invariant.awaited (λ k. awaited-gets cells (slice_set cells c.args.place (Some d)) c.self.inside.expirations c.set.new.self c.args.place d (gets-set cells c.args.place x d there) c.set.ensures.others c.set.ensures.whole (λ held. absurd (true≢false (sym held))) k);
     }
 
 pub returns : goal.returns

@@ -42,4 +42,5 @@ invariant_of-result g c =
       spotted = rw c.new-2.ensures.empty (none-spotted g.K.PartialEq.eq c.new-5.result c.new-5.ensures);
       hashed = rw c.new-2.ensures.empty (λ i c at held. absurd (cc));
       keys = omega (arith, reserved);
+      awaited = rw c.new-2.ensures.empty (∣ (λ i c at held. absurd (cc)) ∣₁);
     }

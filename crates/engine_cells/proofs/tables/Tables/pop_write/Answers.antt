@@ -31,4 +31,5 @@ invariant_of-self g c = rw c.in-Some.ensures.rest (record {
   spotted = c.self.invariant.spotted;
   hashed = c.self.invariant.hashed;
   keys = c.self.invariant.keys;
+  awaited = c.self.invariant.awaited;
 })

@@ -30,6 +30,7 @@ invariant_of-self g c =
       spotted = c.self.invariant.spotted;
       hashed = c.self.invariant.hashed;
       keys = c.self.invariant.keys;
+      awaited = c.self.invariant.awaited;
     })
 
 pub returns : goal.returns

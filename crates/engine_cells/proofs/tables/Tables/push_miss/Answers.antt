@@ -17,4 +17,5 @@ invariant_of-self g c = rw c.push_read.ensures (record {
   spotted = c.self.invariant.spotted;
   hashed = c.self.invariant.hashed;
   keys = c.self.invariant.keys;
+  awaited = c.self.invariant.awaited;
 })

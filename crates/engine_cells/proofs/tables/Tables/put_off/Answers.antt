@@ -9,6 +9,8 @@ use Rattle.engine_cells.proofs.Turned.{order-alike, order_waiting-set}
 use Rattle.engine_cells.proofs.Spotting.{spotted-gets, hashed-gets}
 use Rattle.engine_cells.proofs.Counting.{gets-set}
 use Rattle.engine_cells.proofs.Totals.{tally-set}
+use Rattle.std.proofs.Math.Logic.{∥∥₁_map}
+use Rattle.engine_cells.proofs.Awaits.{awaited-alike}
 use Rattle.engine_cells.proofs.tables.Tables.put_off.Goals as goal
 
 pub invariant_of-self : goal.invariant_of-self
@@ -31,6 +33,7 @@ invariant_of-self g c =
       spotted = spotted-gets g.K.PartialEq.eq cells (slice_set cells c.args.place (Some (record x { item = record x.item { applied = c.args.write } }))) c.self.inside.keys c.args.place x (record x { item = record x.item { applied = c.args.write } }) there (gets-set cells c.args.place x (record x { item = record x.item { applied = c.args.write } }) there) (record { held = refl; hash = refl; key = λ key. refl }) c.self.invariant.spotted;
       hashed = hashed-gets g.K.PartialEq.eq cells (slice_set cells c.args.place (Some (record x { item = record x.item { applied = c.args.write } }))) c.self.inside.keys c.args.place x (record x { item = record x.item { applied = c.args.write } }) there (gets-set cells c.args.place x (record x { item = record x.item { applied = c.args.write } }) there) (record { held = refl; hash = refl; key = λ key. refl }) c.self.invariant.spotted _ refl c.self.invariant.hashed;
       keys = c.self.invariant.keys;
+      awaited = ∥∥₁_map c.self.invariant.awaited (λ k. awaited-alike cells c.self.inside.expirations c.args.place x (record x { item = record x.item { applied = c.args.write } }) there refl refl k);
     }
 
 pub returns : goal.returns

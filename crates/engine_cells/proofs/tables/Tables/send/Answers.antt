@@ -27,6 +27,7 @@ invariant_of-self g c =
       spotted = c.self.invariant.spotted;
       hashed = c.self.invariant.hashed;
       keys = c.self.invariant.keys;
+      awaited = c.self.invariant.awaited;
     }))
     (λ (e : c.send.new.self ≡ c.self.inside.backlog). rw e c.self.invariant)
     c.send.result c.send.ensures.ok c.send.ensures.err

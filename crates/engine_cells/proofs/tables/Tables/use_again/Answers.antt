@@ -34,6 +34,7 @@ invariant_of-self g c =
       spotted = c.self.invariant.spotted;
       hashed = c.self.invariant.hashed;
       keys = c.self.invariant.keys;
+      awaited = c.self.invariant.awaited;
     }
 
 pub returns-in-Ok : goal.returns-in-Ok

@@ -1,4 +1,4 @@
-use Rattle.std.proofs.Common.{◌≡◌, refl, ap, sym, ◌∙◌, ◌+◌, ◌<◌, is_some, Some, arith, true}
+use Rattle.std.proofs.Common.{◌≡◌, refl, ap, sym, ◌∙◌, subst, ◌+◌, ◌<◌, is_some, Some, arith, true}
 use Rattle.std.specs.Prelude.{slice_set}
 use Rattle.engine_reference.specs.declared.data.Record.{Record}
 use Rattle.engine_cells.specs.declared.cell.Cell.{Cell}
@@ -13,6 +13,9 @@ use Rattle.engine_cells.proofs.Counting.{gets-set}
 use Rattle.engine_cells.specs.Writing.{put_for}
 use Rattle.engine_cells.proofs.Spotting.{IsSoughtAs, hash-alike, alike-sought, spotted-gets, hashed-gets}
 use Rattle.engine_cells.proofs.Totals.{held-is, tally-has, tally-fits, fits-less, tally-replaced}
+use Rattle.std.proofs.Math.Logic.{∥∥₁_map}
+use Rattle.engine_timers.specs.Awaited.{IsSet}
+use Rattle.engine_cells.proofs.Awaits.{awaited-gets}
 use Rattle.engine_cells.proofs.tables.Tables.write_over.Goals as goal
 
 pub index_mut-cell-requires : goal.index_mut-cell-requires
@@ -67,6 +70,7 @@ invariant_of-self g c =
       hashed = rw (made, told) (hashed-gets g.K.PartialEq.eq cells (slice_set cells c.args.place (Some d)) c.self.inside.keys c.args.place x d there (gets-set cells c.args.place x d there) sought c.self.invariant.spotted _
           (hash-alike g.S.Hasher.Hasher.finish g.S.Hasher.Hasher.write g.S.BuildHasher.build_hasher g.K.Hash.hash_input c.self.inside.backlog.hasher x.item.entry.key d.item.entry.key (g.met.K.Hash.respects_eq x.item.entry.key d.item.entry.key alike)) c.self.invariant.hashed);
       keys = rw (made, told) (omega arith);
+      awaited = ∥∥₁_map c.self.invariant.awaited (λ k. awaited-gets cells (slice_set cells c.args.place (Some d)) c.self.inside.expirations c.set.new.self c.args.place d (gets-set cells c.args.place x d there) c.set.ensures.others c.set.ensures.whole (λ held. subst (λ e. IsSet c.set.new.self c.args.place e.expires) (sym c.replace-replaced.ensures.after) c.set.ensures.set) k);
     }
 
 pub returns : goal.returns

@@ -1,0 +1,53 @@
+-- Timers of places, as cells come, change and go.
+use Rattle.std.proofs.Common.{◌≡◌, ◌≢◌, refl, ap, sym, ◌∙◌, subst, ℕ, ◌<◌, Bool, true, false, ◌&&◌, List, Option, Some, None, inl, inr, ◌⊎◌}
+use Rattle.std.specs.Prelude.{slice_set}
+use Rattle.std.proofs.lemmas.Bool.{cases_eq, lt-leb}
+use Rattle.std.proofs.lemmas.Option.{same_Some}
+use Rattle.engine_reference.specs.Times.{is_reached}
+use Rattle.engine_timers.specs.Awaited.{Awaited, IsAwaited, IsSet, KeepsOthers}
+use Rattle.engine_cells.specs.declared.cell.Cell.{Cell}
+use Rattle.engine_cells.specs.Cells.{cell_at}
+use Rattle.engine_cells.specs.Awaiting.{AreAwaited}
+use Rattle.engine_cells.specs.Looking.{is_expired}
+use Rattle.engine_cells.proofs.Changes.{Gets, Loses}
+use Rattle.engine_cells.proofs.Counting.{gets-set}
+
+-- what was set of another place is still
+other-set : (a b : Awaited) (place i : ℕ) (time : Option ℕ) → (i ≡ place → ⊥) → KeepsOthers place a.timers b.timers → (b.is_whole ≡ true → a.is_whole ≡ true) → IsSet a i time → IsSet b i time
+other-set a b place i None apart keeps whole h = tt
+other-set a b place i (Some t) apart keeps whole h = λ all. keeps.others i t apart (h (whole all))
+
+module _ {K V : Type 0} where
+  pub awaited-gets : (old new : List (Option (Cell K V))) (a b : Awaited) (place : ℕ) (d : Cell K V) → Gets old new place d → KeepsOthers place a.timers b.timers → (b.is_whole ≡ true → a.is_whole ≡ true)
+      → (d.item.is_held ≡ true → IsSet b place d.item.entry.expires) → AreAwaited old a → AreAwaited new b
+  awaited-gets old new a b place d gets keeps whole here h i c there held = go (cases_eq i place)
+    where
+      go : (i ≡ place) ⊎ (i ≢ place) → IsSet b i c.item.entry.expires
+      go (inl same) =
+          let is : d ≡ c = same_Some _ _ (sym gets.there ∙ ap (λ j. cell_at new j) (sym same) ∙ there) in
+          subst (λ j. IsSet b j c.item.entry.expires) (sym same) (subst (λ (x : Cell K V). IsSet b place x.item.entry.expires) is (here (ap (λ (x : Cell K V). x.item.is_held) is ∙ held)))
+      go (inr apart) = other-set a b place i c.item.entry.expires apart keeps whole (h i c (sym (gets.others i apart) ∙ there) held)
+
+  pub awaited-loses : (old new : List (Option (Cell K V))) (a b : Awaited) (place : ℕ) → Loses old new place → KeepsOthers place a.timers b.timers → (b.is_whole ≡ true → a.is_whole ≡ true) → AreAwaited old a → AreAwaited new b
+  awaited-loses old new a b place loses keeps whole h i c there held = go (cases_eq i place)
+    where
+      go : (i ≡ place) ⊎ (i ≢ place) → IsSet b i c.item.entry.expires
+      go (inl same) = absurd (let e : None ≡ Some c = sym loses.gone ∙ ap (λ j. cell_at new j) (sym same) ∙ there in cc)
+      go (inr apart) = other-set a b place i c.item.entry.expires apart keeps whole (h i c (sym (loses.others i apart) ∙ there) held)
+
+  -- a record that is as held as it was, and expires as it did
+  pub awaited-alike : (cells : List (Option (Cell K V))) (a : Awaited) (place : ℕ) (c d : Cell K V) → cell_at cells place ≡ Some c → d.item.is_held ≡ c.item.is_held → d.item.entry.expires ≡ c.item.entry.expires
+      → AreAwaited cells a → AreAwaited (slice_set cells place (Some d)) a
+  awaited-alike cells a place c d there held expires h =
+      awaited-gets cells (slice_set cells place (Some d)) a a place d (gets-set cells place c d there) (record { others = λ other time apart k. k }) (λ all. all)
+      (λ is. subst (λ e. IsSet a place e) (sym expires) (h place c there (sym held ∙ is))) h
+
+  -- where no timer comes by now, no own expiration was reached
+  pub none-expired : (cells : List (Option (Cell K V))) (a : Awaited) (now : ℕ) → AreAwaited cells a → a.is_whole ≡ true → ((place time : ℕ) → IsAwaited a place time → now < time)
+      → (i : ℕ) (c : Cell K V) → cell_at cells i ≡ Some c → is_expired now c.item ≡ false
+  none-expired cells a now h whole none i c there = go c.item.is_held c.item.entry.expires refl (h i c there)
+    where
+      go : (held : Bool) (expires : Option ℕ) → c.item.is_held ≡ held → (c.item.is_held ≡ true → IsSet a i expires) → (held && is_reached expires now) ≡ false
+      go false expires e k = refl
+      go true None e k = refl
+      go true (Some t) e k = lt-leb t now (none i t (k e whole))
