@@ -1,5 +1,5 @@
 -- Timers of places, as cells come, change and go.
-use Rattle.std.proofs.Common.{◌≡◌, ◌≢◌, refl, ap, sym, ◌∙◌, subst, ℕ, ◌<◌, Bool, true, false, ◌&&◌, List, Option, Some, None, inl, inr, ◌⊎◌}
+use Rattle.std.proofs.Common.{◌≡◌, ◌≢◌, refl, ap, sym, ◌∙◌, subst, ℕ, ◌<◌, Bool, true, false, ◌&&◌, List, Option, Some, None, inl, inr, ◌⊎◌, zero, suc, ◌+◌, ◌≤◌, length, arith, [], ◌∷◌}
 use Rattle.std.specs.Prelude.{slice_set}
 use Rattle.std.proofs.lemmas.Bool.{cases_eq, lt-leb}
 use Rattle.std.proofs.lemmas.Option.{same_Some}
@@ -13,11 +13,16 @@ use Rattle.engine_cells.proofs.Changes.{Gets, Loses}
 use Rattle.engine_cells.proofs.Counting.{gets-set}
 
 -- what was set of another place is still
-other-set : (a b : Awaited) (place i : ℕ) (time : Option ℕ) → (i ≡ place → ⊥) → KeepsOthers place a.timers b.timers → (b.is_whole ≡ true → a.is_whole ≡ true) → IsSet a i time → IsSet b i time
+pub other-set : (a b : Awaited) (place i : ℕ) (time : Option ℕ) → (i ≡ place → ⊥) → KeepsOthers place a.timers b.timers → (b.is_whole ≡ true → a.is_whole ≡ true) → IsSet a i time → IsSet b i time
 other-set a b place i None apart keeps whole h = tt
 other-set a b place i (Some t) apart keeps whole h = λ all. keeps.others i t apart (h (whole all))
 
 module _ {K V : Type 0} where
+  cells-within : (cells : List (Option (Cell K V))) (i : ℕ) (c : Cell K V) → cell_at cells i ≡ Some c → i < length cells
+  cells-within [] i c h = absurd (cc)
+  cells-within (o ∷ cells) zero c h = omega arith
+  cells-within (o ∷ cells) (suc i) c h = let later = cells-within cells i c h in omega (arith, later)
+
   pub awaited-gets : (old new : List (Option (Cell K V))) (a b : Awaited) (place : ℕ) (d : Cell K V) → Gets old new place d → KeepsOthers place a.timers b.timers → (b.is_whole ≡ true → a.is_whole ≡ true)
       → (d.item.is_held ≡ true → IsSet b place d.item.entry.expires) → AreAwaited old a → AreAwaited new b
   awaited-gets old new a b place d gets keeps whole here h i c there held = go (cases_eq i place)
@@ -51,3 +56,20 @@ module _ {K V : Type 0} where
       go false expires e k = refl
       go true None e k = refl
       go true (Some t) e k = lt-leb t now (none i t (k e whole))
+
+  -- each place below this one has the timer that it is to have
+  abbrev pub AreTimed : List (Option (Cell K V)) → Awaited → ℕ → Type 0
+  AreTimed cells a below = (i : ℕ) (c : Cell K V) → i < below → cell_at cells i ≡ Some c → c.item.is_held ≡ true → IsSet a i c.item.entry.expires
+
+  pub timed-more : (cells : List (Option (Cell K V))) (a b : Awaited) (place : ℕ) → KeepsOthers place a.timers b.timers → (b.is_whole ≡ true → a.is_whole ≡ true)
+      → ((c : Cell K V) → cell_at cells place ≡ Some c → c.item.is_held ≡ true → IsSet b place c.item.entry.expires) → AreTimed cells a place → AreTimed cells b (place + 1)
+  timed-more cells a b place keeps whole here h i c less there held = go (cases_eq i place)
+    where
+      go : (i ≡ place) ⊎ (i ≢ place) → IsSet b i c.item.entry.expires
+      go (inl same) = subst (λ j. IsSet b j c.item.entry.expires) (sym same) (here c (ap (λ j. cell_at cells j) (sym same) ∙ there) held)
+      go (inr apart) = other-set a b place i c.item.entry.expires apart keeps whole (h i c (omega arith) there held)
+
+  pub timed-whole : (cells : List (Option (Cell K V))) (a : Awaited) (below : ℕ) → length cells ≤ below → AreTimed cells a below → AreAwaited cells a
+  timed-whole cells a below many h i c there held =
+      let within = cells-within cells i c there in
+      h i c (omega (arith, within, many)) there held

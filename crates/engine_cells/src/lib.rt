@@ -8,6 +8,7 @@ mod looking;
 mod rooms;
 mod tables;
 mod tally;
+mod timing;
 
 pub use cell::{Cell, Noted, PlacedWrite};
 pub use finding::find_held;

@@ -59,7 +59,7 @@ pub fn first_expired<K, V>(
     ensures found { IfSome result (λ i. (c : Cell K V) × (cell_at cells.now.slots i ≡ Some c) × (is_expired now c.item ≡ true)) }
     ensures none { IfNone result ((i : ℕ) (c : Cell K V) → cell_at cells.now.slots i ≡ Some c → is_expired now c.item ≡ false) }
 {
-    if MAX_NANOS < now || !expirations.is_whole() {
+    if MAX_NANOS < now {
         return first_due(cells, now);
     }
     match expirations.first_due(Instant::from_nanos(now)) {
@@ -69,7 +69,12 @@ pub fn first_expired<K, V>(
             }
             first_due(cells, now)
         }
-        None => None,
+        None => {
+            if expirations.is_whole() {
+                return None;
+            }
+            first_due(cells, now)
+        }
     }
 }
 

@@ -25,6 +25,7 @@ use crate::finding::{find_held, take_if};
 use crate::looking::{first_expired, first_settled};
 use crate::rooms::grow;
 use crate::tally::Tally;
+use crate::timing::{set_changed, time_all};
 use engine_keys::Keys;
 use engine_pending::Backlog;
 use engine_reference::{Entry, Notice, Record, Registered, Settings, Upsert, Write};
@@ -238,8 +239,9 @@ impl<K: Eq + Hash, V, S: BuildHasher, R: Rules<K, V>> Tables<K, V, S, R> {
     {
         let cell = &mut self.cells[place];
         cell.item.entry.used = used;
+        let before = cell.item.entry.expires;
         cell.item.entry.expires = expires;
-        self.expirations.set(place, expires);
+        set_changed(&mut self.expirations, place, before, expires);
     }
 
     /// Moves the number of the record in a place to the back of the access list, where it is admitted.
@@ -295,11 +297,12 @@ impl<K: Eq + Hash, V, S: BuildHasher, R: Rules<K, V>> Tables<K, V, S, R> {
         let expires = entry.expires;
         let cell = &mut self.cells[place];
         let others = self.tally.without(&cell.item);
+        let before = cell.item.entry.expires;
         let replaced = mem::replace(&mut cell.item.entry, entry);
         cell.item.writes += 1;
         self.tally = others.with(&cell.item);
         let write = put_of(&cell.item, self.tally.held);
-        self.expirations.set(place, expires);
+        set_changed(&mut self.expirations, place, before, expires);
         self.backlog.tell(true, cause, replaced);
         self.backlog.add_write(PlacedWrite { place, write });
     }
@@ -484,6 +487,15 @@ impl<K: Eq + Hash, V, S: BuildHasher, R: Rules<K, V>> Tables<K, V, S, R> {
         ensures none { IfNone result ((r : Record K V) → record_at self.now.state.records r.number ≡ Some r → is_expired now r ≡ false) }
     {
         first_expired(&self.cells, &self.expirations, now)
+    }
+
+    /// Where there was no memory for a timer, it is asked for again.
+    pub fn mend_timers(&mut self)
+        ensures { self.new ≡ self.old }
+    {
+        if !self.expirations.is_whole() {
+            time_all(&self.cells, &mut self.expirations);
+        }
     }
 
     /// Whether the admitted records weigh more than the capacity.

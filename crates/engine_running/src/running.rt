@@ -18,7 +18,7 @@ use std::hash::{BuildHasher, Hash};
 
 /// Runs maintenance to its end: all that waits is applied, what predicates cover leaves and they go, what is due leaves, and then the excess.
 /// Where all tickets were sent as it began, the counts are exact; where moments never fell and steps rose too, nothing that is kept is due.
-/// Where half the capacity is held and the sketch has no table, it is made first; an error tells that there was no memory for it, and the run is as whole without. No other memory is asked for.
+/// Where half the capacity is held and the sketch has no table, it is made first; an error tells that there was no memory for it, and the run is as whole without. Other memory is asked for only where there was none for a timer before.
 pub fn try_run<K: Eq + Hash + Drop, V: Drop, S: BuildHasher, R: Rules<K, V>>(
     tables: &mut Tables<K, V, S, R>,
     now: u64,
@@ -30,6 +30,7 @@ pub fn try_run<K: Eq + Hash + Drop, V: Drop, S: BuildHasher, R: Rules<K, V>>(
     ensures made { OnOk result (tables.new.state.table_refused ≡ false) }
     ensures refused { OnErr result (tables.new.state.table_refused ≡ true) }
 {
+    tables.mend_timers();
     apply_reads(tables, now);
     apply_writes(tables, now);
     let grown = grow(tables, now);

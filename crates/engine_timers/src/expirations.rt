@@ -47,6 +47,13 @@ impl Expirations {
         self.is_whole
     }
 
+    /// As if there had been memory for all timers: whoever says so sets each place again.
+    pub fn start_again(&mut self)
+        ensures { self.new ≡ record self.old { is_whole = true } }
+    {
+        self.is_whole = true;
+    }
+
     /// A place expires at a moment in nanoseconds, or no longer does.
     pub fn set(&mut self, place: usize, time: Option<u64>)
         ensures others { KeepsOthers place self.old.timers self.new.timers }

@@ -33,7 +33,7 @@ invariant_of-self g c =
       spotted = spotted-gets g.K.PartialEq.eq cells (slice_set cells c.args.place (Some (record x { item = record x.item { entry = record x.item.entry { used = c.args.used; expires = c.args.expires } } }))) c.self.inside.keys c.args.place x (record x { item = record x.item { entry = record x.item.entry { used = c.args.used; expires = c.args.expires } } }) there (gets-set cells c.args.place x (record x { item = record x.item { entry = record x.item.entry { used = c.args.used; expires = c.args.expires } } }) there) (record { held = refl; hash = refl; key = λ key. refl }) c.self.invariant.spotted;
       hashed = hashed-gets g.K.PartialEq.eq cells (slice_set cells c.args.place (Some (record x { item = record x.item { entry = record x.item.entry { used = c.args.used; expires = c.args.expires } } }))) c.self.inside.keys c.args.place x (record x { item = record x.item { entry = record x.item.entry { used = c.args.used; expires = c.args.expires } } }) there (gets-set cells c.args.place x (record x { item = record x.item { entry = record x.item.entry { used = c.args.used; expires = c.args.expires } } }) there) (record { held = refl; hash = refl; key = λ key. refl }) c.self.invariant.spotted _ refl c.self.invariant.hashed;
       keys = c.self.invariant.keys;
-      awaited = ∥∥₁_map c.self.invariant.awaited (λ k. awaited-gets cells (slice_set cells c.args.place (Some (record x { item = record x.item { entry = record x.item.entry { used = c.args.used; expires = c.args.expires } } }))) c.self.inside.expirations c.set.new.self c.args.place (record x { item = record x.item { entry = record x.item.entry { used = c.args.used; expires = c.args.expires } } }) (gets-set cells c.args.place x (record x { item = record x.item { entry = record x.item.entry { used = c.args.used; expires = c.args.expires } } }) there) c.set.ensures.others c.set.ensures.whole (λ held. c.set.ensures.set) k);
+      awaited = ∥∥₁_map c.self.invariant.awaited (λ k. awaited-gets cells (slice_set cells c.args.place (Some (record x { item = record x.item { entry = record x.item.entry { used = c.args.used; expires = c.args.expires } } }))) c.self.inside.expirations c.set_changed.new.expirations c.args.place (record x { item = record x.item { entry = record x.item.entry { used = c.args.used; expires = c.args.expires } } }) (gets-set cells c.args.place x (record x { item = record x.item { entry = record x.item.entry { used = c.args.used; expires = c.args.expires } } }) there) c.set_changed.ensures.others c.set_changed.ensures.whole (λ held. c.set_changed.ensures.set (k c.args.place x there held)) k);
     }
 
 pub returns : goal.returns

@@ -70,7 +70,7 @@ invariant_of-self g c =
       hashed = rw (made, told) (hashed-gets g.K.PartialEq.eq cells (slice_set cells c.args.place (Some d)) c.self.inside.keys c.args.place x d there (gets-set cells c.args.place x d there) sought c.self.invariant.spotted _
           (hash-alike g.S.Hasher.Hasher.finish g.S.Hasher.Hasher.write g.S.BuildHasher.build_hasher g.K.Hash.hash_input c.self.inside.backlog.hasher x.item.entry.key d.item.entry.key (g.met.K.Hash.respects_eq x.item.entry.key d.item.entry.key alike)) c.self.invariant.hashed);
       keys = rw (made, told) (omega arith);
-      awaited = ∥∥₁_map c.self.invariant.awaited (λ k. awaited-gets cells (slice_set cells c.args.place (Some d)) c.self.inside.expirations c.set.new.self c.args.place d (gets-set cells c.args.place x d there) c.set.ensures.others c.set.ensures.whole (λ held. subst (λ e. IsSet c.set.new.self c.args.place e.expires) (sym c.replace-replaced.ensures.after) c.set.ensures.set) k);
+      awaited = ∥∥₁_map c.self.invariant.awaited (λ k. awaited-gets cells (slice_set cells c.args.place (Some d)) c.self.inside.expirations c.set_changed.new.expirations c.args.place d (gets-set cells c.args.place x d there) c.set_changed.ensures.others c.set_changed.ensures.whole (λ held. subst (λ e. IsSet c.set_changed.new.expirations c.args.place e.expires) (sym c.replace-replaced.ensures.after) (c.set_changed.ensures.set (k c.args.place x there held))) k);
     }
 
 pub returns : goal.returns

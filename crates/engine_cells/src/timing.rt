@@ -1,0 +1,62 @@
+//! Timers of what expires by itself.
+ghost use Rattle.std.specs.Prelude.{◌≡◌, ◌+◌, ◌<◌, ◌≤◌, ℕ, true, Some, length};
+ghost use Rattle.engine_timers.specs.Awaited.{IsSet, KeepsOthers};
+ghost use Rattle.engine_cells.specs.Awaiting.{AreAwaited};
+ghost use Rattle.engine_cells.specs.Cells.{cell_at};
+ghost use Rattle.engine_cells.specs.declared.cell.Cell.{Cell};
+
+use crate::cell::Cell;
+use engine_timers::Expirations;
+use slab::Slab;
+
+/// A place expires at another moment than before, if it does.
+pub(crate) fn set_changed(
+    expirations: &mut Expirations,
+    place: usize,
+    before: Option<u64>,
+    after: Option<u64>,
+)
+    ensures others { KeepsOthers place expirations.old.timers expirations.new.timers }
+    ensures whole { expirations.new.is_whole ≡ true → expirations.old.is_whole ≡ true }
+    ensures set { IsSet expirations.old place before → IsSet expirations.new place after }
+{
+    if before != after {
+        expirations.set(place, after);
+    }
+}
+
+/// When the record in a place expires by itself, where it is held.
+fn expiration_at<K, V>(cells: &Slab<Cell<K, V>>, place: usize) -> Option<u64>
+    ensures { (c : Cell K V) → cell_at cells.now.slots place ≡ Some c → c.item.is_held ≡ true → result ≡ c.item.entry.expires }
+{
+    match cells.get(place) {
+        Some(cell) => {
+            if cell.item.is_held {
+                cell.item.entry.expires
+            } else {
+                None
+            }
+        }
+        None => None,
+    }
+}
+
+/// A place gets the timer that it is to have.
+fn time_place<K, V>(cells: &Slab<Cell<K, V>>, place: usize, expirations: &mut Expirations)
+    ensures others { KeepsOthers place expirations.old.timers expirations.new.timers }
+    ensures whole { expirations.new.is_whole ≡ true → expirations.old.is_whole ≡ true }
+    ensures set { (c : Cell K V) → cell_at cells.now.slots place ≡ Some c → c.item.is_held ≡ true → IsSet expirations.new place c.item.entry.expires }
+{
+    let expires = expiration_at(cells, place);
+    expirations.set(place, expires);
+}
+
+/// Each place gets the timer that it is to have, whatever there was memory for before.
+pub(crate) fn time_all<K, V>(cells: &Slab<Cell<K, V>>, expirations: &mut Expirations)
+    ensures { AreAwaited cells.now.slots expirations.new }
+{
+    expirations.start_again();
+    for place in 0..cells.capacity() {
+        time_place(cells, place, expirations);
+    }
+}
