@@ -27,6 +27,7 @@ pub fn try_run<K: Eq + Hash + Drop, V: Drop, S: BuildHasher, R: Rules<K, V>>(
     ensures runs { (answers : Answers K V R.Predicate R) → answers.covers ≡ R.covers → RunsToEnd answers now tables.old.state tables.new.state }
     ensures counts { (answers : Answers K V R.Predicate R) → answers.covers ≡ R.covers → tables.old.state.unsent ≡ [] → CountsExactly K V R.Predicate S R answers tables.new.state }
     ensures due { (moment step : ℕ) → IsTimely moment step tables.old.state → moment ≤ now → now ≤ 9223372036854775807 → LeavesNoneDue now tables.new.state }
+    ensures sound { ∥ IsSound tables.new.state ∥₁ }
     ensures made { OnOk result (tables.new.state.table_refused ≡ false) }
     ensures refused { OnErr result (tables.new.state.table_refused ≡ true) }
 {
@@ -48,6 +49,7 @@ pub fn run<K: Eq + Hash + Drop, V: Drop, S: BuildHasher, R: Rules<K, V>>(
     ensures runs { (answers : Answers K V R.Predicate R) → answers.covers ≡ R.covers → RunsToEnd answers now tables.old.state tables.new.state }
     ensures counts { (answers : Answers K V R.Predicate R) → answers.covers ≡ R.covers → tables.old.state.unsent ≡ [] → CountsExactly K V R.Predicate S R answers tables.new.state }
     ensures due { (moment step : ℕ) → IsTimely moment step tables.old.state → moment ≤ now → now ≤ 9223372036854775807 → LeavesNoneDue now tables.new.state }
+    ensures sound { ∥ IsSound tables.new.state ∥₁ }
 {
     let _grown = try_run(tables, now);
 }
@@ -59,6 +61,7 @@ pub fn run_if_due<K: Eq + Hash + Drop, V: Drop, S: BuildHasher, R: Rules<K, V>>(
 )
     requires { ∥ IsSound tables.old.state ∥₁ }
     ensures due { (answers : Answers K V R.Predicate R) → answers.covers ≡ R.covers → MaintainsIfDue answers now tables.old.state tables.new.state }
+    ensures sound { ∥ IsSound tables.new.state ∥₁ }
     ensures room { length tables.new.state.reads < 64 }
 {
     if tables.is_due(now) {

@@ -1,5 +1,7 @@
 use Rattle.std.proofs.Common.{refl, ap, sym, ◌∙◌}
+use Rattle.std.proofs.Math.Logic.{∥∥₁_map}
 use Rattle.engine_reference.specs.State.{Answers}
+use Rattle.engine_reference.proofs.SoundSteps.{run-sound}
 use Rattle.engine_laws.proofs.Rises.{uncut_runs_leave_none_due}
 use Rattle.engine_running.proofs.Joining.{stretch-join, stretch-same, stretch-sound, run-later, run-counts, made-then, ok-then, err-then}
 use Rattle.engine_running.proofs.running.try_run.Goals as goal
@@ -39,3 +41,9 @@ returns-clause-made g c = ok-then c.grow-grown.result (λ fine. c.settle.ensures
 
 pub returns-clause-refused : goal.returns-clause-refused
 returns-clause-refused g c = err-then c.grow-grown.result (λ failed. c.settle.ensures.refused ∙ c.is_err.ensures.value ∙ failed)
+
+pub returns-clause-sound : goal.returns-clause-sound
+returns-clause-sound g c =
+    let a : Answers g.row.K.Denot g.row.V.Denot g.row.R-Predicate.Denot g.row.R.Denot = record { weight_of = g.R.Rules.weight_of; created = g.R.Rules.created; found = g.R.Rules.read; updated = g.R.Rules.updated; covers = g.R.Rules.covers } in
+    let h = (returns-clause-runs g c a refl).runs in
+    ∥∥₁_map c.requires (λ k. run-sound a c.args.now c.args.tables.now.state _ k h)
