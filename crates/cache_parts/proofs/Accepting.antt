@@ -29,7 +29,7 @@ use Rattle.cache_values.proofs.Held.{key_from_some, absent_from_none, without-ab
 use Rattle.cache_values.proofs.Corresponding.{value_at-map, value_at-without, left}
 use Rattle.cache_values.proofs.Truth.{first_of-map, without-map, replaced_truly}
 use Rattle.engine_laws.specs.Just.{IsJust}
-use Rattle.cache_parts.specs.Parts.{Part, service_answers, cause_of, note_from, held_of, items_of, with_part, AreMarked, Stands}
+use Rattle.cache_parts.specs.Parts.{Part, service_answers, cause_of, note_from, held_of, items_of, with_part, AreMarked, Stands, drained}
 use Rattle.cache_parts.proofs.Items.{value_at-part}
 use Rattle.cache_parts.proofs.Joining.{Knows, IsNewValue, just, PointIs, fills, was, point_is, fits_written, corresponds_written, over_written, parted_t, there_t, value_at-just, stands_for, dead_from, first_of-append}
 use Rattle.cache_parts.proofs.Judging.{Judges, judged}
@@ -68,9 +68,6 @@ left-sub (n ∷ notes) xs q h a e = go (same q n.key) (sym (value_at-without n.k
 
 -- taken notices are no part of what is held
 module _ {S : Type 0} where
-  abbrev pub drained : Part S → Part S
-  drained s = record s { notices = [] }
-
   pub with_part-twice : (k : ℕ) (a b : Part S) (parts : List (Part S)) → with_part k b (with_part k a parts) ≡ with_part k b parts
   with_part-twice k a b [] = refl
   with_part-twice zero a b (x ∷ parts) = refl

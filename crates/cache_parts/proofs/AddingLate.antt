@@ -29,9 +29,9 @@ use Rattle.cache_values.proofs.Keys.{equal_from_same}
 use Rattle.cache_values.proofs.Held.{apart-without}
 use Rattle.cache_values.proofs.Corresponding.{value_at-map, value_at-without, left, left-append}
 use Rattle.engine_laws.specs.Just.{IsJust}
-use Rattle.cache_parts.specs.Parts.{Stored, Part, service_answers, note_from, items_of, with_part, AreMarked, Stands}
+use Rattle.cache_parts.specs.Parts.{Stored, Part, service_answers, note_from, items_of, with_part, AreMarked, Stands, drained}
 use Rattle.cache_parts.proofs.Accepting as Plainly
-use Rattle.cache_parts.proofs.Accepting.{drained, with_part-twice, without_key-append}
+use Rattle.cache_parts.proofs.Accepting.{with_part-twice, without_key-append}
 use Rattle.cache_parts.proofs.Joining.{Knows, IsNewValue, just, PointIs, fills, was, point_is, corresponds_written, over_written, parted_t, there_t, value_at-just, fits_held, stands_for}
 use Rattle.cache_parts.proofs.Judging.{Judges, judged}
 use Rattle.cache_parts.proofs.Leaving.{AreOf, of-append, of-removals, left-elsewhere, find-candidates, in_part, owner_part, marks_elsewhere}

@@ -17,23 +17,13 @@ use Rattle.engine_laws.proofs.Ordering.{with_writes, applied-weight}
 use Rattle.cache_store.specs.Running.{weight_in, is_bounded}
 use Rattle.cache_values.specs.Held.{value_at, Corresponds}
 use Rattle.cache_values.proofs.Weights.{same_weight}
-use Rattle.cache_parts.specs.Parts.{Part, settings_of, items_of}
+use Rattle.cache_parts.specs.Parts.{Part, settings_of, items_of, AreLight, write_weight}
 use Rattle.cache_parts.proofs.Items.{AreParted, apart-of, weight-part}
 use Rattle.cache_parts.proofs.Resting.{all_by_key, lies}
 
--- what a write adds at most
-abbrev pub weight_of : Write → ℕ
-weight_of (Put u) = u.weight
-weight_of (Removed number) = 0
-
 abbrev pub weigh : List Write → ℕ
 weigh [] = 0
-weigh (w ∷ ws) = weight_of w + weigh ws
-
--- each write is of at most so much
-abbrev pub AreLight : ℕ → List Write → Type 0
-AreLight most [] = Unit {0}
-AreLight most (w ∷ ws) = (weight_of w ≤ most) × AreLight most ws
+weigh (w ∷ ws) = write_weight w + weigh ws
 
 light-weigh : (ws : List Write) → AreLight 8192 ws → weigh ws ≤ length ws * 8192
 light-weigh [] h = omega arith
@@ -48,7 +38,7 @@ module _ {K V : Type 0} where
       go true later = let a = weight-cons (f r) rs in let b = weight-cons r rs in let c = is r in omega arith
       go false later = let a = weight-cons r (changed_at n f rs) in let b = weight-cons r rs in omega arith
 
-  write-more : (w : Write) (rs : List (Record K V)) → admitted_weight (with_write w rs) ≤ weight_of w + admitted_weight rs
+  write-more : (w : Write) (rs : List (Record K V)) → admitted_weight (with_write w rs) ≤ write_weight w + admitted_weight rs
   write-more (Put u) rs = counted-more u.number u.weight (λ r. record r { applied = u.write; counts = Some u.weight }) (λ r. refl) rs
   write-more (Removed n) rs = let le = fewer-weight (without_record n rs) rs (fewer-without n rs rs (fewer-refl rs)) in omega (arith, le)
 

@@ -26,9 +26,9 @@ use Rattle.cache_values.proofs.Held.{key_from_some, absent-without, apart-withou
 use Rattle.cache_values.proofs.Corresponding.{value_at-without, value_at-append, apart-append}
 use Rattle.cache_values.proofs.Truth.{first_of-map, Stood, stood}
 use Rattle.cache_values.proofs.Weights.{over_is}
-use Rattle.cache_parts.specs.Parts.{Part, service_answers, settings_of, held_of, value_of, items_of, with_part, AreMarked}
+use Rattle.cache_parts.specs.Parts.{Part, service_answers, settings_of, held_of, value_of, items_of, with_part, AreMarked, IsBrief}
 use Rattle.cache_parts.proofs.Items.{ArePlaced, AreParted, value_at-part, apart-of, weight-part, corresponds_from}
-use Rattle.cache_parts.proofs.Judging.{Judges, IsBrief, dead_is}
+use Rattle.cache_parts.proofs.Judging.{Judges, dead_is}
 use Rattle.cache_parts.proofs.Marking.{PointsBack, itself, earlier, points_back}
 use Rattle.cache_parts.proofs.Swapping.{with_part-there, parted-at, parted-with, value_at-elsewhere, decides}
 use Rattle.cache_parts.proofs.Telling.{Kept, Fits, Fitting}

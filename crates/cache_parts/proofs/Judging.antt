@@ -14,7 +14,7 @@ use Rattle.engine_reference.specs.Visible.{is_covered}
 use Rattle.engine_laws.specs.Points.{IsPointed}
 use Rattle.cache_values.proofs.Keys.{same_from_equal}
 use Rattle.engine_laws.specs.Just.{IsJust}
-use Rattle.cache_parts.specs.Parts.{Part, service_answers, settings_of, nanos, note_of, held_of, value_of}
+use Rattle.cache_parts.specs.Parts.{Part, service_answers, settings_of, nanos, note_of, held_of, value_of, IsBrief}
 use Rattle.cache_parts.proofs.Telling.{Kept}
 
 -- ---- causes
@@ -46,11 +46,6 @@ module _ (config : Config) (deed : Deed) (before : List Candidate) {S : Type 0} 
       go cause.Size h = j.size h
 
 -- ---- deadlines
-
--- times that a configuration may have
-pub record IsBrief (config : Config) : Type 0 where
-  pub live : (ms : ℕ) → config.live_ms ≡ Some ms → ms ≤ 999999999999
-  pub idle : (ms : ℕ) → config.idle_ms ≡ Some ms → ms ≤ 999999999999
 
 pub end_is : (since : ℕ) (time : Option ℕ) → since < 9223372036854775808 → ((ms : ℕ) → time ≡ Some ms → ms ≤ 999999999999) → end_of since (option_map nanos time) ≡ option_map (after_ms since) time
 end_is since None lt brief = refl

@@ -31,8 +31,8 @@ use Rattle.cache_values.specs.Held.{value_at, plain, Corresponds}
 use Rattle.cache_values.proofs.Keys.{equal_from_same}
 use Rattle.cache_values.proofs.Held.{key_from_some}
 use Rattle.cache_values.proofs.Corresponding.{value_at-map, apart-map, left}
-use Rattle.cache_parts.specs.Parts.{Part, service_answers, note_from, held_of, value_of, items_of, with_part, AreMarked, Stands}
-use Rattle.cache_parts.proofs.Accepting.{drained, all-untold}
+use Rattle.cache_parts.specs.Parts.{Part, service_answers, note_from, held_of, value_of, items_of, with_part, AreMarked, Stands, drained}
+use Rattle.cache_parts.proofs.Accepting.{all-untold}
 use Rattle.cache_parts.proofs.Items.{AreParted, value_at-part, apart-of, corresponds_from}
 use Rattle.cache_parts.proofs.Joining.{Knows, fits_held, dead_from}
 use Rattle.cache_parts.proofs.Judging.{Judges, judged}

@@ -21,8 +21,8 @@ use Rattle.cache_values.specs.Held.{value_at, is_absent, plain, Corresponds}
 use Rattle.cache_values.proofs.Held.{absent_from_none}
 use Rattle.cache_values.proofs.Corresponding.{left}
 use Rattle.engine_laws.specs.Just.{IsJust}
-use Rattle.cache_parts.specs.Parts.{Part, service_answers, note_from, held_of, items_of, with_part, AreMarked, Stands}
-use Rattle.cache_parts.proofs.Accepting.{drained, all-untold}
+use Rattle.cache_parts.specs.Parts.{Part, service_answers, note_from, held_of, items_of, with_part, AreMarked, Stands, drained}
+use Rattle.cache_parts.proofs.Accepting.{all-untold}
 use Rattle.cache_parts.proofs.Items.{value_at-part}
 use Rattle.cache_parts.proofs.Joining.{Knows, fits_held}
 use Rattle.cache_parts.proofs.Judging.{Judges, judged}

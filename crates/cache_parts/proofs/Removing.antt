@@ -37,8 +37,8 @@ use Rattle.cache_values.proofs.Held.{key_from_some, absent-without, apart-withou
 use Rattle.cache_values.proofs.Corresponding.{value_at-map, value_at-without, left}
 use Rattle.cache_values.proofs.Truth.{first_of-map, without-map, deleted_truly}
 use Rattle.engine_laws.specs.Just.{IsJust}
-use Rattle.cache_parts.specs.Parts.{Stored, Part, service_answers, cause_of, note_from, held_of, items_of, with_part, AreMarked, Stands}
-use Rattle.cache_parts.proofs.Accepting.{drained, with_part-twice, all-untold}
+use Rattle.cache_parts.specs.Parts.{Stored, Part, service_answers, cause_of, note_from, held_of, items_of, with_part, AreMarked, Stands, drained}
+use Rattle.cache_parts.proofs.Accepting.{with_part-twice, all-untold}
 use Rattle.cache_parts.proofs.Items.{ArePlaced, AreParted, value_at-part, apart-of, corresponds_from}
 use Rattle.cache_parts.proofs.Joining.{Knows, stands_for, dead_from, marked_from}
 use Rattle.cache_parts.proofs.Judging.{Judges, judged}

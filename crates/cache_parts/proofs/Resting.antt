@@ -24,9 +24,9 @@ use Rattle.cache_values.specs.Held.{value_at, is_absent, are_apart, plain, Corre
 use Rattle.cache_values.proofs.Keys.{same-refl, equal_from_same}
 use Rattle.cache_values.proofs.Held.{none_from_absent}
 use Rattle.cache_values.proofs.Weights.{over_is}
-use Rattle.cache_parts.specs.Parts.{Part, service_answers, settings_of, nanos, held_of, items_of}
+use Rattle.cache_parts.specs.Parts.{Part, service_answers, settings_of, nanos, held_of, items_of, IsBrief}
 use Rattle.cache_parts.proofs.Items.{AreParted, value_at-part, apart-of, weight-part}
-use Rattle.cache_parts.proofs.Judging.{IsBrief, end_is, reached_is}
+use Rattle.cache_parts.proofs.Judging.{end_is, reached_is}
 use Rattle.cache_parts.proofs.Telling.{Kept}
 use Rattle.cache_parts.proofs.Writing.{Rec}
 

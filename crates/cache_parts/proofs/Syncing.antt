@@ -22,8 +22,8 @@ use Rattle.cache_values.proofs.Keys.{equal_from_same}
 use Rattle.cache_values.proofs.Held.{apart-without}
 use Rattle.cache_values.proofs.Corresponding.{corresponds-left, apart-left, value_at-without, left, left-append}
 use Rattle.engine_laws.specs.Just.{IsJust}
-use Rattle.cache_parts.specs.Parts.{Part, service_answers, note_from, held_of, items_in, items_of, Stands}
-use Rattle.cache_parts.proofs.Accepting.{drained, all-untold}
+use Rattle.cache_parts.specs.Parts.{Part, service_answers, note_from, held_of, items_in, items_of, Stands, drained}
+use Rattle.cache_parts.proofs.Accepting.{all-untold}
 use Rattle.cache_parts.proofs.Items.{ArePlaced, AreParted, value_at-part, value_at-both, not_here, apart-of, corresponds_from}
 use Rattle.cache_parts.proofs.Joining.{Knows, fits_held}
 use Rattle.cache_parts.proofs.Judging.{Judges, judged}

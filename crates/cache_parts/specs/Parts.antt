@@ -1,9 +1,8 @@
 -- A part of the service's cache, and which values are held where there are these parts.
-use Rattle.std.specs.Prelude.{◌≡◌, ℕ, suc, zero, ◌+◌, ◌*◌, ◌<◌, ◌≤◌, ◌^◌, ◌&&◌, ◌||◌, ◌==◌, nat_eq, nat_le, Bool, true, false, List, [], ◌∷◌, ◌++◌, map, length, take, reverse, Option, option_map, Some, None, is_none, IsTrue, slice_get}
-use Rattle.std.specs.List.{starts_with, filter_map}
-use Rattle.std.specs.Option.{option_map_or}
+use Rattle.std.specs.Prelude.{◌≡◌, ℕ, suc, zero, ◌+◌, ◌*◌, ◌≤◌, ◌||◌, nat_eq, true, false, List, [], ◌∷◌, ◌++◌, map, length, Option, option_map, Some, None, is_none, IsTrue, slice_get}
+use Rattle.std.specs.List.{starts_with}
 use Rattle.audit_model.specs.Bytewise.{same}
-use Rattle.audit_model.specs.History.{Value, weight_of, share, part_count}
+use Rattle.audit_model.specs.History.{Value, weight_of, share}
 use Rattle.audit_model.specs.Situation.{HeldValue}
 use Rattle.audit_model.specs.declared.config.Config.{Config}
 use Rattle.audit_model.specs.declared.config.Weight.{Weight}
@@ -18,17 +17,15 @@ use Rattle.engine_rules.specs.declared.settings.EvictionPolicy.{EvictionPolicy}
 use Rattle.engine_rules.specs.declared.settings.EvictionPolicy.TheVariants.{TinyLfu, Lru}
 use Rattle.engine_reference.specs.declared.data.Entry.{Entry}
 use Rattle.engine_reference.specs.declared.data.Record.{Record}
-use Rattle.engine_reference.specs.declared.data.Registered.{Registered}
+use Rattle.engine_reference.specs.declared.data.Write.{Write}
+use Rattle.engine_reference.specs.declared.data.Write.TheVariants.{Put, Removed}
 use Rattle.engine_reference.specs.declared.data.Notice.{Notice}
 use Rattle.engine_reference.specs.declared.data.Settings.{Settings}
-use Rattle.engine_reference.specs.Calls.{first_entry, written, sent, removed_by, removal_told, with_room, MaintainsIfDue, LooksUp}
-use Rattle.engine_reference.specs.Records.{record_at, held_at, held_entries, held_weight}
-use Rattle.engine_reference.specs.Runs.{RunsToEnd}
-use Rattle.engine_reference.specs.Soundness.{Each}
+use Rattle.engine_reference.specs.Calls.{first_entry, written, sent, removed_by, removal_told, with_room}
+use Rattle.engine_reference.specs.Records.{record_at, held_at, held_entries}
 use Rattle.engine_reference.specs.State.{State, Answers}
-use Rattle.engine_reference.specs.Telling.{AreApart}
 use Rattle.engine_reference.specs.Visible.{is_covered}
-use Rattle.engine_laws.specs.Points.{IsInOrder, HasPoint}
+use Rattle.engine_laws.specs.Points.{HasPoint}
 use Rattle.cache_values.specs.Held.{value_at, Corresponds}
 use Rattle.cache_store.specs.Promises.{Frame}
 
@@ -86,6 +83,21 @@ note_of why e = record { cause = cause_of why; key = e.key; value = e.value.byte
 abbrev pub note_from : Notice (List ℕ) Stored → Note
 note_from n = record { cause = cause_of n.cause; key = n.key; value = n.value.bytes }
 
+-- times that a configuration may have
+pub record IsBrief (config : Config) : Type 0 where
+  pub live : (ms : ℕ) → config.live_ms ≡ Some ms → ms ≤ 999999999999
+  pub idle : (ms : ℕ) → config.idle_ms ≡ Some ms → ms ≤ 999999999999
+
+-- what a write adds at most
+abbrev pub write_weight : Write → ℕ
+write_weight (Put u) = u.weight
+write_weight (Removed number) = 0
+
+-- each write is of at most so much
+abbrev pub AreLight : ℕ → List Write → Type 0
+AreLight most [] = Unit {0}
+AreLight most (w ∷ ws) = (write_weight w ≤ most) × AreLight most ws
+
 -- an entry is as the service wrote it
 pub record IsProper (frame : Frame) (part step : ℕ) (e : Entry (List ℕ) Stored) : Type 0 where
   pub placed : frame.part_of e.key ≡ part
@@ -120,6 +132,10 @@ module _ {S : Type 0} where
       (owner : Record (List ℕ) Stored) → record_at s.records owner.number ≡ Some owner → owner.is_held ≡ true
       → HasPoint s.settings.capacity s.writes (map (λ u. u.write) s.unsent) owner.number
       → (h : HeldValue) → value_at held owner.entry.key ≡ Some h → h.evictable ≡ true
+
+  -- the part when its notices were taken
+  abbrev pub drained : Part S → Part S
+  drained s = record s { notices = [] }
 
   -- the parts with another in the place of one
   abbrev pub with_part : ℕ → Part S → List (Part S) → List (Part S)

@@ -9,7 +9,6 @@ use Rattle.cache_store.specs.Promises.{Frame}
 use Rattle.engine_reference.specs.declared.data.Notice.{Notice}
 use Rattle.engine_reference.specs.declared.data.Record.{Record}
 use Rattle.engine_reference.specs.declared.data.Registered.{Registered}
-use Rattle.engine_reference.specs.declared.data.Settings.{Settings}
 use Rattle.engine_reference.specs.Calls.{with_removed, written, sent, with_read, with_room, cleared_by, with_predicate, IsNew, MaintainsIfDue}
 use Rattle.engine_reference.specs.Laws.{CallsStaySound}
 use Rattle.engine_reference.specs.Records.{held_at}
@@ -26,9 +25,7 @@ use Rattle.front_reference.specs.Keeping.{Common, IsKept}
 use Rattle.front_reference.specs.Parts.{Inserts, TakesOut, inserted, taken_out, takes_nothing}
 use Rattle.front_laws.specs.Laws.{CallsKeep}
 use Rattle.front_laws.proofs.Kept.{calls_keep}
-use Rattle.cache_parts.specs.Parts.{Part, Stored, service_answers, settings_of}
-use Rattle.cache_parts.proofs.Accepting.{drained}
-use Rattle.cache_parts.proofs.Bounding.{AreLight}
+use Rattle.cache_parts.specs.Parts.{Part, Stored, service_answers, settings_of, drained, AreLight}
 use Rattle.cache_parts.proofs.Writing.{same_laws}
 use Rattle.cache_parts_kept.specs.Keeping.{at_moment, common_by, belongs_to, IsProperRecord, IsOwn, IsKeptPart, IsAcceptable}
 use Rattle.cache_parts_kept.proofs.Owning.{own-later, own-drained, own-run, own-maintained, own-read, own-put, own-room, own-taken_out}

@@ -21,9 +21,7 @@ use Rattle.engine_reference.proofs.SoundCalls.{each-push}
 use Rattle.engine_reference.proofs.TellingSteps.{run_tells}
 use Rattle.engine_laws.proofs.Swept.{sent-one, each-run}
 use Rattle.front_reference.specs.Parts.{taken_out}
-use Rattle.cache_parts.specs.Parts.{Part, Stored, IsProper, service_answers, nanos}
-use Rattle.cache_parts.proofs.Accepting.{drained}
-use Rattle.cache_parts.proofs.Bounding.{AreLight}
+use Rattle.cache_parts.specs.Parts.{Part, Stored, IsProper, service_answers, nanos, drained, AreLight}
 use Rattle.cache_parts_kept.specs.Keeping.{at_moment, IsProperRecord, IsOwn, IsAcceptable}
 use Rattle.cache_parts_kept.proofs.Predicates.{run-predicates, none_left}
 

@@ -27,8 +27,7 @@ use Rattle.engine_reference.specs.Soundness.{Each}
 use Rattle.engine_reference.specs.Telling.{entry_of, AreApart}
 use Rattle.front_reference.specs.Fronts.{CallsEach}
 use Rattle.front_reference.specs.Parts.{takes_nothing}
-use Rattle.cache_parts.specs.Parts.{Part, Stored, IsProper, service_answers, settings_of, with_part, items_of, AreMarked, put, put_entry, nanos}
-use Rattle.cache_parts.proofs.Accepting.{drained}
+use Rattle.cache_parts.specs.Parts.{Part, Stored, IsProper, service_answers, settings_of, with_part, items_of, AreMarked, put, put_entry, nanos, drained, IsBrief}
 use Rattle.cache_parts.proofs.Bounding.{held_at_most, weigh}
 use Rattle.cache_parts.proofs.Counting.{IsSent, number_is, weight_is}
 use Rattle.cache_parts.proofs.Resting.{IsRested}
@@ -39,13 +38,12 @@ use Rattle.cache_parts.proofs.Joining.{Knows, IsNewValue, entry_of-key}
 use Rattle.cache_parts.proofs.Facts.{own_is, fresh_is}
 use Rattle.cache_parts.proofs.Writing.{wrote}
 use Rattle.front_reference.specs.Wholes.{DrawAll, registered_in}
-use Rattle.cache_parts.proofs.Judging.{IsBrief}
 use Rattle.cache_parts.proofs.Swapping.{decides, with_part-there, with_part-other}
 use Rattle.cache_parts.proofs.Telling.{Kept}
 use Rattle.cache_parts_kept.specs.Keeping.{at_moment, common_by, belongs_to, IsProperRecord, IsKeptPart, AreKeptParts, IsAcceptable}
 use Rattle.cache_parts_kept.specs.Calling.{Comes, CoversIn, RunsDrained, LookUpKeeps, AcceptKeeps, RemoveKeeps, RunAllKeeps, ClearKeeps, CoverKeeps, NewIsKept, CallsKeepParts, KeptIsEnough}
 use Rattle.cache_parts_kept.proofs.Owning.{weighs-little}
-use Rattle.cache_parts_kept.proofs.Keeping.{kept-later, kept-maintained, kept-looked_up, kept-accepted, kept-removed, kept-ran, kept-cleared, kept-covered, kept-new}
+use Rattle.cache_parts_kept.proofs.Keeping.{kept-later, kept-looked_up, kept-accepted, kept-removed, kept-ran, kept-cleared, kept-covered, kept-new}
 
 -- a share of what is more than nothing is more than nothing
 share-positive : (capacity parts : ℕ) → 0 < capacity → 0 < parts → (capacity + (parts - 1)) / parts ≡ 0 → ⊥

@@ -15,14 +15,12 @@ use Rattle.engine_reference.specs.Scanning.{NotesLookUp}
 use Rattle.front_reference.specs.Fronts.{CallsEach}
 use Rattle.front_reference.specs.Parts.{Inserts, TakesOut}
 use Rattle.cache_values.specs.Held.{Corresponds}
-use Rattle.cache_parts.specs.Parts.{Part, Stored, service_answers, settings_of, with_part, items_of, AreMarked, Stands, put, put_entry}
+use Rattle.cache_parts.specs.Parts.{Part, Stored, service_answers, settings_of, with_part, items_of, AreMarked, Stands, put, put_entry, drained, IsBrief}
 use Rattle.cache_parts.specs.Recent.{ArePartsOf}
-use Rattle.cache_parts.proofs.Accepting.{drained}
 use Rattle.cache_parts.proofs.Bounding.{IsLean}
 use Rattle.cache_parts.proofs.Counting.{IsSent}
 use Rattle.cache_parts.proofs.Items.{AreParted}
 use Rattle.cache_parts.proofs.Joining.{Knows, IsNewValue}
-use Rattle.cache_parts.proofs.Judging.{IsBrief}
 use Rattle.cache_parts.proofs.Resting.{IsRested}
 use Rattle.cache_parts.proofs.Running.{Maintained}
 use Rattle.cache_parts.proofs.Syncing.{EachPart, IsReady}

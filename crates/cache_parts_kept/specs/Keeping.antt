@@ -8,10 +8,8 @@ use Rattle.engine_reference.specs.declared.data.Record.{Record}
 use Rattle.engine_reference.specs.Soundness.{Each}
 use Rattle.audit_model.specs.declared.config.Weight.{Weight}
 use Rattle.front_reference.specs.Keeping.{Common, IsKept}
-use Rattle.cache_parts.specs.Parts.{Part, Stored, IsProper, settings_of}
+use Rattle.cache_parts.specs.Parts.{Part, Stored, IsProper, settings_of, AreLight, IsBrief}
 use Rattle.cache_parts.specs.Recent.{IsFresh}
-use Rattle.cache_parts.proofs.Bounding.{AreLight}
-use Rattle.cache_parts.proofs.Judging.{IsBrief}
 
 -- the frame at a later moment
 abbrev pub at_moment : Frame → ℕ → Frame

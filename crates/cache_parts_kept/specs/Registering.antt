@@ -1,10 +1,10 @@
 -- Which identifiers are registered in each part: those of 16 bytes that say the number of a predicate.
-use Rattle.std.specs.Prelude.{◌≡◌, ℕ, suc, ◌<◌, ◌==◌, ◌&&◌, nat_lt, Bool, true, false, List, [], ◌∷◌, length, Some, slice_get}
+use Rattle.std.specs.Prelude.{◌≡◌, ℕ, ◌==◌, ◌&&◌, nat_lt, Bool, true, false, List, [], length, Some, slice_get}
 use Rattle.std.specs.Int.{from_be_bytes, w128}
 use Rattle.std.specs.List.{list_all}
 use Rattle.std.specs.Option.{option_map_or}
 use Rattle.rand_core.specs.Stream.{Stream}
-use Rattle.cache_store.specs.Identifiers.{Register, identifier_at, KeepsIdentifiers, Registers, DrawsAlone, AreUsedUp}
+use Rattle.cache_store.specs.Identifiers.{Register, KeepsIdentifiers, Registers, DrawsAlone, AreUsedUp}
 use Rattle.engine_reference.specs.declared.data.Registered.{Registered}
 use Rattle.engine_identifiers.specs.Drawing.{is_registered}
 use Rattle.front_reference.specs.Wholes.{DrawAll, DrawsInVain, registered_in}

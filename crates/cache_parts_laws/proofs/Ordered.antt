@@ -20,9 +20,8 @@ use Rattle.engine_reference.proofs.Accounts.{each-map}
 use Rattle.engine_reference.proofs.StayingVisible.{entry_of-there}
 use Rattle.cache_values.specs.Held.{plain}
 use Rattle.cache_values.proofs.Corresponding.{permutation}
-use Rattle.cache_parts.specs.Parts.{Part, IsProper, service_answers, policy_of, items_of, items_in, held_of, with_part, put, taken_out, nanos}
+use Rattle.cache_parts.specs.Parts.{Part, IsProper, service_answers, policy_of, items_of, items_in, held_of, with_part, put, taken_out, nanos, drained}
 use Rattle.cache_parts.specs.Recent.{IsLasting, IsPlain, IsRecent, IsFresh, IsPartOf, MovesRecency}
-use Rattle.cache_parts.proofs.Accepting.{drained}
 use Rattle.cache_parts.proofs.Items.{ArePlaced, AreParted, apart-of}
 use Rattle.cache_parts.proofs.Joining.{entry_of-key}
 use Rattle.cache_parts.proofs.Pending.{run-front}

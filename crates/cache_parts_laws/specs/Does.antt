@@ -16,14 +16,12 @@ use Rattle.engine_laws.specs.Points.{IsInOrder}
 use Rattle.cache_store.specs.Promises.{Done, using, accepting, deleting, covering, syncing}
 use Rattle.cache_store.specs.Handing.{TellsNone}
 use Rattle.cache_store.specs.Running.{is_timely, is_bounded}
-use Rattle.cache_parts.specs.Parts.{Part, Stored, note_from, with_part, put, put_entry, Stands, settings_of}
-use Rattle.cache_parts.proofs.Accepting.{drained}
+use Rattle.cache_parts.specs.Parts.{Part, Stored, note_from, with_part, put, put_entry, Stands, settings_of, drained, IsBrief}
 use Rattle.cache_parts.proofs.Bounding.{IsLean}
 use Rattle.cache_parts.proofs.Counting.{IsSent, CountsAreTold}
 use Rattle.cache_parts.proofs.Covering.{AllCover}
 use Rattle.cache_parts.proofs.Items.{AreParted}
 use Rattle.cache_parts.proofs.Joining.{Knows, IsNewValue}
-use Rattle.cache_parts.proofs.Judging.{IsBrief}
 use Rattle.cache_parts.proofs.Looking.{read}
 use Rattle.cache_parts.proofs.Removing.{removed}
 use Rattle.cache_parts.proofs.Resting.{IsRested}

@@ -11,9 +11,8 @@ use Rattle.cache_store.specs.Recency.{IsPlainLru, AreKeysOf, put_first, used_fir
 use Rattle.engine_reference.specs.declared.data.Settings.{Settings}
 use Rattle.engine_reference.specs.Calls.{with_read, IsNew}
 use Rattle.engine_reference.specs.Visible.{visible_record}
-use Rattle.cache_parts.specs.Parts.{Part, Stored, Stands, service_answers, with_part, put, taken_out}
+use Rattle.cache_parts.specs.Parts.{Part, Stored, Stands, service_answers, with_part, put, taken_out, drained}
 use Rattle.cache_parts.specs.Recent.{IsPartOf, ArePartsOf, IsRecentOver, MovesRecency}
-use Rattle.cache_parts.proofs.Accepting.{drained}
 use Rattle.cache_parts.proofs.Running.{Maintained}
 use Rattle.cache_parts.proofs.Syncing.{AllRan}
 

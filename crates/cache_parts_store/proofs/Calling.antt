@@ -1,5 +1,5 @@
 -- The calls that come to one part: what is seen, used, accepted and removed.
-use Rattle.std.proofs.Common.{◌≡◌, refl, ap, ◌∙◌, sym, subst, ℕ, suc, ◌+◌, ◌≤◌, ◌<◌, ◌^◌, max, arith, Bool, true, false, ◌||◌, List, [], ◌∷◌, ◌++◌, map, length, Option, option_map, Some, None, is_none, slice_get, slice_set, if◌then◌else◌}
+use Rattle.std.proofs.Common.{◌≡◌, refl, ap, ◌∙◌, sym, subst, ℕ, ◌+◌, ◌≤◌, ◌<◌, ◌^◌, max, arith, Bool, true, false, ◌||◌, List, [], ◌++◌, map, length, Option, option_map, Some, None, is_none, slice_get, slice_set, if◌then◌else◌}
 use Rattle.std.specs.Prelude.{IfSome, IsSome, IsTrue, MatchOption}
 use Rattle.std.proofs.lemmas.Bool.{both_ways}
 use Rattle.std.proofs.lemmas.Option.{none-some}
@@ -21,7 +21,7 @@ use Rattle.engine_reference.specs.Visible.{visible, visible_record}
 use Rattle.engine_reference.proofs.SoundSteps.{runs_stay_sound}
 use Rattle.engine_identifiers.specs.Drawing.{is_registered}
 use Rattle.front_reference.specs.Parts.{Inserts, TakesOut, taken_out as taken_out_whole, takes_nothing}
-use Rattle.cache_parts.proofs.Accepting.{drained}
+use Rattle.cache_parts.specs.Parts.{drained, Part, Stands, Stored, items_of, note_from, put, service_answers, with_part}
 use Rattle.cache_parts.proofs.Facts.{live_value_is}
 use Rattle.cache_parts.proofs.Moving.{taking}
 use Rattle.cache_parts.proofs.Removing.{removed}
@@ -29,12 +29,11 @@ use Rattle.cache_parts.proofs.Running.{Maintained, idle, ran, ran_from}
 use Rattle.cache_parts.proofs.Swapping.{decides, with_part-other, with_part-there}
 use Rattle.cache_parts.proofs.Telling.{Kept}
 use Rattle.cache_parts.proofs.Writing.{Rec}
-use Rattle.cache_parts.specs.Parts.{Part, Stands, Stored, items_of, note_from, put, service_answers, settings_of, taken_out, with_part}
 use Rattle.cache_parts.specs.Recent.{IsRecentOver}
 use Rattle.cache_parts_laws.proofs.Lawful.{accepts, looks, misses, removes}
 use Rattle.cache_parts_laws.proofs.Ordered.{recency_clauses}
 use Rattle.cache_parts_kept.specs.Calling.{Comes}
-use Rattle.cache_parts_kept.specs.Keeping.{AreKeptParts, IsKeptPart, at_moment, IsAcceptable as IsAcceptableIn}
+use Rattle.cache_parts_kept.specs.Keeping.{IsKeptPart, at_moment, IsAcceptable as IsAcceptableIn}
 use Rattle.cache_parts_kept.specs.Registering.{HasNoMore, register_of}
 use Rattle.cache_parts_kept.proofs.Identifying.{identifier_clauses}
 use Rattle.cache_parts_kept.proofs.Storing.{calls_keep_parts, kept_is_enough, takes_values}

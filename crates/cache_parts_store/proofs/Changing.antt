@@ -1,30 +1,24 @@
 -- The parts where a call changed one of them, or all: what was told is taken from them, and which ticket comes.
-use Rattle.std.proofs.Common.{◌≡◌, refl, ap, ◌∙◌, sym, subst, ℕ, zero, suc, ◌+◌, ◌≤◌, max, arith, Bool, true, false, List, [], ◌∷◌, ◌++◌, map, length, append-nil, Option, Some, None, slice_get, slice_set}
-use Rattle.std.specs.Prelude.{MatchOption, MatchBool, drop}
+use Rattle.std.proofs.Common.{◌≡◌, refl, ap, ◌∙◌, sym, subst, ℕ, zero, suc, ◌+◌, ◌≤◌, max, arith, List, [], ◌∷◌, ◌++◌, map, length, append-nil, Option, Some, None, slice_get, slice_set}
+use Rattle.std.specs.Prelude.{drop}
 use Rattle.std.specs.List.{sum_by}
 use Rattle.std.proofs.lemmas.List.Sums.{sum_by-cons}
 use Rattle.std.proofs.lemmas.Option.{none-some}
 use Rattle.audit_model.specs.Bytewise.{same}
-use Rattle.audit_model.specs.declared.transcript.Note.{Note}
 use Rattle.engine_reference.specs.declared.data.Notice.{Notice}
 use Rattle.engine_reference.specs.declared.data.Write.{Write}
-use Rattle.engine_reference.specs.Calls.{MaintainsIfDue, cleared_by, removal_told, sent, unsent_at, with_predicate, with_read, with_removed, with_room, with_sent, with_written, without_notice, written}
-use Rattle.engine_reference.specs.Laws.{rest_of}
+use Rattle.engine_reference.specs.Calls.{removal_told, sent, unsent_at, with_read, with_removed, with_room, with_sent, with_written, without_notice, written}
 use Rattle.engine_reference.specs.Records.{held_at}
 use Rattle.engine_reference.specs.Runs.{RunsToEnd}
-use Rattle.engine_reference.specs.Scanning.{NotesLookUp}
-use Rattle.engine_reference.specs.Visible.{visible_record}
 use Rattle.engine_reference.proofs.RestKept.{run-rest}
-use Rattle.front_reference.specs.Fronts.{CallsAt, CallsEach}
 use Rattle.front_reference.specs.Wholes.{first_or, next_told, taken_or, without_told}
 use Rattle.front_reference.specs.Parts.{taken_out}
-use Rattle.cache_parts.specs.Parts.{Part, Stored, note_from, put, service_answers, with_part}
-use Rattle.cache_parts.proofs.Accepting.{drained}
+use Rattle.cache_parts.specs.Parts.{Part, Stored, note_from, put, service_answers, with_part, drained}
 use Rattle.cache_parts.proofs.Removing.{removed}
 use Rattle.cache_parts.proofs.Running.{Maintained, idle, ran}
 use Rattle.cache_parts.proofs.Syncing.{AllRan, none, next}
 use Rattle.cache_parts.proofs.Writing.{Rec}
-use Rattle.cache_parts_store.specs.View.{StoreOfParts, all_drained, greatest_ticket, waiting}
+use Rattle.cache_parts_store.specs.View.{all_drained, greatest_ticket, waiting}
 
 module _ {S : Type 0} where
   -- no notice waits in any of them

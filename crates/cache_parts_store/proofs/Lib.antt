@@ -3,3 +3,4 @@ pub mod Standing
 pub mod Calling
 pub mod Covering
 pub mod Settling
+pub mod Listing

@@ -1,22 +1,17 @@
 -- A run of all parts, and what is so of every store of parts.
-use Rattle.std.proofs.Common.{◌≡◌, refl, ap, ◌∙◌, sym, subst, ℕ, zero, suc, ◌+◌, ◌*◌, ◌≤◌, ◌<◌, ◌^◌, max, min, arith, Bool, true, false, List, [], ◌∷◌, ◌++◌, map, length, Some, slice_get}
-use Rattle.std.specs.List.{list_all, sum_by}
-use Rattle.std.proofs.lemmas.Option.{none-some}
-use Rattle.audit_model.specs.Notes.{is_within}
+use Rattle.std.proofs.Common.{◌≡◌, refl, ap, ◌∙◌, sym, subst, ℕ, ◌+◌, ◌≤◌, ◌^◌, arith, List, [], ◌++◌, length, Some, slice_get}
+use Rattle.std.specs.List.{sum_by}
 use Rattle.audit_model.specs.Situation.{HeldValue}
-use Rattle.audit_model.specs.declared.transcript.Note.{Note}
 use Rattle.cache_store.specs.Handing.{AppendsNotes}
 use Rattle.cache_store.specs.Promises.{Done, syncing}
-use Rattle.cache_store.specs.Running.{is_timely}
 use Rattle.cache_store.specs.Values.{Does, IsSettled}
 use Rattle.engine_identifiers.specs.Drawing.{is_registered}
 use Rattle.front_reference.specs.Fronts.{CallsEach}
 use Rattle.front_reference.specs.Wholes.{RunsPart}
-use Rattle.cache_parts.proofs.Accepting.{drained}
+use Rattle.cache_parts.specs.Parts.{drained, Part, Stands, service_answers, settings_of}
 use Rattle.cache_parts.proofs.Counting.{CountsAreTold}
 use Rattle.cache_parts.proofs.Idling.{idle_does}
 use Rattle.cache_parts.proofs.Syncing.{AllRan}
-use Rattle.cache_parts.specs.Parts.{Part, Stands, items_of, service_answers, settings_of}
 use Rattle.cache_parts_laws.proofs.Lawful.{runs_all, sums, within}
 use Rattle.cache_parts_laws.proofs.Ordered.{none-yet, recency_clauses}
 use Rattle.cache_parts_kept.specs.Calling.{Comes, RunsDrained}

@@ -1,5 +1,5 @@
 -- The parts stand for a list of values, each of which may be evicted; and after a call for at most as many as before it, and one more.
-use Rattle.std.proofs.Common.{◌≡◌, refl, ap, ◌∙◌, sym, subst, ℕ, zero, suc, ◌+◌, ◌≤◌, arith, true, List, [], ◌∷◌, ◌++◌, map, length, Option, option_map, Some, None, slice_get}
+use Rattle.std.proofs.Common.{◌≡◌, refl, ap, ◌∙◌, sym, ℕ, suc, ◌+◌, ◌≤◌, arith, true, List, [], ◌∷◌, ◌++◌, map, length, Option, option_map, Some, None, slice_get}
 use Rattle.std.specs.Prelude.{option_to_list}
 use Rattle.std.proofs.lemmas.List.{length-append, length-map}
 use Rattle.std.proofs.lemmas.Option.{none-some}

@@ -1,25 +1,26 @@
 -- That the calls of a store over parts do what `Store` says: one statement for each call, from what the front's call does to the parts.
-use Rattle.std.specs.Prelude.{◌≡◌, ◌^◌, ◌+◌, ◌≤◌, ◌<◌, ℕ, suc, min, Bool, true, false, List, [], ◌∷◌, map, length, Option, Some, None, slice_get}
+use Rattle.std.specs.Prelude.{◌≡◌, ◌^◌, ◌+◌, ◌≤◌, ◌<◌, ℕ, suc, min, Bool, true, false, List, [], ◌∷◌, length, Option, Some, None, is_some, slice_get}
 use Rattle.std.specs.List.{sum_by}
 use Rattle.std.specs.Option.{option_map}
 use Rattle.rand_core.specs.Stream.{Stream}
 use Rattle.audit_model.specs.Bytewise.{same}
 use Rattle.audit_model.specs.Commands.{Everything, Prefixed}
 use Rattle.audit_model.specs.History.{part_count}
+use Rattle.audit_model.specs.Values.{sorted}
 use Rattle.audit_model.specs.declared.transcript.Note.{Note}
 use Rattle.cache_store.specs.Handing.{TakesFirstNote}
 use Rattle.cache_store.specs.Promises.{covering, deleting, syncing, using}
-use Rattle.cache_store.specs.Values.{AcceptsValue, Does, GivesNote, IsAcceptable, IsLive, IsMoment, IsSettled, IsSoundStore, IsSpent, LacksIdentifiers}
+use Rattle.cache_store.specs.Values.{AcceptsValue, Does, AreLive, GivesNote, IsAcceptable, IsLive, IsSettled, IsSoundStore, IsSpent, LacksIdentifiers}
 use Rattle.engine_reference.specs.declared.data.Notice.{Notice}
 use Rattle.engine_reference.specs.Calls.{cleared_by, IsNew}
 use Rattle.engine_reference.specs.Scanning.{NotesLookUp}
-use Rattle.engine_reference.specs.Visible.{visible_value}
+use Rattle.engine_reference.specs.Visible.{visible, visible_value}
 use Rattle.front_reference.specs.Fronts.{CallsAt, CallsEach}
 use Rattle.front_reference.specs.Parts.{Inserts, TakesOut}
 use Rattle.front_reference.specs.Wholes.{DrawAll, DrawsInVain, RunsPart, next_told, registered_in, without_told}
-use Rattle.cache_parts.specs.Parts.{Part, Stored, items_of, note_from, service_answers, settings_of}
+use Rattle.cache_values.specs.Among.{are_distinct, is_among}
+use Rattle.cache_parts.specs.Parts.{Part, Stored, items_of, note_from, service_answers, settings_of, IsBrief}
 use Rattle.cache_parts.specs.Recent.{IsRecentOver}
-use Rattle.cache_parts.proofs.Judging.{IsBrief}
 use Rattle.cache_parts_store.specs.View.{ComesTo, IsWhole, StoreOfParts, after, all_drained, passed, view, waiting}
 
 -- what is kept of a value
@@ -32,6 +33,13 @@ module _ (S : Type 0) where
   PeekMeets =
       (a : StoreOfParts S) (now : ℕ) (key : List ℕ) (s : Part S) → IsWhole a → slice_get a.parts (a.frame.part_of key) ≡ Some s
       → IsLive (view a) now key (option_map (λ value. value.bytes) (visible_value service_answers same s now key))
+
+  -- `count_live`, `write_live_keys`: of keys that are each there once, just those of which something is visible are the live keys, once in byte order
+  abbrev pub LiveKeysMeet : Type 0
+  LiveKeysMeet =
+      (a : StoreOfParts S) (now : ℕ) (keys : List (List ℕ)) → IsWhole a → are_distinct keys ≡ true
+      → ((key : List ℕ) (s : Part S) → slice_get a.parts (a.frame.part_of key) ≡ Some s → is_among key keys ≡ is_some (visible service_answers same s now key))
+      → AreLive (view a) now (λ live. live ≡ sorted keys)
 
   -- `touch`: a look-up, which is a use of what is visible
   abbrev pub TouchMeets : Type 0

@@ -1,12 +1,11 @@
 -- A store over the parts of a cache, and what it shows.
-use Rattle.std.specs.Prelude.{◌≡◌, ℕ, suc, ◌≤◌, ◌^◌, max, List, [], ◌∷◌, ◌++◌, map, length}
+use Rattle.std.specs.Prelude.{ℕ, suc, ◌≤◌, ◌^◌, max, List, [], ◌∷◌, ◌++◌, map, length}
 use Rattle.rand_core.specs.Stream.{Stream}
 use Rattle.audit_model.specs.declared.transcript.Note.{Note}
 use Rattle.cache_store.specs.Promises.{Frame}
 use Rattle.cache_store.specs.Values.{Values, IsMoment}
-use Rattle.cache_parts.specs.Parts.{Part, Stands, items_of, note_from}
+use Rattle.cache_parts.specs.Parts.{Part, Stands, items_of, note_from, drained}
 use Rattle.cache_parts.specs.Recent.{IsRecentOver}
-use Rattle.cache_parts.proofs.Accepting.{drained}
 use Rattle.cache_parts_kept.specs.Keeping.{AreKeptParts, at_moment}
 use Rattle.cache_parts_kept.specs.Registering.{register_of}
 

@@ -1,9 +1,14 @@
 //! Laws: what the front's calls do to the parts is what `Store` says of each call. Each function does nothing: its contract is the law.
-ghost use Rattle.cache_parts_store.specs.Meets.{AcceptMeets, ClearMeets, Drains, DropMeets, LacksMeets, NewMeets, NoticeMeets, PeekMeets, RemoveMeets, RunAllMeets, SoundMeets, TouchMeets, UsedUpMeets};
+ghost use Rattle.cache_parts_store.specs.Meets.{AcceptMeets, ClearMeets, Drains, DropMeets, LacksMeets, LiveKeysMeet, NewMeets, NoticeMeets, PeekMeets, RemoveMeets, RunAllMeets, SoundMeets, TouchMeets, UsedUpMeets};
 
 /// What is visible in a key's part is its live value.
 pub fn peek_meets<S>()
     ensures { PeekMeets S }
+{}
+
+/// The keys of which something is visible are the live keys.
+pub fn live_keys_meet<S>()
+    ensures { LiveKeysMeet S }
 {}
 
 /// A look-up is a `touch`.

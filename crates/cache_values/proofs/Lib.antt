@@ -5,3 +5,5 @@ pub mod Weights
 pub mod Truth
 pub mod Steps
 pub mod Live
+pub mod Sorting
+pub mod LiveKeys

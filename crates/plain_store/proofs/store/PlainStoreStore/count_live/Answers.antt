@@ -1,7 +1,7 @@
 use Rattle.std.proofs.Common.{length, filter, sym, ap, ◌∙◌}
 use Rattle.std.proofs.lemmas.List.{length-map}
 use Rattle.audit_model.specs.Situation.{HeldValue, is_live_at}
-use Rattle.plain_store.proofs.Sorting.{live_keys_are, length-sorted, keys_of_live}
+use Rattle.cache_values.proofs.Sorting.{live_keys_are, length-sorted, keys_of_live}
 use Rattle.plain_store.proofs.store.PlainStoreStore.count_live.Goals as goal
 
 pub returns : goal.returns

@@ -1,7 +1,8 @@
 use Rattle.std.proofs.Common.{◌++◌, map, sym, ap, ◌∙◌}
 use Rattle.std.specs.List.{concat}
 use Rattle.audit_model.specs.Bytewise.{text_line}
-use Rattle.plain_store.proofs.Sorting.{live_keys_are, on_ok}
+use Rattle.cache_values.proofs.Sorting.{live_keys_are}
+use Rattle.plain_store.proofs.Sorting.{on_ok}
 use Rattle.plain_store.proofs.store.PlainStoreStore.write_live_keys.Goals as goal
 
 pub returns-clause-written : goal.returns-clause-written
