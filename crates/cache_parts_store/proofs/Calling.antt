@@ -37,7 +37,7 @@ use Rattle.cache_parts_kept.specs.Keeping.{IsKeptPart, at_moment, IsAcceptable a
 use Rattle.cache_parts_kept.specs.Registering.{HasNoMore, register_of}
 use Rattle.cache_parts_kept.proofs.Identifying.{identifier_clauses}
 use Rattle.cache_parts_kept.proofs.Storing.{calls_keep_parts, kept_is_enough, takes_values}
-use Rattle.cache_parts_store.proofs.Changing.{AreTaken, DrawsTicket, all_drained-set, greatest-with, maintained-ticket, put-ticket, read-ticket, removal-is, removed-ticket, waiting-set}
+use Rattle.cache_parts_store.proofs.Changing.{AreTaken, DrawsTicket, all_drained-set, greatest-with, maintained-room, maintained-ticket, put-room, put-ticket, read-room, read-ticket, removal-is, removed-room, removed-ticket, unreserved-with, waiting-set}
 use Rattle.cache_parts_store.proofs.Standing.{no_more-after, one_more-after}
 use Rattle.cache_parts_store.specs.Meets.{AcceptMeets, PeekMeets, RemoveMeets, TouchMeets, stored}
 use Rattle.cache_parts_store.specs.View.{ComesTo, IsWhole, StoreOfParts, after, greatest_ticket, view, waiting}
@@ -98,7 +98,7 @@ peek {S} a now key s w there = λ held stands.
 
 touch-with : {S : Type 0} (a : StoreOfParts S) (w : IsWhole a) (now next hash : ℕ) (key : List ℕ) (s new : Part S) → ComesTo a now next → slice_get a.parts (a.frame.part_of key) ≡ Some s
     → NotesLookUp service_answers same key hash now false s new → Does now (using key) (view a) (view (changed a w now next (a.frame.part_of key) new)) × IsWhole (changed a w now next (a.frame.part_of key) new)
-touch-with {S} a w now next hash key s new at there look = (does, record { kept = calls_keep_parts.look_up a.frame a.step now next k a.parts s new key hash (comes a w now next at) w.kept there look; small = (let l = no_more-after a w now (using key) (changed a w now next k new) refl does in let small = w.small in omega (arith, l, small)) })
+touch-with {S} a w now next hash key s new at there look = (does, record { kept = calls_keep_parts.look_up a.frame a.step now next k a.parts s new key hash (comes a w now next at) w.kept there look; small = (let l = no_more-after a w now (using key) (changed a w now next k new) refl does in let small = w.small in omega (arith, l, small)); unreserved = unreserved-with k s new a.parts there w.unreserved room })
   where
     k : ℕ
     k = a.frame.part_of key
@@ -130,6 +130,9 @@ touch-with {S} a w now next hash key s new at there look = (does, record { kept 
     ticket =
         let e = ap (λ (x : Part S). x.next_ticket) look.reads ∙ read-ticket (visible_record service_answers same s now key) hash now look.mid ∙ maintained-ticket now s look.mid maintained in
         omega (arith, e)
+
+    room : new.reserved ≡ s.reserved
+    room = ap (λ (x : Part S). x.reserved) look.reads ∙ read-room (visible_record service_answers same s now key) hash now look.mid ∙ maintained-room now s look.mid maintained
 
     does : Does now (using key) (view a) (view (changed a w now next k new))
     does = record {
@@ -169,7 +172,7 @@ own-ms own (Some m) fits some = fits.1
 accept-with : {S : Type 0} (a : StoreOfParts S) (w : IsWhole a) (now next hash : ℕ) (key bytes : List ℕ) (ms : Option ℕ) (looked_up : Bool) (s new : Part S) → ComesTo a now next → IsAcceptable a.frame.config bytes ms → length (items_of 0 a.parts) < 2 ^ 50
     → slice_get a.parts (a.frame.part_of key) ≡ Some s → Inserts service_answers same key hash (stored bytes ms) now next s new
     → Does now (accepting (if looked_up then Some key else None) (value_for a.frame now key bytes ms)) (view a) (view (changed a w now next (a.frame.part_of key) new)) × IsWhole (changed a w now next (a.frame.part_of key) new)
-accept-with {S} a w now next hash key bytes ms looked_up s new at fits few there call = (does, record { kept = calls_keep_parts.accept a.frame a.step now next k a.parts s new key hash (stored bytes ms) (comes a w now next at) w.kept there fits.takes acceptable call; small = (let l = one_more-after a w now deed (changed a w now next k new) does in omega (arith, l, few)) })
+accept-with {S} a w now next hash key bytes ms looked_up s new at fits few there call = (does, record { kept = calls_keep_parts.accept a.frame a.step now next k a.parts s new key hash (stored bytes ms) (comes a w now next at) w.kept there fits.takes acceptable call; small = (let l = one_more-after a w now deed (changed a w now next k new) does in omega (arith, l, few)); unreserved = unreserved-with k s new a.parts there w.unreserved (maintained-room now t new maintained ∙ put-room key hash (stored bytes ms) now next s) })
   where
     k : ℕ
     k = a.frame.part_of key
@@ -227,7 +230,7 @@ accept {S} a now next hash key bytes ms looked_up parts w at fits few call =
 
 remove-with : {S : Type 0} (a : StoreOfParts S) (w : IsWhole a) (now next : ℕ) (key : List ℕ) (s new : Part S) → ComesTo a now next → slice_get a.parts (a.frame.part_of key) ≡ Some s → TakesOut service_answers same key now s new
     → Does now (deleting key) (view a) (view (changed a w now next (a.frame.part_of key) new)) × IsWhole (changed a w now next (a.frame.part_of key) new)
-remove-with {S} a w now next key s new at there call = (does, record { kept = calls_keep_parts.remove a.frame a.step now next k a.parts s new key (comes a w now next at) w.kept there call; small = (let l = no_more-after a w now (deleting key) (changed a w now next k new) refl does in let small = w.small in omega (arith, l, small)) })
+remove-with {S} a w now next key s new at there call = (does, record { kept = calls_keep_parts.remove a.frame a.step now next k a.parts s new key (comes a w now next at) w.kept there call; small = (let l = no_more-after a w now (deleting key) (changed a w now next k new) refl does in let small = w.small in omega (arith, l, small)); unreserved = unreserved-with k s new a.parts there w.unreserved (room (held_at same s.records key) call) })
   where
     k : ℕ
     k = a.frame.part_of key
@@ -249,6 +252,10 @@ remove-with {S} a w now next key s new at there call = (does, record { kept = ca
         go : (o : Option Rec) → held_at same s.records key ≡ o → Ends o → Done a.frame.config now (deleting key) held (Stands (with_part k (drained new) a.parts)) (λ notes. notes ≡ map note_from new.notices)
         go None e is = misses S a.frame.config a.frame.part_of a.frame.made now k s new a.parts held key (kept_is_enough.touches a.frame a.step now k a.parts s held w.kept there stands) refl e (idle is)
         go (Some r) e m = removes S a.frame.config a.frame.part_of a.frame.made now k s new a.parts held key r (kept_is_enough.touches a.frame a.step now k a.parts s held w.kept there stands) e (maintained_some r m)
+
+    room : (o : Option Rec) → Ends o → new.reserved ≡ s.reserved
+    room None is = ap (λ (x : Part S). x.reserved) is
+    room (Some r) m = maintained-room now (removed key now s r) new (maintained_some r m) ∙ removed-room key now s r
 
     ticket : (o : Option Rec) → Ends o → DrawsTicket s new
     ticket None is = let e = ap (λ (x : Part S). x.next_ticket) is in omega (arith, e)

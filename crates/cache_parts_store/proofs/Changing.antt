@@ -1,6 +1,6 @@
 -- The parts where a call changed one of them, or all: what was told is taken from them, and which ticket comes.
-use Rattle.std.proofs.Common.{◌≡◌, refl, ap, ◌∙◌, sym, subst, ℕ, zero, suc, ◌+◌, ◌≤◌, max, arith, List, [], ◌∷◌, ◌++◌, map, length, append-nil, Option, Some, None, slice_get, slice_set}
-use Rattle.std.specs.Prelude.{drop}
+use Rattle.std.proofs.Common.{◌≡◌, refl, ap, ◌∙◌, sym, subst, ℕ, zero, suc, ◌+◌, ◌≤◌, max, arith, List, [], ◌∷◌, ◌++◌, map, length, append-nil, Option, Some, None, slice_get, slice_set, Bool, true, false}
+use Rattle.std.specs.Prelude.{if◌then◌else◌, ◌-◌, drop}
 use Rattle.std.specs.List.{sum_by}
 use Rattle.std.proofs.lemmas.List.Sums.{sum_by-cons}
 use Rattle.std.proofs.lemmas.Option.{none-some}
@@ -16,9 +16,10 @@ use Rattle.front_reference.specs.Parts.{taken_out}
 use Rattle.cache_parts.specs.Parts.{Part, Stored, note_from, put, service_answers, with_part, drained}
 use Rattle.cache_parts.proofs.Removing.{removed}
 use Rattle.cache_parts.proofs.Running.{Maintained, idle, ran}
+use Rattle.cache_parts.proofs.Swapping.{decides, with_part-other, with_part-there}
 use Rattle.cache_parts.proofs.Syncing.{AllRan, none, next}
 use Rattle.cache_parts.proofs.Writing.{Rec}
-use Rattle.cache_parts_store.specs.View.{all_drained, greatest_ticket, waiting}
+use Rattle.cache_parts_store.specs.View.{AreUnreserved, all_drained, greatest_ticket, waiting}
 
 module _ {S : Type 0} where
   -- no notice waits in any of them
@@ -164,6 +165,51 @@ module _ {S : Type 0} where
   ticket_within [] k s there = absurd (none-some s there)
   ticket_within (x ∷ parts) zero s there = let is : x ≡ s = cc in let e = ap (λ (y : Part S). y.next_ticket) is in omega (arith, e)
   ticket_within (x ∷ parts) (suc k) s there = let l = ticket_within parts k s there in omega (arith, l)
+
+  -- ---- room
+
+  pub ran-room : (now : ℕ) (s t : Part S) → RunsToEnd service_answers now s t → t.reserved ≡ s.reserved
+  ran-room now s t run = ap (λ r. r.reserved) (run-rest service_answers now s t run.runs)
+
+  pub maintained-room : (now : ℕ) (s t : Part S) → Maintained now s t → t.reserved ≡ s.reserved
+  maintained-room now s t (idle is) = ap (λ (x : Part S). x.reserved) is
+  maintained-room now s t (ran run) = ran-room now s t run
+
+  sent-room : (ticket : ℕ) (t : Part S) → (sent ticket t).reserved ≡ t.reserved
+  sent-room ticket t = go (unsent_at t.unsent ticket)
+    where
+      go : (o : Option Write) → (with_sent ticket o t).reserved ≡ t.reserved
+      go None = refl
+      go (Some w) = refl
+
+  -- a write takes the room that was made for it
+  pub put-room : (key : List ℕ) (hash : ℕ) (value : Stored) (now step : ℕ) (s : Part S) → (put key hash value now step s).reserved ≡ s.reserved
+  put-room key hash value now step s = sent-room s.next_ticket (written service_answers same (with_room s) key hash value now step) ∙ go (held_at same s.records key)
+    where
+      go : (o : Option Rec) → (with_written service_answers o (with_room s) key hash value now step).reserved ≡ s.reserved
+      go None = omega arith
+      go (Some r) = omega arith
+
+  -- so does a removal's notice
+  pub removed-room : (key : List ℕ) (now : ℕ) (s : Part S) (r : Rec) → (removed key now s r).reserved ≡ s.reserved
+  removed-room key now s r = sent-room s.next_ticket (removal_told service_answers r.entry now (with_removed (Some r) s)) ∙ go s.settings.tells s.reserved
+    where
+      go : (b : Bool) (n : ℕ) → (if b then (if b then n + 1 else n) - 1 else (if b then n + 1 else n)) ≡ n
+      go true n = omega arith
+      go false n = refl
+
+  pub read-room : (o : Option Rec) (hash now : ℕ) (s : Part S) → (with_read service_answers o hash now s).reserved ≡ s.reserved
+  read-room None hash now s = refl
+  read-room (Some r) hash now s = refl
+
+  pub unreserved-with : (k : ℕ) (s new : Part S) (parts : List (Part S)) → slice_get parts k ≡ Some s → AreUnreserved parts → new.reserved ≡ s.reserved → AreUnreserved (with_part k (drained new) parts)
+  unreserved-with k s new parts there free keeps j x at = go (decides j k)
+    where
+      go : Dec (j ≡ k) → x.reserved ≡ 0
+      go (yes is) =
+          let both : Some (drained new) ≡ Some x = sym (with_part-there k (drained new) s parts there) ∙ ap (slice_get (with_part k (drained new) parts)) (sym is) ∙ at in
+          let one : drained new ≡ x = cc in sym (ap (λ (y : Part S). y.reserved) one) ∙ keeps ∙ free k s there
+      go (no other) = free j x (sym (with_part-other k j (drained new) parts other) ∙ at)
 
   -- ---- the front's removal is that of the laws
 

@@ -30,7 +30,7 @@ use Rattle.cache_parts_store.proofs.Calling.{comes, or-no}
 use Rattle.cache_parts_store.proofs.Changing.{greatest-same}
 use Rattle.cache_parts_store.proofs.Standing.{no_more-after, parted, parts_are}
 use Rattle.cache_parts_store.specs.Meets.{ClearMeets, DropMeets, LacksMeets}
-use Rattle.cache_parts_store.specs.View.{IsWhole, StoreOfParts, greatest_ticket, passed, view}
+use Rattle.cache_parts_store.specs.View.{AreUnreserved, IsWhole, StoreOfParts, greatest_ticket, passed, view}
 
 or-yes : (b : Bool) → (b || true) ≡ true
 or-yes true = refl
@@ -86,12 +86,20 @@ clear-covers step n s lt early = record {
     covered e p = nat_lt e.step p.step && service_answers.covers s.rules p.predicate e.key e.value
 
 pub clear : {S : Type 0} → ClearMeets S
-clear {S} a now n parts w at lt calls = (does, record { kept = calls_keep_parts.clear a.frame a.step now n a.parts parts (comes a w now n at) w.kept calls; small = (let l = no_more-after a w now (covering Everything) (passed now n parts a) refl does in let small = w.small in omega (arith, l, small)) })
+clear {S} a now n parts w at lt calls = (does, record { kept = calls_keep_parts.clear a.frame a.step now n a.parts parts (comes a w now n at) w.kept calls; small = (let l = no_more-after a w now (covering Everything) (passed now n parts a) refl does in let small = w.small in omega (arith, l, small)); unreserved = free })
   where
     cover : AllCover Everything a.parts parts
     cover = all-cover Everything a.parts parts calls.count (λ k s there.
         let x = calls.each k s there in
         (x.0, x.1, subst (λ (y : Part S). CoversToo Everything s y) (sym x.2) (clear-covers a.step n s lt (steps-are a w k s there))))
+
+    free : AreUnreserved parts
+    free k t found =
+        let old = there-too parts a.parts calls.count k t found in
+        let x = calls.each k old.0 old.1 in
+        let both : Some x.0 ≡ Some t = sym x.1 ∙ found in
+        let one : x.0 ≡ t = cc in
+        sym (ap (λ (y : Part S). y.reserved) one) ∙ ap (λ (y : Part S). y.reserved) x.2 ∙ w.unreserved k old.0 old.1
 
     tickets : greatest_ticket parts ≡ greatest_ticket a.parts
     tickets = greatest-same a.parts parts calls.count (λ k s t there found.
@@ -154,7 +162,7 @@ first-of [] lt = absurd (omega (arith, lt))
 first-of (x ∷ parts) lt = (x, refl)
 
 pub drop : {S : Type 0} → DropMeets S
-drop {S} a now n prefix stream ids w at lt drawn = (does, record { kept = calls_keep_parts.cover a.frame a.step now n a.parts news (comes a w now n at) w.kept (kept_is_enough.covers n prefix a.parts a.stream stream ids drawn); small = (let l = no_more-after a w now (covering (Prefixed prefix)) b refl does in let small = w.small in omega (arith, l, small)) })
+drop {S} a now n prefix stream ids w at lt drawn = (does, record { kept = calls_keep_parts.cover a.frame a.step now n a.parts news (comes a w now n at) w.kept (kept_is_enough.covers n prefix a.parts a.stream stream ids drawn); small = (let l = no_more-after a w now (covering (Prefixed prefix)) b refl does in let small = w.small in omega (arith, l, small)); unreserved = free })
   where
     news : List (Part S)
     news = registered_in prefix n ids a.parts
@@ -167,6 +175,14 @@ drop {S} a now n prefix stream ids w at lt drawn = (does, record { kept = calls_
 
     cover : AllCover (Prefixed prefix) a.parts news
     cover = all-cover (Prefixed prefix) a.parts news stand.count (λ k s there. let x = stand.each k s there in (with_predicate (added prefix n x.0) s, x.1, drop-covers prefix a.step n s x.0 lt (steps-are a w k s there)))
+
+    free : AreUnreserved news
+    free k t found =
+        let old = there-too news a.parts stand.count k t found in
+        let x = stand.each k old.0 old.1 in
+        let both : Some (with_predicate (added prefix n x.0) old.0) ≡ Some t = sym x.1 ∙ found in
+        let one : with_predicate (added prefix n x.0) old.0 ≡ t = cc in
+        sym (ap (λ (y : Part S). y.reserved) one) ∙ w.unreserved k old.0 old.1
 
     tickets : greatest_ticket news ≡ greatest_ticket a.parts
     tickets = greatest-same a.parts news stand.count (λ k s t there found.
@@ -200,7 +216,7 @@ lacks {S} a stream w vain = (
     untaken = refl;
     spent = refl;
   },
-  record { kept = w.kept; small = w.small },
+  record { kept = w.kept; small = w.small; unreserved = w.unreserved },
 )
   where
     go : (b : Bool) → a.frame.dropped ≡ b → a.frame.dropped ≡ true

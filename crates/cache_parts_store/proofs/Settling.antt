@@ -19,11 +19,11 @@ use Rattle.cache_parts_kept.specs.Keeping.{AreKeptParts, at_moment}
 use Rattle.cache_parts_kept.proofs.Identifying.{identifier_clauses}
 use Rattle.cache_parts_kept.proofs.Storing.{calls_keep_parts, kept_is_enough, there-too}
 use Rattle.cache_parts_store.proofs.Calling.{comes, handed, or-no}
-use Rattle.cache_parts_store.proofs.Changing.{all-ran, drained-at, drained-length, drained-sum, greatest-same, ran-ticket, taken-all, taken-one, ticket_within}
+use Rattle.cache_parts_store.proofs.Changing.{all-ran, drained-at, drained-length, drained-sum, greatest-same, ran-room, ran-ticket, taken-all, taken-one, ticket_within}
 use Rattle.cache_parts_store.proofs.Covering.{keeps-each}
 use Rattle.cache_parts_store.proofs.Standing.{no_more-after, parted, parts_are, some_held, some_stand}
 use Rattle.cache_parts_store.specs.Meets.{Drains, NewMeets, NoticeMeets, RunAllMeets, SoundMeets, UsedUpMeets, total_number, total_weight}
-use Rattle.cache_parts_store.specs.View.{ComesTo, IsWhole, StoreOfParts, after, all_drained, greatest_ticket, view, waiting}
+use Rattle.cache_parts_store.specs.View.{AreUnreserved, ComesTo, IsWhole, StoreOfParts, after, all_drained, greatest_ticket, view, waiting}
 
 settings : {S : Type 0} (a : StoreOfParts S) → IsWhole a → (k : ℕ) (s : Part S) → slice_get a.parts k ≡ Some s → s.settings ≡ settings_of a.frame.config a.frame.made
 settings a w k s there = ap (λ c. c.settings) (w.kept.each k s there).front.made
@@ -66,8 +66,16 @@ module _ {S : Type 0} (a : StoreOfParts S) (w : IsWhole a) (now n : ℕ) (at : C
     spent = let e = tickets in let one = at.one in omega (arith, e, one);
   }
 
+  free : AreUnreserved (all_drained parts)
+  free k t found =
+      let old = there-too (all_drained parts) a.parts runs.count k t found in
+      let x = runs.each k old.0 old.1 in
+      let both : Some x.0 ≡ Some t = sym x.1 ∙ found in
+      let one : x.0 ≡ t = cc in
+      sym (ap (λ (y : Part S). y.reserved) one) ∙ ap (λ (y : Part S). y.reserved) x.2.is ∙ ran-room now old.0 x.2.new x.2.runs ∙ w.unreserved k old.0 old.1
+
   ran-whole : IsWhole ran_to
-  ran-whole = record { kept = calls_keep_parts.run_all a.frame a.step now n a.parts (all_drained parts) (comes a w now n at) w.kept runs; small = (let l = no_more-after a w now syncing ran_to refl ran-does in let small = w.small in omega (arith, l, small)) }
+  ran-whole = record { kept = calls_keep_parts.run_all a.frame a.step now n a.parts (all_drained parts) (comes a w now n at) w.kept runs; small = (let l = no_more-after a w now syncing ran_to refl ran-does in let small = w.small in omega (arith, l, small)); unreserved = free }
 
   -- the run alone, at the step of the last call
   still : Comes a.frame a.step now a.step
@@ -131,11 +139,11 @@ sound {S} a w = record {
 
 pub notice : {S : Type 0} → NoticeMeets S
 notice {S} a note rest w first =
-    (first, record { stands = λ held stands. stands; frame = refl; used = λ settled keys recent. recent; identifiers = record { stream = refl; registered = λ part id e. e }; spent = refl }, record { kept = w.kept; small = w.small })
+    (first, record { stands = λ held stands. stands; frame = refl; used = λ settled keys recent. recent; identifiers = record { stream = refl; registered = λ part id e. e }; spent = refl }, record { kept = w.kept; small = w.small; unreserved = w.unreserved })
 
 pub used_up : {S : Type 0} → UsedUpMeets S
 used_up {S} = record {
-  tickets = λ a part s there lack. (let l = ticket_within a.parts part s there in omega (arith, l, lack));
+  tickets = λ a part rooms s w there few lack. (let l = ticket_within a.parts part s there in let free = w.unreserved part s there in omega (arith, l, lack, few, free));
   steps = λ a lack. omega (arith, lack);
 }
 
@@ -143,7 +151,7 @@ pub made : {S : Type 0} → NewMeets S
 made {S} a name hasher number placed brief range first step new =
     let none = none-yet 0 a.parts (λ k s there. (new k s there).records) in
     let count = ap (λ xs. length xs) none in (
-      record { kept = subst (λ m. AreKeptParts a.frame m a.parts) (sym step) (calls_keep_parts.new a.frame name hasher a.parts number placed brief range first new); small = (let c = count in omega (arith, c)) },
+      record { kept = subst (λ m. AreKeptParts a.frame m a.parts) (sym step) (calls_keep_parts.new a.frame name hasher a.parts number placed brief range first new); small = (let c = count in omega (arith, c)); unreserved = λ k s there. (new k s there).reserved },
       count,
       (recency_clauses S).new a.frame.config name (settings_of a.frame.config a.frame.made) hasher a.frame.config.weight a.parts new,
     )

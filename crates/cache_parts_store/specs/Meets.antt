@@ -107,7 +107,7 @@ module _ (S : Type 0) where
 
   -- a part without tickets for a write or a removal, or no further step: the numbers are used up
   pub record UsedUpMeets : Type 0 where
-    pub tickets : (a : StoreOfParts S) (part : ℕ) (s : Part S) → slice_get a.parts part ≡ Some s → 2 ^ 64 ≤ s.next_ticket + 2 → IsSpent (view a)
+    pub tickets : (a : StoreOfParts S) (part rooms : ℕ) (s : Part S) → IsWhole a → slice_get a.parts part ≡ Some s → rooms ≤ 2 → 2 ^ 64 ≤ s.next_ticket + s.reserved + rooms → IsSpent (view a)
     pub steps : (a : StoreOfParts S) → 2 ^ 64 ≤ suc a.step → IsSpent (view a)
 
   -- a store that was just made holds nothing

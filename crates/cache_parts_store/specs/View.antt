@@ -1,5 +1,5 @@
 -- A store over the parts of a cache, and what it shows.
-use Rattle.std.specs.Prelude.{ℕ, suc, ◌≤◌, ◌^◌, max, List, [], ◌∷◌, ◌++◌, map, length}
+use Rattle.std.specs.Prelude.{◌≡◌, ℕ, suc, ◌≤◌, ◌^◌, max, List, [], ◌∷◌, ◌++◌, map, length, Some, slice_get}
 use Rattle.rand_core.specs.Stream.{Stream}
 use Rattle.audit_model.specs.declared.transcript.Note.{Note}
 use Rattle.cache_store.specs.Promises.{Frame}
@@ -36,10 +36,15 @@ module _ {S : Type 0} where
     spent = max a.step (greatest_ticket a.parts);
   }
 
+  -- no room stays reserved in any part
+  abbrev pub AreUnreserved : List (Part S) → Type 0
+  AreUnreserved parts = (k : ℕ) (s : Part S) → slice_get parts k ≡ Some s → s.reserved ≡ 0
+
   -- what is so between calls
   pub record IsWhole (a : StoreOfParts S) : Type 0 where
     pub kept : AreKeptParts a.frame a.step a.parts
     pub small : length (items_of 0 a.parts) ≤ 2 ^ 50
+    pub unreserved : AreUnreserved a.parts
 
   -- a call comes at this moment and step: the step of the last call, or the next one
   pub record ComesTo (a : StoreOfParts S) (now next : ℕ) : Type 0 where
