@@ -4,3 +4,4 @@ pub mod Calling
 pub mod Covering
 pub mod Settling
 pub mod Listing
+pub mod Fronts

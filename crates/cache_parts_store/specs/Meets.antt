@@ -1,5 +1,5 @@
 -- That the calls of a store over parts do what `Store` says: one statement for each call, from what the front's call does to the parts.
-use Rattle.std.specs.Prelude.{◌≡◌, ◌^◌, ◌+◌, ◌≤◌, ◌<◌, ℕ, suc, min, Bool, true, false, List, [], ◌∷◌, length, Option, Some, None, is_some, slice_get}
+use Rattle.std.specs.Prelude.{◌≡◌, ◌^◌, ◌+◌, ◌≤◌, ◌<◌, ℕ, suc, min, Bool, true, false, List, [], ◌∷◌, ◌++◌, length, Option, Some, None, is_some, slice_get}
 use Rattle.std.specs.List.{sum_by}
 use Rattle.std.specs.Option.{option_map}
 use Rattle.rand_core.specs.Stream.{Stream}
@@ -7,6 +7,8 @@ use Rattle.audit_model.specs.Bytewise.{same}
 use Rattle.audit_model.specs.Commands.{Everything, Prefixed}
 use Rattle.audit_model.specs.History.{part_count}
 use Rattle.audit_model.specs.Values.{sorted}
+use Rattle.audit_model.specs.declared.config.Config.{Config}
+use Rattle.audit_model.specs.declared.config.Weight.{Weight}
 use Rattle.audit_model.specs.declared.transcript.Note.{Note}
 use Rattle.cache_store.specs.Handing.{TakesFirstNote}
 use Rattle.cache_store.specs.Promises.{covering, deleting, syncing, using}
@@ -15,13 +17,13 @@ use Rattle.engine_reference.specs.declared.data.Notice.{Notice}
 use Rattle.engine_reference.specs.Calls.{cleared_by, IsNew}
 use Rattle.engine_reference.specs.Scanning.{NotesLookUp}
 use Rattle.engine_reference.specs.Visible.{visible, visible_value}
-use Rattle.front_reference.specs.Fronts.{CallsAt, CallsEach}
+use Rattle.front_reference.specs.Fronts.{CallsAt, CallsEach, Front, passed as front_passed}
 use Rattle.front_reference.specs.Parts.{Inserts, TakesOut}
 use Rattle.front_reference.specs.Wholes.{DrawAll, DrawsInVain, RunsPart, next_told, registered_in, without_told}
 use Rattle.cache_values.specs.Among.{are_distinct, is_among}
 use Rattle.cache_parts.specs.Parts.{Part, Stored, items_of, note_from, service_answers, settings_of, IsBrief}
 use Rattle.cache_parts.specs.Recent.{IsRecentOver}
-use Rattle.cache_parts_store.specs.View.{ComesTo, IsWhole, StoreOfParts, after, all_drained, passed, view, waiting}
+use Rattle.cache_parts_store.specs.View.{ComesTo, IsWhole, StoreOfParts, after, all_drained, over_front, passed, view, waiting}
 
 -- what is kept of a value
 abbrev pub stored : List ℕ → Option ℕ → Stored
@@ -122,3 +124,11 @@ module _ (S : Type 0) where
   pub record Drains : Type 0 where
     pub taken : (parts : List (Part S)) (n : Notice (List ℕ) Stored) → next_told parts ≡ Some n → (waiting parts ≡ note_from n ∷ waiting (without_told parts)) × (all_drained (without_told parts) ≡ all_drained parts)
     pub done : (parts : List (Part S)) → next_told parts ≡ None → (waiting parts ≡ []) × (all_drained parts ≡ parts)
+
+  -- a front's call left these parts (as `CallsPart` and `CallsAll` say it): the store over the front, when what they told was taken from them, and where nothing was told
+  pub record FrontMeets : Type 0 where
+    pub told : (config : Config) (made : ℕ) (dropped : Bool) (hash : List ℕ → ℕ) (queue : List Note) (stream : Stream) (f g : Front (List ℕ) Stored (List ℕ) S Weight) (parts : List (Part S)) (now next : ℕ)
+        → g ≡ front_passed now next (record f { parts = parts })
+        → over_front config made dropped hash (queue ++ waiting g.parts) stream (record g { parts = all_drained g.parts }) ≡ after now next parts (over_front config made dropped hash queue stream f)
+    pub untold : (config : Config) (made : ℕ) (dropped : Bool) (hash : List ℕ → ℕ) (queue : List Note) (stream : Stream) (f g : Front (List ℕ) Stored (List ℕ) S Weight) (parts : List (Part S)) (now next : ℕ)
+        → g ≡ front_passed now next (record f { parts = parts }) → over_front config made dropped hash queue stream g ≡ passed now next parts (over_front config made dropped hash queue stream f)

@@ -1,10 +1,13 @@
 -- A store over the parts of a cache, and what it shows.
-use Rattle.std.specs.Prelude.{◌≡◌, ℕ, suc, ◌≤◌, ◌^◌, max, List, [], ◌∷◌, ◌++◌, map, length, Some, slice_get}
+use Rattle.std.specs.Prelude.{◌≡◌, ℕ, Bool, suc, ◌≤◌, ◌^◌, max, List, [], ◌∷◌, ◌++◌, map, length, Some, slice_get}
 use Rattle.rand_core.specs.Stream.{Stream}
+use Rattle.audit_model.specs.declared.config.Config.{Config}
+use Rattle.audit_model.specs.declared.config.Weight.{Weight}
 use Rattle.audit_model.specs.declared.transcript.Note.{Note}
 use Rattle.cache_store.specs.Promises.{Frame}
 use Rattle.cache_store.specs.Values.{Values, IsMoment}
-use Rattle.cache_parts.specs.Parts.{Part, Stands, items_of, note_from, drained}
+use Rattle.front_reference.specs.Fronts.{Front, part_of}
+use Rattle.cache_parts.specs.Parts.{Stored, Part, Stands, items_of, note_from, drained}
 use Rattle.cache_parts.specs.Recent.{IsRecentOver}
 use Rattle.cache_parts_kept.specs.Keeping.{AreKeptParts, at_moment}
 use Rattle.cache_parts_kept.specs.Registering.{register_of}
@@ -19,6 +22,16 @@ pub record StoreOfParts (S : Type 0) : Type 0 where
   pub step : ℕ
 
 module _ {S : Type 0} where
+  -- the store of a front's parts: what it was made with, whether a `DROPIF` was accepted, how keys are hashed, its queue and its generator
+  abbrev pub over_front : (config : Config) (made : ℕ) (dropped : Bool) (hash : List ℕ → ℕ) → List Note → Stream → Front (List ℕ) Stored (List ℕ) S Weight → StoreOfParts S
+  over_front config made dropped hash queue stream f = record {
+    frame = record { config = config; part_of = λ key. part_of f.bits (hash key); made = made; dropped = dropped; latest = f.moment };
+    parts = f.parts;
+    queue = queue;
+    stream = stream;
+    step = f.step;
+  }
+
   -- the greatest ticket to come
   abbrev pub greatest_ticket : List (Part S) → ℕ
   greatest_ticket [] = 0

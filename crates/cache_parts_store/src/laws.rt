@@ -1,5 +1,5 @@
 //! Laws: what the front's calls do to the parts is what `Store` says of each call. Each function does nothing: its contract is the law.
-ghost use Rattle.cache_parts_store.specs.Meets.{AcceptMeets, ClearMeets, Drains, DropMeets, LacksMeets, LiveKeysMeet, NewMeets, NoticeMeets, PeekMeets, RemoveMeets, RunAllMeets, SoundMeets, TouchMeets, UsedUpMeets};
+ghost use Rattle.cache_parts_store.specs.Meets.{AcceptMeets, ClearMeets, Drains, DropMeets, FrontMeets, LacksMeets, LiveKeysMeet, NewMeets, NoticeMeets, PeekMeets, RemoveMeets, RunAllMeets, SoundMeets, TouchMeets, UsedUpMeets};
 
 /// What is visible in a key's part is its live value.
 pub fn peek_meets<S>()
@@ -69,4 +69,9 @@ pub fn new_meets<S>()
 /// The notices of all parts come one by one in the order in which they wait.
 pub fn drains<S>()
     ensures { Drains S }
+{}
+
+/// What a front's call makes of the store over it.
+pub fn front_meets<S>()
+    ensures { FrontMeets S }
 {}
