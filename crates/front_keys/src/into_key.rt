@@ -16,6 +16,14 @@ pub trait IntoKey<K: PartialEq>: Names<K> + Drop {
         ensures { IfOk result (λ key. key ≡ Self.named_key self) };
 }
 
+impl<K: PartialEq + Drop> IntoKey<K> for K {
+    ghost can_become = { λ _. Unit {0} };
+
+    fn into_key(self) -> Result<K, AllocError> {
+        Ok(self)
+    }
+}
+
 /// A key that is owned, and moved to where it can be shared only where it is to be kept.
 #[derive(Drop)]
 pub struct OwnedKey<K> {

@@ -6,7 +6,8 @@ ghost use Rattle.engine_reference.specs.Scanning.{past};
 ghost use Rattle.engine_reference.specs.Visible.{visible_value};
 ghost use Rattle.engine_lists.specs.Asking.{answers_of};
 ghost use Rattle.engine_rules.specs.Hashing.{hash_of_key};
-ghost use Rattle.front_reference.specs.Parts.{IsCause, IsReady, Acts, Coalesces, op_of_made};
+ghost use Rattle.front_reference.specs.Parts.{IsCause, IsReady, Acts, op_of_made};
+ghost use Rattle.front_parts.specs.Looking.{AsksPart, CoalescesPart};
 ghost use Rattle.front_reference.specs.declared.data.Op.TheVariants as op;
 ghost use Rattle.front_reference.specs.declared.data.Made.TheVariants as made;
 
@@ -37,7 +38,7 @@ pub fn look<
     requires hashed { hash ≡ hash_of_key S.Hasher.finish S.Hasher.write S.build_hasher K.hash_input part.now.hasher (Q.named_key key.now) }
     requires exact { (x y : V) → V.is_clone x y → y ≡ x }
     requires callable { P.IsAlwaysCallable replace_if }
-    ensures asked { IfOk result (λ looked. (value : V) → visible_value (answers_of R.weight_of R.created R.read R.updated R.covers) K.eq part.now now (Q.named_key key.now) ≡ Some value → FnOnceReturnsAt P.FnOnce replace_if value looked.0) }
+    ensures asked { IfOk result (λ looked. AsksPart (answers_of R.weight_of R.created R.read R.updated R.covers) K.eq (Q.named_key key.now) now (FnOnceReturnsAt P.FnOnce replace_if) part.now looked.0) }
     ensures found { IfOk result (λ looked. looked.1 ≡ past looked.0 (visible_value (answers_of R.weight_of R.created R.read R.updated R.covers) K.eq part.now now (Q.named_key key.now))) }
 {
     match part.peek(key, hash, now) {
@@ -155,7 +156,7 @@ pub fn coalesce<
     requires exact { (x y : V) → V.is_clone x y → y ≡ x }
     requires callable { P.IsAlwaysCallable replace_if × M.IsAlwaysCallable make }
     requires ready { IsReady part.old }
-    ensures answer { IfOk result (λ answer. Coalesces (answers_of R.weight_of R.created R.read R.updated R.covers) K.eq (Q.named_key name) hash at.now at.step (FnOnceReturnsAt P.FnOnce replace_if) (λ made. M.post make (Ok made)) part.old part.new answer.0 answer.1) }
+    ensures answer { IfOk result (CoalescesPart (answers_of R.weight_of R.created R.read R.updated R.covers) K.eq (Q.named_key name) hash at (FnOnceReturnsAt P.FnOnce replace_if) (M.post make) part.old part.new) }
     ensures err { OnErr result (part.new ≡ part.old) }
     ensures cause { IfErr result (IsCause 1 part.old) }
 {

@@ -145,7 +145,7 @@ pub fn compute<
     requires decides { D.IsAlwaysCallable decide }
     requires ready { IsReady part.old }
     requires apart { AreApart K.eq (held_entries part.old.records) }
-    ensures computes { IfOk result (λ answer. Computes (answers_of R.weight_of R.created R.read R.updated R.covers) K.eq (Q.named_key name) hash at.now at.step (λ seen decided. D.post decide seen decided) part.old part.new answer) }
+    ensures computes { IfOk result (Computes (answers_of R.weight_of R.created R.read R.updated R.covers) K.eq (Q.named_key name) hash at.now at.step (D.post decide) part.old part.new) }
     ensures err { OnErr result (part.new ≡ part.old) }
     ensures cause { IfErr result (IsCause (removal_rooms part.old.settings) part.old) }
 {
