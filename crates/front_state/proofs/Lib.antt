@@ -3,3 +3,4 @@ pub mod Eaches
 pub mod Turned
 pub mod Steady
 mod Newness
+mod Accessed

@@ -1,13 +1,16 @@
 -- What a call does to a front, said of the part that its key belongs to.
-use Rattle.std.specs.Prelude.{◌≡◌, ℕ, ◌+◌, ◌^◌, ◌<◌, ◌≤◌, Bool, false, List, Option, Some, None, Result, length, slice_get}
+use Rattle.std.specs.Prelude.{◌≡◌, ℕ, ◌+◌, ◌^◌, ◌<◌, ◌≤◌, Bool, false, List, Option, Some, None, Result, Ok, Vec, length, slice_get}
+use Rattle.std.specs.declared.hash.Hasher as hashers
+use Rattle.std.specs.declared.hash.BuildHasher as builders
 use Rattle.engine_rules.specs.Hashing.{hash_of_key}
+use Rattle.engine_rules.specs.declared.rules.Rules as rules
 use Rattle.engine_reference.specs.Records.{held_entries}
-use Rattle.engine_reference.specs.Scanning.{NotesLookUp}
+use Rattle.engine_reference.specs.Scanning.{NotesLookUp, past}
 use Rattle.engine_reference.specs.State.{State, Answers}
 use Rattle.engine_reference.specs.Telling.{AreApart}
 use Rattle.engine_reference.specs.Visible.{visible_value}
 use Rattle.engine_reference.specs.declared.data.Settings.{Settings}
-use Rattle.front_reference.specs.Fronts.{Front, CallsPart, IsSteady, part_by_hash}
+use Rattle.front_reference.specs.Fronts.{Front, CallsAt, CallsPart, IsSteady, part_by_hash}
 use Rattle.front_reference.specs.Parts.{IsReady, Coalesces, Computes, Inserts, TakesOut, held_value}
 use Rattle.front_reference.specs.declared.data.At.{At}
 use Rattle.front_reference.specs.declared.data.Computed.{Computed}
@@ -31,6 +34,14 @@ ways_of weight_of created read updated covers eq finish write build_hasher hash_
   hash = hash_of_key finish write build_hasher hash_input;
 }
 
+-- the same, by what rules, hashers and their builders have as traits
+abbrev pub ways_by : {K V P F S R H : Type 0} → rules.Ghosts R K V P F → (K → K → Bool) → (K → List (List ℕ)) → builders.Ghosts S H → hashers.Ghosts H → Ways K V P S R
+ways_by r eq hash_input b h = record {
+  answers = answers_of r.weight_of r.created r.read r.updated r.covers;
+  eq = eq;
+  hash = hash_of_key h.finish h.write b.build_hasher hash_input;
+}
+
 module _ {K V P S R : Type 0} (ways : Ways K V P S R) where
   -- what a front keeps between calls
   abbrev pub IsSteadyBy : Front K V P S R → Type 0
@@ -51,6 +62,14 @@ module _ {K V P S R : Type 0} (ways : Ways K V P S R) where
 
   abbrev pub visible_in : Front K V P S R → (now : ℕ) → K → Option V
   visible_in f now key = visible_of (part_with f key) now key
+
+  -- what is visible of a key in a part is asked about
+  abbrev pub AsksOf : Option (State K V P S R) → (now : ℕ) → K → (Ignores : V → Bool → Type 0) → (ignored : Bool) → Type 0
+  AsksOf o now key Ignores ignored = (value : V) → visible_of o now key ≡ Some value → Ignores value ignored
+
+  -- what is visible of it and not passed over
+  abbrev pub seen_of : Option (State K V P S R) → (now : ℕ) → K → (ignored : Bool) → Option V
+  seen_of o now key ignored = past ignored (visible_of o now key)
 
   -- the one that is held, visible or not
   abbrev pub held_of : Option (State K V P S R) → K → Option V
@@ -104,3 +123,13 @@ module _ {K V P S R : Type 0} (ways : Ways K V P S R) where
   -- a compute call, over what its closure may decide
   abbrev pub ComputesIn : {E : Type 0} → K → At → (Decides : Option V → Result (Op V) E → Type 0) → Front K V P S R → Front K V P S R → Result (Computed V) E → Type 0
   ComputesIn key at Decides old new answer = CallsKey key at (λ hash s t. Computes ways.answers ways.eq key hash at.now at.step Decides s t answer) old new
+
+  -- the same, of a part at a place, and over what the closure that makes answers
+  abbrev pub CoalescesAt : {F E G : Type 0} → (place : ℕ) → K → (hash : ℕ) → At → (Ignores : V → Bool → Type 0) → (Makes : Result (Made V F) E → Type 0) → Vec (State K V P S R) G → Vec (State K V P S R) G → Made V F × Bool → Type 0
+  CoalescesAt place key hash at Ignores Makes old new answer = CallsAt place (λ s t. Coalesces ways.answers ways.eq key hash at.now at.step Ignores (λ made. Makes (Ok made)) s t answer.0 answer.1) old.items new.items
+
+  abbrev pub CoalescesBy : {F E : Type 0} → K → At → (Ignores : V → Bool → Type 0) → (Makes : Result (Made V F) E → Type 0) → Front K V P S R → Front K V P S R → Made V F × Bool → Type 0
+  CoalescesBy key at Ignores Makes old new answer = CoalescesIn key at Ignores (λ made. Makes (Ok made)) old new answer.0 answer.1
+
+  abbrev pub ComputesAt : {E : Type 0} → (place : ℕ) → K → (hash : ℕ) → At → (Decides : Option V → Result (Op V) E → Type 0) → List (State K V P S R) → List (State K V P S R) → Result (Computed V) E → Type 0
+  ComputesAt place key hash at Decides old new answer = CallsAt place (λ s t. Computes ways.answers ways.eq key hash at.now at.step Decides s t answer) old new

@@ -2,11 +2,11 @@
 ghost use Rattle.std.specs.Prelude.{◌≡◌, false, Ok, Some, IfOk, IfErr, OnOk, OnErr, is_some, slice_get};
 ghost use Rattle.std.specs.Fn.{FnOnceReturnsAt};
 ghost use Rattle.engine_reference.specs.Calls.{removal_rooms};
-ghost use Rattle.engine_reference.specs.Scanning.{NotesLookUp, past};
+ghost use Rattle.engine_reference.specs.Scanning.{NotesLookUp};
 ghost use Rattle.engine_lists.specs.Asking.{answers_of};
-ghost use Rattle.front_reference.specs.Parts.{Coalesces, Computes, Inserts, TakesOut};
+ghost use Rattle.front_reference.specs.Parts.{Inserts, TakesOut};
 ghost use Rattle.front_reference.specs.Fronts.{CallsAt};
-ghost use Rattle.front_state.specs.Calls.{IsCauseOf, IsOpenAt, visible_of, held_of, ways_of};
+ghost use Rattle.front_state.specs.Calls.{AsksOf, CoalescesAt, ComputesAt, IsCauseOf, IsOpenAt, seen_of, visible_of, held_of, ways_by};
 
 use engine_rules::{Names, Rules};
 use front_keys::IntoKey;
@@ -34,8 +34,8 @@ pub(crate) fn get_at<
     now: Instant,
 ) -> Result<Option<V>, AllocError>
     requires exact { (x y : V) → V.is_clone x y → y ≡ x }
-    requires there { IsOpenAt (ways_of R.weight_of R.created R.read R.updated R.covers K.eq S.Hasher.finish S.Hasher.write S.build_hasher K.hash_input) place (Q.named_key key.now) hash parts.old.items }
-    ensures found { IfOk result (λ found. found ≡ visible_of (ways_of R.weight_of R.created R.read R.updated R.covers K.eq S.Hasher.finish S.Hasher.write S.build_hasher K.hash_input) (slice_get parts.old.items place) now (Q.named_key key.now)) }
+    requires there { IsOpenAt (ways_by R.Rules K.eq K.hash_input S.BuildHasher S.Hasher.Hasher) place (Q.named_key key.now) hash parts.old.items }
+    ensures found { IfOk result (λ found. found ≡ visible_of (ways_by R.Rules K.eq K.hash_input S.BuildHasher S.Hasher.Hasher) (slice_get parts.old.items place) now (Q.named_key key.now)) }
     ensures used { OnOk result (CallsAt place (NotesLookUp (answers_of R.weight_of R.created R.read R.updated R.covers) K.eq (Q.named_key key.now) hash now false) parts.old.items parts.new.items) }
     ensures err { OnErr result (parts.new.items ≡ parts.old.items) }
 {
@@ -52,8 +52,8 @@ pub(crate) fn contains_key_at<K: Eq + Hash, V, S: BuildHasher, R: Rules<K, V>, Q
     hash: u64,
     now: Instant,
 ) -> bool
-    requires there { IsOpenAt (ways_of R.weight_of R.created R.read R.updated R.covers K.eq S.Hasher.finish S.Hasher.write S.build_hasher K.hash_input) place (Q.named_key key.now) hash parts.now }
-    ensures { result ≡ is_some (visible_of (ways_of R.weight_of R.created R.read R.updated R.covers K.eq S.Hasher.finish S.Hasher.write S.build_hasher K.hash_input) (slice_get parts.now place) now (Q.named_key key.now)) }
+    requires there { IsOpenAt (ways_by R.Rules K.eq K.hash_input S.BuildHasher S.Hasher.Hasher) place (Q.named_key key.now) hash parts.now }
+    ensures { result ≡ is_some (visible_of (ways_by R.Rules K.eq K.hash_input S.BuildHasher S.Hasher.Hasher) (slice_get parts.now place) now (Q.named_key key.now)) }
 {
     contains_key(&parts[place], key, hash, now)
 }
@@ -67,10 +67,10 @@ pub(crate) fn insert_at<K: Eq + Hash + Drop, V: Drop, S: BuildHasher, R: Rules<K
     value: V,
     at: At,
 ) -> Result<(), CacheError>
-    requires there { IsOpenAt (ways_of R.weight_of R.created R.read R.updated R.covers K.eq S.Hasher.finish S.Hasher.write S.build_hasher K.hash_input) place key hash parts.old.items }
+    requires there { IsOpenAt (ways_by R.Rules K.eq K.hash_input S.BuildHasher S.Hasher.Hasher) place key hash parts.old.items }
     ensures inserts { OnOk result (CallsAt place (Inserts (answers_of R.weight_of R.created R.read R.updated R.covers) K.eq key hash value at.now at.step) parts.old.items parts.new.items) }
     ensures err { OnErr result (parts.new.items ≡ parts.old.items) }
-    ensures cause { IfErr result (IsCauseOf (ways_of R.weight_of R.created R.read R.updated R.covers K.eq S.Hasher.finish S.Hasher.write S.build_hasher K.hash_input) (λ _. 1) (slice_get parts.old.items place)) }
+    ensures cause { IfErr result (IsCauseOf (ways_by R.Rules K.eq K.hash_input S.BuildHasher S.Hasher.Hasher) (λ _. 1) (slice_get parts.old.items place)) }
 {
     let part = &mut parts[place];
     match insert(part, key, hash, value, at) {
@@ -95,11 +95,11 @@ pub(crate) fn remove_at<
 ) -> Result<Option<V>, CacheError>
     requires exact_key { (x y : K) → K.is_clone x y → y ≡ x }
     requires exact { (x y : V) → V.is_clone x y → y ≡ x }
-    requires there { IsOpenAt (ways_of R.weight_of R.created R.read R.updated R.covers K.eq S.Hasher.finish S.Hasher.write S.build_hasher K.hash_input) place (Q.named_key key.now) hash parts.old.items }
-    ensures value { IfOk result (λ value. value ≡ held_of (ways_of R.weight_of R.created R.read R.updated R.covers K.eq S.Hasher.finish S.Hasher.write S.build_hasher K.hash_input) (slice_get parts.old.items place) (Q.named_key key.now)) }
+    requires there { IsOpenAt (ways_by R.Rules K.eq K.hash_input S.BuildHasher S.Hasher.Hasher) place (Q.named_key key.now) hash parts.old.items }
+    ensures value { IfOk result (λ value. value ≡ held_of (ways_by R.Rules K.eq K.hash_input S.BuildHasher S.Hasher.Hasher) (slice_get parts.old.items place) (Q.named_key key.now)) }
     ensures takes_out { OnOk result (CallsAt place (TakesOut (answers_of R.weight_of R.created R.read R.updated R.covers) K.eq (Q.named_key key.now) now) parts.old.items parts.new.items) }
     ensures err { OnErr result (parts.new.items ≡ parts.old.items) }
-    ensures cause { IfErr result (IsCauseOf (ways_of R.weight_of R.created R.read R.updated R.covers K.eq S.Hasher.finish S.Hasher.write S.build_hasher K.hash_input) removal_rooms (slice_get parts.old.items place)) }
+    ensures cause { IfErr result (IsCauseOf (ways_by R.Rules K.eq K.hash_input S.BuildHasher S.Hasher.Hasher) removal_rooms (slice_get parts.old.items place)) }
 {
     let part = &mut parts[place];
     match remove(part, key, hash, now) {
@@ -124,10 +124,10 @@ pub(crate) fn invalidate_at<
 ) -> Result<(), CacheError>
     requires exact_key { (x y : K) → K.is_clone x y → y ≡ x }
     requires exact { (x y : V) → V.is_clone x y → y ≡ x }
-    requires there { IsOpenAt (ways_of R.weight_of R.created R.read R.updated R.covers K.eq S.Hasher.finish S.Hasher.write S.build_hasher K.hash_input) place (Q.named_key key.now) hash parts.old.items }
+    requires there { IsOpenAt (ways_by R.Rules K.eq K.hash_input S.BuildHasher S.Hasher.Hasher) place (Q.named_key key.now) hash parts.old.items }
     ensures takes_out { OnOk result (CallsAt place (TakesOut (answers_of R.weight_of R.created R.read R.updated R.covers) K.eq (Q.named_key key.now) now) parts.old.items parts.new.items) }
     ensures err { OnErr result (parts.new.items ≡ parts.old.items) }
-    ensures cause { IfErr result (IsCauseOf (ways_of R.weight_of R.created R.read R.updated R.covers K.eq S.Hasher.finish S.Hasher.write S.build_hasher K.hash_input) removal_rooms (slice_get parts.old.items place)) }
+    ensures cause { IfErr result (IsCauseOf (ways_by R.Rules K.eq K.hash_input S.BuildHasher S.Hasher.Hasher) removal_rooms (slice_get parts.old.items place)) }
 {
     let part = &mut parts[place];
     match invalidate(part, key, hash, now) {
@@ -155,13 +155,13 @@ pub(crate) fn coalesce_at<
     replace_if: P,
     make: M,
 ) -> Result<(Made<V, F>, bool), CacheError>
-    requires there { IsOpenAt (ways_of R.weight_of R.created R.read R.updated R.covers K.eq S.Hasher.finish S.Hasher.write S.build_hasher K.hash_input) place (Q.named_key name) hash parts.old.items }
+    requires there { IsOpenAt (ways_by R.Rules K.eq K.hash_input S.BuildHasher S.Hasher.Hasher) place (Q.named_key name) hash parts.old.items }
     requires becomes { Q.can_become name }
     requires exact { (x y : V) → V.is_clone x y → y ≡ x }
     requires callable { P.IsAlwaysCallable replace_if × M.IsAlwaysCallable make }
-    ensures answer { IfOk result (λ answer. CallsAt place (λ s t. Coalesces (answers_of R.weight_of R.created R.read R.updated R.covers) K.eq (Q.named_key name) hash at.now at.step (FnOnceReturnsAt P.FnOnce replace_if) (λ made. M.post make (Ok made)) s t answer.0 answer.1) parts.old.items parts.new.items) }
+    ensures answer { IfOk result (CoalescesAt (ways_by R.Rules K.eq K.hash_input S.BuildHasher S.Hasher.Hasher) place (Q.named_key name) hash at (FnOnceReturnsAt P.FnOnce replace_if) (M.post make) parts.old parts.new) }
     ensures err { OnErr result (parts.new.items ≡ parts.old.items) }
-    ensures cause { IfErr result (IsCauseOf (ways_of R.weight_of R.created R.read R.updated R.covers K.eq S.Hasher.finish S.Hasher.write S.build_hasher K.hash_input) (λ _. 1) (slice_get parts.old.items place)) }
+    ensures cause { IfErr result (IsCauseOf (ways_by R.Rules K.eq K.hash_input S.BuildHasher S.Hasher.Hasher) (λ _. 1) (slice_get parts.old.items place)) }
 {
     let part = &mut parts[place];
     match coalesce(part, name, hash, at, replace_if, make) {
@@ -187,14 +187,14 @@ pub(crate) fn compute_at<
     at: At,
     decide: D,
 ) -> Result<Result<Computed<V>, E>, CacheError>
-    requires there { IsOpenAt (ways_of R.weight_of R.created R.read R.updated R.covers K.eq S.Hasher.finish S.Hasher.write S.build_hasher K.hash_input) place (Q.named_key name) hash parts.old.items }
+    requires there { IsOpenAt (ways_by R.Rules K.eq K.hash_input S.BuildHasher S.Hasher.Hasher) place (Q.named_key name) hash parts.old.items }
     requires becomes { Q.can_become name }
     requires exact_key { (x y : K) → K.is_clone x y → y ≡ x }
     requires exact { (x y : V) → V.is_clone x y → y ≡ x }
     requires decides { D.IsAlwaysCallable decide }
-    ensures computes { IfOk result (λ answer. CallsAt place (λ s t. Computes (answers_of R.weight_of R.created R.read R.updated R.covers) K.eq (Q.named_key name) hash at.now at.step (λ seen decided. D.post decide seen decided) s t answer) parts.old.items parts.new.items) }
+    ensures computes { IfOk result (ComputesAt (ways_by R.Rules K.eq K.hash_input S.BuildHasher S.Hasher.Hasher) place (Q.named_key name) hash at (D.post decide) parts.old.items parts.new.items) }
     ensures err { OnErr result (parts.new.items ≡ parts.old.items) }
-    ensures cause { IfErr result (IsCauseOf (ways_of R.weight_of R.created R.read R.updated R.covers K.eq S.Hasher.finish S.Hasher.write S.build_hasher K.hash_input) removal_rooms (slice_get parts.old.items place)) }
+    ensures cause { IfErr result (IsCauseOf (ways_by R.Rules K.eq K.hash_input S.BuildHasher S.Hasher.Hasher) removal_rooms (slice_get parts.old.items place)) }
 {
     let part = &mut parts[place];
     match compute(part, name, hash, at, decide) {
@@ -219,11 +219,11 @@ pub(crate) fn look_at<
     now: Instant,
     replace_if: P,
 ) -> Result<(bool, Option<V>), AllocError>
-    requires there { IsOpenAt (ways_of R.weight_of R.created R.read R.updated R.covers K.eq S.Hasher.finish S.Hasher.write S.build_hasher K.hash_input) place (Q.named_key key.now) hash parts.now }
+    requires there { IsOpenAt (ways_by R.Rules K.eq K.hash_input S.BuildHasher S.Hasher.Hasher) place (Q.named_key key.now) hash parts.now }
     requires exact { (x y : V) → V.is_clone x y → y ≡ x }
     requires callable { P.IsAlwaysCallable replace_if }
-    ensures asked { IfOk result (λ looked. (value : V) → visible_of (ways_of R.weight_of R.created R.read R.updated R.covers K.eq S.Hasher.finish S.Hasher.write S.build_hasher K.hash_input) (slice_get parts.now place) now (Q.named_key key.now) ≡ Some value → FnOnceReturnsAt P.FnOnce replace_if value looked.0) }
-    ensures found { IfOk result (λ looked. looked.1 ≡ past looked.0 (visible_of (ways_of R.weight_of R.created R.read R.updated R.covers K.eq S.Hasher.finish S.Hasher.write S.build_hasher K.hash_input) (slice_get parts.now place) now (Q.named_key key.now))) }
+    ensures asked { IfOk result (λ a. AsksOf (ways_by R.Rules K.eq K.hash_input S.BuildHasher S.Hasher.Hasher) (slice_get parts.now place) now (Q.named_key key.now) (FnOnceReturnsAt P.FnOnce replace_if) a.0) }
+    ensures found { IfOk result (λ a. a.1 ≡ seen_of (ways_by R.Rules K.eq K.hash_input S.BuildHasher S.Hasher.Hasher) (slice_get parts.now place) now (Q.named_key key.now) a.0) }
 {
     let looked = look(&parts[place], key, hash, now, replace_if)?;
     Ok(looked)
@@ -238,7 +238,7 @@ pub(crate) fn note_at<K: Eq + Hash + Drop, V: Drop, S: BuildHasher, R: Rules<K, 
     now: Instant,
     ignored: bool,
 )
-    requires there { IsOpenAt (ways_of R.weight_of R.created R.read R.updated R.covers K.eq S.Hasher.finish S.Hasher.write S.build_hasher K.hash_input) place (Q.named_key key.now) hash parts.old.items }
+    requires there { IsOpenAt (ways_by R.Rules K.eq K.hash_input S.BuildHasher S.Hasher.Hasher) place (Q.named_key key.now) hash parts.old.items }
     ensures { CallsAt place (NotesLookUp (answers_of R.weight_of R.created R.read R.updated R.covers) K.eq (Q.named_key key.now) hash now ignored) parts.old.items parts.new.items }
 {
     let part = &mut parts[place];
@@ -254,11 +254,11 @@ pub(crate) fn insert_or_back_at<K: Eq + Hash + Drop, V: Drop, S: BuildHasher, R:
     value: V,
     at: At,
 ) -> Result<(), (CacheError, V)>
-    requires there { IsOpenAt (ways_of R.weight_of R.created R.read R.updated R.covers K.eq S.Hasher.finish S.Hasher.write S.build_hasher K.hash_input) place key hash parts.old.items }
+    requires there { IsOpenAt (ways_by R.Rules K.eq K.hash_input S.BuildHasher S.Hasher.Hasher) place key hash parts.old.items }
     ensures inserts { OnOk result (CallsAt place (Inserts (answers_of R.weight_of R.created R.read R.updated R.covers) K.eq key hash value at.now at.step) parts.old.items parts.new.items) }
     ensures err { OnErr result (parts.new.items ≡ parts.old.items) }
     ensures back { IfErr result (λ refused. refused.1 ≡ value) }
-    ensures cause { IfErr result (λ refused. IsCauseOf (ways_of R.weight_of R.created R.read R.updated R.covers K.eq S.Hasher.finish S.Hasher.write S.build_hasher K.hash_input) (λ _. 1) (slice_get parts.old.items place) refused.0) }
+    ensures cause { IfErr result (λ refused. IsCauseOf (ways_by R.Rules K.eq K.hash_input S.BuildHasher S.Hasher.Hasher) (λ _. 1) (slice_get parts.old.items place) refused.0) }
 {
     let part = &mut parts[place];
     match insert_or_back(part, key, hash, value, at) {

@@ -5,7 +5,7 @@ ghost use Rattle.engine_reference.specs.Calls.{cleared_by, removal_rooms};
 ghost use Rattle.engine_lists.specs.Asking.{answers_of};
 ghost use Rattle.front_reference.specs.Fronts.{CallsAll, ComesAfter};
 ghost use Rattle.front_reference.specs.Wholes.{RunsPart};
-ghost use Rattle.front_state.specs.Calls.{CoalescesIn, ComputesIn, InsertsIn, IsCauseIn, LooksUpIn, TakesOutIn, hash_in, held_value_in, visible_in, ways_of};
+ghost use Rattle.front_state.specs.Calls.{CoalescesBy, ComputesIn, InsertsIn, IsCauseIn, LooksUpIn, TakesOutIn, hash_in, held_value_in, visible_in, ways_by};
 
 use crate::hashing::{hash_key, place_of};
 use crate::places::{
@@ -22,6 +22,8 @@ use std::alloc::{AllocError, Global};
 use std::hash::{BuildHasher, Hash, Hasher};
 use std::marker::Model;
 
+mod accessing;
+mod coalescing;
 mod making;
 mod reading;
 mod turning;
@@ -48,7 +50,7 @@ impl<K: Eq + Hash, V, S: BuildHasher, R: Rules<K, V>> Model for LentState<K, V, 
     ghost use Rattle.std.specs.Prelude.{option_map};
     ghost use Rattle.std.specs.String.{string_bytes};
     ghost use Rattle.front_reference.specs.Fronts.{Front};
-    ghost use Rattle.front_state.specs.Calls.{IsSteadyBy, ways_of};
+    ghost use Rattle.front_state.specs.Calls.{IsSteadyBy, ways_by};
 
     ghost Value = { Front K V R.Predicate S R };
 
@@ -64,7 +66,7 @@ impl<K: Eq + Hash, V, S: BuildHasher, R: Rules<K, V>> Model for LentState<K, V, 
       step = c.step;
     } };
 
-    ghost invariant = { λ c. ∥ IsSteadyBy (ways_of R.weight_of R.created R.read R.updated R.covers K.eq S.Hasher.finish S.Hasher.write S.build_hasher K.hash_input) (record {
+    ghost invariant = { λ c. ∥ IsSteadyBy (ways_by R.Rules K.eq K.hash_input S.BuildHasher S.Hasher.Hasher) (record {
       parts = c.parts.items;
       bits = c.bits;
       name = option_map string_bytes c.name;
@@ -80,7 +82,7 @@ impl<K: Eq + Hash, V, S: BuildHasher, R: Rules<K, V>> Model for LentState<K, V, 
 impl<K: Eq + Hash, V, S: BuildHasher, R: Rules<K, V>> LentState<K, V, S, R> {
     /// The hash of a key, which the calls with a hash are handed.
     pub fn hash(&self, key: &K) -> u64
-        ensures { result ≡ hash_in (ways_of R.weight_of R.created R.read R.updated R.covers K.eq S.Hasher.finish S.Hasher.write S.build_hasher K.hash_input) self.now key.now }
+        ensures { result ≡ hash_in (ways_by R.Rules K.eq K.hash_input S.BuildHasher S.Hasher.Hasher) self.now key.now }
     {
         hash_key(&self.hasher, key)
     }
@@ -92,8 +94,8 @@ impl<K: Eq + Hash, V, S: BuildHasher, R: Rules<K, V>> LentState<K, V, S, R> {
         V: Clone + Drop,
         requires exact { (x y : V) → V.is_clone x y → y ≡ x }
         requires follows { ComesAfter at.now at.step self.old }
-        ensures found { IfOk result (λ found. found ≡ visible_in (ways_of R.weight_of R.created R.read R.updated R.covers K.eq S.Hasher.finish S.Hasher.write S.build_hasher K.hash_input) self.old at.now key.now) }
-        ensures used { OnOk result (LooksUpIn (ways_of R.weight_of R.created R.read R.updated R.covers K.eq S.Hasher.finish S.Hasher.write S.build_hasher K.hash_input) key.now at self.old self.new) }
+        ensures found { IfOk result (λ found. found ≡ visible_in (ways_by R.Rules K.eq K.hash_input S.BuildHasher S.Hasher.Hasher) self.old at.now key.now) }
+        ensures used { OnOk result (LooksUpIn (ways_by R.Rules K.eq K.hash_input S.BuildHasher S.Hasher.Hasher) key.now at self.old self.new) }
         ensures err { OnErr result (self.new ≡ self.old) }
     {
         let At { now, step } = at;
@@ -107,7 +109,7 @@ impl<K: Eq + Hash, V, S: BuildHasher, R: Rules<K, V>> LentState<K, V, S, R> {
 
     /// Whether a key has a visible value. It is no use of it.
     pub fn contains_key(&self, key: &K, now: Instant) -> bool
-        ensures { result ≡ is_some (visible_in (ways_of R.weight_of R.created R.read R.updated R.covers K.eq S.Hasher.finish S.Hasher.write S.build_hasher K.hash_input) self.now now key.now) }
+        ensures { result ≡ is_some (visible_in (ways_by R.Rules K.eq K.hash_input S.BuildHasher S.Hasher.Hasher) self.now now key.now) }
     {
         let hash = hash_key(&self.hasher, key);
         let place = place_of(self.bits, hash);
@@ -120,9 +122,9 @@ impl<K: Eq + Hash, V, S: BuildHasher, R: Rules<K, V>> LentState<K, V, S, R> {
         K: Drop,
         V: Drop,
         requires follows { ComesAfter at.now at.step self.old }
-        ensures inserts { OnOk result (InsertsIn (ways_of R.weight_of R.created R.read R.updated R.covers K.eq S.Hasher.finish S.Hasher.write S.build_hasher K.hash_input) key value at self.old self.new) }
+        ensures inserts { OnOk result (InsertsIn (ways_by R.Rules K.eq K.hash_input S.BuildHasher S.Hasher.Hasher) key value at self.old self.new) }
         ensures err { OnErr result (self.new ≡ self.old) }
-        ensures cause { IfErr result (IsCauseIn (ways_of R.weight_of R.created R.read R.updated R.covers K.eq S.Hasher.finish S.Hasher.write S.build_hasher K.hash_input) (λ _. 1) self.old key) }
+        ensures cause { IfErr result (IsCauseIn (ways_by R.Rules K.eq K.hash_input S.BuildHasher S.Hasher.Hasher) (λ _. 1) self.old key) }
     {
         let At { now, step } = at;
         let hash = hash_key(&self.hasher, &key);
@@ -141,10 +143,10 @@ impl<K: Eq + Hash, V, S: BuildHasher, R: Rules<K, V>> LentState<K, V, S, R> {
         V: Clone + Drop,
         requires exact { (x y : V) → V.is_clone x y → y ≡ x }
         requires follows { ComesAfter at.now at.step self.old }
-        ensures value { IfOk result (λ value. value ≡ held_value_in (ways_of R.weight_of R.created R.read R.updated R.covers K.eq S.Hasher.finish S.Hasher.write S.build_hasher K.hash_input) self.old key.now) }
-        ensures takes_out { OnOk result (TakesOutIn (ways_of R.weight_of R.created R.read R.updated R.covers K.eq S.Hasher.finish S.Hasher.write S.build_hasher K.hash_input) key.now at self.old self.new) }
+        ensures value { IfOk result (λ value. value ≡ held_value_in (ways_by R.Rules K.eq K.hash_input S.BuildHasher S.Hasher.Hasher) self.old key.now) }
+        ensures takes_out { OnOk result (TakesOutIn (ways_by R.Rules K.eq K.hash_input S.BuildHasher S.Hasher.Hasher) key.now at self.old self.new) }
         ensures err { OnErr result (self.new ≡ self.old) }
-        ensures cause { IfErr result (IsCauseIn (ways_of R.weight_of R.created R.read R.updated R.covers K.eq S.Hasher.finish S.Hasher.write S.build_hasher K.hash_input) removal_rooms self.old key.now) }
+        ensures cause { IfErr result (IsCauseIn (ways_by R.Rules K.eq K.hash_input S.BuildHasher S.Hasher.Hasher) removal_rooms self.old key.now) }
     {
         let At { now, step } = at;
         let hash = hash_key(&self.hasher, key);
@@ -162,9 +164,9 @@ impl<K: Eq + Hash, V, S: BuildHasher, R: Rules<K, V>> LentState<K, V, S, R> {
         V: Clone + Drop,
         requires exact { (x y : V) → V.is_clone x y → y ≡ x }
         requires follows { ComesAfter at.now at.step self.old }
-        ensures takes_out { OnOk result (TakesOutIn (ways_of R.weight_of R.created R.read R.updated R.covers K.eq S.Hasher.finish S.Hasher.write S.build_hasher K.hash_input) key.now at self.old self.new) }
+        ensures takes_out { OnOk result (TakesOutIn (ways_by R.Rules K.eq K.hash_input S.BuildHasher S.Hasher.Hasher) key.now at self.old self.new) }
         ensures err { OnErr result (self.new ≡ self.old) }
-        ensures cause { IfErr result (IsCauseIn (ways_of R.weight_of R.created R.read R.updated R.covers K.eq S.Hasher.finish S.Hasher.write S.build_hasher K.hash_input) removal_rooms self.old key.now) }
+        ensures cause { IfErr result (IsCauseIn (ways_by R.Rules K.eq K.hash_input S.BuildHasher S.Hasher.Hasher) removal_rooms self.old key.now) }
     {
         let At { now, step } = at;
         let hash = hash_key(&self.hasher, key);
@@ -193,14 +195,14 @@ impl<K: Eq + Hash, V, S: BuildHasher, R: Rules<K, V>> LentState<K, V, S, R> {
     where
         K: Drop,
         V: Clone + Drop,
-        requires hashed { hash ≡ hash_in (ways_of R.weight_of R.created R.read R.updated R.covers K.eq S.Hasher.finish S.Hasher.write S.build_hasher K.hash_input) self.old (Q.named_key name) }
+        requires hashed { hash ≡ hash_in (ways_by R.Rules K.eq K.hash_input S.BuildHasher S.Hasher.Hasher) self.old (Q.named_key name) }
         requires becomes { Q.can_become name }
         requires exact { (x y : V) → V.is_clone x y → y ≡ x }
         requires callable { P.IsAlwaysCallable replace_if × M.IsAlwaysCallable make }
         requires follows { ComesAfter at.now at.step self.old }
-        ensures answer { IfOk result (λ answer. CoalescesIn (ways_of R.weight_of R.created R.read R.updated R.covers K.eq S.Hasher.finish S.Hasher.write S.build_hasher K.hash_input) (Q.named_key name) at (FnOnceReturnsAt P.FnOnce replace_if) (λ made. M.post make (Ok made)) self.old self.new answer.0 answer.1) }
+        ensures answer { IfOk result (CoalescesBy (ways_by R.Rules K.eq K.hash_input S.BuildHasher S.Hasher.Hasher) (Q.named_key name) at (FnOnceReturnsAt P.FnOnce replace_if) (M.post make) self.old self.new) }
         ensures err { OnErr result (self.new ≡ self.old) }
-        ensures cause { IfErr result (IsCauseIn (ways_of R.weight_of R.created R.read R.updated R.covers K.eq S.Hasher.finish S.Hasher.write S.build_hasher K.hash_input) (λ _. 1) self.old (Q.named_key name)) }
+        ensures cause { IfErr result (IsCauseIn (ways_by R.Rules K.eq K.hash_input S.BuildHasher S.Hasher.Hasher) (λ _. 1) self.old (Q.named_key name)) }
     {
         let At { now, step } = at;
         let place = place_of(self.bits, hash);
@@ -230,14 +232,14 @@ impl<K: Eq + Hash, V, S: BuildHasher, R: Rules<K, V>> LentState<K, V, S, R> {
     where
         K: Drop,
         V: Clone + Drop,
-        requires hashed { hash ≡ hash_in (ways_of R.weight_of R.created R.read R.updated R.covers K.eq S.Hasher.finish S.Hasher.write S.build_hasher K.hash_input) self.old (Q.named_key name) }
+        requires hashed { hash ≡ hash_in (ways_by R.Rules K.eq K.hash_input S.BuildHasher S.Hasher.Hasher) self.old (Q.named_key name) }
         requires becomes { Q.can_become name }
         requires exact { (x y : V) → V.is_clone x y → y ≡ x }
         requires callable { D.IsAlwaysCallable decide }
         requires follows { ComesAfter at.now at.step self.old }
-        ensures computes { IfOk result (λ answer. ComputesIn (ways_of R.weight_of R.created R.read R.updated R.covers K.eq S.Hasher.finish S.Hasher.write S.build_hasher K.hash_input) (Q.named_key name) at (λ seen decided. D.post decide seen decided) self.old self.new answer) }
+        ensures computes { IfOk result (ComputesIn (ways_by R.Rules K.eq K.hash_input S.BuildHasher S.Hasher.Hasher) (Q.named_key name) at (D.post decide) self.old self.new) }
         ensures err { OnErr result (self.new ≡ self.old) }
-        ensures cause { IfErr result (IsCauseIn (ways_of R.weight_of R.created R.read R.updated R.covers K.eq S.Hasher.finish S.Hasher.write S.build_hasher K.hash_input) removal_rooms self.old (Q.named_key name)) }
+        ensures cause { IfErr result (IsCauseIn (ways_by R.Rules K.eq K.hash_input S.BuildHasher S.Hasher.Hasher) removal_rooms self.old (Q.named_key name)) }
     {
         let At { now, step } = at;
         let place = place_of(self.bits, hash);

@@ -3,7 +3,7 @@ ghost use Rattle.std.specs.Prelude.{◌≡◌, ◌+◌, ◌<◌, ◌^◌, ◌&&�
 ghost use Rattle.std.specs.Vec.{vec_capacity, vec_len};
 ghost use Rattle.front_reference.specs.Fronts.{same_kind, turn_at, turn_of, without_turn};
 ghost use Rattle.front_reference.specs.declared.data.OpenTurn.{OpenTurn};
-ghost use Rattle.front_state.specs.Turning.{IsTurnCause};
+ghost use Rattle.front_state.specs.Turning.{IsTurnCause, IsTurnPlace};
 
 use engine_rules::Names;
 use front_keys::IntoKey;
@@ -46,7 +46,7 @@ pub(crate) fn find_turn<K: PartialEq, Q: Names<K>>(
 
 /// The place of the turn of a number.
 pub(crate) fn place_of_turn<K>(turns: &[OpenTurn<K>], number: u64) -> Option<usize>
-    ensures found { IfSome result (λ i. (t : OpenTurn K) × (slice_get turns.now i ≡ Some t) × (turn_at turns.now number ≡ Some t) × (without_turn number turns.now ≡ remove turns.now i)) }
+    ensures found { IfSome result (IsTurnPlace number turns.now) }
     ensures within { IfSome result (λ i. i < length turns.now) }
     ensures none { IfNone result (turn_at turns.now number ≡ None) }
 {

@@ -1,16 +1,16 @@
 //! Turns: calls that make a value, one at a time for a kind and a key.
 ghost use Rattle.std.specs.Prelude.{◌≡◌, ◌+◌, ◌<◌, true, Some, None, IfOk, IfErr, IfSome, IfNone, OnOk, OnErr, is_none, is_some, length, option_map, remove, slice_get};
 ghost use Rattle.std.specs.Fn.{FnOnceReturnsAt};
-ghost use Rattle.engine_reference.specs.Scanning.{NotesLookUp, past};
+ghost use Rattle.engine_reference.specs.Scanning.{NotesLookUp};
 ghost use Rattle.engine_lists.specs.Asking.{answers_of};
 ghost use Rattle.front_reference.specs.Fronts.{CallsPart, ComesAfter, part_by_hash, passed, turn_at, turn_of, without_turn};
-ghost use Rattle.front_reference.specs.Turns.{Begins, abandoned, begun_compute, with_turn};
+ghost use Rattle.front_reference.specs.Turns.{abandoned, begun_compute, with_turn};
 ghost use Rattle.front_reference.specs.declared.data.Op.TheVariants as op;
 ghost use Rattle.front_reference.specs.declared.data.OpenTurn.{OpenTurn};
 ghost use Rattle.front_reference.specs.declared.data.TurnKind.TheVariants as turns;
 ghost use Rattle.front_reference.specs.declared.errors.CacheError.TheVariants.{UnknownTurn};
-ghost use Rattle.front_state.specs.Calls.{IsCauseOf, hash_in, visible_of, ways_of};
-ghost use Rattle.front_state.specs.Turning.{EndsTurn, FinishesBy, IsFinishCause, IsTurnCause, Leads, WaitsOrLeads};
+ghost use Rattle.front_state.specs.Calls.{AsksOf, hash_in, seen_of, ways_by};
+ghost use Rattle.front_state.specs.Turning.{BeginsIn, EndsTurnAt, FinishesBy, IsCauseAt, IsFinishCause, IsTurnCause, IsTurnPlace, Leads, WaitsOrLeads};
 
 use crate::hashing::place_of;
 use crate::places::{insert_or_back_at, look_at, note_at};
@@ -48,11 +48,11 @@ impl<K: Eq + Hash, V, S: BuildHasher, R: Rules<K, V>> LentState<K, V, S, R> {
     ) -> Result<(bool, Option<V>), AllocError>
     where
         V: Clone,
-        requires hashed { hash ≡ hash_in (ways_of R.weight_of R.created R.read R.updated R.covers K.eq S.Hasher.finish S.Hasher.write S.build_hasher K.hash_input) self.now (Q.named_key key.now) }
+        requires hashed { hash ≡ hash_in (ways_by R.Rules K.eq K.hash_input S.BuildHasher S.Hasher.Hasher) self.now (Q.named_key key.now) }
         requires exact { (x y : V) → V.is_clone x y → y ≡ x }
         requires callable { P.IsAlwaysCallable replace_if }
-        ensures asked { IfOk result (λ looked. (value : V) → visible_of (ways_of R.weight_of R.created R.read R.updated R.covers K.eq S.Hasher.finish S.Hasher.write S.build_hasher K.hash_input) (part_by_hash self.now hash) now (Q.named_key key.now) ≡ Some value → FnOnceReturnsAt P.FnOnce replace_if value looked.0) }
-        ensures found { IfOk result (λ looked. looked.1 ≡ past looked.0 (visible_of (ways_of R.weight_of R.created R.read R.updated R.covers K.eq S.Hasher.finish S.Hasher.write S.build_hasher K.hash_input) (part_by_hash self.now hash) now (Q.named_key key.now))) }
+        ensures asked { IfOk result (λ a. AsksOf (ways_by R.Rules K.eq K.hash_input S.BuildHasher S.Hasher.Hasher) (part_by_hash self.now hash) now (Q.named_key key.now) (FnOnceReturnsAt P.FnOnce replace_if) a.0) }
+        ensures found { IfOk result (λ a. a.1 ≡ seen_of (ways_by R.Rules K.eq K.hash_input S.BuildHasher S.Hasher.Hasher) (part_by_hash self.now hash) now (Q.named_key key.now) a.0) }
     {
         let place = place_of(self.bits, hash);
         let looked = look_at(self.parts.as_slice(), place, key, hash, now, replace_if)?;
@@ -64,7 +64,7 @@ impl<K: Eq + Hash, V, S: BuildHasher, R: Rules<K, V>> LentState<K, V, S, R> {
     where
         K: Drop,
         V: Drop,
-        requires hashed { hash ≡ hash_in (ways_of R.weight_of R.created R.read R.updated R.covers K.eq S.Hasher.finish S.Hasher.write S.build_hasher K.hash_input) self.old (Q.named_key key.now) }
+        requires hashed { hash ≡ hash_in (ways_by R.Rules K.eq K.hash_input S.BuildHasher S.Hasher.Hasher) self.old (Q.named_key key.now) }
         requires follows { ComesAfter at.now at.step self.old }
         ensures { CallsPart hash at.now at.step (NotesLookUp (answers_of R.weight_of R.created R.read R.updated R.covers) K.eq (Q.named_key key.now) hash at.now ignored) self.old self.new }
     {
@@ -87,11 +87,11 @@ impl<K: Eq + Hash, V, S: BuildHasher, R: Rules<K, V>> LentState<K, V, S, R> {
     where
         K: Drop,
         V: Drop,
-        requires hashed { hash ≡ hash_in (ways_of R.weight_of R.created R.read R.updated R.covers K.eq S.Hasher.finish S.Hasher.write S.build_hasher K.hash_input) self.old (Q.named_key name) }
+        requires hashed { hash ≡ hash_in (ways_by R.Rules K.eq K.hash_input S.BuildHasher S.Hasher.Hasher) self.old (Q.named_key name) }
         requires becomes { Q.can_become name }
         requires follows { ComesAfter at.now at.step self.old }
         requires free { turn_of K.eq self.old.turns kind (Q.named_key name) ≡ None }
-        ensures leads { IfOk result (Leads (ways_of R.weight_of R.created R.read R.updated R.covers K.eq S.Hasher.finish S.Hasher.write S.build_hasher K.hash_input) kind (Q.named_key name) hash at ignored self.old self.new) }
+        ensures leads { IfOk result (Leads (ways_by R.Rules K.eq K.hash_input S.BuildHasher S.Hasher.Hasher) kind (Q.named_key name) hash at ignored self.old self.new) }
         ensures err { OnErr result (self.new ≡ self.old) }
         ensures cause { IfErr result (IsTurnCause self.old.next_turn) }
     {
@@ -119,10 +119,10 @@ impl<K: Eq + Hash, V, S: BuildHasher, R: Rules<K, V>> LentState<K, V, S, R> {
     where
         K: Drop,
         V: Drop,
-        requires hashed { hash ≡ hash_in (ways_of R.weight_of R.created R.read R.updated R.covers K.eq S.Hasher.finish S.Hasher.write S.build_hasher K.hash_input) self.old (Q.named_key name) }
+        requires hashed { hash ≡ hash_in (ways_by R.Rules K.eq K.hash_input S.BuildHasher S.Hasher.Hasher) self.old (Q.named_key name) }
         requires becomes { Q.can_become name }
         requires follows { ComesAfter at.now at.step self.old }
-        ensures starts { IfOk result (WaitsOrLeads (ways_of R.weight_of R.created R.read R.updated R.covers K.eq S.Hasher.finish S.Hasher.write S.build_hasher K.hash_input) kind (Q.named_key name) hash at ignored self.old self.new) }
+        ensures starts { IfOk result (WaitsOrLeads (ways_by R.Rules K.eq K.hash_input S.BuildHasher S.Hasher.Hasher) kind (Q.named_key name) hash at ignored self.old self.new) }
         ensures err { OnErr result (self.new ≡ self.old) }
         ensures cause { IfErr result (IsTurnCause self.old.next_turn) }
     {
@@ -151,12 +151,12 @@ impl<K: Eq + Hash, V, S: BuildHasher, R: Rules<K, V>> LentState<K, V, S, R> {
     where
         K: Drop,
         V: Clone + Drop,
-        requires hashed { hash ≡ hash_in (ways_of R.weight_of R.created R.read R.updated R.covers K.eq S.Hasher.finish S.Hasher.write S.build_hasher K.hash_input) self.old (Q.named_key name) }
+        requires hashed { hash ≡ hash_in (ways_by R.Rules K.eq K.hash_input S.BuildHasher S.Hasher.Hasher) self.old (Q.named_key name) }
         requires becomes { Q.can_become name }
         requires exact { (x y : V) → V.is_clone x y → y ≡ x }
         requires callable { P.IsAlwaysCallable replace_if }
         requires follows { ComesAfter at.now at.step self.old }
-        ensures begins { IfOk result (Begins (answers_of R.weight_of R.created R.read R.updated R.covers) K.eq kind (Q.named_key name) hash at.now at.step (FnOnceReturnsAt P.FnOnce replace_if) self.old self.new) }
+        ensures begins { IfOk result (BeginsIn (ways_by R.Rules K.eq K.hash_input S.BuildHasher S.Hasher.Hasher) kind (Q.named_key name) hash at (FnOnceReturnsAt P.FnOnce replace_if) self.old self.new) }
         ensures err { OnErr result (self.new ≡ self.old) }
         ensures cause { IfErr result (IsTurnCause self.old.next_turn) }
     {
@@ -189,7 +189,7 @@ impl<K: Eq + Hash, V, S: BuildHasher, R: Rules<K, V>> LentState<K, V, S, R> {
     ) -> Result<u64, CacheError>
     where
         K: Drop,
-        requires hashed { hash ≡ hash_in (ways_of R.weight_of R.created R.read R.updated R.covers K.eq S.Hasher.finish S.Hasher.write S.build_hasher K.hash_input) self.old (Q.named_key name) }
+        requires hashed { hash ≡ hash_in (ways_by R.Rules K.eq K.hash_input S.BuildHasher S.Hasher.Hasher) self.old (Q.named_key name) }
         requires becomes { Q.can_become name }
         requires follows { ComesAfter at.now at.step self.old }
         requires free { turn_of K.eq self.old.turns turns.Compute (Q.named_key name) ≡ None }
@@ -217,7 +217,7 @@ impl<K: Eq + Hash, V, S: BuildHasher, R: Rules<K, V>> LentState<K, V, S, R> {
     ) -> Result<TurnStart<V>, CacheError>
     where
         K: Drop,
-        requires hashed { hash ≡ hash_in (ways_of R.weight_of R.created R.read R.updated R.covers K.eq S.Hasher.finish S.Hasher.write S.build_hasher K.hash_input) self.old (Q.named_key name) }
+        requires hashed { hash ≡ hash_in (ways_by R.Rules K.eq K.hash_input S.BuildHasher S.Hasher.Hasher) self.old (Q.named_key name) }
         requires becomes { Q.can_become name }
         requires follows { ComesAfter at.now at.step self.old }
         ensures begins { IfOk result (λ start. (start, self.new) ≡ begun_compute K.eq (Q.named_key name) hash at.now at.step self.old) }
@@ -238,7 +238,7 @@ impl<K: Eq + Hash, V, S: BuildHasher, R: Rules<K, V>> LentState<K, V, S, R> {
 
     /// The place of the turn of a number.
     fn turn_place(&self, number: u64) -> Option<usize>
-        ensures found { IfSome result (λ i. (t : OpenTurn K) × (slice_get self.now.turns i ≡ Some t) × (turn_at self.now.turns number ≡ Some t) × (without_turn number self.now.turns ≡ remove self.now.turns i)) }
+        ensures found { IfSome result (IsTurnPlace number self.now.turns) }
         ensures within { IfSome result (λ i. i < length self.now.turns) }
         ensures none { IfNone result (turn_at self.now.turns number ≡ None) }
     {
@@ -293,10 +293,10 @@ impl<K: Eq + Hash, V, S: BuildHasher, R: Rules<K, V>> LentState<K, V, S, R> {
         requires follows { ComesAfter at.now at.step self.old }
         requires within { place < length self.old.turns }
         requires there { without_turn number self.old.turns ≡ remove self.old.turns place }
-        ensures ends { OnOk result ((t : OpenTurn K) → slice_get self.old.turns place ≡ Some t → EndsTurn (ways_of R.weight_of R.created R.read R.updated R.covers K.eq S.Hasher.finish S.Hasher.write S.build_hasher K.hash_input) number t (op.Put value) at self.old self.new) }
+        ensures ends { OnOk result (EndsTurnAt (ways_by R.Rules K.eq K.hash_input S.BuildHasher S.Hasher.Hasher) place number (op.Put value) at self.old self.new) }
         ensures err { OnErr result (self.new ≡ self.old) }
         ensures back { IfErr result (λ refused. refused.1 ≡ value) }
-        ensures cause { IfErr result (λ refused. (t : OpenTurn K) → slice_get self.old.turns place ≡ Some t → IsCauseOf (ways_of R.weight_of R.created R.read R.updated R.covers K.eq S.Hasher.finish S.Hasher.write S.build_hasher K.hash_input) (λ _. 1) (part_by_hash self.old t.hash) refused.0) }
+        ensures cause { IfErr result (λ refused. IsCauseAt (ways_by R.Rules K.eq K.hash_input S.BuildHasher S.Hasher.Hasher) place self.old refused.0) }
     {
         let At { now, step } = at;
         let turn = &self.turns[place];
@@ -328,11 +328,11 @@ impl<K: Eq + Hash, V, S: BuildHasher, R: Rules<K, V>> LentState<K, V, S, R> {
         K: Drop,
         V: Drop,
         requires { ComesAfter at.now at.step self.old }
-        ensures ends { OnOk result (FinishesBy (ways_of R.weight_of R.created R.read R.updated R.covers K.eq S.Hasher.finish S.Hasher.write S.build_hasher K.hash_input) number end at self.old self.new) }
+        ensures ends { OnOk result (FinishesBy (ways_by R.Rules K.eq K.hash_input S.BuildHasher S.Hasher.Hasher) number end at self.old self.new) }
         ensures known { OnOk result (is_some (turn_at self.old.turns number) ≡ true) }
         ensures err { OnErr result (self.new ≡ self.old) }
         ensures back { IfErr result (λ refused. refused.1 ≡ end) }
-        ensures cause { IfErr result (λ refused. IsFinishCause (ways_of R.weight_of R.created R.read R.updated R.covers K.eq S.Hasher.finish S.Hasher.write S.build_hasher K.hash_input) number self.old refused.0) }
+        ensures cause { IfErr result (λ refused. IsFinishCause (ways_by R.Rules K.eq K.hash_input S.BuildHasher S.Hasher.Hasher) number self.old refused.0) }
     {
         let place = match self.turn_place(number) {
             Some(place) => place,

@@ -1,6 +1,6 @@
 use Rattle.front_state.proofs.Lists.{called_at, there}
 use Rattle.front_state.proofs.Steady.{caused}
-use Rattle.front_state.specs.Calls.{ways_of}
+use Rattle.front_state.specs.Calls.{ways_by}
 use Rattle.front_state.proofs.places.insert_or_back_at.Goals as goal
 
 pub insert_or_back-requires-clause-ready : goal.insert_or_back-requires-clause-ready
@@ -11,4 +11,4 @@ returns-in-Ok-clause-inserts g c = let u = c.in-Ok.ensures.inserts in called_at 
 
 pub returns-in-Err-clause-cause : goal.returns-in-Err-clause-cause
 returns-in-Err-clause-cause g c =
-    caused (ways_of g.R.Rules.weight_of g.R.Rules.created g.R.Rules.read g.R.Rules.updated g.R.Rules.covers g.K.PartialEq.eq g.S.Hasher.Hasher.finish g.S.Hasher.Hasher.write g.S.BuildHasher.build_hasher g.K.Hash.hash_input) (λ s. 1) _ _ _ (there c.args.parts.now.items c.args.place c.index_mut-part.result.now c.requires.there.within c.index_mut-part.ensures.value) c.in-Err.ensures.cause
+    caused (ways_by g.R.Rules g.K.PartialEq.eq g.K.Hash.hash_input g.S.BuildHasher g.S.Hasher.Hasher) (λ s. 1) _ _ _ (there c.args.parts.now.items c.args.place c.index_mut-part.result.now c.requires.there.within c.index_mut-part.ensures.value) c.in-Err.ensures.cause

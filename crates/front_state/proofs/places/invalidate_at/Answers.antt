@@ -1,7 +1,7 @@
 use Rattle.engine_reference.specs.Calls.{removal_rooms}
 use Rattle.front_state.proofs.Lists.{called_at, there}
 use Rattle.front_state.proofs.Steady.{caused}
-use Rattle.front_state.specs.Calls.{ways_of}
+use Rattle.front_state.specs.Calls.{ways_by}
 use Rattle.front_state.proofs.places.invalidate_at.Goals as goal
 
 pub invalidate-requires-clause-ready : goal.invalidate-requires-clause-ready
@@ -13,4 +13,4 @@ returns-in-Ok-clause-takes_out g c = let u = c.in-Ok.ensures.takes_out in called
 pub returns-in-Err-clause-cause : goal.returns-in-Err-clause-cause
 returns-in-Err-clause-cause g c =
     let at = there c.args.parts.now.items c.args.place c.index_mut-part.result.now c.requires.there.within c.index_mut-part.ensures.value in
-    caused (ways_of g.R.Rules.weight_of g.R.Rules.created g.R.Rules.read g.R.Rules.updated g.R.Rules.covers g.K.PartialEq.eq g.S.Hasher.Hasher.finish g.S.Hasher.Hasher.write g.S.BuildHasher.build_hasher g.K.Hash.hash_input) removal_rooms _ _ _ at c.in-Err.ensures.cause
+    caused (ways_by g.R.Rules g.K.PartialEq.eq g.K.Hash.hash_input g.S.BuildHasher g.S.Hasher.Hasher) removal_rooms _ _ _ at c.in-Err.ensures.cause

@@ -1,0 +1,11 @@
+use Rattle.std.specs.Arc.{arc_value}
+use Rattle.front_access.specs.Selecting.{with_fault}
+use Rattle.std.proofs.Common.{rules}
+use Rattle.front_state.specs.Calls.{ways_by}
+use Rattle.front_state.proofs.Accessed.{gets-result}
+use Rattle.front_state.proofs.state.LentState.make_result.Goals as goal
+
+pub returns-clause-value : goal.returns-clause-value
+returns-clause-value g c =
+    let key = g.Q.Names.named_key c.args.name in
+    gets-result (ways_by g.R.Rules g.K.PartialEq.eq g.K.Hash.hash_input g.S.BuildHasher g.S.Hasher.Hasher) key c.args.at _ _ (λ answer. goal.M-post g c.args.make answer) c.args.self.now c.coalesce.new.self c.in_ok-made.made c.in_ok-made._is_fresh (with_fault arc_value c.result_made.result) c.result_made.ensures c.in_ok-made.ensures.answer (λ v i says. search rules) (λ says. search rules)

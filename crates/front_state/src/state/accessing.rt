@@ -1,0 +1,105 @@
+//! Selectors of a cache that is lent.
+ghost use Rattle.std.specs.Prelude.{◌≡◌, Some, Ok, IfOk, OnErr};
+ghost use Rattle.std.specs.Fn.{FnOnceReturnsAt};
+ghost use Rattle.front_access.specs.Answering.{Suits};
+ghost use Rattle.front_reference.specs.declared.data.Made.{Made};
+ghost use Rattle.front_reference.specs.declared.data.TurnKind.TheVariants as turns;
+ghost use Rattle.front_state.specs.Accessing.{DecidesIn, GivesIn, MayCall};
+ghost use Rattle.front_state.specs.Calls.{ways_by};
+
+use crate::state::LentState;
+use engine_rules::Rules;
+use front_access::{Access, OwnedKeyEntrySelector, RefKeyEntrySelector};
+use front_keys::Shared;
+use front_reference::{At, CacheError, Computed, Made, Op, TurnKind};
+use std::alloc::AllocError;
+use std::hash::{BuildHasher, Hash, Hasher};
+
+impl<K: Eq + Hash + Drop, V: Clone + Drop, S: BuildHasher, R: Rules<K, V>> Access<K, V>
+    for LentState<K, V, S, R> {
+    ghost use Rattle.front_state.specs.Accessing.{CoalescedIn, ComputedIn, MayCall, SeesIn};
+    ghost use Rattle.front_state.specs.Calls.{ways_by};
+
+    type When = At;
+
+    type Fault = R::Fault;
+
+    ghost may_call = { MayCall K.eq };
+
+    ghost sees = { SeesIn (ways_by R.Rules K.eq K.hash_input S.BuildHasher S.Hasher.Hasher) };
+
+    ghost coalesced = { CoalescedIn (ways_by R.Rules K.eq K.hash_input S.BuildHasher S.Hasher.Hasher) };
+
+    ghost computed = { ComputedIn (ways_by R.Rules K.eq K.hash_input S.BuildHasher S.Hasher.Hasher) };
+
+    fn coalesce<
+        P: FnOnce(&V) -> bool + Drop,
+        M: FnOnce() -> Result<Made<V, Shared<R::Fault>>, AllocError> + Drop,
+    >(
+        &mut self,
+        key: Shared<K>,
+        when: At,
+        kind: Option<TurnKind>,
+        replace_if: P,
+        make: M,
+    ) -> Result<(Made<V, Shared<R::Fault>>, bool), CacheError>
+        requires exact { (x y : V) → V.is_clone x y → y ≡ x }
+        requires free { MayCall K.eq self.old when kind key }
+        requires callable { P.IsAlwaysCallable replace_if × M.IsAlwaysCallable make }
+        requires suitable { (made : Made V R.Fault) → M.post make (Ok made) → Suits kind made }
+        ensures gives { IfOk result (GivesIn (ways_by R.Rules K.eq K.hash_input S.BuildHasher S.Hasher.Hasher) kind when key (FnOnceReturnsAt P.FnOnce replace_if) (M.post make) self.old self.new) }
+        ensures suits { IfOk result (λ a. Suits kind a.0) }
+        ensures err { OnErr result (self.new ≡ self.old) }
+    {
+        let hash = self.hash(&*key);
+        LentState::coalesce(self, key, hash, when, replace_if, make)
+    }
+
+    fn compute<E: Drop, D: FnOnce(Option<V>) -> Result<Op<V>, E> + Drop>(
+        &mut self,
+        key: Shared<K>,
+        when: At,
+        decide: D,
+    ) -> Result<Result<Computed<V>, E>, CacheError>
+        requires exact { (x y : V) → V.is_clone x y → y ≡ x }
+        requires free { MayCall K.eq self.old when (Some turns.Compute) key }
+        requires callable { D.IsAlwaysCallable decide }
+        ensures decides { IfOk result (DecidesIn (ways_by R.Rules K.eq K.hash_input S.BuildHasher S.Hasher.Hasher) when key (D.post decide) self.old self.new) }
+        ensures err { OnErr result (self.new ≡ self.old) }
+    {
+        let hash = self.hash(&*key);
+        LentState::compute(self, key, hash, when, decide)
+    }
+}
+
+impl<K: Eq + Hash, V, S: BuildHasher, R: Rules<K, V>> LentState<K, V, S, R> {
+    /// A selector of the entry of a key. Of its calls one can be made, which comes at this moment and step.
+    pub fn entry<'a>(&'a mut self, key: K, at: At) -> OwnedKeyEntrySelector<'a, K, Self, At>
+        ensures same_reference { result.owner.ghost_name ≡ self.entry.ghost_name }
+        ensures owner { result.owner.now ≡ self.old }
+        ensures key { result.key ≡ key }
+        ensures when { result.when ≡ at }
+    {
+        let alloc = self.alloc;
+        OwnedKeyEntrySelector::new(self, key, at, alloc)
+    }
+
+    /// The same by a key that is lent, which is cloned.
+    pub fn entry_by_ref<'a>(
+        &'a mut self,
+        key: &K,
+        at: At,
+    ) -> Result<RefKeyEntrySelector<'a, K, Self, At>, AllocError>
+    where
+        K: Clone,
+        requires exact_key { (x y : K) → K.is_clone x y → y ≡ x }
+        ensures same_reference { IfOk result (λ s. s.owner.ghost_name ≡ self.entry.ghost_name) }
+        ensures owner { IfOk result (λ s. s.owner.now ≡ self.old) }
+        ensures key { IfOk result (λ s. s.key ≡ key.now) }
+        ensures when { IfOk result (λ s. s.when ≡ at) }
+    {
+        let alloc = self.alloc;
+        let own = key.clone()?;
+        Ok(RefKeyEntrySelector::new(self, own, at, alloc))
+    }
+}

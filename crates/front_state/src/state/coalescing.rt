@@ -1,0 +1,376 @@
+//! Calls that make a value where none is visible, by their names in moka. Each asks that no turn of its kind and key is under way, which `is_turn_free` tests.
+ghost use Rattle.std.specs.Prelude.{◌≡◌, false, Some, None, IfOk, IfErr, OnErr};
+ghost use Rattle.std.specs.Arc.{arc_value};
+ghost use Rattle.std.specs.Fn.{FnOnceReturnsAt};
+ghost use Rattle.front_access.specs.Answering.{IsOptionOf, IsResultOf, IsValueOf, Suits, passes_none};
+ghost use Rattle.front_access.specs.Selecting.{with_fault};
+ghost use Rattle.front_reference.specs.Fronts.{ComesAfter};
+ghost use Rattle.front_reference.specs.declared.data.Made.TheVariants as outcome;
+ghost use Rattle.front_reference.specs.declared.data.TurnKind.TheVariants as turns;
+ghost use Rattle.front_state.specs.Accessing.{GetsIn, GetsOptionIn, GetsResultIn, MayCall, made_option, made_result};
+ghost use Rattle.front_state.specs.Calls.{IsCauseIn, hash_in, ways_by};
+
+use crate::state::LentState;
+use engine_rules::Rules;
+use front_keys::{ClonedKey, IntoKey, OwnedKey, Shared};
+use front_reference::{At, CacheError, Made};
+use std::alloc::AllocError;
+use std::hash::{BuildHasher, Hash, Hasher};
+use std::sync::Arc;
+
+impl<K: Eq + Hash + Drop, V: Clone + Drop, S: BuildHasher, R: Rules<K, V>> LentState<K, V, S, R> {
+    /// The visible value of a key that is not passed over, or the one that is made.
+    fn make_value<Q: IntoKey<Shared<K>>, P: FnOnce(&V) -> bool + Drop, M: FnOnce() -> V + Drop>(
+        &mut self,
+        name: Q,
+        hash: u64,
+        replace_if: P,
+        make: M,
+        at: At,
+    ) -> Result<V, CacheError>
+        requires hashed { hash ≡ hash_in (ways_by R.Rules K.eq K.hash_input S.BuildHasher S.Hasher.Hasher) self.old (Q.named_key name) }
+        requires becomes { Q.can_become name }
+        requires exact { (x y : V) → V.is_clone x y → y ≡ x }
+        requires callable { P.IsAlwaysCallable replace_if × M.IsAlwaysCallable make }
+        requires follows { ComesAfter at.now at.step self.old }
+        ensures value { IfOk result (GetsIn (ways_by R.Rules K.eq K.hash_input S.BuildHasher S.Hasher.Hasher) (Q.named_key name) at (FnOnceReturnsAt P.FnOnce replace_if) (M.post make) self.old self.new) }
+        ensures err { OnErr result (self.new ≡ self.old) }
+        ensures cause { IfErr result (IsCauseIn (ways_by R.Rules K.eq K.hash_input S.BuildHasher S.Hasher.Hasher) (λ _. 1) self.old (Q.named_key name)) }
+    {
+        let (made, _is_fresh) = self.coalesce(
+            name,
+            hash,
+            at,
+            replace_if,
+            || -> Result<Made<V, ()>, AllocError>
+                requires { M.IsAlwaysCallable make }
+                ensures { IfOk result (IsValueOf (M.post make)) }
+            { Ok(Made::Value(make())) },
+        )?;
+        Ok(value_made(made))
+    }
+
+    /// The visible value of a key, or the one that is made, if one is.
+    fn make_option<Q: IntoKey<Shared<K>>, M: FnOnce() -> Option<V> + Drop>(
+        &mut self,
+        name: Q,
+        hash: u64,
+        make: M,
+        at: At,
+    ) -> Result<Option<V>, CacheError>
+        requires hashed { hash ≡ hash_in (ways_by R.Rules K.eq K.hash_input S.BuildHasher S.Hasher.Hasher) self.old (Q.named_key name) }
+        requires becomes { Q.can_become name }
+        requires exact { (x y : V) → V.is_clone x y → y ≡ x }
+        requires callable { M.IsAlwaysCallable make }
+        requires follows { ComesAfter at.now at.step self.old }
+        ensures value { IfOk result (GetsOptionIn (ways_by R.Rules K.eq K.hash_input S.BuildHasher S.Hasher.Hasher) (Q.named_key name) at (M.post make) self.old self.new) }
+        ensures err { OnErr result (self.new ≡ self.old) }
+        ensures cause { IfErr result (IsCauseIn (ways_by R.Rules K.eq K.hash_input S.BuildHasher S.Hasher.Hasher) (λ _. 1) self.old (Q.named_key name)) }
+    {
+        let (made, _is_fresh) = self.coalesce(
+            name,
+            hash,
+            at,
+            |_: &V| -> bool
+                ensures { result ≡ false }
+            { false },
+            || -> Result<Made<V, ()>, AllocError>
+                requires { M.IsAlwaysCallable make }
+                ensures { IfOk result (IsOptionOf (M.post make)) }
+            {
+                match make() {
+                    Some(value) => Ok(Made::Value(value)),
+                    None => Ok(Made::Nothing),
+                }
+            },
+        )?;
+        Ok(option_made(made))
+    }
+
+    /// The visible value of a key, or the one that is made, or why none is.
+    fn make_result<Q: IntoKey<Shared<K>>, F: Drop, M: FnOnce() -> Result<V, F> + Drop>(
+        &mut self,
+        name: Q,
+        hash: u64,
+        make: M,
+        at: At,
+    ) -> Result<Result<V, Arc<F>>, CacheError>
+        requires hashed { hash ≡ hash_in (ways_by R.Rules K.eq K.hash_input S.BuildHasher S.Hasher.Hasher) self.old (Q.named_key name) }
+        requires becomes { Q.can_become name }
+        requires exact { (x y : V) → V.is_clone x y → y ≡ x }
+        requires callable { M.IsAlwaysCallable make }
+        requires follows { ComesAfter at.now at.step self.old }
+        ensures value { IfOk result (λ r. GetsResultIn (ways_by R.Rules K.eq K.hash_input S.BuildHasher S.Hasher.Hasher) (Q.named_key name) at (M.post make) self.old self.new (with_fault arc_value r)) }
+        ensures err { OnErr result (self.new ≡ self.old) }
+        ensures cause { IfErr result (IsCauseIn (ways_by R.Rules K.eq K.hash_input S.BuildHasher S.Hasher.Hasher) (λ _. 1) self.old (Q.named_key name)) }
+    {
+        let alloc = self.alloc;
+        let (made, _is_fresh) = self.coalesce(
+            name,
+            hash,
+            at,
+            |_: &V| -> bool
+                ensures { result ≡ false }
+            { false },
+            || -> Result<Made<V, Shared<F>>, AllocError>
+                requires { M.IsAlwaysCallable make }
+                ensures { IfOk result (IsResultOf (M.post make)) }
+            {
+                match make() {
+                    Ok(value) => Ok(Made::Value(value)),
+                    Err(fault) => Ok(Made::Fault(Shared::new(alloc, fault)?)),
+                }
+            },
+        )?;
+        Ok(result_made(made))
+    }
+
+    /// The visible value of a key, of which it is a use, or the one that `make` makes, which is kept.
+    pub fn get_with<M: FnOnce() -> V + Drop>(
+        &mut self,
+        key: K,
+        make: M,
+        at: At,
+    ) -> Result<V, CacheError>
+        requires exact { (x y : V) → V.is_clone x y → y ≡ x }
+        requires callable { M.IsAlwaysCallable make }
+        requires free { MayCall K.eq self.old at (Some turns.With) key }
+        ensures value { IfOk result (GetsIn (ways_by R.Rules K.eq K.hash_input S.BuildHasher S.Hasher.Hasher) key at passes_none (M.post make) self.old self.new) }
+        ensures err { OnErr result (self.new ≡ self.old) }
+        ensures cause { IfErr result (IsCauseIn (ways_by R.Rules K.eq K.hash_input S.BuildHasher S.Hasher.Hasher) (λ _. 1) self.old key) }
+    {
+        let hash = self.hash(&key);
+        let name = OwnedKey {
+            key,
+            alloc: self.alloc,
+        };
+        self.make_value(
+            name,
+            hash,
+            |_: &V| -> bool
+                ensures { result ≡ false }
+            { false },
+            make,
+            at,
+        )
+    }
+
+    /// The same by a key that is lent, and cloned only where a value is kept.
+    pub fn get_with_by_ref<M: FnOnce() -> V + Drop>(
+        &mut self,
+        key: &K,
+        make: M,
+        at: At,
+    ) -> Result<V, CacheError>
+    where
+        K: Clone,
+        requires exact_key { (x y : K) → K.is_clone x y → y ≡ x }
+        requires exact { (x y : V) → V.is_clone x y → y ≡ x }
+        requires callable { M.IsAlwaysCallable make }
+        requires free { MayCall K.eq self.old at (Some turns.With) key.now }
+        ensures value { IfOk result (GetsIn (ways_by R.Rules K.eq K.hash_input S.BuildHasher S.Hasher.Hasher) key.now at passes_none (M.post make) self.old self.new) }
+        ensures err { OnErr result (self.new ≡ self.old) }
+        ensures cause { IfErr result (IsCauseIn (ways_by R.Rules K.eq K.hash_input S.BuildHasher S.Hasher.Hasher) (λ _. 1) self.old key.now) }
+    {
+        let hash = self.hash(key);
+        let name = ClonedKey {
+            key,
+            alloc: self.alloc,
+        };
+        self.make_value(
+            name,
+            hash,
+            |_: &V| -> bool
+                ensures { result ≡ false }
+            { false },
+            make,
+            at,
+        )
+    }
+
+    /// The same as `get_with`, where a visible value of which `replace_if` says yes counts as none.
+    pub fn get_with_if<M: FnOnce() -> V + Drop, P: FnOnce(&V) -> bool + Drop>(
+        &mut self,
+        key: K,
+        make: M,
+        replace_if: P,
+        at: At,
+    ) -> Result<V, CacheError>
+        requires exact { (x y : V) → V.is_clone x y → y ≡ x }
+        requires callable { P.IsAlwaysCallable replace_if × M.IsAlwaysCallable make }
+        requires free { MayCall K.eq self.old at (Some turns.With) key }
+        ensures value { IfOk result (GetsIn (ways_by R.Rules K.eq K.hash_input S.BuildHasher S.Hasher.Hasher) key at (FnOnceReturnsAt P.FnOnce replace_if) (M.post make) self.old self.new) }
+        ensures err { OnErr result (self.new ≡ self.old) }
+        ensures cause { IfErr result (IsCauseIn (ways_by R.Rules K.eq K.hash_input S.BuildHasher S.Hasher.Hasher) (λ _. 1) self.old key) }
+    {
+        let hash = self.hash(&key);
+        let name = OwnedKey {
+            key,
+            alloc: self.alloc,
+        };
+        self.make_value(name, hash, replace_if, make, at)
+    }
+
+    /// The visible value of a key, of which it is a use, or the one that `make` makes, which is kept, or `None` where it makes none.
+    pub fn optionally_get_with<M: FnOnce() -> Option<V> + Drop>(
+        &mut self,
+        key: K,
+        make: M,
+        at: At,
+    ) -> Result<Option<V>, CacheError>
+        requires exact { (x y : V) → V.is_clone x y → y ≡ x }
+        requires callable { M.IsAlwaysCallable make }
+        requires free { MayCall K.eq self.old at (Some turns.Optionally) key }
+        ensures value { IfOk result (GetsOptionIn (ways_by R.Rules K.eq K.hash_input S.BuildHasher S.Hasher.Hasher) key at (M.post make) self.old self.new) }
+        ensures err { OnErr result (self.new ≡ self.old) }
+        ensures cause { IfErr result (IsCauseIn (ways_by R.Rules K.eq K.hash_input S.BuildHasher S.Hasher.Hasher) (λ _. 1) self.old key) }
+    {
+        let hash = self.hash(&key);
+        let name = OwnedKey {
+            key,
+            alloc: self.alloc,
+        };
+        self.make_option(name, hash, make, at)
+    }
+
+    /// The same by a key that is lent, and cloned only where a value is kept.
+    pub fn optionally_get_with_by_ref<M: FnOnce() -> Option<V> + Drop>(
+        &mut self,
+        key: &K,
+        make: M,
+        at: At,
+    ) -> Result<Option<V>, CacheError>
+    where
+        K: Clone,
+        requires exact_key { (x y : K) → K.is_clone x y → y ≡ x }
+        requires exact { (x y : V) → V.is_clone x y → y ≡ x }
+        requires callable { M.IsAlwaysCallable make }
+        requires free { MayCall K.eq self.old at (Some turns.Optionally) key.now }
+        ensures value { IfOk result (GetsOptionIn (ways_by R.Rules K.eq K.hash_input S.BuildHasher S.Hasher.Hasher) key.now at (M.post make) self.old self.new) }
+        ensures err { OnErr result (self.new ≡ self.old) }
+        ensures cause { IfErr result (IsCauseIn (ways_by R.Rules K.eq K.hash_input S.BuildHasher S.Hasher.Hasher) (λ _. 1) self.old key.now) }
+    {
+        let hash = self.hash(key);
+        let name = ClonedKey {
+            key,
+            alloc: self.alloc,
+        };
+        self.make_option(name, hash, make, at)
+    }
+
+    /// The visible value of a key, of which it is a use, or the one that `make` makes, which is kept, or why it could make none.
+    pub fn try_get_with<F: Drop, M: FnOnce() -> Result<V, F> + Drop>(
+        &mut self,
+        key: K,
+        make: M,
+        at: At,
+    ) -> Result<Result<V, Arc<F>>, CacheError>
+        requires exact { (x y : V) → V.is_clone x y → y ≡ x }
+        requires callable { M.IsAlwaysCallable make }
+        requires free { MayCall K.eq self.old at (Some turns.Try) key }
+        ensures value { IfOk result (λ r. GetsResultIn (ways_by R.Rules K.eq K.hash_input S.BuildHasher S.Hasher.Hasher) key at (M.post make) self.old self.new (with_fault arc_value r)) }
+        ensures err { OnErr result (self.new ≡ self.old) }
+        ensures cause { IfErr result (IsCauseIn (ways_by R.Rules K.eq K.hash_input S.BuildHasher S.Hasher.Hasher) (λ _. 1) self.old key) }
+    {
+        let hash = self.hash(&key);
+        let name = OwnedKey {
+            key,
+            alloc: self.alloc,
+        };
+        self.make_result(name, hash, make, at)
+    }
+
+    /// The same by a key that is lent, and cloned only where a value is kept.
+    pub fn try_get_with_by_ref<F: Drop, M: FnOnce() -> Result<V, F> + Drop>(
+        &mut self,
+        key: &K,
+        make: M,
+        at: At,
+    ) -> Result<Result<V, Arc<F>>, CacheError>
+    where
+        K: Clone,
+        requires exact_key { (x y : K) → K.is_clone x y → y ≡ x }
+        requires exact { (x y : V) → V.is_clone x y → y ≡ x }
+        requires callable { M.IsAlwaysCallable make }
+        requires free { MayCall K.eq self.old at (Some turns.Try) key.now }
+        ensures value { IfOk result (λ r. GetsResultIn (ways_by R.Rules K.eq K.hash_input S.BuildHasher S.Hasher.Hasher) key.now at (M.post make) self.old self.new (with_fault arc_value r)) }
+        ensures err { OnErr result (self.new ≡ self.old) }
+        ensures cause { IfErr result (IsCauseIn (ways_by R.Rules K.eq K.hash_input S.BuildHasher S.Hasher.Hasher) (λ _. 1) self.old key.now) }
+    {
+        let hash = self.hash(key);
+        let name = ClonedKey {
+            key,
+            alloc: self.alloc,
+        };
+        self.make_result(name, hash, make, at)
+    }
+
+    /// The same as `get_with`, under the name that a cache of segments has for it.
+    pub fn get_or_insert_with<M: FnOnce() -> V + Drop>(
+        &mut self,
+        key: K,
+        make: M,
+        at: At,
+    ) -> Result<V, CacheError>
+        requires exact { (x y : V) → V.is_clone x y → y ≡ x }
+        requires callable { M.IsAlwaysCallable make }
+        requires free { MayCall K.eq self.old at (Some turns.With) key }
+        ensures value { IfOk result (GetsIn (ways_by R.Rules K.eq K.hash_input S.BuildHasher S.Hasher.Hasher) key at passes_none (M.post make) self.old self.new) }
+        ensures err { OnErr result (self.new ≡ self.old) }
+        ensures cause { IfErr result (IsCauseIn (ways_by R.Rules K.eq K.hash_input S.BuildHasher S.Hasher.Hasher) (λ _. 1) self.old key) }
+    {
+        self.get_with(key, make, at)
+    }
+
+    /// The same as `try_get_with`, under the name that a cache of segments has for it.
+    pub fn get_or_try_insert_with<F: Drop, M: FnOnce() -> Result<V, F> + Drop>(
+        &mut self,
+        key: K,
+        make: M,
+        at: At,
+    ) -> Result<Result<V, Arc<F>>, CacheError>
+        requires exact { (x y : V) → V.is_clone x y → y ≡ x }
+        requires callable { M.IsAlwaysCallable make }
+        requires free { MayCall K.eq self.old at (Some turns.Try) key }
+        ensures value { IfOk result (λ r. GetsResultIn (ways_by R.Rules K.eq K.hash_input S.BuildHasher S.Hasher.Hasher) key at (M.post make) self.old self.new (with_fault arc_value r)) }
+        ensures err { OnErr result (self.new ≡ self.old) }
+        ensures cause { IfErr result (IsCauseIn (ways_by R.Rules K.eq K.hash_input S.BuildHasher S.Hasher.Hasher) (λ _. 1) self.old key) }
+    {
+        self.try_get_with(key, make, at)
+    }
+}
+
+/// The value that was made.
+fn value_made<V>(made: Made<V, ()>) -> V
+    requires { Suits None made }
+    ensures { outcome.Value result ≡ made }
+{
+    match made {
+        Made::Value(value) => value,
+        _ => unreachable!(),
+    }
+}
+
+/// The value that was made, if one was.
+fn option_made<V>(made: Made<V, ()>) -> Option<V>
+    requires { Suits (Some turns.Optionally) made }
+    ensures { made_option result ≡ made }
+{
+    match made {
+        Made::Value(value) => Some(value),
+        Made::Nothing => None,
+        Made::Fault(_) => unreachable!(),
+    }
+}
+
+/// The value that was made, or why none was.
+fn result_made<V, F: Drop>(made: Made<V, Shared<F>>) -> Result<V, Arc<F>>
+    requires { Suits (Some turns.Try) made }
+    ensures { made_result (with_fault arc_value result) ≡ made }
+{
+    match made {
+        Made::Value(value) => Ok(value),
+        Made::Fault(fault) => Err(fault.into_arc()),
+        Made::Nothing => unreachable!(),
+    }
+}
