@@ -1,0 +1,9 @@
+//! An iterator over what is visible in a cache.
+#![tactic(auto)]
+
+mod iter;
+mod keys;
+mod scanning;
+
+pub use iter::Iter;
+pub use scanning::ScanningGet;
