@@ -4,3 +4,4 @@ pub mod Turned
 pub mod Steady
 mod Newness
 mod Accessed
+mod Covered

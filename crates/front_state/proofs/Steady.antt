@@ -43,7 +43,7 @@ untruncated : {X : Type 0} (o : Option X) → ∥ o ≡ None ∥₁ → o ≡ No
 untruncated None h = refl
 untruncated (Some x) h = absurd (∥∥₁_elim h (Prim.hlevel props) (λ (e : Some x ≡ None). let no : ⊥ = cc in no))
 
-apart-untruncated : {K V : Type 0} (eq : K → K → Bool) (es : List (Entry K V)) → ∥ AreApart eq es ∥₁ → AreApart eq es
+pub apart-untruncated : {K V : Type 0} (eq : K → K → Bool) (es : List (Entry K V)) → ∥ AreApart eq es ∥₁ → AreApart eq es
 apart-untruncated eq [] h = tt
 apart-untruncated eq (e ∷ es) h = (untruncated (entry_of eq es e.key) (∥∥₁_map h (λ k. k.0)), apart-untruncated eq es (∥∥₁_map h (λ k. k.1)))
 

@@ -24,6 +24,7 @@ use std::marker::Model;
 
 mod accessing;
 mod coalescing;
+mod covering;
 mod making;
 mod reading;
 mod turning;

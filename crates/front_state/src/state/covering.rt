@@ -1,0 +1,184 @@
+//! Calls on all parts of a cache: predicates, notices, the iterator; and the part of a key.
+ghost use Rattle.std.specs.Prelude.{◌≡◌, ◌<◌, ◌≤◌, ℕ, true, IfOk, IfErr, OnOk, OnErr, MatchOption, length, slice_get};
+ghost use Rattle.std.specs.String.{string_bytes};
+ghost use Rattle.engine_lists.specs.Asking.{answers_of};
+ghost use Rattle.front_reference.specs.Fronts.{ComesAfter, part_of};
+ghost use Rattle.front_reference.specs.Wholes.{HasGiven, next_told, without_told};
+ghost use Rattle.front_state.specs.Calls.{IsOpenAt, IsSteadyBy, hash_in, visible_in, visible_of, ways_of};
+ghost use Rattle.front_state.specs.Covering.{CoversAll, IsCauseToCover, keys_in, keys_of};
+ghost use Rattle.front_wholes.specs.Covering.{id_text};
+
+use crate::hashing::{hash_key, place_of};
+use crate::state::LentState;
+use engine_rules::{Names, Rules};
+use front_iterator::{Iter, ScanningGet};
+use front_keys::{LentKey, Shared};
+use front_reference::{At, CacheError};
+use front_wholes::{clone_each, cover_all, next_notice, write_id};
+use moka_engine::{BaseCache, Notice};
+use policy_base::Instant;
+use rand_core::Rng;
+use std::alloc::AllocError;
+use std::hash::{BuildHasher, Hash, Hasher};
+
+/// A clone of the value of a key that is visible in the part at a place. It is no use of it.
+fn scan_at<K: Eq + Hash, V: Clone, S: BuildHasher, R: Rules<K, V>, Q: Names<K>>(
+    parts: &[BaseCache<K, V, S, R>],
+    place: usize,
+    key: &Q,
+    hash: u64,
+    now: Instant,
+) -> Result<Option<V>, AllocError>
+    requires exact { (x y : V) → V.is_clone x y → y ≡ x }
+    requires there { IsOpenAt (ways_of R.weight_of R.created R.read R.updated R.covers K.eq S.Hasher.finish S.Hasher.write S.build_hasher K.hash_input) place (Q.named_key key.now) hash parts.now }
+    ensures { IfOk result (λ found. found ≡ visible_of (ways_of R.weight_of R.created R.read R.updated R.covers K.eq S.Hasher.finish S.Hasher.write S.build_hasher K.hash_input) (slice_get parts.now place) now (Q.named_key key.now)) }
+{
+    parts[place].get_with_hash_without_recording(key, hash, now)
+}
+
+/// Clones of the keys that the part at a place holds.
+fn keys_at<K: Eq + Hash + Clone + Drop, V, S: BuildHasher, R: Rules<K, V>>(
+    parts: &[BaseCache<K, V, S, R>],
+    place: usize,
+) -> Result<Option<Vec<K>>, AllocError>
+    requires exact_key { (x y : K) → K.is_clone x y → y ≡ x }
+    ensures { IfOk result (λ keys. MatchOption keys (length parts.now ≤ place) (λ found. found.items ≡ keys_of (slice_get parts.now place))) }
+{
+    if place >= parts.len() {
+        return Ok(None);
+    }
+    parts[place].keys(0)
+}
+
+impl<K: Eq + Hash, V, S: BuildHasher, R: Rules<K, V>> LentState<K, V, S, R> {
+    /// The part that a key belongs to, by the upper bits of its hash.
+    pub fn part(&self, key: &K) -> usize
+        ensures part { result ≡ part_of self.now.bits (hash_in (ways_of R.weight_of R.created R.read R.updated R.covers K.eq S.Hasher.finish S.Hasher.write S.build_hasher K.hash_input) self.now key.now) }
+        ensures within { result < length self.now.parts }
+    {
+        let hash = hash_key(&self.hasher, key);
+        place_of(self.bits, hash)
+    }
+
+    /// Does nothing. What a cache keeps between its calls, for those whose own laws rest on it.
+    pub fn keeps(&self)
+        ensures { ∥ IsSteadyBy (ways_of R.weight_of R.created R.read R.updated R.covers K.eq S.Hasher.finish S.Hasher.write S.build_hasher K.hash_input) self.now ∥₁ }
+    {
+        let _step = self.step;
+    }
+
+    /// Takes the oldest notice of the first part that has one.
+    pub fn next_notice(&mut self) -> Option<Notice<Shared<K>, V>>
+        ensures notice { result ≡ next_told self.old.parts }
+        ensures taken { self.new ≡ record self.old { parts = without_told self.old.parts } }
+    {
+        next_notice(&mut self.parts)
+    }
+
+    /// Registers a predicate in all parts, or in none where it is refused. It covers what was written at earlier steps. The identifier of the first part is answered.
+    fn cover<G: Rng>(
+        &mut self,
+        predicate: R::Predicate,
+        generator: &mut G,
+        at: At,
+    ) -> Result<u128, CacheError>
+        requires follows { ComesAfter at.now at.step self.old }
+        requires takes { self.old.common.settings.takes_predicates ≡ true }
+        ensures covers { IfOk result (λ id. CoversAll predicate at (G.stream generator.old) (G.stream generator.new) id self.old self.new) }
+        ensures err { OnErr result (self.new ≡ self.old) }
+        ensures cause { IfErr result (IsCauseToCover self.old (G.stream generator.old) (G.stream generator.new)) }
+    {
+        let At { now, step } = at;
+        let count = self.parts.len();
+        let shared = Shared::new(self.alloc, predicate)?;
+        let clones = clone_each(self.alloc, count, &shared)?;
+        match cover_all(self.alloc, &mut self.parts, clones, generator, step) {
+            Ok(id) => {
+                self.moment = now;
+                self.step = step;
+                Ok(id)
+            }
+            Err(refused) => Err(refused),
+        }
+    }
+
+    /// Covers the values of earlier steps of which a predicate says yes, in all parts or, where it is refused, in none. An identifier is drawn for each part, and that of the first one is answered, in its hyphenated form of 36 bytes in lower case.
+    /// Only a cache that was made to take predicates takes one. A refusal for want of memory or of tickets draws nothing.
+    pub fn invalidate_entries_if<G: Rng>(
+        &mut self,
+        predicate: R::Predicate,
+        generator: &mut G,
+        at: At,
+    ) -> Result<String, CacheError>
+        requires follows { ComesAfter at.now at.step self.old }
+        ensures covers { IfOk result (λ text. (id : ℕ) × (string_bytes text ≡ id_text id) × CoversAll predicate at (G.stream generator.old) (G.stream generator.new) id self.old self.new) }
+        ensures takes { OnOk result (self.old.common.settings.takes_predicates ≡ true) }
+        ensures err { OnErr result (self.new ≡ self.old) }
+        ensures cause { IfErr result (IsCauseToCover self.old (G.stream generator.old) (G.stream generator.new)) }
+    {
+        if !self.settings.takes_predicates {
+            return Err(CacheError::InvalidationClosuresDisabled);
+        }
+        let mut text = String::with_capacity(self.alloc, 36)?;
+        let id = self.cover(predicate, generator, at)?;
+        write_id(&mut text, id);
+        Ok(text)
+    }
+
+    /// `invalidate_entries_if` without an identifier, as several segments have it.
+    pub fn invalidate_segments_if<G: Rng>(
+        &mut self,
+        predicate: R::Predicate,
+        generator: &mut G,
+        at: At,
+    ) -> Result<(), CacheError>
+        requires follows { ComesAfter at.now at.step self.old }
+        ensures covers { OnOk result ((id : ℕ) × CoversAll predicate at (G.stream generator.old) (G.stream generator.new) id self.old self.new) }
+        ensures takes { OnOk result (self.old.common.settings.takes_predicates ≡ true) }
+        ensures err { OnErr result (self.new ≡ self.old) }
+        ensures cause { IfErr result (IsCauseToCover self.old (G.stream generator.old) (G.stream generator.new)) }
+    {
+        if !self.settings.takes_predicates {
+            return Err(CacheError::InvalidationClosuresDisabled);
+        }
+        let _id = self.cover(predicate, generator, at)?;
+        Ok(())
+    }
+}
+
+impl<K: Eq + Hash + Drop, V: Clone, S: BuildHasher, R: Rules<K, V>> ScanningGet<Shared<K>, V>
+    for LentState<K, V, S, R> {
+    ghost segments = { λ f. length f.parts };
+
+    ghost keys_in = { keys_in };
+
+    ghost value_of = { λ f now key. visible_in (ways_of R.weight_of R.created R.read R.updated R.covers K.eq S.Hasher.finish S.Hasher.write S.build_hasher K.hash_input) f now key };
+
+    ghost can_scan = { λ _. (x y : V) → V.is_clone x y → y ≡ x };
+
+    fn num_cht_segments(&self) -> usize {
+        self.parts.len()
+    }
+
+    fn scanning_get(&self, key: &Shared<K>, now: Instant) -> Result<Option<V>, AllocError> {
+        let key = &**key;
+        let hash = hash_key(&self.hasher, key);
+        let place = place_of(self.bits, hash);
+        scan_at(self.parts.as_slice(), place, &LentKey { key }, hash, now)
+    }
+
+    fn keys(&self, segment: usize) -> Result<Option<Vec<Shared<K>>>, AllocError> {
+        keys_at(self.parts.as_slice(), segment)
+    }
+}
+
+impl<K: Eq + Hash + Drop, V: Clone, S: BuildHasher, R: Rules<K, V>> LentState<K, V, S, R> {
+    /// An iterator over what is visible at a moment: each key once, with a clone of its value. It takes no memory, its items do; no item is a use.
+    pub fn iter(&self, now: Instant) -> Iter<'_, Shared<K>, V, LentState<K, V, S, R>>
+        ensures source { result.source ≡ self.now }
+        ensures now { result.now ≡ now }
+        ensures coming { HasGiven (answers_of R.weight_of R.created R.read R.updated R.covers) K.eq (λ key. hash_in (ways_of R.weight_of R.created R.read R.updated R.covers K.eq S.Hasher.finish S.Hasher.write S.build_hasher K.hash_input) self.now key) now self.now (length self.now.parts) result.coming }
+    {
+        Iter::new(self.alloc, self, now)
+    }
+}
