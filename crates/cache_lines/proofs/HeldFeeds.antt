@@ -1,6 +1,6 @@
 -- A feed of a connection that holds a line back.
 use Rattle.std.proofs.Common.{◌≡◌, ℕ, suc, ◌+◌, Bool, true, false, not, ◌&&◌, List, [], ◌∷◌, ◌++◌, Option, Some, None, if◌then◌else◌, refl, sym, ap, ◌∙◌, subst}
-use Rattle.std.specs.Prelude.{Ok}
+use Rattle.std.specs.Prelude.{Ok, is_none}
 use Rattle.std.specs.List.{list_all}
 use Rattle.std.proofs.lemmas.Bool.{and_from, eq-eqb}
 use Rattle.audit_laws.specs.Leading.{is_parted}
@@ -26,7 +26,7 @@ use Rattle.cache_loads.specs.Pending.{number_to_send, when_joined, when_sent}
 use Rattle.cache_store.specs.Promises.{no_deed}
 use Rattle.cache_tape.specs.Taped.{Taped}
 use Rattle.cache_lines.specs.Drawing.{identifiers_in}
-use Rattle.cache_lines.specs.Ended.{RanReady, RanTasks, ends_held, held_with}
+use Rattle.cache_lines.specs.Ended.{RanReady, RanTasks, ends_held, ends_silent, held_with}
 use Rattle.cache_lines.specs.Gathered.{Stage, gather, gathered, stage}
 use Rattle.cache_lines.specs.Lines.{IsThere, are_timely, ends_quit, has_its_part, is_timely_after, ready, says_quit, set_in, situation_behind, with_drops}
 use Rattle.cache_lines.specs.Making.{Making}
@@ -49,6 +49,11 @@ due_if may number = if may then RunLines number ∷ [] else []
 starts-quit : (config : Config) (x : Step) (xs : List Step) (quit : Bool) → (not x.held && says_quit (reading config x.line)) ≡ false → ends_quit config xs ≡ quit → ends_quit config (x ∷ xs) ≡ quit
 starts-quit config x [] quit one e = one ∙ e
 starts-quit config x (y ∷ ys) quit one e = e
+
+-- a step that has its reply before others, of which the last one waits or not
+starts-silent : (x : Step) (xs : List Step) (b : Bool) → (is_none x.reply && not x.held) ≡ false → ends_silent xs ≡ b → ends_silent (x ∷ xs) ≡ b
+starts-silent x [] b one e = one ∙ e
+starts-silent x (y ∷ ys) b one e = e
 
 module _ (making : Making) (number : ℕ) (base : Situation) (held : List HeldValue) (times : ℕ) (bytes piece : List ℕ) where
   -- the situation in which such a feed runs
@@ -81,11 +86,11 @@ module _ (making : Making) (number : ℕ) (base : Situation) (held : List HeldVa
   starts x (y ∷ ys) b e h = h
 
   -- that command runs first, and lines behind it
-  pub feeds-held : (quit is_held : Bool) (target : List HeldValue → Situation) (old middle new : Stage) → IsThere number base
+  pub feeds-held : (quit is_held is_silent : Bool) (target : List HeldValue → Situation) (old middle new : Stage) → IsThere number base
       → (one : RanOne making number fed (held_line bytes) false old middle)
-      → RanReady making number (with_drops middle.values.frame.dropped base) (held_when_run making.config fed (action_by (reading making.config (held_line bytes))) (step_saying 0 [] one.reply one.accepted one.told)) (behind_lines 1 bytes ++ piece) quit is_held target middle new
-      → RanTasks making fed (tasks_to_feed number true) quit is_held target old new
-  feeds-held quit is_held target old middle new there one r =
+      → RanReady making number (with_drops middle.values.frame.dropped base) (held_when_run making.config fed (action_by (reading making.config (held_line bytes))) (step_saying 0 [] one.reply one.accepted one.told)) (behind_lines 1 bytes ++ piece) quit is_held is_silent target middle new
+      → RanTasks making fed (tasks_to_feed number true) quit is_held is_silent target old new
+  feeds-held quit is_held is_silent target old middle new there one r =
       let config = making.config in
       let step = released one.reply one.accepted one.told in
       let effect = effect_in config (view_in config fed) (action_by (reading config (held_line bytes))) step in
@@ -102,6 +107,7 @@ module _ (making : Making) (number : ℕ) (base : Situation) (held : List HeldVa
         timely = and_from _ _ (ap (is_timely_after config making.made effect) after ∙ timely-ended config making.made effect false (with_drops middle.values.frame.dropped base) _ (ready number (behind_lines 1 bytes ++ piece)) one.timely) (ap (λ x. are_timely config making.made x (RunLines number ∷ []) r.steps) after ∙ r.timely);
         ends = starts step r.steps is_held refl r.ends;
         quits = starts-quit config step r.steps quit one.says r.quits;
+        silent = starts-silent step r.steps is_silent refl r.silent;
         draws = draws-first config step r.steps (identifiers_in old.values) (identifiers_in middle.values) (identifiers_in new.values) one.draws r.draws;
         ordered = λ places order plain agrees.
             let b = one.ordered places order plain agrees in
@@ -113,7 +119,7 @@ module _ (making : Making) (number : ℕ) (base : Situation) (held : List HeldVa
 
   -- it is a `QUIT`, and nothing runs behind it
   pub feeds-quit : (rest : List ℕ) (old new : Stage) → IsThere number base → RanOne making number fed (held_line bytes) true old new
-      → RanTasks making fed (tasks_to_feed number true) true false (λ left. situation_behind true (with_drops new.values.frame.dropped base) left (ready number rest)) old new
+      → RanTasks making fed (tasks_to_feed number true) true false false (λ left. situation_behind true (with_drops new.values.frame.dropped base) left (ready number rest)) old new
   feeds-quit rest old new there one =
       let config = making.config in
       let step = released one.reply one.accepted one.told in
@@ -134,6 +140,7 @@ module _ (making : Making) (number : ℕ) (base : Situation) (held : List HeldVa
         timely = and_from _ _ (ap (is_timely_after config making.made effect) after ∙ timely-ended config making.made effect true from left (ready number (behind_lines 1 bytes ++ piece)) one.timely) refl;
         ends = refl;
         quits = one.says;
+        silent = refl;
         draws = draws-first config step [] (identifiers_in old.values) (identifiers_in new.values) (identifiers_in new.values) one.draws (spends-same (identifiers_in new.values));
         ordered = λ places order plain agrees.
             let b = one.ordered places order plain agrees in
@@ -146,7 +153,7 @@ module _ (making : Making) (number : ℕ) (base : Situation) (held : List HeldVa
   pub feeds-waits : (key : List ℕ) (load : Option ℕ) (old : Stage) (text : List ℕ) (tape : Option Taped) → IsThere number base → reading making.config (held_line bytes) ≡ Ok (says.Load key)
       → load ≡ number_to_send key base.sent base.pending → live_at making.config base.latest held key ≡ None → old.values.Stands (all_held_after making.config base.latest held no_deed [])
       → gathered (stage old.values text tape) ≡ gather (gathered old) (step_waits number (held_line bytes) load ∷ [])
-      → RanTasks making fed (tasks_to_feed number true) false false
+      → RanTasks making fed (tasks_to_feed number true) false false true
       (λ left. set_in (with_under_way (record { sent = when_sent load base.sent; pending = when_joined number key load base.pending }) base) left (waiting number (held_line bytes) (behind_lines 1 bytes ++ piece) (1 + times))) old (stage old.values text tape)
   feeds-waits key load old text tape there reads is none stands gathers =
       let config = making.config in
@@ -177,6 +184,7 @@ module _ (making : Making) (number : ℕ) (base : Situation) (held : List HeldVa
             (ap (λ r. is_timely_after config making.made (effect_in config (view_in config fed) (action_by r) step) (after_step config fed (Some (RunHeld number)) step (effect_in config (view_in config fed) (action_by r) step))) reads) refl;
         ends = refl;
         quits = ap says_quit reads;
+        silent = refl;
         draws = draws-first config step [] (identifiers_in old.values) (identifiers_in old.values) (identifiers_in old.values) (waits-draws config number line load (identifiers_in old.values)) (spends-same (identifiers_in old.values));
         ordered = λ places order plain agrees. (
           subst (λ r. AgreesWith old.values.Used places (order_by (suc places) r order)) (sym reads) tt,

@@ -11,7 +11,7 @@ use Rattle.cache_commands.specs.Right.{KeepsFrame, held_when_run, step_saying}
 use Rattle.cache_loads.specs.Pending.{when_joined, when_sent}
 use Rattle.cache_store.specs.Values.{IsSoundStore}
 use Rattle.cache_tape.specs.Taped.{Taped, drafts}
-use Rattle.cache_lines.specs.Ended.{BeginsToWait, RanReady, RanTasks, RunsHeld, RunsReady, ends_by_quit, held_with, holds_back, left_by}
+use Rattle.cache_lines.specs.Ended.{BeginsToWait, RanReady, RanTasks, RunsHeld, RunsReady, ends_by_quit, held_with, holds_back, left_by, waits_now}
 use Rattle.cache_lines.specs.Gathered.{IsFresh, Stage, gather, gathered, stage}
 use Rattle.cache_lines.specs.Lines.{ready, set_in, situation_behind, with_drops}
 use Rattle.cache_lines.specs.Making.{Making, making_of}
@@ -39,11 +39,12 @@ held-stays now number times bytes piece rest end old middle new loads after line
           let from : Situation = record (with_drops middle.values.frame.dropped s) { held = values } in
           let quit = ends_by_quit end in
           let target : List HeldValue → Situation = λ left. situation_behind quit (with_under_way after (with_drops new.values.frame.dropped s)) left (left_by number end 1 rest) in
-          let lines : RanReady making number (with_drops middle.values.frame.dropped s) values (behind_lines 1 bytes ++ piece) quit (holds_back end) target middle new =
-          subst (λ (m : Making). RanReady m number (with_drops middle.values.frame.dropped s) values (behind_lines 1 bytes ++ piece) quit (holds_back end) target middle new) (ap making_of line.frame.rest)
+          let lines : RanReady making number (with_drops middle.values.frame.dropped s) values (behind_lines 1 bytes ++ piece) quit (holds_back end) (waits_now end) target middle new =
+          subst (λ (m : Making). RanReady m number (with_drops middle.values.frame.dropped s) values (behind_lines 1 bytes ++ piece) quit (holds_back end) (waits_now end) target middle new) (ap making_of line.frame.rest)
           (r.ran from (record { at = agrees.at; dropped = refl; stands = one.left }) there under) in
-          feeds-held making number s s.held times bytes piece quit (holds_back end) target old middle new there one lines;
+          feeds-held making number s s.held times bytes piece quit (holds_back end) (waits_now end) target old middle new there one lines;
       ends = r.ends;
+      few = omega arith;
       frame = frames-more old.values.frame middle.values.frame new.values.frame now line.frame r.frame;
       fresh = r.fresh;
     }
@@ -57,9 +58,10 @@ held-quits now number times bytes piece rest old new loads after line same =
       ran = λ s agrees there under.
           let fed = set_in s s.held (held_with number times bytes piece) in
           let one = line.ran fed (record { at = agrees.at; dropped = agrees.dropped; stands = agrees.stands }) in
-          subst (λ u. RanTasks making fed (tasks_to_feed number true) true false (λ left. situation_behind true (with_under_way u (with_drops new.values.frame.dropped s)) left (ready number rest)) old new) (under ∙ sym same)
+          subst (λ u. RanTasks making fed (tasks_to_feed number true) true false false (λ left. situation_behind true (with_under_way u (with_drops new.values.frame.dropped s)) left (ready number rest)) old new) (under ∙ sym same)
           (feeds-quit making number s s.held times bytes piece rest old new there one);
       ends = tt;
+      few = omega arith;
       frame = line.frame;
       fresh = line.fresh;
     }
@@ -87,7 +89,7 @@ held-waits now number times again bytes piece rest old tape new_tape loads after
           let fed = set_in s s.held (held_with number times bytes piece) in
           let none : live_at making.config s.latest s.held key ≡ None = subst (λ (m : ℕ). live_at making.config m s.held key ≡ None) (sym agrees.at) (miss.none s.held agrees.stands) in
           let sent = ap (λ u. load_sent_for key u) (sym under) in
-          let Waited : Situation → List ℕ → List ℕ → ℕ → Type _ = λ t l behind k. RanTasks making fed (tasks_to_feed number true) false false (λ left. set_in t left (waiting number l behind k)) old new in
+          let Waited : Situation → List ℕ → List ℕ → ℕ → Type _ = λ t l behind k. RanTasks making fed (tasks_to_feed number true) false false true (λ left. set_in t left (waiting number l behind k)) old new in
           let loaded : with_under_way (when_waiting number key loads) s ≡ with_under_way after s = ap (λ u. with_under_way u s) (sym (begins.loads_are key miss.reads)) in
           let a = feeds-waits making number s s.held times bytes piece key load old old.text new_tape there miss.reads sent none (idle-by old old making.config s.latest s.held sound refl agrees.stands) gathers in
           let b : Waited (with_under_way (when_waiting number key loads) s) line (behind_lines 1 bytes ++ piece) (1 + times) =
@@ -98,6 +100,7 @@ held-waits now number times again bytes piece rest old tape new_tape loads after
           let f = subst (λ bs. Waited (with_under_way after s) (held_line rest) bs again) behind_is e in
           subst (λ dropped. Waited (with_under_way after (with_drops dropped s)) (held_line rest) (behind_lines 1 rest) again) agrees.dropped f;
       ends = ap has_line joined_is ∙ has-line-more bytes piece whole;
+      few = omega arith;
       frame = frame;
       fresh = subst IsFresh (sym gathers) (fresh-gather (gathered old) (step_silent number line load None [] ∷ []) fresh);
     }

@@ -1,15 +1,15 @@
 mod AnsweredLine
-mod Drawn
+pub mod Drawn
 mod HeldFeeds
 mod HeldRuns
 mod Knowing
-mod LineRuns
-mod LoadWaits
+pub mod LineRuns
+pub mod LoadWaits
 mod NotesTaken
-mod Placing
+pub mod Placing
 mod ReadyEnds
 mod ReadyRuns
 mod Reading
 mod Rounds
 mod Stepping
-mod WholeLines
+pub mod WholeLines

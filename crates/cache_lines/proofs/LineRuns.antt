@@ -1,11 +1,11 @@
 -- A connection's lines run, one after another.
 use Rattle.std.proofs.Common.{◌≡◌, ℕ, suc, ◌+◌, Bool, true, false, not, ◌&&◌, ◌||◌, List, [], ◌∷◌, ◌++◌, take, drop, Option, Some, None, refl, sym, ap, ◌∙◌, subst, append_assoc}
-use Rattle.std.specs.Prelude.{is_some}
+use Rattle.std.specs.Prelude.{is_none, is_some}
 use Rattle.std.specs.List.{flat_map}
 use Rattle.std.specs.Option.{option_map_or}
 use Rattle.std.proofs.lemmas.List.{append-nil}
 use Rattle.std.proofs.lemmas.Grind.{flat_map-append}
-use Rattle.std.proofs.lemmas.Bool.{eq-eqb, and_from}
+use Rattle.std.proofs.lemmas.Bool.{eq-eqb, and_from, and_parts}
 use Rattle.std.proofs.lemmas.List.Folds.{list_all-append}
 use Rattle.std.specs.List.{list_all}
 use Rattle.audit_model.specs.Changes.{after_step}
@@ -27,6 +27,7 @@ use Rattle.cache_lines.specs.Making.{Making}
 use Rattle.cache_lines.specs.Gathered.{Gathered, IsFresh, Stage, gather, gathered, reply_in, stage}
 use Rattle.cache_store.specs.Values.{Values}
 use Rattle.cache_tape.specs.Taped.{Taped}
+use Rattle.cache_lines.specs.Ended.{ends_silent}
 use Rattle.cache_lines.specs.Lines.{Runs, IsThere, situation_behind, ends_quit, has_its_part, is_timely_after, effect_of_step, ready, says_quit, set_in, with_drops}
 use Rattle.cache_lines.specs.Ran.{RanOne, RanLines}
 use Rattle.cache_lines.specs.Ordered.{HasKeys, order_behind}
@@ -93,6 +94,21 @@ ends-quit-more config [] step quit e = e
 ends-quit-more config (x ∷ []) step quit e = e
 ends-quit-more config (x ∷ y ∷ xs) step quit e = ends-quit-more config (y ∷ xs) step quit e
 
+pub silent-more : (steps : List Step) (step : Step) → ends_silent (steps ++ step ∷ []) ≡ (is_none step.reply && not step.held)
+silent-more [] step = refl
+silent-more (x ∷ []) step = refl
+silent-more (x ∷ y ∷ xs) step = silent-more (y ∷ xs) step
+
+-- steps that all have their replies
+pub silent-none : (steps : List Step) → list_all (λ step. is_some step.reply) steps ≡ true → ends_silent steps ≡ false
+silent-none [] all = refl
+silent-none (step ∷ []) all = has-one step.reply (not step.held) (and_parts (is_some step.reply) true all).0
+  where
+    has-one : (o : Option (List ℕ)) (b : Bool) → is_some o ≡ true → (is_none o && b) ≡ false
+    has-one None b e = let no : false ≡ true = e in cc
+    has-one (Some x) b e = refl
+silent-none (step ∷ next ∷ steps) all = silent-none (next ∷ steps) (and_parts (is_some step.reply) (list_all (λ (x : Step). is_some x.reply) (next ∷ steps)) all).1
+
 -- a connection with a whole line is not closed for a long one
 pub line-fits : (number : ℕ) (bytes : List ℕ) (n : ℕ) → IsLine bytes n → is_overlong (ready number bytes) ≡ false
 line-fits number bytes n line = ap (λ b. b || false) (IsLine-not_long bytes n line)
@@ -141,6 +157,7 @@ ran-more making number base held bytes mid rest line n quit old middle new there
           ∙ ap (λ b. situation_behind quit (with_drops b base) (held_when_run config s action step) (ready number (behind_lines 1 mid))) (sym one.dropped_is)
           ∙ ended-rest quit (λ e. IsLine-behind_lines mid n at ∙ sym (skips e)) (held_when_run config s action step));
       none_held = all-more (λ (x : Step). not x.held) r.steps step r.none_held refl;
+      replied = all-more (λ (x : Step). is_some x.reply) r.steps step r.replied refl;
       quits = ends-quit-more config r.steps step quit one.says;
       draws = draws-more config r.steps step (identifiers_in old.values) (identifiers_in middle.values) (identifiers_in new.values) r.draws one.draws;
       ordered = λ places order plain agrees.
@@ -164,7 +181,7 @@ ran-more making number base held bytes mid rest line n quit old middle new there
 pub ran-none : (making : Making) (number : ℕ) (base : Situation) (held : List HeldValue) (bytes : List ℕ) (old : Stage)
     → old.values.Stands held → base.dropped ≡ old.values.frame.dropped → RanLines making number base held bytes false bytes old old
 ran-none making number base held bytes old m same =
-    record { steps = []; left = held; stands = m; runs = ap (λ b. set_in (with_drops b base) held (ready number bytes)) (sym same); none_held = refl; quits = refl; draws = spends-same (identifiers_in old.values); ordered = λ places order plain agrees. (agrees, tt); gathered_is = sym (gather-none (gathered old)) }
+    record { steps = []; left = held; stands = m; runs = ap (λ b. set_in (with_drops b base) held (ready number bytes)) (sym same); none_held = refl; replied = refl; quits = refl; draws = spends-same (identifiers_in old.values); ordered = λ places order plain agrees. (agrees, tt); gathered_is = sym (gather-none (gathered old)) }
 
 -- a line that was refused changed nothing but what room there is
 pub ran-kept : (making : Making) (number : ℕ) (base : Situation) (held : List HeldValue) (bytes rest : List ℕ) (quit : Bool) (old : Stage) (values : Values) (middle_text new_text : List ℕ) (middle_tape new_tape : Option Taped)
@@ -172,4 +189,4 @@ pub ran-kept : (making : Making) (number : ℕ) (base : Situation) (held : List 
     → gathered (stage values new_text new_tape) ≡ gathered (stage values middle_text middle_tape)
     → RanLines making number base held bytes quit rest old (stage values new_text new_tape)
 ran-kept making number base held bytes rest quit old values middle_text new_text middle_tape new_tape r same =
-    record { steps = r.steps; left = r.left; stands = r.stands; runs = r.runs; none_held = r.none_held; quits = r.quits; draws = r.draws; ordered = r.ordered; gathered_is = same ∙ r.gathered_is }
+    record { steps = r.steps; left = r.left; stands = r.stands; runs = r.runs; none_held = r.none_held; replied = r.replied; quits = r.quits; draws = r.draws; ordered = r.ordered; gathered_is = same ∙ r.gathered_is }

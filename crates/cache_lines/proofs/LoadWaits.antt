@@ -46,7 +46,7 @@ use Rattle.cache_lines.specs.Ordered.{HasKeys, order_behind}
 use Rattle.cache_lines.specs.Ran.{RanLines}
 use Rattle.cache_lines.proofs.Drawn.{draws-more}
 use Rattle.cache_lines.proofs.Knowing.{keys-in-turn, order-behind-more, runs-keys-more}
-use Rattle.cache_lines.proofs.LineRuns.{ends-quit-more, gather-more, line-fits, may-run, runs-more}
+use Rattle.cache_lines.proofs.LineRuns.{ends-quit-more, gather-more, line-fits, may-run, runs-more, silent-more}
 use Rattle.cache_lines.proofs.ReadyRuns.{runs-end, runs-parted, runs-timely}
 
 -- ---- what a step does to the loads
@@ -229,7 +229,7 @@ pub ready-waits : (making : Making) (number : ℕ) (base : Situation) (held : Li
     → IsThere number base → (r : RanLines making number base held bytes false rest old middle) → IsLine rest n → line ≡ without_return (take n rest) → reading making.config line ≡ Ok (says.Load key)
     → load ≡ number_to_send key base.sent base.pending → live_at making.config base.latest r.left key ≡ None → middle.values.Stands (all_held_after making.config base.latest r.left no_deed [])
     → gathered (stage middle.values text tape) ≡ gather (gathered middle) (step_waits number line load ∷ [])
-    → RanReady making number base held bytes false false
+    → RanReady making number base held bytes false false true
     (λ left. set_in (with_under_way (record { sent = when_sent load base.sent; pending = when_joined number key load base.pending }) (with_drops middle.values.frame.dropped base)) left (waiting number line (behind_lines 1 rest) 1)) old (stage middle.values text tape)
 ready-waits making number base held bytes rest line key n load old middle text tape there r at said reads is none stands gathers =
     let config = making.config in
@@ -248,6 +248,7 @@ ready-waits making number base held bytes rest line key n load old middle text t
       timely = runs-timely making number (r.steps ++ step ∷ []) _ _ runs;
       ends = ends-more r.steps step;
       quits = ends-quit-more config r.steps step false (ap says_quit reads);
+      silent = silent-more r.steps step;
       draws = draws-more config r.steps step (identifiers_in old.values) drawing drawing r.draws (waits-draws config number line load drawing);
       ordered = λ places order plain agrees.
           let a = r.ordered places order plain agrees in

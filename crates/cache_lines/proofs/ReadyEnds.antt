@@ -16,7 +16,7 @@ use Rattle.cache_store.specs.Promises.{Frame, no_deed}
 use Rattle.cache_store.specs.Values.{IsSoundStore, Values}
 use Rattle.cache_tape.specs.Taped.{Taped, ends, spends, step_held}
 use Rattle.cache_loads.specs.Pending.{when_joined, when_sent}
-use Rattle.cache_lines.specs.Ended.{BeginsToWait, EndsBy, EndsFor, IsHeldBack, RanReady, RunsReady, ends_by_quit, holds_back, left_by}
+use Rattle.cache_lines.specs.Ended.{BeginsToWait, EndsBy, EndsFor, IsHeldBack, RanReady, RunsReady, ends_by_quit, holds_back, left_by, waits_now}
 use Rattle.cache_lines.specs.Gathered.{IsFresh, Stage, gather, gathered, stage}
 use Rattle.cache_lines.specs.Lines.{IsThere, ready, set_in, situation_behind, with_drops}
 use Rattle.cache_lines.specs.Making.{making_of}
@@ -53,10 +53,10 @@ gathered-waits values text number line load (Some t) drafted =
 
 -- nothing runs behind them
 quiet : (now number : ℕ) (bytes : List ℕ) (used : ℕ) (stop : Stop) (end : End) (old middle : Stage) (tape : Option Taped) (loads after : UnderWay) → RunsLines now number bytes used stop old middle
-    → stops_by_quit stop ≡ ends_by_quit end → holds_back end ≡ false → left_by number end 1 (drop used bytes) ≡ ready number (drop used bytes)
+    → stops_by_quit stop ≡ ends_by_quit end → holds_back end ≡ false → waits_now end ≡ false → left_by number end 1 (drop used bytes) ≡ ready number (drop used bytes)
     → ((s : Situation) (left : List HeldValue) → IsThere number s → may_run_in (situation_behind (stops_by_quit stop) s left (ready number (drop used bytes))) number ≡ false)
     → EndsFor end (drop used bytes) → tape ≡ middle.tape → after ≡ loads → RunsReady now number bytes (drop used bytes) end old (stage middle.values middle.text tape) loads after
-quiet now number bytes used stop end old middle tape loads after r quits back stands still how taped same =
+quiet now number bytes used stop end old middle tape loads after r quits back silent stands still how taped same =
     let making = making_of old.values.frame in
     let rest = drop used bytes in
     let dropped = middle.values.frame.dropped in
@@ -65,11 +65,12 @@ quiet now number bytes used stop end old middle tape loads after r quits back st
       ran = λ s agrees there under.
           let lines = r.ran s agrees there in
           let a = ready-stopped making number s s.held bytes (stops_by_quit stop) rest old middle lines (still (with_drops dropped s) lines.left there) in
-          let b = subst (λ u. RanReady making number s s.held bytes (stops_by_quit stop) false (λ left. situation_behind (stops_by_quit stop) (with_under_way u (with_drops dropped s)) left (ready number rest)) old middle) (under ∙ sym same) a in
-          let c = subst (λ q. RanReady making number s s.held bytes q false (λ left. situation_behind q (with_under_way after (with_drops dropped s)) left (ready number rest)) old middle) quits b in
-          let d = subst (λ h. RanReady making number s s.held bytes (ends_by_quit end) h (λ left. situation_behind (ends_by_quit end) (with_under_way after (with_drops dropped s)) left (ready number rest)) old middle) (sym back) c in
-          let e = subst (λ k. RanReady making number s s.held bytes (ends_by_quit end) (holds_back end) (λ left. situation_behind (ends_by_quit end) (with_under_way after (with_drops dropped s)) left k) old middle) (sym stands) d in
-          subst (λ t. RanReady making number s s.held bytes (ends_by_quit end) (holds_back end) (λ left. situation_behind (ends_by_quit end) (with_under_way after (with_drops dropped s)) left (left_by number end 1 rest)) old (stage middle.values middle.text t)) (sym taped) e;
+          let b = subst (λ u. RanReady making number s s.held bytes (stops_by_quit stop) false false (λ left. situation_behind (stops_by_quit stop) (with_under_way u (with_drops dropped s)) left (ready number rest)) old middle) (under ∙ sym same) a in
+          let c = subst (λ q. RanReady making number s s.held bytes q false false (λ left. situation_behind q (with_under_way after (with_drops dropped s)) left (ready number rest)) old middle) quits b in
+          let d = subst (λ h. RanReady making number s s.held bytes (ends_by_quit end) h false (λ left. situation_behind (ends_by_quit end) (with_under_way after (with_drops dropped s)) left (ready number rest)) old middle) (sym back) c in
+          let w = subst (λ h. RanReady making number s s.held bytes (ends_by_quit end) (holds_back end) h (λ left. situation_behind (ends_by_quit end) (with_under_way after (with_drops dropped s)) left (ready number rest)) old middle) (sym silent) d in
+          let e = subst (λ k. RanReady making number s s.held bytes (ends_by_quit end) (holds_back end) (waits_now end) (λ left. situation_behind (ends_by_quit end) (with_under_way after (with_drops dropped s)) left k) old middle) (sym stands) w in
+          subst (λ t. RanReady making number s s.held bytes (ends_by_quit end) (holds_back end) (waits_now end) (λ left. situation_behind (ends_by_quit end) (with_under_way after (with_drops dropped s)) left (left_by number end 1 rest)) old (stage middle.values middle.text t)) (sym taped) e;
       ends = how;
       frame = r.frame;
       fresh = subst (λ t. IsFresh (gathered (stage middle.values middle.text t))) (sym taped) r.fresh;
@@ -95,7 +96,7 @@ held-back now number bytes used n stop old middle tape loads after r quits line 
       ran = λ s agrees there under.
           let lines = subst (λ q. RanLines making number s s.held bytes q rest old middle) quits (r.ran s agrees there) in
           let a = ready-held making number s s.held bytes rest held n old middle middle.text tape there lines line refl (idle-by old middle making.config s.latest lines.left sound same lines.stands) gathers in
-          subst (λ u. RanReady making number s s.held bytes false true (λ left. set_in (with_under_way u (with_drops dropped s)) left (left_by number at.Held 1 rest)) old (stage middle.values middle.text tape)) (under ∙ sym back.loads_are) a;
+          subst (λ u. RanReady making number s s.held bytes false true false (λ left. set_in (with_under_way u (with_drops dropped s)) left (left_by number at.Held 1 rest)) old (stage middle.values middle.text tape)) (under ∙ sym back.loads_are) a;
       ends = has-line rest n line;
       frame = r.frame;
       fresh = subst IsFresh (sym gathers) (fresh-gather (gathered middle) (step_held number held ∷ []) r.fresh);
@@ -125,9 +126,9 @@ waits now number bytes used n old middle tape loads after r sound begins =
           subst (λ (k : Config). live_at k s.latest lines.left key ≡ None) same (subst (λ (m : ℕ). live_at middle.values.frame.config m lines.left key ≡ None) (sym agrees.at) (miss.none lines.left lines.stands)) in
           let sent = ap (λ u. load_sent_for key u) (sym under) in
           let a = ready-waits making number s s.held bytes rest line key n load old middle middle.text tape there lines r.stops refl reads sent none (idle-by old middle making.config s.latest lines.left sound same lines.stands) gathers in
-          let b = subst (λ u. RanReady making number s s.held bytes false false (λ left. set_in (with_under_way u (with_drops dropped s)) left (waiting number line (behind_lines 1 rest) 1)) old (stage middle.values middle.text tape))
+          let b = subst (λ u. RanReady making number s s.held bytes false false true (λ left. set_in (with_under_way u (with_drops dropped s)) left (waiting number line (behind_lines 1 rest) 1)) old (stage middle.values middle.text tape))
           (joined key s load sent ∙ ap (when_waiting number key) under ∙ sym (begins.loads_are key miss.reads)) a in
-          subst (λ l. RanReady making number s s.held bytes false false (λ left. set_in (with_under_way after (with_drops dropped s)) left (waiting number l (behind_lines 1 rest) 1)) old (stage middle.values middle.text tape)) said b;
+          subst (λ l. RanReady making number s s.held bytes false false true (λ left. set_in (with_under_way after (with_drops dropped s)) left (waiting number l (behind_lines 1 rest) 1)) old (stage middle.values middle.text tape)) said b;
       ends = has-line rest n r.stops;
       frame = r.frame;
       fresh = subst IsFresh (sym gathers) (fresh-gather (gathered middle) (step_silent number line load None [] ∷ []) r.fresh);
@@ -143,13 +144,13 @@ pub ready-ends : (now number : ℕ) (bytes : List ℕ) (used : ℕ) (stop : Stop
     → RunsReady now number bytes (drop used bytes) end old (stage middle.values middle.text tape) loads after
 ready-ends now number bytes used More end old middle tape loads after r sound by =
     subst (λ e. RunsReady now number bytes (drop used bytes) e old (stage middle.values middle.text tape) loads after) (sym by.0)
-    (quiet now number bytes used More at.More old middle tape loads after r refl refl refl (λ s left there. stops-partial s left number (drop used bytes) there r.stops) r.stops by.1 by.2)
+    (quiet now number bytes used More at.More old middle tape loads after r refl refl refl refl (λ s left there. stops-partial s left number (drop used bytes) there r.stops) r.stops by.1 by.2)
 ready-ends now number bytes used TooLong end old middle tape loads after r sound by =
     subst (λ e. RunsReady now number bytes (drop used bytes) e old (stage middle.values middle.text tape) loads after) (sym by.0)
-    (quiet now number bytes used TooLong at.TooLong old middle tape loads after r refl refl refl (λ s left there. stops-long s left number (drop used bytes) (ap (λ b. b || false) (long_from (drop used bytes) r.stops))) r.stops by.1 by.2)
+    (quiet now number bytes used TooLong at.TooLong old middle tape loads after r refl refl refl refl (λ s left there. stops-long s left number (drop used bytes) (ap (λ b. b || false) (long_from (drop used bytes) r.stops))) r.stops by.1 by.2)
 ready-ends now number bytes used Quit end old middle tape loads after r sound by =
     subst (λ e. RunsReady now number bytes (drop used bytes) e old (stage middle.values middle.text tape) loads after) (sym by.0)
-    (quiet now number bytes used Quit at.Quit old middle tape loads after r refl refl refl (λ s left there. stops-quit s left number (ready number (drop used bytes)) refl) tt by.1 by.2)
+    (quiet now number bytes used Quit at.Quit old middle tape loads after r refl refl refl refl (λ s left there. stops-quit s left number (ready number (drop used bytes)) refl) tt by.1 by.2)
 ready-ends now number bytes used (Held n) end old middle tape loads after r sound by =
     subst (λ e. RunsReady now number bytes (drop used bytes) e old (stage middle.values middle.text tape) loads after) (sym by.0)
     (held-back now number bytes used n (Held n) old middle tape loads after r refl r.stops sound by.1)

@@ -34,7 +34,7 @@ use Rattle.cache_lines.specs.Ran.{RanLines}
 use Rattle.cache_lines.specs.Whole.{held_line}
 use Rattle.cache_lines.proofs.Drawn.{draws-more, held-draws}
 use Rattle.cache_lines.proofs.Knowing.{keys-in-turn, order-behind-more, runs-keys-more}
-use Rattle.cache_lines.proofs.LineRuns.{runs-more, ends-quit-more, may-run, line-due, line-fits, gather-more}
+use Rattle.cache_lines.proofs.LineRuns.{runs-more, ends-quit-more, silent-more, silent-none, may-run, line-due, line-fits, gather-more}
 use Rattle.cache_lines.proofs.Placing.{found-there}
 use Rattle.cache_lines.proofs.Stepping.{placed-again}
 
@@ -160,7 +160,7 @@ ends-held (step ∷ next ∷ steps) number line = ends-held (next ∷ steps) num
 -- lines ran until less than one, or too long a one, was left, or a `QUIT` ran
 pub ready-stopped : (making : Making) (number : ℕ) (base : Situation) (held : List HeldValue) (bytes : List ℕ) (quit : Bool) (rest : List ℕ) (old new : Stage)
     → (r : RanLines making number base held bytes quit rest old new) → may_run_in (situation_behind quit (with_drops new.values.frame.dropped base) r.left (ready number rest)) number ≡ false
-    → RanReady making number base held bytes quit false (λ left. situation_behind quit (with_drops new.values.frame.dropped base) left (ready number rest)) old new
+    → RanReady making number base held bytes quit false false (λ left. situation_behind quit (with_drops new.values.frame.dropped base) left (ready number rest)) old new
 ready-stopped making number base held bytes quit rest old new r stops = record {
   steps = r.steps;
   left = r.left;
@@ -170,6 +170,7 @@ ready-stopped making number base held bytes quit rest old new r stops = record {
   timely = runs-timely making number r.steps _ _ r.runs;
   ends = ends-none r.steps r.none_held;
   quits = r.quits;
+  silent = silent-none r.steps r.replied;
   draws = r.draws;
   ordered = λ places order plain agrees.
       let a = r.ordered places order plain agrees in
@@ -181,7 +182,7 @@ ready-stopped making number base held bytes quit rest old new r stops = record {
 pub ready-held : (making : Making) (number : ℕ) (base : Situation) (held : List HeldValue) (bytes rest line : List ℕ) (n : ℕ) (old middle : Stage) (text : List ℕ) (tape : Option Taped)
     → IsThere number base → (r : RanLines making number base held bytes false rest old middle) → IsLine rest n → line ≡ without_return (take n rest)
     → middle.values.Stands (all_held_after making.config base.latest r.left no_deed []) → gathered (stage middle.values text tape) ≡ gather (gathered middle) (step_held number line ∷ [])
-    → RanReady making number base held bytes false true (λ left. set_in (with_drops middle.values.frame.dropped base) left (holding number (held_line rest) (behind_lines 1 rest))) old (stage middle.values text tape)
+    → RanReady making number base held bytes false true false (λ left. set_in (with_drops middle.values.frame.dropped base) left (holding number (held_line rest) (behind_lines 1 rest))) old (stage middle.values text tape)
 ready-held making number base held bytes rest line n old middle text tape there r at said stands gathers =
     let config = making.config in
     let from = with_drops middle.values.frame.dropped base in
@@ -199,6 +200,7 @@ ready-held making number base held bytes rest line n old middle text tape there 
       timely = runs-timely making number (r.steps ++ step_held number line ∷ []) _ _ runs;
       ends = ends-held r.steps number line;
       quits = ends-quit-more config r.steps (step_held number line) false refl;
+      silent = silent-more r.steps (step_held number line);
       draws = draws-more config r.steps (step_held number line) (identifiers_in old.values) drawing drawing r.draws (held-draws config number line drawing);
       ordered = λ places order plain agrees.
           let a = r.ordered places order plain agrees in (

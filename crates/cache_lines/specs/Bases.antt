@@ -1,5 +1,6 @@
 -- What a connection's lines run over, as contracts see it.
 use Rattle.std.specs.Prelude.{◌≡◌, ℕ, List, Option}
+use Rattle.cache_loads.specs.Pending.{SameLoads}
 use Rattle.cache_store.specs.Values.{IsMoment, Values}
 use Rattle.cache_tape.specs.Taped.{HasSpare, Taped}
 use Rattle.cache_lines.specs.Ended.{RunsHeld, RunsReady}
@@ -29,10 +30,11 @@ pub record CanRun (now : ℕ) (x : Seen) : Type 0 where
   pub clear : IsClear x
   pub spare : HasSpare x.stage.tape
 
--- what is gathered and the loads under way are the same
-pub record LooksSame (old new : Seen) : Type 0 where
-  pub gathered_is : gathered new.stage ≡ gathered old.stage
-  pub loads_are : new.loads ≡ old.loads
+-- the store, what is gathered, and the loads are the same
+pub record LooksSame {S T : Type 0} (view : S → Values) (tape : T → Option Taped) (old new : Base S T) (output after : Output) : Type 0 where
+  pub store_is : new.store ≡ old.store
+  pub gathered_is : gathered (seen view tape new after).stage ≡ gathered (seen view tape old output).stage
+  pub loads_are : SameLoads old.loads new.loads
 
 -- lines of a connection that is ready ran until those bytes were left, and ended so
 abbrev pub ReadyRan : (now number : ℕ) (bytes rest : List ℕ) → End → (old new : Seen) → Type 0

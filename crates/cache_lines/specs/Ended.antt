@@ -1,5 +1,5 @@
 -- How a connection's lines end.
-use Rattle.std.specs.Prelude.{◌≡◌, ℕ, ◌<◌, ◌++◌, Bool, true, false, List, [], ◌∷◌, length, Option, Some, None, Ok, IsTrue, unwrap_or}
+use Rattle.std.specs.Prelude.{◌≡◌, ℕ, ◌+◌, ◌<◌, ◌≤◌, ◌++◌, Bool, true, false, not, ◌&&◌, List, [], ◌∷◌, length, Option, Some, None, Ok, IsTrue, is_none, unwrap_or}
 use Rattle.std.specs.Option.{option_map}
 use Rattle.audit_model.specs.Bytewise.{cut_at}
 use Rattle.audit_model.specs.Follows.{after_steps}
@@ -66,6 +66,12 @@ ends_held [] = false
 ends_held (step ∷ []) = step.held
 ends_held (step ∷ next ∷ steps) = ends_held (next ∷ steps)
 
+-- the last step is of a `LOAD` that waits: it is neither held nor has it a reply
+abbrev pub ends_silent : List Step → Bool
+ends_silent [] = false
+ends_silent (step ∷ []) = is_none step.reply && not step.held
+ends_silent (step ∷ next ∷ steps) = ends_silent (next ∷ steps)
+
 abbrev pub holds_back : End → Bool
 holds_back at.More = false
 holds_back at.TooLong = false
@@ -95,9 +101,9 @@ left_by number at.Held times rest = holding number (held_line rest) (behind_line
 left_by number at.Waits times rest = waiting number (held_line rest) (behind_lines 1 rest) times
 left_by number at.Quit times rest = ready number rest
 
--- Steps ran from that situation, all that were due by those tasks; the last one may be held, or a `QUIT`. What they leave stands for that
--- situation.
-pub record RanTasks (making : Making) (s : Situation) (tasks : List Task) (quit is_held : Bool) (target : List HeldValue → Situation) (old new : Stage) : Type 0 where
+-- Steps ran from that situation, all that were due by those tasks; the last one may be held, a `QUIT`, or a `LOAD` that waits. What they leave
+-- stands for that situation.
+pub record RanTasks (making : Making) (s : Situation) (tasks : List Task) (quit is_held is_silent : Bool) (target : List HeldValue → Situation) (old new : Stage) : Type 0 where
   pub steps : List Step
   pub left : List HeldValue
   pub stands : new.values.Stands left
@@ -106,13 +112,14 @@ pub record RanTasks (making : Making) (s : Situation) (tasks : List Task) (quit 
   pub timely : IsTrue (are_timely making.config making.made s tasks steps)
   pub ends : ends_held steps ≡ is_held
   pub quits : ends_quit making.config steps ≡ quit
+  pub silent : ends_silent steps ≡ is_silent
   pub draws : StepsDraw making.config steps (identifiers_in old.values) (identifiers_in new.values)
   pub ordered : OrdersSteps making.config old.values.Used new.values.Used s tasks steps
   pub gathered_is : gathered new ≡ gather (gathered old) steps
 
 -- lines of a connection that is ready ran
-abbrev pub RanReady : (making : Making) (number : ℕ) (base : Situation) (held : List HeldValue) (bytes : List ℕ) (quit is_held : Bool) (target : List HeldValue → Situation) (old new : Stage) → Type 0
-RanReady making number base held bytes quit is_held target old new = RanTasks making (set_in base held (ready number bytes)) (RunLines number ∷ []) quit is_held target old new
+abbrev pub RanReady : (making : Making) (number : ℕ) (base : Situation) (held : List HeldValue) (bytes : List ℕ) (quit is_held is_silent : Bool) (target : List HeldValue → Situation) (old new : Stage) → Type 0
+RanReady making number base held bytes quit is_held is_silent target old new = RanTasks making (set_in base held (ready number bytes)) (RunLines number ∷ []) quit is_held is_silent target old new
 
 -- Less than a line is left, or more than a line may have; or a line that is held back, or a `LOAD` that waits; or a `QUIT` ran.
 abbrev pub EndsFor : End → List ℕ → Type 0
@@ -125,7 +132,7 @@ EndsFor at.Quit rest = Unit {0}
 -- Lines of a connection that is ready ran until those bytes were left, and ended so, in each situation that the values and the loads stood for.
 pub record RunsReady (now number : ℕ) (bytes rest : List ℕ) (end : End) (old new : Stage) (loads after : UnderWay) : Type 0 where
   pub ran : (s : Situation) → Agrees old.values now s → IsThere number s → loads_in s ≡ loads
-      → RanReady (making_of old.values.frame) number s s.held bytes (ends_by_quit end) (holds_back end) (λ left. situation_behind (ends_by_quit end) (with_under_way after (with_drops new.values.frame.dropped s)) left (left_by number end 1 rest)) old new
+      → RanReady (making_of old.values.frame) number s s.held bytes (ends_by_quit end) (holds_back end) (waits_now end) (λ left. situation_behind (ends_by_quit end) (with_under_way after (with_drops new.values.frame.dropped s)) left (left_by number end 1 rest)) old new
   pub ends : EndsFor end rest
   pub frame : KeepsFrame old.values.frame new.values.frame now
   pub fresh : IsFresh (gathered new)
@@ -137,8 +144,9 @@ held_with number times bytes piece = holding_load number (held_line bytes) (behi
 -- A connection that holds a line back was fed: that line ran, or waits, and then lines ran until those bytes were left, and ended so.
 pub record RunsHeld (now number times : ℕ) (bytes piece rest : List ℕ) (end : End) (again : ℕ) (old new : Stage) (loads after : UnderWay) : Type 0 where
   pub ran : (s : Situation) → Agrees old.values now s → IsThere number s → loads_in s ≡ loads
-      → RanTasks (making_of old.values.frame) (set_in s s.held (held_with number times bytes piece)) (tasks_to_feed number true) (ends_by_quit end) (holds_back end)
+      → RanTasks (making_of old.values.frame) (set_in s s.held (held_with number times bytes piece)) (tasks_to_feed number true) (ends_by_quit end) (holds_back end) (waits_now end)
       (λ left. situation_behind (ends_by_quit end) (with_under_way after (with_drops new.values.frame.dropped s)) left (left_by number end again rest)) old new
   pub ends : EndsFor end rest
+  pub few : again ≤ times + 1
   pub frame : KeepsFrame old.values.frame new.values.frame now
   pub fresh : IsFresh (gathered new)

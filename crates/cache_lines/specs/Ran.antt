@@ -1,5 +1,5 @@
 -- What lines did.
-use Rattle.std.specs.Prelude.{◌≡◌, ℕ, suc, Bool, true, false, not, ◌||◌, List, [], ◌∷◌, Option, Ok, None, IsTrue}
+use Rattle.std.specs.Prelude.{◌≡◌, ℕ, suc, Bool, true, false, not, ◌||◌, List, [], ◌∷◌, Option, Ok, None, IsTrue, is_some}
 use Rattle.std.specs.List.{list_all}
 use Rattle.std.specs.Option.{option_map}
 use Rattle.audit_model.specs.Commands.{is_sync}
@@ -81,6 +81,7 @@ pub record RanLines (making : Making) (number : ℕ) (base : Situation) (held : 
   pub stands : new.values.Stands left
   pub runs : Runs making number (set_in base held (ready number bytes)) steps (situation_behind quit (with_drops new.values.frame.dropped base) left (ready number rest))
   pub none_held : IsTrue (list_all (λ step. not step.held) steps)
+  pub replied : IsTrue (list_all (λ step. is_some step.reply) steps)
   pub quits : ends_quit making.config steps ≡ quit
   pub draws : StepsDraw making.config steps (identifiers_in old.values) (identifiers_in new.values)
   pub ordered : OrdersLines making.config number old.values.Used new.values.Used (set_in base held (ready number bytes)) steps

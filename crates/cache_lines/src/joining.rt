@@ -4,7 +4,7 @@ ghost use Rattle.std.specs.Option.{option_map};
 ghost use Rattle.audit_model.specs.Grammar.{reading};
 ghost use Rattle.audit_model.specs.declared.command.Command.TheVariants as says;
 ghost use Rattle.cache_commands.specs.Loading.{step_silent};
-ghost use Rattle.cache_loads.specs.Pending.{SameTaken};
+ghost use Rattle.cache_loads.specs.Pending.{SameLoads, SameTaken};
 ghost use Rattle.cache_tape.specs.Taped.{IsDrafted, ends};
 ghost use Rattle.cache_lines.specs.Ended.{BeginsToWait, spare_of};
 ghost use Rattle.cache_lines.specs.Outputs.{IsRoomy};
@@ -70,7 +70,7 @@ fn wait_for<T: Tape>(
     ensures step { OnOk result (T.view tape.new ≡ option_map (ends (λ line. step_silent number line (load_sent_for key.now (under_way loads.old)) None [])) (T.view tape.old)) }
     ensures room { OnOk result (IsRoomy output.new) }
     ensures text { output.new.text.items ≡ output.old.text.items }
-    ensures same { OnErr result ((under_way loads.new ≡ under_way loads.old) × (tape.new ≡ tape.old)) }
+    ensures same { OnErr result (SameLoads loads.old loads.new × (tape.new ≡ tape.old)) }
     ensures goes { SameTaken loads.old loads.new }
 {
     reserve_room(&mut output.text, &mut output.spare)?;
@@ -94,7 +94,7 @@ pub fn join_load<T: Tape>(
     ensures waits { OnOk result (BeginsToWait config.now number line.now (T.view tape.old) (T.view tape.new) (under_way loads.old) (under_way loads.new)) }
     ensures room { OnOk result (IsRoomy output.new) }
     ensures text { output.new.text.items ≡ output.old.text.items }
-    ensures same { OnErr result ((under_way loads.new ≡ under_way loads.old) × (tape.new ≡ tape.old)) }
+    ensures same { OnErr result (SameLoads loads.old loads.new × (tape.new ≡ tape.old)) }
     ensures spare { spare_of (T.view tape.new) ≡ spare_of (T.view tape.old) }
     ensures goes { SameTaken loads.old loads.new }
 {

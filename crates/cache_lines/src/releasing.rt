@@ -41,7 +41,7 @@ pub fn take_held<S: Store, T: Tape>(
     requires whole { IsTrue (has_line unread.old.bytes) }
     requires few { waited < 200 }
     ensures ran { IfOk result (λ fed. HeldRan now number waited unread.old.bytes piece.now unread.new.bytes fed (seen S.view T.view base.old output.old) (seen S.view T.view base.new output.new)) }
-    ensures refused { OnErr result ((base.new.store ≡ base.old.store) × LooksSame (seen S.view T.view base.old output.old) (seen S.view T.view base.new output.new) × (unread.new ≡ unread.old)) }
+    ensures refused { OnErr result (LooksSame S.view T.view base.old base.new output.old output.new × (unread.new ≡ unread.old)) }
     ensures room { IfOk result (λ fed. waits_now fed.end ≡ true → IsRoomy output.new) }
     ensures goes { SameTaken base.old.loads base.new.loads }
 {
