@@ -4,7 +4,7 @@ ghost use Rattle.std.specs.String.{string_bytes};
 ghost use Rattle.engine_lists.specs.Asking.{answers_of};
 ghost use Rattle.front_reference.specs.Fronts.{ComesAfter, part_of};
 ghost use Rattle.front_reference.specs.Wholes.{HasGiven, next_told, without_told};
-ghost use Rattle.front_state.specs.Calls.{IsOpenAt, IsSteadyBy, hash_in, visible_in, visible_of, ways_of};
+ghost use Rattle.front_state.specs.Calls.{IsOpenAt, IsSteadyBy, hash_in, visible_in, visible_of, ways_by};
 ghost use Rattle.front_state.specs.Covering.{CoversAll, IsCauseToCover, keys_in, keys_of};
 ghost use Rattle.front_wholes.specs.Covering.{id_text};
 
@@ -30,8 +30,8 @@ fn scan_at<K: Eq + Hash, V: Clone, S: BuildHasher, R: Rules<K, V>, Q: Names<K>>(
     now: Instant,
 ) -> Result<Option<V>, AllocError>
     requires exact { (x y : V) → V.is_clone x y → y ≡ x }
-    requires there { IsOpenAt (ways_of R.weight_of R.created R.read R.updated R.covers K.eq S.Hasher.finish S.Hasher.write S.build_hasher K.hash_input) place (Q.named_key key.now) hash parts.now }
-    ensures { IfOk result (λ found. found ≡ visible_of (ways_of R.weight_of R.created R.read R.updated R.covers K.eq S.Hasher.finish S.Hasher.write S.build_hasher K.hash_input) (slice_get parts.now place) now (Q.named_key key.now)) }
+    requires there { IsOpenAt (ways_by R.Rules K.eq K.hash_input S.BuildHasher S.Hasher.Hasher) place (Q.named_key key.now) hash parts.now }
+    ensures { IfOk result (λ found. found ≡ visible_of (ways_by R.Rules K.eq K.hash_input S.BuildHasher S.Hasher.Hasher) (slice_get parts.now place) now (Q.named_key key.now)) }
 {
     parts[place].get_with_hash_without_recording(key, hash, now)
 }
@@ -53,7 +53,7 @@ fn keys_at<K: Eq + Hash + Clone + Drop, V, S: BuildHasher, R: Rules<K, V>>(
 impl<K: Eq + Hash, V, S: BuildHasher, R: Rules<K, V>> LentState<K, V, S, R> {
     /// The part that a key belongs to, by the upper bits of its hash.
     pub fn part(&self, key: &K) -> usize
-        ensures part { result ≡ part_of self.now.bits (hash_in (ways_of R.weight_of R.created R.read R.updated R.covers K.eq S.Hasher.finish S.Hasher.write S.build_hasher K.hash_input) self.now key.now) }
+        ensures part { result ≡ part_of self.now.bits (hash_in (ways_by R.Rules K.eq K.hash_input S.BuildHasher S.Hasher.Hasher) self.now key.now) }
         ensures within { result < length self.now.parts }
     {
         let hash = hash_key(&self.hasher, key);
@@ -62,7 +62,7 @@ impl<K: Eq + Hash, V, S: BuildHasher, R: Rules<K, V>> LentState<K, V, S, R> {
 
     /// Does nothing. What a cache keeps between its calls, for those whose own laws rest on it.
     pub fn keeps(&self)
-        ensures { ∥ IsSteadyBy (ways_of R.weight_of R.created R.read R.updated R.covers K.eq S.Hasher.finish S.Hasher.write S.build_hasher K.hash_input) self.now ∥₁ }
+        ensures { ∥ IsSteadyBy (ways_by R.Rules K.eq K.hash_input S.BuildHasher S.Hasher.Hasher) self.now ∥₁ }
     {
         let _step = self.step;
     }
@@ -152,7 +152,7 @@ impl<K: Eq + Hash + Drop, V: Clone, S: BuildHasher, R: Rules<K, V>> ScanningGet<
 
     ghost keys_in = { keys_in };
 
-    ghost value_of = { λ f now key. visible_in (ways_of R.weight_of R.created R.read R.updated R.covers K.eq S.Hasher.finish S.Hasher.write S.build_hasher K.hash_input) f now key };
+    ghost value_of = { λ f now key. visible_in (ways_by R.Rules K.eq K.hash_input S.BuildHasher S.Hasher.Hasher) f now key };
 
     ghost can_scan = { λ _. (x y : V) → V.is_clone x y → y ≡ x };
 
@@ -177,7 +177,7 @@ impl<K: Eq + Hash + Drop, V: Clone, S: BuildHasher, R: Rules<K, V>> LentState<K,
     pub fn iter(&self, now: Instant) -> Iter<'_, Shared<K>, V, LentState<K, V, S, R>>
         ensures source { result.source ≡ self.now }
         ensures now { result.now ≡ now }
-        ensures coming { HasGiven (answers_of R.weight_of R.created R.read R.updated R.covers) K.eq (λ key. hash_in (ways_of R.weight_of R.created R.read R.updated R.covers K.eq S.Hasher.finish S.Hasher.write S.build_hasher K.hash_input) self.now key) now self.now (length self.now.parts) result.coming }
+        ensures coming { HasGiven (answers_of R.weight_of R.created R.read R.updated R.covers) K.eq (λ key. hash_in (ways_by R.Rules K.eq K.hash_input S.BuildHasher S.Hasher.Hasher) self.now key) now self.now (length self.now.parts) result.coming }
     {
         Iter::new(self.alloc, self, now)
     }
