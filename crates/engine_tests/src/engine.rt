@@ -3,7 +3,7 @@
 use crate::generators::Repeating;
 use crate::rules::{Lives, RowRules, ValueIs, Weighs};
 use crate::values::Brittle;
-use engine_plain::{BaseCache, Refusal};
+use engine_cache::{BaseCache, Refusal};
 use engine_reference::{Notice, Settings};
 use engine_rules::{Bundle, Policy};
 use policy_base::{HousekeeperConfig, Instant};
@@ -129,10 +129,10 @@ const INITIAL_CAPACITY: usize = 2;
 /// A hasher of std without a key of its own.
 pub type Folding = BuildHasherDefault<FoldHasher>;
 
-/// The plain engine.
-pub type Plain = BaseCache<u32, Brittle, Folding, RowRules>;
+/// The engine over the fast tables.
+pub type Fast = BaseCache<u32, Brittle, Folding, RowRules>;
 
-impl Engine for Plain {
+impl Engine for Fast {
     fn make(
         alloc: Global,
         name: Option<String>,

@@ -1,5 +1,5 @@
 //! Rows on newcomers: under TinyLFU a newcomer comes in where it was asked for more often than those that would go for it.
-use crate::engine::Plain;
+use crate::engine::Fast;
 use crate::rules::ITSELF;
 use crate::script::{CASE, Case, Look, Row, SECOND, SETTINGS, first_wrong, none_wrong};
 use engine_reference::Settings;
@@ -176,6 +176,6 @@ const CASES: &[Case<'static>] = &[
 ];
 
 #[test]
-fn frequencies_of_the_plain_engine(rt: HostRuntime) {
-    none_wrong(&rt, first_wrong::<Plain>(rt.alloc(), CASES));
+fn frequencies_of_the_engine(rt: HostRuntime) {
+    none_wrong(&rt, first_wrong::<Fast>(rt.alloc(), CASES));
 }

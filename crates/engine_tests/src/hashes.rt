@@ -1,13 +1,13 @@
-//! The hash of a key of the plain engine, by the hasher that a cache was made with.
+//! The hash of a key, by the hasher that a cache was made with.
 use crate::engine::Folding;
 use crate::script::SETTINGS;
-use engine_plain::BaseCache;
+use engine_cache::BaseCache;
 use engine_rules::{Bundle, NoExpiry, NoPredicate, WeighOne};
 use policy_base::HousekeeperConfig;
 use std::alloc::{AllocError, Global};
 use std::hash::{BuildHasher, Hash, Hasher};
 
-/// A plain cache of numbers, without times or predicates.
+/// A cache of numbers, without times or predicates.
 pub type Cache = BaseCache<u32, u32, Folding, Bundle<NoExpiry, WeighOne, NoPredicate, u8>>;
 
 fn made(alloc: Global) -> Result<Cache, AllocError> {

@@ -1,4 +1,4 @@
-//! A housekeeper of the plain engine.
+//! A housekeeper of an engine.
 use crate::hashes::{Cache, cache_of};
 use engine_housekeeper::Housekeeper;
 use policy_base::{HousekeeperConfig, Instant};

@@ -1,6 +1,6 @@
 //! Rows on look-ups.
 
-use crate::engine::Plain;
+use crate::engine::Fast;
 use crate::script::{CASE, Case, Look, Row, SECOND, SETTINGS, first_wrong, none_wrong};
 use engine_reference::Settings;
 
@@ -114,6 +114,6 @@ const CASES: &[Case<'static>] = &[
 ];
 
 #[test]
-fn looks_of_the_plain_engine(rt: HostRuntime) {
-    none_wrong(&rt, first_wrong::<Plain>(rt.alloc(), CASES));
+fn looks_of_the_engine(rt: HostRuntime) {
+    none_wrong(&rt, first_wrong::<Fast>(rt.alloc(), CASES));
 }

@@ -1,8 +1,8 @@
 //! Rows on predicates.
 
-use crate::engine::Plain;
+use crate::engine::Fast;
 use crate::script::{CASE, Case, Look, Row, SETTINGS, first_wrong, none_wrong};
-use engine_plain::Refusal;
+use engine_cache::Refusal;
 use engine_reference::Settings;
 use engine_rules::RemovalCause;
 
@@ -79,6 +79,6 @@ const CASES: &[Case<'static>] = &[
 ];
 
 #[test]
-fn predicates_of_the_plain_engine(rt: HostRuntime) {
-    none_wrong(&rt, first_wrong::<Plain>(rt.alloc(), CASES));
+fn predicates_of_the_engine(rt: HostRuntime) {
+    none_wrong(&rt, first_wrong::<Fast>(rt.alloc(), CASES));
 }

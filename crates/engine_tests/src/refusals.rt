@@ -1,9 +1,9 @@
 //! A row on a value whose clone is refused: the calls answer so and leave all as it was.
 
-use crate::engine::Plain;
+use crate::engine::Fast;
 use crate::script::{CASE, Case, Look, Row, SETTINGS, first_wrong, none_wrong};
 use crate::values::NOT_CLONED;
-use engine_plain::Refusal;
+use engine_cache::Refusal;
 use engine_reference::Settings;
 
 const CASES: &[Case<'static>] = &[
@@ -41,6 +41,6 @@ const CASES: &[Case<'static>] = &[
 ];
 
 #[test]
-fn refusals_of_the_plain_engine(rt: HostRuntime) {
-    none_wrong(&rt, first_wrong::<Plain>(rt.alloc(), CASES));
+fn refusals_of_the_engine(rt: HostRuntime) {
+    none_wrong(&rt, first_wrong::<Fast>(rt.alloc(), CASES));
 }

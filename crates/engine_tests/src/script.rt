@@ -4,7 +4,7 @@
 use crate::engine::Engine;
 use crate::generators::Repeating;
 use crate::rules::{ONE, ValueIs, Weighs};
-use engine_plain::Refusal;
+use engine_cache::Refusal;
 use engine_reference::Settings;
 use engine_rules::{EvictionPolicy, RemovalCause};
 use policy_base::Instant;

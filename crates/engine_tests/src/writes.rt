@@ -1,8 +1,8 @@
 //! Rows on writes, times, room and maintenance.
 
-use crate::engine::Plain;
+use crate::engine::Fast;
 use crate::script::{CASE, Case, Look, Row, SECOND, SETTINGS, first_wrong, none_wrong};
-use engine_plain::Refusal;
+use engine_cache::Refusal;
 use engine_reference::Settings;
 use engine_rules::RemovalCause;
 
@@ -214,6 +214,6 @@ const CASES: &[Case<'static>] = &[
 ];
 
 #[test]
-fn writes_of_the_plain_engine(rt: HostRuntime) {
-    none_wrong(&rt, first_wrong::<Plain>(rt.alloc(), CASES));
+fn writes_of_the_engine(rt: HostRuntime) {
+    none_wrong(&rt, first_wrong::<Fast>(rt.alloc(), CASES));
 }

@@ -5,7 +5,7 @@ ghost use Rattle.engine_reference.specs.Calls.{removal_rooms};
 ghost use Rattle.engine_reference.specs.Records.{held_entries};
 ghost use Rattle.engine_reference.specs.Telling.{AreApart};
 ghost use Rattle.engine_reference.specs.Visible.{visible_value};
-ghost use Rattle.engine_lists.specs.Asking.{answers_of};
+ghost use Rattle.engine_reference.specs.Asking.{answers_of};
 ghost use Rattle.engine_rules.specs.Hashing.{hash_of_key};
 ghost use Rattle.front_reference.specs.Parts.{IsCause, IsReady, Computes, computed_as};
 ghost use Rattle.front_reference.specs.declared.data.Op.TheVariants as op;

@@ -3,7 +3,7 @@ ghost use Rattle.std.specs.Prelude.{◌≡◌, ℕ, ◌+◌, ◌<◌, ◌≤◌,
 ghost use Rattle.std.specs.Result.{IsErrOf};
 ghost use Rattle.engine_reference.specs.Calls.{LooksUp, written, sent, unsent_at, with_room};
 ghost use Rattle.engine_reference.specs.Visible.{visible_record, visible_value};
-ghost use Rattle.engine_lists.specs.Asking.{answers_of};
+ghost use Rattle.engine_reference.specs.Asking.{answers_of};
 ghost use Rattle.engine_rules.specs.Hashing.{hash_of_key};
 ghost use Rattle.front_reference.specs.Parts.{IsCause, IsReady, Inserts, InsertsReserved, put_sent, takes_nothing, with_put_room};
 ghost use Rattle.front_reference.specs.Wholes.{RunsPart};

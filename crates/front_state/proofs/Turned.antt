@@ -3,7 +3,6 @@ use Rattle.std.proofs.Common.{◌≡◌, refl, ap, sym, ◌∙◌, subst, ℕ, z
 use Rattle.std.proofs.lemmas.Bool.{eq-eqb, ne_eqb}
 use Rattle.std.specs.Cmp.{IsEquivalence}
 use Rattle.std.specs.Prelude.{slice_get, remove, IfSome}
-use Rattle.engine_lists.proofs.Dropped.{drop-there, drop_past}
 use Rattle.front_reference.specs.declared.data.OpenTurn.{OpenTurn}
 use Rattle.front_reference.specs.declared.data.TurnKind.{TurnKind}
 use Rattle.front_reference.specs.declared.data.TurnKind.TheVariants as turns
@@ -11,6 +10,17 @@ use Rattle.front_reference.specs.Fronts.{AreTurns, same_kind, turn_at, turn_of, 
 
 one_more : (n : ℕ) → suc n ≡ n + 1
 one_more n = omega arith
+
+drop-there : {X : Type 0} (xs : List X) (i : ℕ) (x : X) → slice_get xs i ≡ Some x → drop i xs ≡ x ∷ drop (suc i) xs
+drop-there [] i x h = absurd (cc)
+drop-there (y ∷ xs) zero x h = let same : y ≡ x = cc in ap (λ z. z ∷ xs) same
+drop-there (y ∷ xs) (suc i) x h = drop-there xs i x h
+
+drop_past : {X : Type 0} (xs : List X) (i : ℕ) → length xs ≤ i → drop i xs ≡ []
+drop_past [] zero h = refl
+drop_past [] (suc i) h = refl
+drop_past (x ∷ xs) zero h = absurd (omega arith)
+drop_past (x ∷ xs) (suc i) h = drop_past xs i (omega arith)
 
 -- ---- finding
 

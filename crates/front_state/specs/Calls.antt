@@ -18,7 +18,7 @@ use Rattle.front_reference.specs.declared.data.Made.{Made}
 use Rattle.front_reference.specs.declared.data.Op.{Op}
 use Rattle.front_reference.specs.declared.errors.CacheError.{CacheError}
 use Rattle.front_reference.specs.declared.errors.CacheError.TheVariants as errors
-use Rattle.engine_lists.specs.Asking.{answers_of}
+use Rattle.engine_reference.specs.Asking.{answers_of}
 
 -- what rules answer, which keys are equal, and how a hasher hashes a key
 pub record Ways (K V P S R : Type 0) : Type 0 where

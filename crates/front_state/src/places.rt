@@ -3,7 +3,7 @@ ghost use Rattle.std.specs.Prelude.{◌≡◌, false, Ok, Some, IfOk, IfErr, OnO
 ghost use Rattle.std.specs.Fn.{FnOnceReturnsAt};
 ghost use Rattle.engine_reference.specs.Calls.{removal_rooms};
 ghost use Rattle.engine_reference.specs.Scanning.{NotesLookUp};
-ghost use Rattle.engine_lists.specs.Asking.{answers_of};
+ghost use Rattle.engine_reference.specs.Asking.{answers_of};
 ghost use Rattle.front_reference.specs.Parts.{Inserts, TakesOut};
 ghost use Rattle.front_reference.specs.Fronts.{CallsAt};
 ghost use Rattle.front_state.specs.Calls.{AsksOf, CoalescesAt, ComputesAt, IsCauseOf, IsOpenAt, seen_of, visible_of, held_of, ways_by};

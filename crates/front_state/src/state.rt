@@ -2,7 +2,7 @@
 ghost use Rattle.std.specs.Prelude.{◌≡◌, ◌<◌, ◌^◌, Ok, IfOk, IfErr, OnOk, OnErr, is_some};
 ghost use Rattle.std.specs.Fn.{FnOnceReturnsAt};
 ghost use Rattle.engine_reference.specs.Calls.{cleared_by, removal_rooms};
-ghost use Rattle.engine_lists.specs.Asking.{answers_of};
+ghost use Rattle.engine_reference.specs.Asking.{answers_of};
 ghost use Rattle.front_reference.specs.Fronts.{CallsAll, ComesAfter};
 ghost use Rattle.front_reference.specs.Wholes.{RunsPart};
 ghost use Rattle.front_state.specs.Calls.{CoalescesBy, ComputesIn, InsertsIn, IsCauseIn, LooksUpIn, TakesOutIn, hash_in, held_value_in, visible_in, ways_by};

@@ -2,7 +2,7 @@
 ghost use Rattle.std.specs.Prelude.{◌≡◌, ℕ, [], Some, min, slice_get, sum_by};
 ghost use Rattle.engine_reference.specs.Calls.{cleared_by};
 ghost use Rattle.engine_reference.specs.State.{State};
-ghost use Rattle.engine_lists.specs.Asking.{answers_of};
+ghost use Rattle.engine_reference.specs.Asking.{answers_of};
 ghost use Rattle.front_reference.specs.Fronts.{CallsEach};
 ghost use Rattle.front_reference.specs.Wholes.{RunsPart};
 

@@ -1,8 +1,8 @@
 //! A cache of one part: expiry, admission, eviction, invalidation, maintenance. Its owner hands in hashes, moments and steps, sends the tickets of its writes, and takes its notices.
 #![tactic(auto)]
 
+pub use engine_cache::BaseCache;
 pub use engine_housekeeper::{Housekeeper, InnerSync};
-pub use engine_plain::BaseCache;
 pub use engine_reference::{
     Entry, Notice, Read, Record, Registered, Settings, Unsent, Upsert, Write,
 };

@@ -1,7 +1,7 @@
 //! Calls on all parts of a cache: predicates, notices, the iterator; and the part of a key.
 ghost use Rattle.std.specs.Prelude.{◌≡◌, ◌<◌, ◌≤◌, ℕ, true, IfOk, IfErr, OnOk, OnErr, MatchOption, length, slice_get};
 ghost use Rattle.std.specs.String.{string_bytes};
-ghost use Rattle.engine_lists.specs.Asking.{answers_of};
+ghost use Rattle.engine_reference.specs.Asking.{answers_of};
 ghost use Rattle.front_reference.specs.Fronts.{ComesAfter, part_of};
 ghost use Rattle.front_reference.specs.Wholes.{HasGiven, next_told, without_told};
 ghost use Rattle.front_state.specs.Calls.{IsOpenAt, IsSteadyBy, hash_in, visible_in, visible_of, ways_by};

@@ -2,7 +2,7 @@
 ghost use Rattle.std.specs.Prelude.{◌≡◌, ◌+◌, ◌<◌, true, Some, None, IfOk, IfErr, IfSome, IfNone, OnOk, OnErr, is_none, is_some, length, option_map, remove, slice_get};
 ghost use Rattle.std.specs.Fn.{FnOnceReturnsAt};
 ghost use Rattle.engine_reference.specs.Scanning.{NotesLookUp};
-ghost use Rattle.engine_lists.specs.Asking.{answers_of};
+ghost use Rattle.engine_reference.specs.Asking.{answers_of};
 ghost use Rattle.front_reference.specs.Fronts.{CallsPart, ComesAfter, part_by_hash, passed, turn_at, turn_of, without_turn};
 ghost use Rattle.front_reference.specs.Turns.{abandoned, begun_compute, with_turn};
 ghost use Rattle.front_reference.specs.declared.data.Op.TheVariants as op;

@@ -1,6 +1,6 @@
 use Rattle.std.proofs.Common.{ap, sym, ◌∙◌, arith}
 use Rattle.engine_rules.specs.Hashing.{hash_of_key}
-use Rattle.engine_lists.specs.Asking.{answers_of}
+use Rattle.engine_reference.specs.Asking.{answers_of}
 use Rattle.engine_reference.specs.Records.{held_at}
 use Rattle.front_parts.proofs.HeldAfter.{finds, removes-some, removes-none, removal_room-hasher}
 use Rattle.front_parts.proofs.computed.note_and_remove.Goals as goal

@@ -1,5 +1,5 @@
 use Rattle.std.proofs.Common.{◌≡◌, length}
-use Rattle.engine_lists.specs.Asking.{answers_of}
+use Rattle.engine_reference.specs.Asking.{answers_of}
 use Rattle.front_reference.specs.Wholes.{RunsPart}
 use Rattle.front_state.proofs.Eaches.{SoFar}
 use Rattle.front_state.proofs.wholes.run_all.Given as goal

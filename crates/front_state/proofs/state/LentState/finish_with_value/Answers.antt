@@ -1,5 +1,5 @@
 use Rattle.std.proofs.Common.{◌∙◌, ◌<◌, ap, length, subst, sym}
-use Rattle.engine_lists.specs.Asking.{answers_of}
+use Rattle.engine_reference.specs.Asking.{answers_of}
 use Rattle.front_reference.specs.Fronts.{CallsAt, Front}
 use Rattle.front_reference.specs.Parts.{Inserts}
 use Rattle.front_state.specs.Calls.{ways_by}

@@ -1,9 +1,0 @@
-use Rattle.std.proofs.Common.{length}
-use Rattle.engine_looks.specs.Displacing.{GivesWay}
-use Rattle.engine_looks.proofs.displacing.displace.Given as goal
-
-abbrev pub invariant-loop-place : goal.invariant-loop-place
-invariant-loop-place g l = GivesWay l.weight l.left l.fn.lists l.lists
-
-abbrev pub decreases-loop-place : goal.decreases-loop-place
-decreases-loop-place g l = length l.lists.records

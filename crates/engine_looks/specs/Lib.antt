@@ -1,4 +1,0 @@
-pub mod Chains
-pub mod Deciding
-pub mod Displacing
-pub mod Tables
