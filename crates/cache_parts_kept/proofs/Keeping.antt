@@ -27,7 +27,7 @@ use Rattle.front_laws.specs.Laws.{CallsKeep}
 use Rattle.front_laws.proofs.Kept.{calls_keep}
 use Rattle.cache_parts.specs.Parts.{Part, Stored, service_answers, settings_of, drained, AreLight}
 use Rattle.cache_parts.proofs.Writing.{same_laws}
-use Rattle.cache_parts_kept.specs.Keeping.{at_moment, common_by, belongs_to, IsProperRecord, IsOwn, IsKeptPart, IsAcceptable}
+use Rattle.cache_parts_kept.specs.Keeping.{at_moment, common_by, belongs_to, IsProperRecord, IsOwn, IsKeptPart, IsStorable}
 use Rattle.cache_parts_kept.proofs.Owning.{own-later, own-drained, own-run, own-maintained, own-read, own-put, own-room, own-taken_out}
 
 read-more : (n : ℕ) → n < 64 → n + 1 ≤ 64
@@ -128,7 +128,7 @@ module _ {S : Type 0} where
         one_more (Some r) = let n = reads-maintained now s look.mid look.maintains in let l = length-append look.mid.reads (_ ∷ []) in subst (λ m. m ≤ 64) (sym l) (read-more (length look.mid.reads) n)
 
     -- an acceptance
-    pub kept-accepted : (key : List ℕ) (hash : ℕ) (value : Stored) (new : Part S) → IsAcceptable frame part key value → takes_nothing common.settings.capacity ≡ false → Inserts service_answers same key hash value now next s new → IsKeptPart after part next (drained new)
+    pub kept-accepted : (key : List ℕ) (hash : ℕ) (value : Stored) (new : Part S) → IsStorable frame part key value → takes_nothing common.settings.capacity ≡ false → Inserts service_answers same key hash value now next s new → IsKeptPart after part next (drained new)
     kept-accepted key hash value new v enabled call =
         let room = own-room after part next s own in
         let written_own = own-put after part next hash (with_room s) key value (record { placed = v.placed; short = v.short; timed = v.timed }) room h.front.sent (sound-calls.room s sound) in

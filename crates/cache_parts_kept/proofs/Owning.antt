@@ -22,7 +22,7 @@ use Rattle.engine_reference.proofs.TellingSteps.{run_tells}
 use Rattle.engine_laws.proofs.Swept.{sent-one, each-run}
 use Rattle.front_reference.specs.Parts.{taken_out}
 use Rattle.cache_parts.specs.Parts.{Part, Stored, IsProper, service_answers, nanos, drained, AreLight}
-use Rattle.cache_parts_kept.specs.Keeping.{at_moment, IsProperRecord, IsOwn, IsAcceptable}
+use Rattle.cache_parts_kept.specs.Keeping.{at_moment, IsProperRecord, IsOwn, IsStorable}
 use Rattle.cache_parts_kept.proofs.Predicates.{run-predicates, none_left}
 
 light-append : (ws : List Write) (w : Write) → AreLight 8192 ws → AreLight 8192 (w ∷ []) → AreLight 8192 (ws ++ w ∷ [])
@@ -116,7 +116,7 @@ module _ {S : Type 0} where
 
   -- ---- writes
 
-  module _ (frame : Frame) (part step hash : ℕ) (s : Part S) (key : List ℕ) (value : Stored) (v : IsAcceptable frame part key value) (h : IsOwn frame part step s) where
+  module _ (frame : Frame) (part step hash : ℕ) (s : Part S) (key : List ℕ) (value : Stored) (v : IsStorable frame part key value) (h : IsOwn frame part step s) where
     -- what is written is as the service writes it
     proper-new : (e : Entry (List ℕ) Stored) → e.key ≡ key → e.value ≡ value → e.step ≡ step → e.written ≡ frame.latest → e.used ≡ frame.latest → e.weight ≡ weight_of s.rules value.bytes → e.expires ≡ own_expiration frame.latest (option_map nanos value.milliseconds)
         → IsProper frame part step e

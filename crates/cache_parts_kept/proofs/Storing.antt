@@ -40,7 +40,7 @@ use Rattle.cache_parts.proofs.Writing.{wrote}
 use Rattle.front_reference.specs.Wholes.{DrawAll, registered_in}
 use Rattle.cache_parts.proofs.Swapping.{decides, with_part-there, with_part-other}
 use Rattle.cache_parts.proofs.Telling.{Kept}
-use Rattle.cache_parts_kept.specs.Keeping.{at_moment, common_by, belongs_to, IsProperRecord, IsKeptPart, AreKeptParts, IsAcceptable}
+use Rattle.cache_parts_kept.specs.Keeping.{at_moment, common_by, belongs_to, IsProperRecord, IsKeptPart, AreKeptParts, IsStorable}
 use Rattle.cache_parts_kept.specs.Calling.{Comes, CoversIn, RunsDrained, LookUpKeeps, AcceptKeeps, RemoveKeeps, RunAllKeeps, ClearKeeps, CoverKeeps, NewIsKept, CallsKeepParts, KeptIsEnough}
 use Rattle.cache_parts_kept.proofs.Owning.{weighs-little}
 use Rattle.cache_parts_kept.proofs.Keeping.{kept-later, kept-looked_up, kept-accepted, kept-removed, kept-ran, kept-cleared, kept-covered, kept-new}
@@ -212,7 +212,7 @@ module _ {S : Type 0} where
   some-below (s ∷ parts) (suc k) lt = some-below parts k (let less : suc k < suc (length parts) = lt in omega (arith, less))
 
   value-new : (frame : Frame) (step now next part : ℕ) (parts : List (Part S)) (s : Part S) (held : List HeldValue) (key : List ℕ) (hash : ℕ) (value : Stored) (k : Knows frame.config frame.part_of frame.made now part s parts held) (c : Corresponds (items_of 0 parts) held) (marked : AreMarked s held)
-      → Comes frame step now next → IsKeptPart frame part step s → IsAcceptable frame part key value → ((m : ℕ) → value.milliseconds ≡ Some m → m ≤ 999999999999)
+      → Comes frame step now next → IsKeptPart frame part step s → IsStorable frame part key value → ((m : ℕ) → value.milliseconds ≡ Some m → m ≤ 999999999999)
       → IsNewValue frame.config frame.part_of frame.made now part s parts held k c marked key (put_entry s key value now next) (put key hash value now next s) (value_for frame now key value.bytes value.milliseconds)
   value-new frame step now next part parts s held key hash value k c marked at h v brief =
       let w = wrote key hash value now next s h.front.ordered h.front.apart (ap (λ c. c.settings.tells) h.front.made) h.front.sent in

@@ -26,7 +26,7 @@ use Rattle.cache_parts.proofs.Running.{Maintained}
 use Rattle.cache_parts.proofs.Syncing.{EachPart, IsReady}
 use Rattle.front_reference.specs.Wholes.{DrawAll, registered_in}
 use Rattle.cache_parts_laws.specs.Does.{Touches}
-use Rattle.cache_parts_kept.specs.Keeping.{at_moment, AreKeptParts, IsAcceptable}
+use Rattle.cache_parts_kept.specs.Keeping.{at_moment, AreKeptParts, IsStorable}
 
 -- a predicate of this step stands in a part, in room that was made before
 pub record CoversIn {S : Type 0} (next : ℕ) (s t : Part S) : Type 0 where
@@ -52,7 +52,7 @@ module _ (S : Type 0) where
   abbrev pub AcceptKeeps : Type 0
   AcceptKeeps =
       (frame : Frame) (step now next part : ℕ) (parts : List (Part S)) (s new : Part S) (key : List ℕ) (hash : ℕ) (value : Stored) → Comes frame step now next → AreKeptParts frame step parts → slice_get parts part ≡ Some s
-      → IsTrue (accepts_values frame.config.capacity) → IsAcceptable frame part key value → Inserts service_answers same key hash value now next s new → AreKeptParts (at_moment frame now) next (with_part part (drained new) parts)
+      → IsTrue (accepts_values frame.config.capacity) → IsStorable frame part key value → Inserts service_answers same key hash value now next s new → AreKeptParts (at_moment frame now) next (with_part part (drained new) parts)
 
   abbrev pub RemoveKeeps : Type 0
   RemoveKeeps =
@@ -120,7 +120,7 @@ module _ (S : Type 0) where
     pub touches : (frame : Frame) (step now part : ℕ) (parts : List (Part S)) (s : Part S) (held : List HeldValue) → AreKeptParts frame step parts → slice_get parts part ≡ Some s → Stands parts held → Touches S frame.config frame.part_of frame.made now part s parts held
     -- what is accepted is the value that the store says
     pub new_value : (frame : Frame) (step now next part : ℕ) (parts : List (Part S)) (s : Part S) (held : List HeldValue) (key : List ℕ) (hash : ℕ) (value : Stored) (k : Knows frame.config frame.part_of frame.made now part s parts held) (c : Corresponds (items_of 0 parts) held) (marked : AreMarked s held)
-        → Comes frame step now next → AreKeptParts frame step parts → slice_get parts part ≡ Some s → IsAcceptable frame part key value → ((m : ℕ) → value.milliseconds ≡ Some m → m ≤ 999999999999)
+        → Comes frame step now next → AreKeptParts frame step parts → slice_get parts part ≡ Some s → IsStorable frame part key value → ((m : ℕ) → value.milliseconds ≡ Some m → m ≤ 999999999999)
         → IsNewValue frame.config frame.part_of frame.made now part s parts held k c marked key (put_entry s key value now next) (put key hash value now next s) (value_for frame now key value.bytes value.milliseconds)
     -- a predicate that was drawn for in all parts stands in all
     pub covers : (next : ℕ) (prefix : List ℕ) (parts : List (Part S)) (old new : Stream) (ids : List ℕ) → DrawAll parts old new ids → CallsEach (CoversIn next) parts (registered_in prefix next ids parts)

@@ -55,7 +55,7 @@ module _ {S : Type 0} where
     pub each : (part : ℕ) (s : Part S) → slice_get parts part ≡ Some s → IsKeptPart frame part step s
 
 -- a value that may be accepted in this part
-pub record IsAcceptable (frame : Frame) (part : ℕ) (key : List ℕ) (value : Stored) : Type 0 where
+pub record IsStorable (frame : Frame) (part : ℕ) (key : List ℕ) (value : Stored) : Type 0 where
   pub placed : frame.part_of key ≡ part
   pub short : length value.bytes ≤ 8192
   pub timed : IsTrue (frame.config.own_deadlines || is_none value.milliseconds)

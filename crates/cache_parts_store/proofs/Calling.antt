@@ -33,7 +33,7 @@ use Rattle.cache_parts.specs.Recent.{IsRecentOver}
 use Rattle.cache_parts_laws.proofs.Lawful.{accepts, looks, misses, removes}
 use Rattle.cache_parts_laws.proofs.Ordered.{recency_clauses}
 use Rattle.cache_parts_kept.specs.Calling.{Comes}
-use Rattle.cache_parts_kept.specs.Keeping.{IsKeptPart, at_moment, IsAcceptable as IsAcceptableIn}
+use Rattle.cache_parts_kept.specs.Keeping.{IsKeptPart, at_moment, IsStorable}
 use Rattle.cache_parts_kept.specs.Registering.{HasNoMore, register_of}
 use Rattle.cache_parts_kept.proofs.Identifying.{identifier_clauses}
 use Rattle.cache_parts_kept.proofs.Storing.{calls_keep_parts, kept_is_enough, takes_values}
@@ -189,7 +189,7 @@ accept-with {S} a w now next hash key bytes ms looked_up s new at fits few there
     deed : Deed
     deed = accepting used value
 
-    acceptable : IsAcceptableIn a.frame k key (stored bytes ms)
+    acceptable : IsStorable a.frame k key (stored bytes ms)
     acceptable = record { placed = refl; short = fits.short; timed = timed-ms a.frame.config.own_deadlines ms fits.own }
 
     on : takes_nothing s.settings.capacity ≡ false
