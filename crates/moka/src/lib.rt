@@ -1,0 +1,29 @@
+//! A bounded cache of values by key, on a state that its owner lends: capacity by number or weight, times to live and to idle, own expirations, calls that make a value once for a key, selectors of an entry.
+#![tactic(auto)]
+
+pub use front_access::{
+    Access, CompResult, Entry, EntrySelector, OwnedKeyEntrySelector, RefKeyEntrySelector,
+};
+pub use front_builder::{BuildError, CacheBuilder};
+pub use front_keys::{ClonedKey, IntoKey, LentKey, OwnedKey, Shared};
+pub use front_reference::{At, CacheError, Computed, Made, Op, OpenTurn, TurnKind, TurnStart};
+pub use front_state::LentState;
+pub use moka_engine::{
+    Bundle, EvictionPolicy, Expiration, ExpirationPolicy, Expiry, Instant, Names, NoExpiry,
+    NoPredicate, Notice, Policy, Predicate, PredicateError, RemovalCause, Rules, Settings,
+    WeighOne, Weigher,
+};
+
+/// A cache that is lent, of one part.
+pub type CacheState<K, V, S, R> = LentState<K, V, S, R>;
+
+/// A cache that is lent, of several segments. It is the same type: how many segments there are is said where it is built.
+pub type SegmentedState<K, V, S, R> = LentState<K, V, S, R>;
+
+/// Functions whose contracts are laws of what the contracts speak of.
+pub mod laws {
+    pub use front_laws::{
+        calls_keep, calls_stay_close, coalesces_keep, computes_keep, runs_leave_none_idle,
+    };
+    pub use moka_engine::laws::{only_writes_show, run_tells_justly, size_has_point};
+}
