@@ -1,0 +1,93 @@
+#!/usr/bin/env python3
+"""Times the cache of one part beside the kit's `LruCache`: look-ups, writes over, inserts above the capacity, and what a value takes.
+
+Build the program first: in crates/engine_bench, `rt run` leaves it at out/engine_bench. Each time is the difference of two
+runs, one of which fills the same cache, draws keys the same way and goes through them without a call, by the processor time
+of the best of some, which are taken in turn. Memory is the most that a run had resident, less that of a run of one value.
+`engine.py SIZE..` takes these sizes in place of 1,000, 100,000 and 1,000,000. Ends with status 1 where at 100,000 a look-up
+takes more than 4 times `LruCache`'s, an insert more than 3 times its `put`, or a value more than 260 bytes above its key and
+itself, where the space was made at once.
+"""
+import os
+import pathlib
+import subprocess
+import sys
+
+PROGRAM = pathlib.Path(__file__).resolve().parent.parent / "crates/engine_bench/out/engine_bench"
+CACHES = ["tiny_lfu", "lru_cache"]
+WORKS = ["gets", "writes", "fetches"]
+SIZES = [1_000, 100_000, 1_000_000]
+DRAWN = 1_000_000
+PASSES = 2
+RUNS = 2
+PAIR_BYTES = 16
+GET_BOUND = 4.0
+INSERT_BOUND = 3.0
+BYTES_BOUND = 260
+
+
+def spent_by(cache, work, draws, size, drawn, passes):
+    """The processor seconds of one run, and the most bytes that it had resident."""
+    words = [PROGRAM, cache, work, draws, str(size), str(drawn), str(passes)]
+    process = subprocess.Popen(words, stdout=subprocess.DEVNULL)
+    _, status, usage = os.wait4(process.pid, 0)
+    process.returncode = os.waitstatus_to_exitcode(status)
+    if process.returncode != 0:
+        sys.exit(f"{words} ended with status {process.returncode}")
+    return usage.ru_utime + usage.ru_stime, usage.ru_maxrss * 1024
+
+
+def all_spent(size):
+    """By cache, work and draws the processor seconds of the best of some runs."""
+    kinds = [(cache, work, draws) for draws in ["uniform", "zipf"] for work in ["loops"] + WORKS for cache in CACHES]
+    kinds += [(cache, "inserts", "uniform") for cache in CACHES] + [("lru", work, "uniform") for work in ["loops", "inserts"]]
+    best = {}
+    for _ in range(RUNS):
+        for kind in kinds:
+            spent, _ = spent_by(*kind, size, DRAWN, PASSES)
+            best[kind] = min(spent, best.get(kind, spent))
+    return best
+
+
+def print_times(size):
+    """Prints what the calls take at a size, and answers by work and draws how many times `LruCache`'s the engine's take."""
+    best = all_spent(size)
+    nanos = {(cache, work, draws): (spent - best[cache, "loops", draws]) / (DRAWN * PASSES) * 1e9
+             for (cache, work, draws), spent in best.items() if work != "loops"}
+    factors = {}
+    for (cache, work, draws), once in nanos.items():
+        factors[cache, work, draws] = once / nanos["lru_cache", work, draws]
+        print(f"{size:,}: {work} {draws}: {cache} {once:.0f} ns, {factors[cache, work, draws]:.1f} times lru_cache", flush=True)
+    return factors
+
+
+def bytes_a_value(cache, work, size):
+    """The bytes that a value takes above its key and itself."""
+    _, filled = spent_by(cache, work, "uniform", size, 0, 0)
+    _, empty = spent_by(cache, work, "uniform", 1, 0, 0)
+    return (filled - empty) / size - PAIR_BYTES
+
+
+def print_bytes(size):
+    """Prints what a value takes at a size, and answers what it takes of the engine where its space was made at once."""
+    for work, making in [("grows", "grown"), ("loops", "made with its space")]:
+        taken = {cache: bytes_a_value(cache, work, size) for cache in CACHES}
+        words = ", ".join(f"{cache} {taken[cache]:.0f}" for cache in CACHES)
+        print(f"{size:,}: bytes a value above key and value, {making}: {words}", flush=True)
+    return taken["tiny_lfu"]
+
+
+def main():
+    are_met = True
+    for size in [int(word) for word in sys.argv[1:]] or SIZES:
+        factors = print_times(size)
+        taken = print_bytes(size) if size >= 100_000 else 0
+        if size == 100_000:
+            looked_up = max(factors["tiny_lfu", "gets", draws] for draws in ["uniform", "zipf"])
+            inserted = max(factors[cache, "inserts", "uniform"] for cache in ["tiny_lfu", "lru"])
+            are_met = looked_up <= GET_BOUND and inserted <= INSERT_BOUND and taken <= BYTES_BOUND
+    sys.exit(not are_met)
+
+
+if __name__ == "__main__":
+    main()
