@@ -4,7 +4,7 @@
 Build the program first: in crates/engine_bench, `rt run` leaves it at out/engine_bench. Each time is the difference of two
 runs, one of which fills the same cache, draws keys the same way and goes through them without a call, by the processor time
 of the best of some, which are taken in turn. Memory is the most that a run had resident, less that of a run of one value.
-`engine.py SIZE..` takes these sizes in place of 1,000, 100,000 and 1,000,000. Ends with status 1 where at 100,000 a look-up
+It needs GNU `time`. `engine.py SIZE..` takes these sizes in place of 1,000, 100,000 and 1,000,000. Ends with status 1 where at 100,000 a look-up
 takes more than 4 times `LruCache`'s, an insert more than 3 times its `put`, or a value more than 260 bytes above its key and
 itself, where the space was made at once.
 """
@@ -26,15 +26,25 @@ INSERT_BOUND = 3.0
 BYTES_BOUND = 260
 
 
-def spent_by(cache, work, draws, size, drawn, passes):
-    """The processor seconds of one run, and the most bytes that it had resident."""
-    words = [PROGRAM, cache, work, draws, str(size), str(drawn), str(passes)]
-    process = subprocess.Popen(words, stdout=subprocess.DEVNULL)
+def words_of(cache, work, draws, size, drawn, passes):
+    """The words of one run."""
+    return [str(PROGRAM), cache, work, draws, str(size), str(drawn), str(passes)]
+
+
+def spent_by(*kind):
+    """The processor seconds of one run."""
+    process = subprocess.Popen(words_of(*kind), stdout=subprocess.DEVNULL)
     _, status, usage = os.wait4(process.pid, 0)
     process.returncode = os.waitstatus_to_exitcode(status)
     if process.returncode != 0:
-        sys.exit(f"{words} ended with status {process.returncode}")
-    return usage.ru_utime + usage.ru_stime, usage.ru_maxrss * 1024
+        sys.exit(f"{kind} ended with status {process.returncode}")
+    return usage.ru_utime + usage.ru_stime
+
+
+def resident_of(*kind):
+    """The most bytes that one run had resident. GNU `time` starts it: a child of this script begins with what Python has."""
+    words = ["/usr/bin/time", "-f", "%M"] + words_of(*kind)
+    return int(subprocess.run(words, capture_output=True, text=True, check=True).stderr.split()[-1]) * 1024
 
 
 def all_spent(size):
@@ -44,7 +54,7 @@ def all_spent(size):
     best = {}
     for _ in range(RUNS):
         for kind in kinds:
-            spent, _ = spent_by(*kind, size, DRAWN, PASSES)
+            spent = spent_by(*kind, size, DRAWN, PASSES)
             best[kind] = min(spent, best.get(kind, spent))
     return best
 
@@ -63,8 +73,8 @@ def print_times(size):
 
 def bytes_a_value(cache, work, size):
     """The bytes that a value takes above its key and itself."""
-    _, filled = spent_by(cache, work, "uniform", size, 0, 0)
-    _, empty = spent_by(cache, work, "uniform", 1, 0, 0)
+    filled = resident_of(cache, work, "uniform", size, 0, 0)
+    empty = resident_of(cache, work, "uniform", 1, 0, 0)
     return (filled - empty) / size - PAIR_BYTES
 
 
