@@ -1,0 +1,9 @@
+//! What the service keeps in its cache: values, the rules that they follow, and the hasher of their keys.
+#![tactic(auto)]
+
+mod hasher;
+mod rules;
+mod value;
+
+pub use hasher::KeyedHasher;
+pub use value::StoredValue;
