@@ -1,0 +1,25 @@
+-- What a store over a front keeps.
+use Rattle.std.specs.Prelude.{◌≡◌, ℕ, ◌+◌, ◌≤◌, Bool, List, [], ◌∷◌, length, map}
+use Rattle.rand_core.specs.Stream.{Stream}
+use Rattle.audit_model.specs.declared.config.Config.{Config}
+use Rattle.audit_model.specs.declared.config.Weight.{Weight}
+use Rattle.engine_reference.specs.declared.data.Notice.{Notice}
+use Rattle.engine_rules.specs.Hashing.{hash_of_key}
+use Rattle.front_reference.specs.Fronts.{Front}
+use Rattle.cache_parts.specs.Parts.{Stored, items_of, note_from}
+use Rattle.cache_parts_store.specs.View.{IsWhole, StoreOfParts, over_front}
+
+-- the hash of the bytes of a key
+abbrev pub hash_by : {H S : Type 0} → (H → ℕ) → (H → List ℕ → H) → (S → H) → S → List ℕ → ℕ
+hash_by finish write build_hasher hasher key = hash_of_key finish write build_hasher (λ (k : List ℕ). k ∷ []) hasher key
+
+module _ {S : Type 0} where
+  -- the store of a front's parts, whose keys are hashed so
+  abbrev pub store_of : (hash : S → List ℕ → ℕ) → Config → (made : ℕ) → (dropped : Bool) → List (Notice (List ℕ) Stored) → Stream → Front (List ℕ) Stored (List ℕ) S Weight → StoreOfParts S
+  store_of hash config made dropped queue stream f = over_front config made dropped (hash f.common.hasher) (map note_from queue) stream f
+
+  -- it is whole, its values are counted, and the queue has room for a notice of each value
+  pub record IsFit (a : StoreOfParts S) (count capacity : ℕ) : Type 0 where
+    pub whole : IsWhole a
+    pub counted : count ≡ length (items_of 0 a.parts)
+    pub room : length a.queue + count ≤ capacity
