@@ -26,7 +26,7 @@ peeked {S} hash config made dropped queue stream f now key w = λ held stands.
 
 -- ---- calls, with what they told taken
 
-settled-is : {S : Type 0} (hash : S → List ℕ → ℕ) (config : Config) (made : ℕ) (dropped : Bool) (queue : List (Notice (List ℕ) Stored)) (stream : Stream) (f g : Lent S) (now next : ℕ) (parts : List (Part S))
+pub settled-is : {S : Type 0} (hash : S → List ℕ → ℕ) (config : Config) (made : ℕ) (dropped : Bool) (queue : List (Notice (List ℕ) Stored)) (stream : Stream) (f g : Lent S) (now next : ℕ) (parts : List (Part S))
     → g ≡ record f { parts = parts; moment = now; step = next } → settled S hash config made dropped queue stream g ≡ after now next parts (store_of hash config made dropped queue stream f)
 settled-is {S} hash config made dropped queue stream f g now next parts is =
     ap (λ (h : List ℕ → ℕ). over_front config made dropped h (map note_from queue ++ waiting g.parts) stream (record g { parts = all_drained g.parts })) (ap (λ (x : Lent S). hash x.common.hasher) is)

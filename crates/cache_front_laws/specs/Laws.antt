@@ -1,20 +1,24 @@
 -- What the calls of a front make of the store over it.
-use Rattle.std.specs.Prelude.{◌≡◌, ℕ, ◌+◌, Bool, false, List, ◌++◌, length, map, Option, Some, None, slice_get}
+use Rattle.std.specs.Prelude.{◌≡◌, ℕ, suc, ◌+◌, ◌<◌, ◌^◌, Bool, false, List, ◌++◌, length, map, Option, Some, None, slice_get}
 use Rattle.std.specs.Option.{option_map, option_to_list}
 use Rattle.rand_core.specs.Stream.{Stream}
 use Rattle.audit_model.specs.Bytewise.{same}
 use Rattle.audit_model.specs.Changes.{newly_held}
-use Rattle.audit_model.specs.Commands.{Deed, Nothing}
+use Rattle.audit_model.specs.Commands.{Deed, Everything, Nothing}
 use Rattle.audit_model.specs.declared.config.Config.{Config}
 use Rattle.audit_model.specs.declared.config.Weight.{Weight}
-use Rattle.cache_store.specs.Promises.{using}
-use Rattle.cache_store.specs.Values.{Does, IsLive, IsMoment}
+use Rattle.cache_store.specs.Promises.{covering, deleting, syncing, using}
+use Rattle.cache_store.specs.Values.{AcceptsValue, Does, IsAcceptable, IsLive, IsMoment, IsSettled}
+use Rattle.engine_reference.specs.Calls.{cleared_by}
 use Rattle.engine_reference.specs.declared.data.Notice.{Notice}
 use Rattle.engine_reference.specs.Scanning.{NotesLookUp}
 use Rattle.engine_reference.specs.Visible.{visible_value}
-use Rattle.front_reference.specs.Fronts.{CallsPart, Front, part_by_hash}
+use Rattle.front_reference.specs.Fronts.{CallsAll, CallsPart, Front, part_by_hash, part_of}
+use Rattle.front_reference.specs.Parts.{Inserts, TakesOut}
+use Rattle.front_reference.specs.Wholes.{RunsPart}
 use Rattle.cache_parts.specs.Parts.{Part, Stored, items_of, note_from, service_answers}
-use Rattle.cache_parts_store.specs.View.{IsWhole, StoreOfParts, all_drained, over_front, view, waiting}
+use Rattle.cache_parts_store.specs.Meets.{stored, total_number, total_weight}
+use Rattle.cache_parts_store.specs.View.{ComesTo, IsWhole, StoreOfParts, all_drained, over_front, view, waiting}
 use Rattle.cache_front_laws.specs.State.{store_of}
 
 -- what is visible of a key in its part, if there is one
@@ -55,3 +59,36 @@ module _ (S : Type 0) where
       (hash : S → List ℕ → ℕ) (config : Config) (made : ℕ) (dropped : Bool) (queue queue_then : List (Notice (List ℕ) Stored)) (stream : Stream) (g h : Lent)
       → h ≡ record g { parts = all_drained g.parts } → map note_from queue_then ≡ map note_from queue ++ waiting g.parts
       → store_of hash config made dropped queue_then stream h ≡ settled hash config made dropped queue stream g
+
+  -- a value that the front inserts, where there is room for one more
+  abbrev pub AcceptsOver : Type 0
+  AcceptsOver =
+      (hash : S → List ℕ → ℕ) (config : Config) (made : ℕ) (dropped : Bool) (queue : List (Notice (List ℕ) Stored)) (stream : Stream) (f g : Lent) (now next : ℕ) (key bytes : List ℕ) (milliseconds : Option ℕ) (looked_up : Bool)
+      → let a = store_of hash config made dropped queue stream f in let b = settled hash config made dropped queue stream g in
+      IsWhole a → ComesTo a now next → IsAcceptable config bytes milliseconds → length (items_of 0 a.parts) < 2 ^ 50
+      → CallsPart (hash f.common.hasher key) now next (Inserts service_answers same key (hash f.common.hasher key) (stored bytes milliseconds) now next) f g
+      → AcceptsValue now key bytes milliseconds looked_up (part_of f.bits (hash f.common.hasher key)) (view a) (view b) × IsWhole b × (length (items_of 0 b.parts) + length (waiting g.parts) ≡ suc (length (items_of 0 a.parts)))
+
+  -- a key that the front takes out, or does not have
+  abbrev pub RemovesOver : Type 0
+  RemovesOver =
+      (hash : S → List ℕ → ℕ) (config : Config) (made : ℕ) (dropped : Bool) (queue : List (Notice (List ℕ) Stored)) (stream : Stream) (f g : Lent) (now next : ℕ) (key : List ℕ)
+      → let a = store_of hash config made dropped queue stream f in let b = settled hash config made dropped queue stream g in
+      IsWhole a → ComesTo a now next → CallsPart (hash f.common.hasher key) now next (TakesOut service_answers same key now) f g
+      → Does now (deleting key) (view a) (view b) × IsWhole b × (length (items_of 0 b.parts) + length (waiting g.parts) ≡ length (items_of 0 a.parts))
+
+  -- a run of all parts of the front, whose counts are read before its notices are taken
+  abbrev pub RunsOver : Type 0
+  RunsOver =
+      (hash : S → List ℕ → ℕ) (config : Config) (made : ℕ) (dropped : Bool) (queue : List (Notice (List ℕ) Stored)) (stream : Stream) (f g : Lent) (now next : ℕ)
+      → let a = store_of hash config made dropped queue stream f in let b = settled hash config made dropped queue stream g in
+      IsWhole a → ComesTo a now next → CallsAll now next (RunsPart service_answers now) f g
+      → Does now syncing (view a) (view b) × IsWhole b × IsSettled (view b) (total_number S g.parts) (total_weight S g.parts) × (length (items_of 0 b.parts) + length (waiting g.parts) ≡ length (items_of 0 a.parts))
+
+  -- a clear of all parts of the front, at the next step
+  abbrev pub ClearsOver : Type 0
+  ClearsOver =
+      (hash : S → List ℕ → ℕ) (config : Config) (made : ℕ) (dropped : Bool) (queue : List (Notice (List ℕ) Stored)) (stream : Stream) (f g : Lent) (now next : ℕ)
+      → let a = store_of hash config made dropped queue stream f in let b = store_of hash config made dropped queue stream g in
+      IsWhole a → ComesTo a now next → f.step < next → CallsAll now next (λ s t. t ≡ cleared_by next s) f g
+      → Does now (covering Everything) (view a) (view b) × IsWhole b

@@ -1,5 +1,5 @@
 //! Laws: what a front's calls make of the store over it. Each function does nothing: its contract is the law.
-ghost use Rattle.cache_front_laws.specs.Laws.{PeeksOver, TakesNotices, TellsEachOnce, TouchesOver};
+ghost use Rattle.cache_front_laws.specs.Laws.{AcceptsOver, ClearsOver, PeeksOver, RemovesOver, RunsOver, TakesNotices, TellsEachOnce, TouchesOver};
 
 /// A call tells each note of another value: by as many fewer values are held.
 pub fn tells_each_once<S>()
@@ -19,4 +19,24 @@ pub fn touches_over<S>()
 /// Where notices were taken from a front as they waited, they stand in the queue of the store over it.
 pub fn takes_notices<S>()
     ensures { TakesNotices S }
+{}
+
+/// A value that a front inserts is an `accept` of the store over it.
+pub fn accepts_over<S>()
+    ensures { AcceptsOver S }
+{}
+
+/// A key that a front takes out, or does not have, is a `remove` of the store over it.
+pub fn removes_over<S>()
+    ensures { RemovesOver S }
+{}
+
+/// A run of all parts of a front is a `run_all` of the store over it, and what it leaves is settled.
+pub fn runs_over<S>()
+    ensures { RunsOver S }
+{}
+
+/// A clear of all parts of a front is a `clear` of the store over it.
+pub fn clears_over<S>()
+    ensures { ClearsOver S }
 {}
