@@ -1,22 +1,22 @@
 -- Calls of a front that accept, remove, run and clear, as calls of the store over it.
-use Rattle.std.proofs.Common.{◌≡◌, refl, ap, ◌∙◌, sym, subst, ℕ, suc, ◌+◌, arith, Bool, List, ◌++◌, length, map}
+use Rattle.std.proofs.Common.{◌≡◌, refl, ap, ◌∙◌, sym, subst, ℕ, suc, ◌+◌, arith, Bool, true, List, ◌∷◌, ◌++◌, length, map}
 use Rattle.std.proofs.lemmas.List.{length-append}
-use Rattle.std.specs.Prelude.{sum_by}
-use Rattle.audit_model.specs.Commands.{Deed, Everything}
+use Rattle.audit_model.specs.Commands.{Everything, Prefixed}
 use Rattle.audit_model.specs.declared.transcript.Note.{Note}
 use Rattle.cache_store.specs.Promises.{covering, deleting, syncing}
 use Rattle.cache_store.specs.Values.{AcceptsValue, Does, IsSettled}
 use Rattle.engine_reference.specs.declared.data.Notice.{Notice}
 use Rattle.rand_core.specs.Stream.{Stream}
 use Rattle.front_reference.specs.Fronts.{part_of}
+use Rattle.front_reference.specs.Wholes.{registered_in}
 use Rattle.cache_parts.specs.Parts.{Part, Stored, items_of, note_from}
 use Rattle.cache_parts_store.specs.Meets.{total_number, total_weight}
 use Rattle.cache_parts_store.specs.View.{IsWhole, StoreOfParts, after, over_front, passed, view, waiting}
 use Rattle.cache_parts_store.proofs.Calling.{accept, remove}
-use Rattle.cache_parts_store.proofs.Covering.{clear}
+use Rattle.cache_parts_store.proofs.Covering.{clear, drop, lacks}
 use Rattle.cache_parts_store.proofs.Fronts.{fronts}
-use Rattle.cache_parts_store.proofs.Settling.{run_all}
-use Rattle.cache_front_laws.specs.Laws.{AcceptsOver, ClearsOver, Lent, RemovesOver, RunsOver, settled}
+use Rattle.cache_parts_store.proofs.Settling.{notice, run_all}
+use Rattle.cache_front_laws.specs.Laws.{AcceptsOver, ClearsOver, DropsOver, GivesOver, LacksOver, Lent, RemovesOver, RunsOver, settled}
 use Rattle.cache_front_laws.specs.State.{store_of}
 use Rattle.cache_front_laws.proofs.Counting.{counted}
 use Rattle.cache_front_laws.proofs.Storing.{settled-is}
@@ -77,3 +77,16 @@ cleared {S} hash config made dropped queue stream f g now next w comes rises cal
     ap (λ (h : List ℕ → ℕ). over_front config made dropped h (map note_from queue) stream g) (ap (λ (x : Lent S). hash x.common.hasher) call.changed)
     ∙ fronts.untold config made dropped (hash f.common.hasher) (map note_from queue) stream f g call.parts now next call.changed in
     subst (λ x. Does now (covering Everything) (view a) (view x) × IsWhole x) (sym is) (clear a now next call.parts w comes rises call.each)
+
+pub dropped_by : {S : Type 0} → DropsOver S
+dropped_by {S} hash config made dropped queue stream left f g now next prefix ids w comes rises draws changed =
+    let a = store_of hash config made dropped queue stream f in
+    let b : StoreOfParts S = record a { frame = record a.frame { dropped = true; latest = now }; parts = registered_in prefix next ids a.parts; stream = left; step = next } in
+    let is : store_of hash config made true queue left g ≡ b = ap (λ (x : Lent S). store_of hash config made true queue left x) changed in
+    subst (λ x. Does now (covering (Prefixed prefix)) (view a) (view x) × IsWhole x) (sym is) (drop a now next prefix left ids w comes rises draws)
+
+pub lacking : {S : Type 0} → LacksOver S
+lacking {S} hash config made dropped queue stream left f w vain = lacks (store_of hash config made dropped queue stream f) left w vain
+
+pub given : {S : Type 0} → GivesOver S
+given {S} hash config made dropped n queue stream f w = notice (store_of hash config made dropped (n ∷ queue) stream f) (note_from n) (map note_from queue) w refl

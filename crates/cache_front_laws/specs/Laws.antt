@@ -1,21 +1,22 @@
 -- What the calls of a front make of the store over it.
-use Rattle.std.specs.Prelude.{◌≡◌, ℕ, suc, ◌+◌, ◌<◌, ◌^◌, Bool, false, List, ◌++◌, length, map, Option, Some, None, slice_get}
+use Rattle.std.specs.Prelude.{◌≡◌, ℕ, suc, ◌+◌, ◌<◌, ◌^◌, Bool, true, false, List, ◌∷◌, ◌++◌, length, map, Option, Some, None, slice_get}
 use Rattle.std.specs.Option.{option_map, option_to_list}
 use Rattle.rand_core.specs.Stream.{Stream}
 use Rattle.audit_model.specs.Bytewise.{same}
 use Rattle.audit_model.specs.Changes.{newly_held}
-use Rattle.audit_model.specs.Commands.{Deed, Everything, Nothing}
+use Rattle.audit_model.specs.Commands.{Deed, Everything, Nothing, Prefixed}
 use Rattle.audit_model.specs.declared.config.Config.{Config}
 use Rattle.audit_model.specs.declared.config.Weight.{Weight}
+use Rattle.cache_store.specs.Handing.{TakesFirstNote}
 use Rattle.cache_store.specs.Promises.{covering, deleting, syncing, using}
-use Rattle.cache_store.specs.Values.{AcceptsValue, Does, IsAcceptable, IsLive, IsMoment, IsSettled}
+use Rattle.cache_store.specs.Values.{AcceptsValue, Does, GivesNote, IsAcceptable, IsLive, IsMoment, IsSettled, LacksIdentifiers}
 use Rattle.engine_reference.specs.Calls.{cleared_by}
 use Rattle.engine_reference.specs.declared.data.Notice.{Notice}
 use Rattle.engine_reference.specs.Scanning.{NotesLookUp}
 use Rattle.engine_reference.specs.Visible.{visible_value}
-use Rattle.front_reference.specs.Fronts.{CallsAll, CallsPart, Front, part_by_hash, part_of}
+use Rattle.front_reference.specs.Fronts.{CallsAll, CallsPart, Front, part_by_hash, part_of, passed}
 use Rattle.front_reference.specs.Parts.{Inserts, TakesOut}
-use Rattle.front_reference.specs.Wholes.{RunsPart}
+use Rattle.front_reference.specs.Wholes.{DrawAll, DrawsInVain, RunsPart, registered_in}
 use Rattle.cache_parts.specs.Parts.{Part, Stored, items_of, note_from, service_answers}
 use Rattle.cache_parts_store.specs.Meets.{stored, total_number, total_weight}
 use Rattle.cache_parts_store.specs.View.{ComesTo, IsWhole, StoreOfParts, all_drained, over_front, view, waiting}
@@ -92,3 +93,25 @@ module _ (S : Type 0) where
       → let a = store_of hash config made dropped queue stream f in let b = store_of hash config made dropped queue stream g in
       IsWhole a → ComesTo a now next → f.step < next → CallsAll now next (λ s t. t ≡ cleared_by next s) f g
       → Does now (covering Everything) (view a) (view b) × IsWhole b
+
+  -- a predicate that stands in all parts of the front at the next step, after each drew an identifier
+  abbrev pub DropsOver : Type 0
+  DropsOver =
+      (hash : S → List ℕ → ℕ) (config : Config) (made : ℕ) (dropped : Bool) (queue : List (Notice (List ℕ) Stored)) (stream left : Stream) (f g : Lent) (now next : ℕ) (prefix : List ℕ) (ids : List ℕ)
+      → let a = store_of hash config made dropped queue stream f in let b = store_of hash config made true queue left g in
+      IsWhole a → ComesTo a now next → f.step < next → DrawAll f.parts stream left ids → g ≡ passed now next (record f { parts = registered_in prefix next ids f.parts })
+      → Does now (covering (Prefixed prefix)) (view a) (view b) × IsWhole b
+
+  -- or a part of the front drew in vain, and the front is as it was
+  abbrev pub LacksOver : Type 0
+  LacksOver =
+      (hash : S → List ℕ → ℕ) (config : Config) (made : ℕ) (dropped : Bool) (queue : List (Notice (List ℕ) Stored)) (stream left : Stream) (f : Lent)
+      → let a = store_of hash config made dropped queue stream f in let b = store_of hash config made dropped queue left f in
+      IsWhole a → DrawsInVain f.parts stream left → LacksIdentifiers (view a) (view b) × IsWhole b
+
+  -- the first notice of the queue is taken
+  abbrev pub GivesOver : Type 0
+  GivesOver =
+      (hash : S → List ℕ → ℕ) (config : Config) (made : ℕ) (dropped : Bool) (notice : Notice (List ℕ) Stored) (queue : List (Notice (List ℕ) Stored)) (stream : Stream) (f : Lent)
+      → let a = store_of hash config made dropped (notice ∷ queue) stream f in let b = store_of hash config made dropped queue stream f in
+      IsWhole a → TakesFirstNote (view a).untaken (view b).untaken (Some (note_from notice)) × GivesNote (view a) (view b) × IsWhole b

@@ -1,5 +1,5 @@
 //! Laws: what a front's calls make of the store over it. Each function does nothing: its contract is the law.
-ghost use Rattle.cache_front_laws.specs.Laws.{AcceptsOver, ClearsOver, PeeksOver, RemovesOver, RunsOver, TakesNotices, TellsEachOnce, TouchesOver};
+ghost use Rattle.cache_front_laws.specs.Laws.{AcceptsOver, ClearsOver, DropsOver, GivesOver, LacksOver, PeeksOver, RemovesOver, RunsOver, TakesNotices, TellsEachOnce, TouchesOver};
 
 /// A call tells each note of another value: by as many fewer values are held.
 pub fn tells_each_once<S>()
@@ -39,4 +39,19 @@ pub fn runs_over<S>()
 /// A clear of all parts of a front is a `clear` of the store over it.
 pub fn clears_over<S>()
     ensures { ClearsOver S }
+{}
+
+/// A predicate in all parts of a front is a `drop_prefix` of the store over it.
+pub fn drops_over<S>()
+    ensures { DropsOver S }
+{}
+
+/// Where a part of a front drew in vain, the store over it lacks identifiers.
+pub fn lacks_over<S>()
+    ensures { LacksOver S }
+{}
+
+/// A notice that is taken from the queue is a `next_notice` of the store over a front.
+pub fn gives_over<S>()
+    ensures { GivesOver S }
 {}
