@@ -1,7 +1,29 @@
 //! A keyed hasher.
-ghost use Rattle.std.specs.Prelude.{◌≡◌};
+ghost use Rattle.std.specs.Prelude.{◌≡◌, ◌%◌, ◌^◌};
 
 use std::hash::{BuildHasher, DefaultHasher, Hasher};
+
+/// A hasher whose answer is a number of 64 bits by its definition, so that each key is known to have a part before it is hashed.
+#[derive(Clone, Copy, Drop)]
+pub struct WordHasher<H: Hasher> {
+    inner: H,
+}
+
+impl<H: Hasher> Hasher for WordHasher<H> {
+    ghost use Rattle.std.specs.Prelude.{◌%◌, ◌^◌};
+
+    ghost write = { λ s bytes. record { inner = H.write s.inner bytes } };
+
+    ghost finish = { λ s. H.finish s.inner % 2 ^ 64 };
+
+    fn finish(&self) -> u64 {
+        self.inner.finish()
+    }
+
+    fn write(&mut self, bytes: &[u8]) {
+        self.inner.write(bytes);
+    }
+}
 
 /// SipHash-1-3 behind a secret key: whoever does not know the key cannot choose keys that collide.
 ///
@@ -21,11 +43,11 @@ impl KeyedHasher {
 }
 
 impl BuildHasher for KeyedHasher {
-    type Hasher = DefaultHasher;
+    type Hasher = WordHasher<DefaultHasher>;
 
-    ghost build_hasher = { λ hasher. hasher.start };
+    ghost build_hasher = { λ hasher. record { inner = hasher.start } };
 
-    fn build_hasher(&self) -> DefaultHasher {
-        self.start
+    fn build_hasher(&self) -> WordHasher<DefaultHasher> {
+        WordHasher { inner: self.start }
     }
 }
