@@ -1,0 +1,82 @@
+//! Moments that are set by hand.
+ghost use Rattle.std.specs.Prelude.{◌≡◌, ◌≤◌};
+
+use crate::env::Env;
+use policy_base::{Instant, MAX_NANOS};
+use rand_core::Rng;
+use std::sync::Arc;
+use std::sync::atomic::{AtomicU64, Ordering};
+
+/// A moment that is set by hand, by any thread, and how often it was read. For tests.
+#[derive(Drop)]
+pub struct Dial {
+    nanos: AtomicU64,
+    readings: AtomicU64,
+}
+
+impl Dial {
+    /// A dial at moment 0 that was not read.
+    pub fn new() -> Self {
+        Dial {
+            nanos: AtomicU64::new(0),
+            readings: AtomicU64::new(0),
+        }
+    }
+
+    /// Sets the moment, in nanoseconds. Past the last moment it is the last.
+    pub fn set(&self, nanos: u64) {
+        self.nanos.store(nanos, Ordering::SeqCst);
+    }
+
+    /// How often it was read. A call of a cache reads it in its hold of the cache's lock, so who sees the count rise knows that the call has come.
+    pub fn readings(&self) -> u64 {
+        self.readings.load(Ordering::SeqCst)
+    }
+
+    /// The moment, and one reading more.
+    fn read(&self) -> Instant {
+        self.readings.fetch_add(1, Ordering::SeqCst);
+        let nanos = self.nanos.load(Ordering::SeqCst);
+        Instant::from_nanos(nanos.min(MAX_NANOS))
+    }
+}
+
+/// The moments of a dial, and a generator.
+#[derive(Drop)]
+pub struct DialEnv<G> {
+    dial: Arc<Dial>,
+    generator: G,
+}
+
+impl<G> DialEnv<G> {
+    /// The moments of this dial.
+    pub fn new(dial: Arc<Dial>, generator: G) -> Self
+        ensures { result.generator ≡ generator }
+    {
+        DialEnv { dial, generator }
+    }
+}
+
+impl<G: Rng> Rng for DialEnv<G> {
+    ghost stream = { λ e. G.stream e.generator };
+
+    fn next_u32(&mut self) -> u32 {
+        self.generator.next_u32()
+    }
+
+    fn next_u64(&mut self) -> u64 {
+        self.generator.next_u64()
+    }
+
+    fn fill_bytes(&mut self, dst: &mut [u8]) {
+        self.generator.fill_bytes(dst)
+    }
+}
+
+impl<G: Rng> Env for DialEnv<G> {
+    fn now(&mut self) -> Instant
+        ensures { self.new.generator ≡ self.old.generator }
+    {
+        self.dial.read()
+    }
+}

@@ -1,0 +1,64 @@
+//! The machine's clock, and a generator.
+ghost use Rattle.std.specs.Prelude.{◌≡◌, ◌≤◌};
+
+use crate::env::Env;
+use policy_base::Instant;
+use rand_core::Rng;
+use std::io;
+use std::time;
+use std::time::Clock;
+
+/// The machine's clock, whose moments count the nanoseconds since this was made, and a generator. Where the clock cannot be read, the moment is the latest that was.
+///
+/// Predicates are named by the generator's words. Where a stranger must not foresee their names, it is to be a secure generator with a secret seed.
+#[derive(Drop)]
+pub struct MachineEnv<C, G> {
+    clock: C,
+    start: time::Instant,
+    latest: Instant,
+    generator: G,
+}
+
+impl<C: Clock, G> MachineEnv<C, G> {
+    /// Moments that count from now on. An error where the clock cannot be read.
+    pub fn new(clock: C, generator: G) -> io::Result<Self>
+    where
+        C: Drop,
+        G: Drop,
+    {
+        let start = time::Instant::now(&clock)?;
+        Ok(MachineEnv {
+            clock,
+            start,
+            latest: Instant::from_nanos(0),
+            generator,
+        })
+    }
+}
+
+impl<C: Clock, G: Rng> Rng for MachineEnv<C, G> {
+    ghost stream = { λ e. G.stream e.generator };
+
+    fn next_u32(&mut self) -> u32 {
+        self.generator.next_u32()
+    }
+
+    fn next_u64(&mut self) -> u64 {
+        self.generator.next_u64()
+    }
+
+    fn fill_bytes(&mut self, dst: &mut [u8]) {
+        self.generator.fill_bytes(dst)
+    }
+}
+
+impl<C: Clock, G: Rng> Env for MachineEnv<C, G> {
+    fn now(&mut self) -> Instant
+        ensures { result ≡ self.new.latest }
+    {
+        if let Ok(passed) = self.start.elapsed(&self.clock) {
+            self.latest = Instant::from_duration_since_clock_start(passed);
+        }
+        self.latest
+    }
+}
