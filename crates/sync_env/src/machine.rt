@@ -4,9 +4,8 @@ ghost use Rattle.std.specs.Prelude.{◌≡◌, ◌≤◌};
 use crate::env::Env;
 use policy_base::Instant;
 use rand_core::Rng;
-use std::io;
-use std::time;
 use std::time::Clock;
+use std::{io, time};
 
 /// The machine's clock, whose moments count the nanoseconds since this was made, and a generator. Where the clock cannot be read, the moment is the latest that was.
 ///

@@ -1,0 +1,22 @@
+-- How turns end.
+use Rattle.std.specs.Prelude.{Bool, true, false}
+use Rattle.front_reference.specs.declared.data.Made.{Made}
+use Rattle.front_reference.specs.declared.data.Made.TheVariants.{Value, Nothing, Fault}
+use Rattle.front_reference.specs.declared.data.TurnKind.{TurnKind}
+use Rattle.front_reference.specs.declared.data.TurnKind.TheVariants.{Optionally, Try}
+use Rattle.sync_slots.specs.declared.slots.Ending.{Ending}
+use Rattle.sync_slots.specs.declared.slots.Ending.TheVariants.{Underway, Done, GivenUp}
+
+module _ {V F : Type 0} where
+  -- whether a turn of a kind may end with this: with a value, with none where that may be, with a fault where that may be
+  abbrev pub suits : TurnKind → Made V F → Bool
+  suits kind (Value v) = true
+  suits Optionally Nothing = true
+  suits Try (Fault f) = true
+  suits kind other = false
+
+  -- whether it can have ended so
+  abbrev pub fits : TurnKind → Ending V F → Bool
+  fits kind Underway = true
+  fits kind (Done made) = suits kind made
+  fits kind GivenUp = true

@@ -1,0 +1,8 @@
+//! Who waits for which turn of a cache that threads share, how turns end, and what names a key of one.
+#![tactic(auto)]
+
+mod names;
+mod slots;
+
+pub use names::{Asked, SharedName, WaitingName};
+pub use slots::{Ending, Slots, copy_made};

@@ -1,0 +1,206 @@
+//! Who waits for which turn, and how it ended.
+ghost use Rattle.std.specs.Prelude.{◌≡◌, ◌<◌, ◌≤◌, true, IfOk, IfErr, IfSome, OnOk, length, vec_len, vec_capacity};
+ghost use Rattle.front_reference.specs.declared.data.TurnKind.{TurnKind};
+ghost use Rattle.front_reference.specs.declared.errors.CacheError.TheVariants as errors;
+ghost use Rattle.sync_slots.specs.Endings.{fits, suits};
+
+use front_reference::{CacheError, Made, TurnKind};
+use std::alloc::{AllocError, Global};
+
+/// What became of a turn.
+#[derive(Drop)]
+pub enum Ending<V, F> {
+    /// It is under way.
+    Underway,
+    /// It ended with this, which is for all that wait.
+    Done(Made<V, F>),
+    /// It ended with nothing for those that wait: they begin again.
+    GivenUp,
+}
+
+/// One turn that is led, or that some still wait for.
+#[derive(Drop)]
+pub(crate) struct Slot<V, F> {
+    kind: TurnKind,
+    number: u64,
+    waiting: u64,
+    ending: Ending<V, F>,
+    ghost fitting: { fits kind ending ≡ true },
+}
+
+/// All of them.
+#[derive(Drop)]
+pub struct Slots<V, F> {
+    pub(crate) slots: Vec<Slot<V, F>>,
+}
+
+/// Whether two kinds are the same.
+fn is_kind(kind: TurnKind, other: TurnKind) -> bool
+    ensures { result ≡ true → kind ≡ other }
+{
+    match kind {
+        TurnKind::With => matches!(other, TurnKind::With),
+        TurnKind::Optionally => matches!(other, TurnKind::Optionally),
+        TurnKind::Try => matches!(other, TurnKind::Try),
+        TurnKind::Compute => matches!(other, TurnKind::Compute),
+    }
+}
+
+impl<V: Drop, F: Drop> Slot<V, F> {
+    /// Whether it is the turn of this kind and number.
+    fn is(&self, kind: TurnKind, number: u64) -> bool
+        ensures { result ≡ true → self.now.kind ≡ kind }
+    {
+        self.number == number && is_kind(self.kind, kind)
+    }
+
+    /// Whether the turn is under way.
+    fn is_underway(&self) -> bool {
+        matches!(&self.ending, Ending::Underway)
+    }
+
+    /// The turn ends so.
+    fn end(&mut self, ending: Ending<V, F>)
+        requires { fits self.old.kind ending ≡ true }
+        ensures { self.new.kind ≡ self.old.kind }
+    {
+        self.ending = ending;
+    }
+
+    /// One more waits.
+    fn join(&mut self) -> Result<(), CacheError>
+        ensures { IfErr result (λ e. e ≡ errors.UsedUp) }
+    {
+        match self.waiting.checked_add(1) {
+            Some(waiting) => {
+                self.waiting = waiting;
+                Ok(())
+            }
+            None => Err(CacheError::UsedUp),
+        }
+    }
+}
+
+impl<V: Clone + Drop, F: Clone + Drop> Slot<V, F> {
+    /// One less waits, and gets a clone of what the turn ended with.
+    fn leave(&mut self) -> Result<Ending<V, F>, AllocError>
+        ensures { IfOk result (λ ending. fits self.old.kind ending ≡ true) }
+    {
+        self.waiting = self.waiting.saturating_sub(1);
+        match &self.ending {
+            Ending::Underway => Ok(Ending::Underway),
+            Ending::Done(made) => Ok(Ending::Done(copy_made(made)?)),
+            Ending::GivenUp => Ok(Ending::GivenUp),
+        }
+    }
+}
+
+/// A clone of what was made.
+pub fn copy_made<V: Clone, F: Clone>(made: &Made<V, F>) -> Result<Made<V, F>, AllocError>
+    ensures { IfOk result (λ copy. (kind : TurnKind) → suits kind copy ≡ suits kind made.now) }
+{
+    match made {
+        Made::Value(value) => Ok(Made::Value(value.clone()?)),
+        Made::Nothing => Ok(Made::Nothing),
+        Made::Fault(fault) => Ok(Made::Fault(fault.clone()?)),
+    }
+}
+
+/// The place of the turn of a kind and number.
+fn place_of<V: Drop, F: Drop>(slots: &[Slot<V, F>], kind: TurnKind, number: u64) -> Option<usize>
+    ensures within { IfSome result (λ i. i < length slots.now) }
+{
+    for (i, slot) in slots.iter().enumerate() {
+        if slot.is(kind, number) {
+            return Some(i);
+        }
+    }
+    None
+}
+
+impl<V: Drop, F: Drop> Slots<V, F> {
+    /// No turns.
+    pub fn new(alloc: Global) -> Self {
+        Slots {
+            slots: Vec::new(alloc),
+        }
+    }
+
+    /// Makes room for one turn more.
+    pub fn reserve(&mut self) -> Result<(), AllocError>
+        ensures { OnOk result (vec_len self.new.slots < vec_capacity self.new.slots) }
+    {
+        self.slots.reserve(1)
+    }
+
+    /// A turn begins, in room that was made.
+    pub fn open(&mut self, kind: TurnKind, number: u64)
+        requires { vec_len self.old.slots < vec_capacity self.old.slots }
+    {
+        self.slots.push_reserved(Slot {
+            kind,
+            number,
+            waiting: 0,
+            ending: Ending::Underway,
+        });
+    }
+
+    /// One more waits for a turn.
+    pub fn join(&mut self, kind: TurnKind, number: u64) -> Result<(), CacheError>
+        ensures { IfErr result (λ e. e ≡ errors.UsedUp) }
+    {
+        match place_of(self.slots.as_slice(), kind, number) {
+            Some(place) => {
+                let slot = &mut self.slots[place];
+                slot.join()
+            }
+            None => Ok(()),
+        }
+    }
+
+    /// Whether some wait for a turn.
+    pub fn is_waited_for(&self, kind: TurnKind, number: u64) -> bool {
+        match place_of(self.slots.as_slice(), kind, number) {
+            Some(place) => 0 < self.slots[place].waiting,
+            None => false,
+        }
+    }
+
+    /// A turn ends, and is kept only where some wait for it.
+    pub fn end(&mut self, kind: TurnKind, number: u64, ending: Ending<V, F>)
+        requires { fits kind ending ≡ true }
+    {
+        for place in 0..self.slots.len() {
+            let slot = &mut self.slots[place];
+            if slot.is(kind, number) {
+                slot.end(ending);
+                if slot.waiting == 0 {
+                    let _ended = self.slots.swap_remove(place);
+                }
+                return;
+            }
+        }
+    }
+}
+
+impl<V: Clone + Drop, F: Clone + Drop> Slots<V, F> {
+    /// What became of a turn that the caller waits for. Where it ended the caller waits no longer, and the last that waits takes what it ended with; the others get a clone.
+    pub fn look(&mut self, kind: TurnKind, number: u64) -> Result<Ending<V, F>, AllocError>
+        ensures { IfOk result (λ ending. fits kind ending ≡ true) }
+    {
+        for place in 0..self.slots.len() {
+            let slot = &mut self.slots[place];
+            if slot.is(kind, number) {
+                if slot.is_underway() {
+                    return Ok(Ending::Underway);
+                }
+                if slot.waiting <= 1 {
+                    let slot = self.slots.swap_remove(place);
+                    return Ok(slot.ending);
+                }
+                return slot.leave();
+            }
+        }
+        Ok(Ending::GivenUp)
+    }
+}
