@@ -1,0 +1,119 @@
+//! Calls that are one hold of the lock.
+ghost use Rattle.std.specs.Prelude.{◌≡◌, IfErr, OnErr};
+ghost use Rattle.front_reference.specs.declared.errors.CacheError.TheVariants as errors;
+ghost use Rattle.sync_slots.specs.Refusals.{IsShortage};
+
+use crate::desk::Desk;
+use engine_rules::Rules;
+use front_reference::CacheError;
+use std::hash::{BuildHasher, Hash};
+use sync_env::Env;
+
+/// What a call of the state is refused for: memory, or else numbers.
+pub(crate) fn shortage_of(refused: CacheError) -> CacheError
+    ensures { IsShortage result }
+{
+    match refused {
+        CacheError::OutOfMemory => CacheError::OutOfMemory,
+        _ => CacheError::UsedUp,
+    }
+}
+
+impl<
+    K: Eq + Hash + Drop,
+    V: Clone + Drop,
+    S: BuildHasher + Drop,
+    R: Rules<K, V> + Drop,
+    E: Env + Drop,
+> Desk<K, V, S, R, E> {
+    /// A clone of the visible value of a key, of which it is a use.
+    pub fn get(&mut self, key: &K) -> Result<Option<V>, CacheError>
+        requires exact { (x y : V) → V.is_clone x y → y ≡ x }
+        ensures err { OnErr result (self.new.state ≡ self.old.state) }
+        ensures cause { IfErr result IsShortage }
+    {
+        let Some(at) = self.draw() else {
+            return Err(CacheError::UsedUp);
+        };
+        match self.state.get(key, at) {
+            Ok(found) => Ok(found),
+            Err(_) => Err(CacheError::OutOfMemory),
+        }
+    }
+
+    /// Whether a key has a visible value. It is no use of it, and no call that changes anything.
+    pub fn contains_key(&mut self, key: &K) -> bool
+        ensures { self.new.state ≡ self.old.state }
+    {
+        let now = self.env.now().max(self.state.last_call().now);
+        self.state.contains_key(key, now)
+    }
+
+    /// Inserts a value. A cache of capacity 0 takes none.
+    pub fn insert(&mut self, key: K, value: V) -> Result<(), CacheError>
+        ensures err { OnErr result (self.new.state ≡ self.old.state) }
+        ensures cause { IfErr result IsShortage }
+    {
+        let Some(at) = self.draw() else {
+            return Err(CacheError::UsedUp);
+        };
+        match self.state.insert(key, value, at) {
+            Ok(()) => Ok(()),
+            Err(refused) => Err(shortage_of(refused)),
+        }
+    }
+
+    /// Removes a key, whether its deadline has come or not, and answers its value.
+    pub fn remove(&mut self, key: &K) -> Result<Option<V>, CacheError>
+        requires exact { (x y : V) → V.is_clone x y → y ≡ x }
+        ensures err { OnErr result (self.new.state ≡ self.old.state) }
+        ensures cause { IfErr result IsShortage }
+    {
+        let Some(at) = self.draw() else {
+            return Err(CacheError::UsedUp);
+        };
+        match self.state.remove(key, at) {
+            Ok(value) => Ok(value),
+            Err(refused) => Err(shortage_of(refused)),
+        }
+    }
+
+    /// Removes a key, whether its deadline has come or not.
+    pub fn invalidate(&mut self, key: &K) -> Result<(), CacheError>
+        requires exact { (x y : V) → V.is_clone x y → y ≡ x }
+        ensures err { OnErr result (self.new.state ≡ self.old.state) }
+        ensures cause { IfErr result IsShortage }
+    {
+        let Some(at) = self.draw() else {
+            return Err(CacheError::UsedUp);
+        };
+        match self.state.invalidate(key, at) {
+            Ok(()) => Ok(()),
+            Err(refused) => Err(shortage_of(refused)),
+        }
+    }
+
+    /// Covers every value that was written before.
+    pub fn invalidate_all(&mut self) -> Result<(), CacheError>
+        ensures err { OnErr result (self.new.state ≡ self.old.state) }
+        ensures cause { IfErr result (λ e. e ≡ errors.UsedUp) }
+    {
+        let Some(at) = self.draw() else {
+            return Err(CacheError::UsedUp);
+        };
+        self.state.invalidate_all(at);
+        Ok(())
+    }
+
+    /// Runs maintenance to its end.
+    pub fn run_pending_tasks(&mut self) -> Result<(), CacheError>
+        ensures err { OnErr result (self.new.state ≡ self.old.state) }
+        ensures cause { IfErr result (λ e. e ≡ errors.UsedUp) }
+    {
+        let Some(at) = self.draw() else {
+            return Err(CacheError::UsedUp);
+        };
+        self.state.run_pending_tasks(at);
+        Ok(())
+    }
+}

@@ -1,0 +1,62 @@
+//! What the lock guards.
+ghost use Rattle.std.specs.Prelude.{◌≡◌, IfSome};
+ghost use Rattle.front_reference.specs.Fronts.{ComesAfter};
+
+use engine_rules::Rules;
+use front_keys::Shared;
+use front_reference::At;
+use front_state::LentState;
+use std::alloc::Global;
+use std::hash::{BuildHasher, Hash};
+use sync_env::Env;
+use sync_slots::Slots;
+
+/// A cache's state with what its calls' moments come from, and the turns that are led or waited for. Each call draws its moment and its step: the greater of the environment's moment and the state's, and the step after the state's.
+#[derive(Drop)]
+pub struct Desk<K: Eq + Hash, V, S: BuildHasher, R: Rules<K, V>, E> {
+    pub(crate) alloc: Global,
+    pub(crate) state: LentState<K, V, S, R>,
+    pub(crate) slots: Slots<V, Shared<R::Fault>>,
+    pub(crate) env: E,
+}
+
+impl<
+    K: Eq + Hash + Drop,
+    V: Drop,
+    S: BuildHasher + Drop,
+    R: Rules<K, V> + Drop,
+    E: Env + Drop,
+> Desk<K, V, S, R, E> {
+    /// A state, of whose turns none is under way, with what its moments come from.
+    pub fn new(alloc: Global, state: LentState<K, V, S, R>, env: E) -> Self
+        ensures { result.state ≡ state }
+    {
+        Desk {
+            alloc,
+            state,
+            slots: Slots::new(alloc),
+            env,
+        }
+    }
+
+    /// When the next call comes; never where the steps of 64 bits are used up.
+    pub(crate) fn draw(&mut self) -> Option<At>
+        ensures follows { IfSome result (λ at. ComesAfter at.now at.step self.old.state) }
+        ensures state { self.new.state ≡ self.old.state }
+    {
+        let last = self.state.last_call();
+        let now = self.env.now().max(last.now);
+        let step = last.step.checked_add(1)?;
+        Some(At { now, step })
+    }
+
+    /// How many entries there are, as of the last run of each part.
+    pub fn entry_count(&self) -> u64 {
+        self.state.entry_count()
+    }
+
+    /// What they weigh, as of the last run of each part.
+    pub fn weighted_size(&self) -> u64 {
+        self.state.weighted_size()
+    }
+}

@@ -1,0 +1,315 @@
+//! Turns: who leads, who waits, and how they end.
+ghost use Rattle.std.specs.Prelude.{◌≡◌, true, None, Ok, IfOk, IfErr, OnErr, IsSome};
+ghost use Rattle.front_reference.specs.Fronts.{turn_of};
+ghost use Rattle.sync_desk.specs.Coalescing.{IsMadeOrFound};
+ghost use Rattle.sync_slots.specs.Endings.{fits, suits};
+ghost use Rattle.sync_slots.specs.Refusals.{IsEndRefusal, IsShortage};
+
+use crate::calls::shortage_of;
+use crate::desk::Desk;
+use engine_rules::Rules;
+use front_keys::{IntoKey, Shared};
+use front_reference::{CacheError, Made, TurnKind, TurnStart};
+use std::alloc::AllocError;
+use std::hash::{BuildHasher, Hash};
+use sync_env::Env;
+use sync_slots::{Asked, Ending, SharedName, WaitingName, copy_made};
+
+/// How a call that makes a value begins.
+#[derive(Drop)]
+pub enum Start<A, V> {
+    /// The visible value.
+    Found(V),
+    /// The turn of this number is under way. The caller waits for it, and may ask again with this.
+    Wait(u64, A),
+    /// The turn of this number began, and the caller leads it.
+    Lead(u64),
+}
+
+/// How a compute call begins.
+#[derive(Drop)]
+pub enum ComputeStart<V> {
+    /// The turn of this number is under way, and the caller waits for it.
+    Wait(u64),
+    /// The turn of this number began, and the caller leads it. This is the visible value, of which it is a use.
+    Lead(u64, Option<V>),
+}
+
+impl<
+    K: Eq + Hash + Drop,
+    V: Clone + Drop,
+    S: BuildHasher + Drop,
+    R: Rules<K, V> + Drop,
+    E: Env + Drop,
+> Desk<K, V, S, R, E> {
+    /// Begins a call that makes a value: the visible value, of which it is a use; or the turn of this kind and key that is under way, for which the caller waits from now on; or a new one. A visible value of which `replace_if` says yes counts as none.
+    /// The key is made only where a turn begins, and waiting takes no memory.
+    pub fn begin<A: Asked<K>, P: FnOnce(&V) -> bool + Drop>(
+        &mut self,
+        kind: TurnKind,
+        asked: A,
+        replace_if: P,
+    ) -> Result<Start<A, V>, CacheError>
+        requires becomes { (a : A) → A.can_become a }
+        requires exact { (x y : V) → V.is_clone x y → y ≡ x }
+        requires callable { P.IsAlwaysCallable replace_if }
+        ensures cause { IfErr result IsShortage }
+    {
+        if self.state.is_turn_free(kind, asked.key()) {
+            self.find_or_lead(kind, asked, replace_if)
+        } else {
+            self.find_or_wait(kind, asked, replace_if)
+        }
+    }
+
+    /// Begins where no turn is under way.
+    fn find_or_lead<A: Asked<K>, P: FnOnce(&V) -> bool + Drop>(
+        &mut self,
+        kind: TurnKind,
+        asked: A,
+        replace_if: P,
+    ) -> Result<Start<A, V>, CacheError>
+        requires free { turn_of K.eq self.old.state.turns kind (A.named_key asked) ≡ None }
+        requires becomes { (a : A) → A.can_become a }
+        requires exact { (x y : V) → V.is_clone x y → y ≡ x }
+        requires callable { P.IsAlwaysCallable replace_if }
+        ensures cause { IfErr result IsShortage }
+    {
+        let Some(at) = self.draw() else {
+            return Err(CacheError::UsedUp);
+        };
+        let Ok(()) = self.slots.reserve() else {
+            return Err(CacheError::OutOfMemory);
+        };
+        let hash = self.state.hash(asked.key());
+        match self.state.begin(kind, asked, hash, at, replace_if) {
+            Ok(TurnStart::Found(value)) => Ok(Start::Found(value)),
+            Ok(TurnStart::Lead(number)) => {
+                self.slots.open(kind, number);
+                Ok(Start::Lead(number))
+            }
+            Ok(TurnStart::Wait(_)) => unreachable!(),
+            Err(refused) => Err(shortage_of(refused)),
+        }
+    }
+
+    /// Begins where a turn is under way.
+    fn find_or_wait<A: Asked<K>, P: FnOnce(&V) -> bool + Drop>(
+        &mut self,
+        kind: TurnKind,
+        asked: A,
+        replace_if: P,
+    ) -> Result<Start<A, V>, CacheError>
+        requires busy { IsSome (turn_of K.eq self.old.state.turns kind (A.named_key asked)) }
+        requires exact { (x y : V) → V.is_clone x y → y ≡ x }
+        requires callable { P.IsAlwaysCallable replace_if }
+        ensures cause { IfErr result IsShortage }
+    {
+        let Some(at) = self.draw() else {
+            return Err(CacheError::UsedUp);
+        };
+        let key = asked.key();
+        let hash = self.state.hash(key);
+        match self
+            .state
+            .begin(kind, WaitingName { key }, hash, at, replace_if)
+        {
+            Ok(TurnStart::Found(value)) => Ok(Start::Found(value)),
+            Ok(TurnStart::Wait(number)) => match self.slots.join(kind, number) {
+                Ok(()) => Ok(Start::Wait(number, asked)),
+                Err(_) => Err(CacheError::UsedUp),
+            },
+            Ok(TurnStart::Lead(_)) => unreachable!(),
+            Err(refused) => Err(shortage_of(refused)),
+        }
+    }
+
+    /// Begins a compute call: the turn of this key that is under way, for which the caller waits from now on, or a new one.
+    pub fn begin_compute(&mut self, key: &Shared<K>) -> Result<ComputeStart<V>, CacheError>
+        requires exact { (x y : V) → V.is_clone x y → y ≡ x }
+        ensures cause { IfErr result IsShortage }
+    {
+        let Some(at) = self.draw() else {
+            return Err(CacheError::UsedUp);
+        };
+        let Ok(()) = self.slots.reserve() else {
+            return Err(CacheError::OutOfMemory);
+        };
+        let hash = self.state.hash(&**key);
+        match self.state.begin_compute(SharedName { key }, hash, at) {
+            Ok(TurnStart::Lead(number)) => {
+                self.slots.open(TurnKind::Compute, number);
+                self.lead_compute(number, &**key)
+            }
+            Ok(TurnStart::Wait(number)) => match self.slots.join(TurnKind::Compute, number) {
+                Ok(()) => Ok(ComputeStart::Wait(number)),
+                Err(_) => Err(CacheError::UsedUp),
+            },
+            Ok(TurnStart::Found(_)) => unreachable!(),
+            Err(refused) => Err(shortage_of(refused)),
+        }
+    }
+
+    /// Leads a compute call: its look-up.
+    fn lead_compute(&mut self, number: u64, key: &K) -> Result<ComputeStart<V>, CacheError>
+        requires exact { (x y : V) → V.is_clone x y → y ≡ x }
+        ensures cause { IfErr result IsShortage }
+    {
+        match self.get(key) {
+            Ok(seen) => Ok(ComputeStart::Lead(number, seen)),
+            Err(refused) => {
+                self.abandon(TurnKind::Compute, number);
+                Err(refused)
+            }
+        }
+    }
+
+    /// What became of a turn that the caller waits for. Where it ended, or a clone of what it made is refused, the caller waits no longer.
+    pub fn look(
+        &mut self,
+        kind: TurnKind,
+        number: u64,
+    ) -> Result<Ending<V, Shared<R::Fault>>, CacheError>
+        ensures fits { IfOk result (λ ending. fits kind ending ≡ true) }
+        ensures cause { IfErr result IsShortage }
+        ensures state { self.new.state ≡ self.old.state }
+    {
+        match self.slots.look(kind, number) {
+            Ok(ending) => Ok(ending),
+            Err(_) => Err(CacheError::OutOfMemory),
+        }
+    }
+
+    /// Ends the turn that the caller leads with what was made: a value is inserted, whatever happened to the key meanwhile, and those that wait get clones. Where a growth or a clone is refused the turn is given up.
+    pub fn finish(
+        &mut self,
+        kind: TurnKind,
+        number: u64,
+        made: Made<V, Shared<R::Fault>>,
+    ) -> Result<(), CacheError>
+        requires suits { suits kind made ≡ true }
+        ensures cause { IfErr result IsEndRefusal }
+    {
+        match self.copy_for_waiting(kind, number, &made) {
+            Ok(ending) => self.end_with(kind, number, made, ending),
+            Err(_) => {
+                self.abandon(kind, number);
+                Err(CacheError::OutOfMemory)
+            }
+        }
+    }
+
+    /// A clone of what was made, for those that wait, if some do.
+    fn copy_for_waiting(
+        &self,
+        kind: TurnKind,
+        number: u64,
+        made: &Made<V, Shared<R::Fault>>,
+    ) -> Result<Ending<V, Shared<R::Fault>>, AllocError>
+        requires { suits kind made.now ≡ true }
+        ensures { IfOk result (λ ending. fits kind ending ≡ true) }
+    {
+        if self.slots.is_waited_for(kind, number) {
+            Ok(Ending::Done(copy_made(made)?))
+        } else {
+            Ok(Ending::GivenUp)
+        }
+    }
+
+    /// Ends the turn with what was made, and shows those that wait another ending.
+    fn end_with(
+        &mut self,
+        kind: TurnKind,
+        number: u64,
+        made: Made<V, Shared<R::Fault>>,
+        ending: Ending<V, Shared<R::Fault>>,
+    ) -> Result<(), CacheError>
+        requires { fits kind ending ≡ true }
+        ensures cause { IfErr result IsEndRefusal }
+    {
+        match self.end_state(number, made) {
+            Ok(()) => {
+                self.slots.end(kind, number, ending);
+                Ok(())
+            }
+            Err(refused) => {
+                self.abandon(kind, number);
+                Err(refused)
+            }
+        }
+    }
+
+    /// Ends the turn of the state. What is refused for no want is no turn that is under way.
+    fn end_state(&mut self, number: u64, made: Made<V, Shared<R::Fault>>) -> Result<(), CacheError>
+        ensures cause { IfErr result IsEndRefusal }
+    {
+        let Some(at) = self.draw() else {
+            return Err(CacheError::UsedUp);
+        };
+        match self.state.finish(number, made, at) {
+            Ok(()) => Ok(()),
+            Err((CacheError::OutOfMemory, _)) => Err(CacheError::OutOfMemory),
+            Err((CacheError::UsedUp, _)) => Err(CacheError::UsedUp),
+            Err(_) => Err(CacheError::UnknownTurn),
+        }
+    }
+
+    /// Gives the turn that the caller leads up: those that wait begin again. Nothing of it can be refused.
+    pub fn abandon(&mut self, kind: TurnKind, number: u64) {
+        if let Some(at) = self.draw() {
+            let _known = self.state.abandon(number, at);
+        }
+        self.slots.end(kind, number, Ending::GivenUp);
+    }
+
+    /// Ends the compute turn that the caller leads by putting a value. Where it is refused the turn is given up.
+    pub fn put(&mut self, number: u64, value: V) -> Result<(), CacheError>
+        ensures cause { IfErr result IsEndRefusal }
+    {
+        self.end_with(
+            TurnKind::Compute,
+            number,
+            Made::Value(value),
+            Ending::GivenUp,
+        )
+    }
+
+    /// Ends the compute turn that the caller leads by removing its key, whether its deadline has come or not, and answers its value. Where it is refused the turn is given up.
+    pub fn take_out(&mut self, number: u64, key: &K) -> Result<Option<V>, CacheError>
+        requires exact { (x y : V) → V.is_clone x y → y ≡ x }
+        ensures cause { IfErr result IsShortage }
+    {
+        let removed = self.remove(key);
+        self.abandon(TurnKind::Compute, number);
+        removed
+    }
+
+    /// The visible value of a key, unless `replace_if` says yes of it, and false; or what `make` makes, and true: a value is then inserted. No turn is led or waited for: all is done in one hold of the lock.
+    pub fn coalesce_now<
+        P: FnOnce(&V) -> bool + Drop,
+        M: FnOnce() -> Result<Made<V, Shared<R::Fault>>, AllocError> + Drop,
+    >(
+        &mut self,
+        key: &Shared<K>,
+        replace_if: P,
+        make: M,
+    ) -> Result<(Made<V, Shared<R::Fault>>, bool), CacheError>
+        requires exact { (x y : V) → V.is_clone x y → y ≡ x }
+        requires callable { P.IsAlwaysCallable replace_if × M.IsAlwaysCallable make }
+        ensures answer { IfOk result (λ a. IsMadeOrFound (λ made. M.post make (Ok made)) a.0 a.1) }
+        ensures err { OnErr result (self.new.state ≡ self.old.state) }
+        ensures cause { IfErr result IsShortage }
+    {
+        let Some(at) = self.draw() else {
+            return Err(CacheError::UsedUp);
+        };
+        let hash = self.state.hash(&**key);
+        match self
+            .state
+            .coalesce(SharedName { key }, hash, at, replace_if, make)
+        {
+            Ok(answer) => Ok(answer),
+            Err(refused) => Err(shortage_of(refused)),
+        }
+    }
+}
