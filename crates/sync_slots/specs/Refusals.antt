@@ -1,4 +1,5 @@
 -- Why calls of a shared cache are refused.
+use Rattle.std.specs.Prelude.{◌≡◌, ◌⊎◌}
 use Rattle.front_reference.specs.declared.errors.CacheError.{CacheError}
 use Rattle.front_reference.specs.declared.errors.CacheError.TheVariants.{OutOfMemory, UsedUp, UnknownTurn, Abandoned}
 
@@ -10,15 +11,8 @@ IsShortage other = ⊥
 
 -- a turn does not end: for want of memory or numbers, or as it is not under way
 abbrev pub IsEndRefusal : CacheError → Type 0
-IsEndRefusal OutOfMemory = Unit {0}
-IsEndRefusal UsedUp = Unit {0}
-IsEndRefusal UnknownTurn = Unit {0}
-IsEndRefusal other = ⊥
+IsEndRefusal e = IsShortage e ⊎ (e ≡ UnknownTurn)
 
--- a call that makes a value is refused: for want of memory or numbers, as its turn is not under way, or as each of 200 turns that it waited for was given up
+-- a call that makes a value is refused: as its turn does not end, or as each of 200 turns that it waited for was given up
 abbrev pub IsTurnRefusal : CacheError → Type 0
-IsTurnRefusal OutOfMemory = Unit {0}
-IsTurnRefusal UsedUp = Unit {0}
-IsTurnRefusal UnknownTurn = Unit {0}
-IsTurnRefusal Abandoned = Unit {0}
-IsTurnRefusal other = ⊥
+IsTurnRefusal e = IsEndRefusal e ⊎ (e ≡ Abandoned)

@@ -6,6 +6,7 @@ ghost use Rattle.sync_slots.specs.Endings.{fits, suits};
 
 use front_reference::{CacheError, Made, TurnKind};
 use std::alloc::{AllocError, Global};
+use std::fmt::{self, Debug, Formatter, Write};
 
 /// What became of a turn.
 #[derive(Drop)]
@@ -16,6 +17,17 @@ pub enum Ending<V, F> {
     Done(Made<V, F>),
     /// It ended with nothing for those that wait: they begin again.
     GivenUp,
+}
+
+impl<V, F> Debug for Ending<V, F> {
+    fn fmt<W: Write>(&self, f: &mut Formatter<W>) -> fmt::Result {
+        f.write_str(match self {
+            Ending::Underway => "Computing",
+            Ending::Done(Made::Nothing) => "ReadyNone",
+            Ending::Done(_) => "Ready",
+            Ending::GivenUp => "InitFuturePanicked",
+        })
+    }
 }
 
 /// One turn that is led, or that some still wait for.
