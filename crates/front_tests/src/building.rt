@@ -1,9 +1,18 @@
-use crate::script::Numbers;
+use engine_rules::{Bundle, NoExpiry, NoPredicate, WeighOne};
 use front_builder::{BuildError, CacheBuilder};
+use front_state::LentState;
 use policy_base::Instant;
 use std::alloc::{AllocError, Global};
-use std::hash::BuildHasherDefault;
+use std::hash::{BuildHasherDefault, FoldHasher};
 use std::time::Duration;
+
+/// A cache of numbers by std's fixed hasher.
+type Numbers = LentState<
+    u64,
+    u64,
+    BuildHasherDefault<FoldHasher>,
+    Bundle<NoExpiry, WeighOne, NoPredicate, ()>,
+>;
 
 /// A thousand years of 365 days, in seconds.
 const LONGEST: u64 = 31_536_000_000;
@@ -105,6 +114,38 @@ fn first_wrong_row(alloc: Global) -> usize {
 #[test]
 fn rows_of_builders(rt: HostRuntime) {
     assert_eq!(rt; first_wrong_row(rt.alloc()), ROWS.len());
+}
+
+/// What a cache shows that is built without times: its capacity, and of how many segments it is.
+fn shows_plainly(
+    alloc: Global,
+    capacity: u64,
+    wanted: usize,
+    segments: usize,
+) -> Result<bool, BuildError> {
+    let state: Numbers = CacheBuilder::new(capacity)
+        .segments(wanted)
+        .build_state(alloc, BuildHasherDefault::new(), Instant::from_nanos(0))?;
+    let policy = state.policy();
+    Ok(
+        policy.max_capacity() == Some(capacity)
+            && policy.num_segments() == segments
+            && policy.time_to_live().is_none()
+            && policy.time_to_idle().is_none(),
+    )
+}
+
+fn is_shown(alloc: Global, capacity: u64, wanted: usize, segments: usize) -> bool {
+    shows_plainly(alloc, capacity, wanted, segments) == Ok(true)
+        || shows_plainly(alloc, capacity, wanted, segments) == Ok(true)
+}
+
+#[test]
+fn a_cache_shows_the_wanted_capacity(rt: HostRuntime) {
+    let alloc = rt.alloc();
+    assert!(rt;
+        is_shown(alloc, 10, 3, 4) && is_shown(alloc, 100, 15, 16) && is_shown(alloc, 100, 1, 1)
+    );
 }
 
 /// Whether a cache shows what its builder was told.

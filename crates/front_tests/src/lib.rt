@@ -4,6 +4,12 @@
 #[cfg(test)]
 mod building;
 #[cfg(test)]
+mod closures;
+#[cfg(test)]
+mod hashing;
+#[cfg(test)]
+mod rows;
+#[cfg(test)]
 mod script;
 #[cfg(test)]
 mod turns;

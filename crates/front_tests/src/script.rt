@@ -3,22 +3,30 @@ ghost use Rattle.std.specs.Prelude.{◌≡◌, IfSome};
 ghost use Rattle.front_reference.specs.Fronts.{ComesAfter};
 ghost use Rattle.front_state.specs.Calls.{hash_in};
 
-use engine_rules::{Bundle, NoExpiry, NoPredicate, WeighOne};
+use crate::closures::perform_closure;
+use crate::hashing::Times;
+use engine_rules::{Bundle, EvictionPolicy, NoExpiry, NoPredicate, RemovalCause, WeighOne};
 use front_builder::{BuildError, CacheBuilder};
 use front_keys::{ClonedKey, OwnedKey};
 use front_reference::{At, CacheError, Made, TurnKind, TurnStart};
 use front_state::LentState;
 use policy_base::Instant;
+use rand_core::SeedableRng;
+use rand_xoshiro::SplitMix64;
 use std::alloc::{AllocError, Global};
-use std::hash::{BuildHasherDefault, FoldHasher};
+use std::time::Duration;
 
 /// A cache of numbers.
-pub type Numbers = LentState<
-    u64,
-    u64,
-    BuildHasherDefault<FoldHasher>,
-    Bundle<NoExpiry, WeighOne, NoPredicate, ()>,
->;
+pub type Numbers = LentState<u64, u64, Times, Bundle<NoExpiry, WeighOne, NoPredicate, ()>>;
+
+/// How a row's cache is made: its segments, its capacity, how many milliseconds its values live, and by what its hasher multiplies.
+#[derive(Clone, Copy)]
+pub struct Form {
+    pub segments: usize,
+    pub capacity: Option<u64>,
+    pub live: u64,
+    pub factor: u64,
+}
 
 /// How a turn begins.
 #[derive(Clone, Copy, PartialEq, Eq)]
@@ -56,6 +64,45 @@ pub enum Call {
     Finish(u64, u64, Result<(), CacheError>),
     Abandon(u64, Result<(), CacheError>),
     IsFree(TurnKind, u64, bool),
+    /// The oldest notice is of this key and cause.
+    Told(u64, RemovalCause),
+    /// No notice is left.
+    NoneTold,
+    /// A predicate is refused, since the cache was not made to take one.
+    RefusesPredicate,
+    /// A call with a closure.
+    With(Closure),
+}
+
+/// One call with a closure, and what it is to answer.
+#[derive(Clone, Copy)]
+pub enum Closure {
+    /// `get_with` of a key with this value.
+    GetWith(u64, u64, u64),
+    /// `get_with_if`, where this value is replaced.
+    GetWithIf(u64, u64, u64, u64),
+    Optionally(u64, Option<u64>, Option<u64>),
+    Try(u64, Result<u64, ()>, Result<u64, ()>),
+    /// `or_insert`, and whether the entry is fresh.
+    OrInsert(u64, u64, (u64, bool)),
+    /// `or_insert_with_if`, where this value is replaced: the entry's value, whether it is fresh, and whether a value was replaced.
+    OrInsertIf(u64, u64, u64, (u64, bool, bool)),
+    /// `and_upsert_with` to this value: whether the entry is fresh, and whether a value was replaced.
+    Upsert(u64, u64, (bool, bool)),
+    /// A compute call that counts to 2, and then removes.
+    CountUp(u64, Done),
+    /// A compute call that removes.
+    TakeOut(u64, Done),
+}
+
+/// What a compute call did.
+#[derive(Clone, Copy, PartialEq, Eq)]
+pub enum Done {
+    StillNone,
+    Unchanged(u64),
+    Inserted(u64),
+    ReplacedWith(u64),
+    Removed(u64),
 }
 
 /// When the next call comes: at this moment, or that of the last one where that is later.
@@ -70,11 +117,21 @@ pub fn next(state: &Numbers, nanos: u64) -> Option<At>
     Some(At { now, step })
 }
 
-/// An empty cache of so many segments.
-pub fn numbers(alloc: Global, segments: usize) -> Result<Numbers, BuildError> {
-    CacheBuilder::default()
-        .segments(segments)
-        .build_state(alloc, BuildHasherDefault::new(), Instant::from_nanos(0))
+/// An empty cache of a form, which lets go what was used least recently and tells removals.
+pub fn numbers(alloc: Global, form: Form) -> Result<Numbers, BuildError> {
+    let builder = CacheBuilder::default()
+        .segments(form.segments)
+        .eviction_policy(EvictionPolicy::lru())
+        .eviction_listener()
+        .time_to_live(Duration::from_millis(form.live));
+    let hasher = Times {
+        factor: form.factor,
+    };
+    let builder = match form.capacity {
+        Some(capacity) => builder.max_capacity(capacity),
+        None => builder,
+    };
+    builder.build_state(alloc, hasher, Instant::from_nanos(0))
 }
 
 /// Looks up, inserts and removes.
@@ -181,9 +238,27 @@ fn begin_compute(
     Ok(start_of(answer) == start)
 }
 
+fn is_told(state: &mut Numbers, key: u64, cause: RemovalCause) -> bool {
+    match state.next_notice() {
+        Some(notice) => *notice.key == key && notice.cause == cause,
+        None => false,
+    }
+}
+
+fn refuses_predicate(state: &mut Numbers, at: At) -> bool
+    requires { ComesAfter at.now at.step state.old }
+{
+    let mut generator = SplitMix64::seed_from_u64(1);
+    let answer = state.invalidate_entries_if(NoPredicate, &mut generator, at);
+    matches!(answer, Err(CacheError::InvalidationClosuresDisabled))
+}
+
 /// Whether a call answers what it is to. Where it was refused for memory it is made once more.
 fn is_right(alloc: Global, state: &mut Numbers, nanos: u64, call: Call) -> bool {
-    perform(alloc, state, nanos, call) == Ok(true) || perform(alloc, state, nanos, call) == Ok(true)
+    match perform(alloc, state, nanos, call) {
+        Ok(is_right) => is_right,
+        Err(_) => perform(alloc, state, nanos, call) == Ok(true),
+    }
 }
 
 fn perform(alloc: Global, state: &mut Numbers, nanos: u64, call: Call) -> Result<bool, CacheError> {
@@ -199,6 +274,10 @@ fn perform(alloc: Global, state: &mut Numbers, nanos: u64, call: Call) -> Result
         | Call::Clear
         | Call::Run
         | Call::Count(..) => { perform_simple(state, at, call) }
+        Call::With(closure) => perform_closure(state, at, closure),
+        Call::Told(key, cause) => Ok(is_told(state, key, cause)),
+        Call::NoneTold => Ok(state.next_notice().is_none()),
+        Call::RefusesPredicate => Ok(refuses_predicate(state, at)),
         _ => perform_turn(alloc, state, at, call),
     }
 }
@@ -212,4 +291,15 @@ pub fn right_calls(alloc: Global, state: &mut Numbers, calls: &[(u64, Call)]) ->
         }
     }
     calls.len()
+}
+
+/// Whether all of these calls answer what they are to, on an empty cache of a form.
+pub fn are_right(alloc: Global, form: Form, calls: &[(u64, Call)]) -> bool {
+    match numbers(alloc, form) {
+        Ok(mut state) => right_calls(alloc, &mut state, calls) == calls.len(),
+        Err(_) => match numbers(alloc, form) {
+            Ok(mut state) => right_calls(alloc, &mut state, calls) == calls.len(),
+            Err(_) => false,
+        },
+    }
 }

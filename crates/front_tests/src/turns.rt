@@ -1,6 +1,20 @@
-use crate::script::{Call, Start, numbers, right_calls};
+use crate::script::{Call, Form, Start, are_right};
 use front_reference::{CacheError, TurnKind};
-use std::alloc::Global;
+
+/// A cache of one part without bounds, and one of four.
+const ONE: Form = Form {
+    segments: 1,
+    capacity: None,
+    live: 1_000_000,
+    factor: 11_400_714_819_323_198_485,
+};
+
+const FOUR: Form = Form {
+    segments: 4,
+    capacity: None,
+    live: 1_000_000,
+    factor: 11_400_714_819_323_198_485,
+};
 
 const UNKNOWN: Result<(), CacheError> = Err(CacheError::UnknownTurn);
 
@@ -44,32 +58,22 @@ const VALUES: [(u64, Call); 16] = [
     (6, Call::Run),
 ];
 
-fn are_right(alloc: Global, segments: usize, calls: &[(u64, Call)]) -> bool {
-    match numbers(alloc, segments) {
-        Ok(mut state) => right_calls(alloc, &mut state, calls) == calls.len(),
-        Err(_) => match numbers(alloc, segments) {
-            Ok(mut state) => right_calls(alloc, &mut state, calls) == calls.len(),
-            Err(_) => false,
-        },
-    }
-}
-
 #[test]
 fn turns_of_one_part(rt: HostRuntime) {
-    assert!(rt; are_right(rt.alloc(), 1, &TURNS));
+    assert!(rt; are_right(rt.alloc(), ONE, &TURNS));
 }
 
 #[test]
 fn turns_of_four_parts(rt: HostRuntime) {
-    assert!(rt; are_right(rt.alloc(), 4, &TURNS));
+    assert!(rt; are_right(rt.alloc(), FOUR, &TURNS));
 }
 
 #[test]
 fn values_of_one_part(rt: HostRuntime) {
-    assert!(rt; are_right(rt.alloc(), 1, &VALUES));
+    assert!(rt; are_right(rt.alloc(), ONE, &VALUES));
 }
 
 #[test]
 fn values_of_four_parts(rt: HostRuntime) {
-    assert!(rt; are_right(rt.alloc(), 4, &VALUES));
+    assert!(rt; are_right(rt.alloc(), FOUR, &VALUES));
 }

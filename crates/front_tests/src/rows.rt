@@ -1,0 +1,241 @@
+use crate::script::{Call, Closure, Done, Form, are_right};
+use engine_rules::RemovalCause;
+
+/// A number by which keys spread over parts.
+const SPREAD: u64 = 11_400_714_819_323_198_485;
+
+/// Values that live for a hundred milliseconds, in four parts.
+const SHORT: Form = Form {
+    segments: 4,
+    capacity: None,
+    live: 100,
+    factor: SPREAD,
+};
+
+/// Calls that make a value where none is visible.
+const MADE: [(u64, Call); 16] = [
+    (0, Call::With(Closure::GetWith(1, 7, 7))),
+    (0, Call::With(Closure::GetWith(1, 8, 7))),
+    (0, Call::With(Closure::GetWithIf(1, 8, 9, 7))),
+    (0, Call::With(Closure::GetWithIf(1, 7, 9, 9))),
+    (0, Call::Get(1, Some(9))),
+    (0, Call::With(Closure::Optionally(2, None, None))),
+    (0, Call::Has(2, false)),
+    (0, Call::With(Closure::Optionally(2, Some(5), Some(5)))),
+    (0, Call::With(Closure::Optionally(2, None, Some(5)))),
+    (0, Call::With(Closure::Try(3, Err(()), Err(())))),
+    (0, Call::Has(3, false)),
+    (0, Call::With(Closure::Try(3, Ok(6), Ok(6)))),
+    (0, Call::With(Closure::Try(3, Err(()), Ok(6)))),
+    (99_999_999, Call::Has(3, true)),
+    (100_000_000, Call::With(Closure::Try(3, Err(()), Err(())))),
+    (100_000_000, Call::With(Closure::GetWith(1, 8, 8))),
+];
+
+/// Selectors: what is inserted, put, counted, and removed after its deadline has come.
+const SELECTED: [(u64, Call); 16] = [
+    (0, Call::With(Closure::OrInsert(1, 3, (3, true)))),
+    (0, Call::With(Closure::OrInsert(1, 6, (3, false)))),
+    (
+        0,
+        Call::With(Closure::OrInsertIf(1, 4, 5, (3, false, false))),
+    ),
+    (
+        0,
+        Call::With(Closure::OrInsertIf(1, 3, 5, (5, true, false))),
+    ),
+    (0, Call::With(Closure::Upsert(2, 1, (true, false)))),
+    (0, Call::With(Closure::Upsert(2, 2, (true, true)))),
+    (0, Call::With(Closure::CountUp(3, Done::Inserted(1)))),
+    (0, Call::With(Closure::CountUp(3, Done::ReplacedWith(2)))),
+    (0, Call::With(Closure::CountUp(3, Done::Removed(2)))),
+    (0, Call::Has(3, false)),
+    (0, Call::With(Closure::CountUp(3, Done::Inserted(1)))),
+    (0, Call::With(Closure::TakeOut(3, Done::Unchanged(1)))),
+    (0, Call::With(Closure::TakeOut(4, Done::StillNone))),
+    (100_000_000, Call::Has(3, false)),
+    (
+        100_000_000,
+        Call::With(Closure::TakeOut(3, Done::Removed(1))),
+    ),
+    (
+        100_000_000,
+        Call::With(Closure::TakeOut(3, Done::StillNone)),
+    ),
+];
+
+/// A cache of capacity 3.
+const SMALL: Form = Form {
+    segments: 1,
+    capacity: Some(3),
+    live: 1_000_000,
+    factor: SPREAD,
+};
+
+/// Who was used least recently leaves, and is told so.
+const EVICTED: [(u64, Call); 33] = [
+    (0, Call::Insert(1, 10)),
+    (0, Call::Insert(2, 20)),
+    (0, Call::Get(1, Some(10))),
+    (0, Call::Get(2, Some(20))),
+    (0, Call::Run),
+    (0, Call::Insert(3, 30)),
+    (0, Call::Get(3, Some(30))),
+    (0, Call::Run),
+    (0, Call::Get(1, Some(10))),
+    (0, Call::Get(2, Some(20))),
+    (0, Call::Run),
+    (0, Call::Insert(4, 40)),
+    (0, Call::Run),
+    (0, Call::Has(3, false)),
+    (0, Call::Count(3)),
+    (0, Call::Told(3, RemovalCause::Size)),
+    (0, Call::Invalidate(2)),
+    (0, Call::Has(2, false)),
+    (0, Call::Told(2, RemovalCause::Explicit)),
+    (0, Call::Remove(4, Some(40))),
+    (0, Call::Has(4, false)),
+    (0, Call::Told(4, RemovalCause::Explicit)),
+    (0, Call::Run),
+    (0, Call::Insert(5, 50)),
+    (0, Call::Insert(6, 60)),
+    (0, Call::Insert(7, 70)),
+    (0, Call::Run),
+    (0, Call::Has(1, false)),
+    (0, Call::Get(5, Some(50))),
+    (0, Call::Get(6, Some(60))),
+    (0, Call::Get(7, Some(70))),
+    (0, Call::Told(1, RemovalCause::Size)),
+    (0, Call::NoneTold),
+];
+
+/// What leaves after its deadline is told so, whoever takes it out; and so is what is written over.
+const TOLD: [(u64, Call); 13] = [
+    (0, Call::Insert(1, 10)),
+    (0, Call::Insert(1, 11)),
+    (0, Call::Told(1, RemovalCause::Replaced)),
+    (0, Call::Insert(2, 20)),
+    (0, Call::Insert(3, 30)),
+    (100_000_000, Call::Remove(1, Some(11))),
+    (100_000_000, Call::Told(1, RemovalCause::Expired)),
+    (100_000_000, Call::Insert(2, 21)),
+    (100_000_000, Call::Told(2, RemovalCause::Expired)),
+    (100_000_000, Call::NoneTold),
+    (100_000_000, Call::Run),
+    (100_000_000, Call::Told(3, RemovalCause::Expired)),
+    (100_000_000, Call::NoneTold),
+];
+
+/// A predicate where none is taken.
+const REFUSED: [(u64, Call); 4] = [
+    (0, Call::Insert(1, 10)),
+    (0, Call::RefusesPredicate),
+    (0, Call::Get(1, Some(10))),
+    (0, Call::NoneTold),
+];
+
+/// A cache that takes nothing.
+const NONE: Form = Form {
+    segments: 1,
+    capacity: Some(0),
+    live: 1_000_000,
+    factor: SPREAD,
+};
+
+const NOTHING_TAKEN: [(u64, Call); 8] = [
+    (0, Call::Insert(0, 0)),
+    (0, Call::Has(0, false)),
+    (0, Call::Get(0, None)),
+    (0, Call::Run),
+    (0, Call::Has(0, false)),
+    (0, Call::Get(0, None)),
+    (0, Call::Count(0)),
+    (0, Call::With(Closure::GetWith(0, 5, 5))),
+];
+
+/// Four parts, and each key of the same hash: all belong to one part, whose share is 2.
+const COLLIDING: Form = Form {
+    segments: 4,
+    capacity: Some(8),
+    live: 1_000_000,
+    factor: 0,
+};
+
+const COLLIDED: [(u64, Call); 12] = [
+    (0, Call::Insert(0, 10)),
+    (0, Call::Run),
+    (0, Call::Count(1)),
+    (0, Call::Insert(1, 11)),
+    (0, Call::Run),
+    (0, Call::Count(2)),
+    (0, Call::Insert(2, 12)),
+    (0, Call::Run),
+    (0, Call::Count(2)),
+    (0, Call::Has(0, false)),
+    (0, Call::Get(1, Some(11))),
+    (0, Call::Get(2, Some(12))),
+];
+
+/// Two parts with a share of one each, and each key its own hash.
+const HALVES: Form = Form {
+    segments: 2,
+    capacity: Some(2),
+    live: 1_000_000,
+    factor: 1,
+};
+
+/// The key that differs from 1 in its highest bit alone, and so belongs to the other part.
+const FAR: u64 = 9_223_372_036_854_775_809;
+
+const APART: [(u64, Call); 10] = [
+    (0, Call::Insert(1, 10)),
+    (0, Call::Insert(FAR, 20)),
+    (0, Call::Run),
+    (0, Call::Count(2)),
+    (0, Call::Get(1, Some(10))),
+    (0, Call::Get(FAR, Some(20))),
+    (0, Call::Insert(2, 30)),
+    (0, Call::Run),
+    (0, Call::Has(1, false)),
+    (0, Call::Get(FAR, Some(20))),
+];
+
+#[test]
+fn closures_make_values(rt: HostRuntime) {
+    assert!(rt; are_right(rt.alloc(), SHORT, &MADE));
+}
+
+#[test]
+fn selectors_choose(rt: HostRuntime) {
+    assert!(rt; are_right(rt.alloc(), SHORT, &SELECTED));
+}
+
+#[test]
+fn the_least_recently_used_leaves(rt: HostRuntime) {
+    assert!(rt; are_right(rt.alloc(), SMALL, &EVICTED));
+}
+
+#[test]
+fn removals_are_told(rt: HostRuntime) {
+    assert!(rt; are_right(rt.alloc(), SHORT, &TOLD));
+}
+
+#[test]
+fn predicates_are_refused(rt: HostRuntime) {
+    assert!(rt; are_right(rt.alloc(), SHORT, &REFUSED));
+}
+
+#[test]
+fn capacity_zero_takes_nothing(rt: HostRuntime) {
+    assert!(rt; are_right(rt.alloc(), NONE, &NOTHING_TAKEN));
+}
+
+#[test]
+fn keys_of_one_hash_share_a_part(rt: HostRuntime) {
+    assert!(rt; are_right(rt.alloc(), COLLIDING, &COLLIDED));
+}
+
+#[test]
+fn two_keys_in_two_parts(rt: HostRuntime) {
+    assert!(rt; are_right(rt.alloc(), HALVES, &APART));
+}
