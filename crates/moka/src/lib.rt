@@ -5,6 +5,7 @@ pub use front_access::{
     Access, CompResult, Entry, EntrySelector, OwnedKeyEntrySelector, RefKeyEntrySelector,
 };
 pub use front_builder::{BuildError, CacheBuilder};
+pub use front_iterator::{Iter, ScanningGet};
 pub use front_keys::{ClonedKey, IntoKey, LentKey, OwnedKey, Shared};
 pub use front_reference::{At, CacheError, Computed, Made, Op, OpenTurn, TurnKind, TurnStart};
 pub use front_state::LentState;
