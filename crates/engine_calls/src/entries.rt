@@ -10,8 +10,9 @@ ghost use Rattle.engine_reference.specs.Visible.{cause_of_write};
 ghost use Rattle.engine_reference.specs.declared.data.Record.{Record};
 
 use crate::looks::record_in;
-use crate::times::{is_dead, own_expiration, time_left};
+use crate::times::{own_expiration, time_left};
 use engine_cells::Tables;
+use engine_pending::is_dead;
 use engine_reference::{Entry, Settings};
 use engine_rules::{Expiration, RemovalCause, Rules};
 use policy_base::Instant;

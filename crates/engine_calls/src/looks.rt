@@ -10,8 +10,8 @@ ghost use Rattle.engine_reference.specs.Visible.{is_visible, visible_record};
 ghost use Rattle.engine_reference.specs.declared.data.Record.{Record};
 ghost use Rattle.engine_rules.specs.Hashing.{hash_of_key};
 
-use crate::times::is_dead;
 use engine_cells::Tables;
+use engine_pending::is_dead;
 use engine_reference::Record;
 use engine_rules::{Names, Rules};
 use std::alloc::AllocError;

@@ -1,41 +1,12 @@
 //! Deadlines.
-ghost use Rattle.std.specs.Prelude.{◌≡◌, ◌≤◌, ℕ, option_map};
+ghost use Rattle.std.specs.Prelude.{◌≡◌, option_map};
 ghost use Rattle.std.specs.Duration.{as_nanos};
 ghost use Rattle.policy_base.specs.Info.{kept_time};
-ghost use Rattle.engine_reference.specs.Times.{end_of, is_reached, has_come, own_expiration, earlier_of, time_left};
+ghost use Rattle.engine_reference.specs.Times.{end_of, own_expiration, earlier_of, time_left};
 
 use engine_reference::{Entry, Settings};
 use policy_base::{Instant, MAX_NANOS};
 use std::time::Duration;
-
-/// Whether a time that began at a moment has ended.
-fn has_ended(time: Option<u64>, since: u64, now: u64) -> bool
-    ensures { result ≡ is_reached (end_of since time) now }
-{
-    match time {
-        None => false,
-        Some(time) => since.saturating_add(time).min(MAX_NANOS) <= now,
-    }
-}
-
-/// Whether a moment is there and has been reached.
-fn is_over(moment: Option<u64>, now: u64) -> bool
-    ensures { result ≡ is_reached moment now }
-{
-    match moment {
-        None => false,
-        Some(moment) => moment <= now,
-    }
-}
-
-/// Whether the deadline of an entry has come.
-pub fn is_dead<K, V>(settings: Settings, now: u64, entry: &Entry<K, V>) -> bool
-    ensures { result ≡ has_come settings now entry.now }
-{
-    is_over(entry.expires, now)
-        || has_ended(settings.live, entry.written, now)
-        || has_ended(settings.idle, entry.used, now)
-}
 
 /// A moment as an own expiration is kept: a multiple of 4096 nanoseconds.
 fn kept(moment: Instant) -> u64

@@ -16,3 +16,4 @@ pub mod Again
 pub mod InOrder
 pub mod Sorting
 pub mod Awaits
+pub mod Shown

@@ -10,3 +10,4 @@ pub mod Writing
 pub mod Stretches
 pub mod Listing
 pub mod Awaiting
+pub mod Showing

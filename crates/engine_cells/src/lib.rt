@@ -6,6 +6,7 @@ mod finding;
 mod listing;
 mod looking;
 mod rooms;
+mod showing;
 mod tables;
 mod tally;
 mod timing;

@@ -3,8 +3,10 @@
 
 mod backlog;
 mod covering;
+mod deadlines;
 pub mod laws;
 mod tickets;
 
 pub use backlog::{Backlog, MAX_READS, MAX_WRITES};
+pub use deadlines::is_dead;
 pub use tickets::Ticketed;

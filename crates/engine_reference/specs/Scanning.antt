@@ -1,10 +1,10 @@
 -- What is looked at without a read, and a look that passes over values.
-use Rattle.std.specs.Prelude.{◌≡◌, ℕ, Bool, true, false, List, Option, Some, None, map, option_map}
+use Rattle.std.specs.Prelude.{◌≡◌, ℕ, Bool, true, false, List, Option, Some, None, map, filter, is_some, option_map}
 use Rattle.engine_reference.specs.declared.data.Record.{Record}
 use Rattle.engine_reference.specs.Calls.{MaintainsIfDue, with_read}
 use Rattle.engine_reference.specs.Records.{held_entries}
 use Rattle.engine_reference.specs.State.{State, Answers}
-use Rattle.engine_reference.specs.Visible.{visible_record}
+use Rattle.engine_reference.specs.Visible.{visible_record, visible_value}
 
 -- a value that is not passed over
 abbrev pub past : {X : Type 0} → Bool → Option X → Option X
@@ -16,6 +16,10 @@ abbrev pub held_keys : {K V : Type 0} → List (Record K V) → List K
 held_keys rs = map (λ e. e.key) (held_entries rs)
 
 module _ {K V P S R : Type 0} (answers : Answers K V P R) where
+  -- the held keys that have a visible value
+  abbrev pub visible_keys : (K → K → Bool) → State K V P S R → ℕ → List K
+  visible_keys eq s now = filter (λ key. is_some (visible_value answers eq s now key)) (held_keys s.records)
+
   -- a visible value is asked about, and one that is to be passed over is not found
   pub record LooksPast (eq : K → K → Bool) (key : K) (now : ℕ) (Ignores : V → Bool → Type 0) (s : State K V P S R) (found : Option (ℕ × V)) : Type 0 where
     pub ignored : Bool

@@ -1,7 +1,8 @@
 //! Records that were found before, found again.
 ghost use Rattle.std.specs.Prelude.{◌≡◌, ℕ, ◌+◌, ◌<◌, ◌^◌, true, [], ◌∷◌, ◌++◌, length, Some, None, IfSome, IfNone, IfOk};
 ghost use Rattle.engine_reference.specs.Records.{record_at};
-ghost use Rattle.engine_reference.specs.Scanning.{held_keys};
+ghost use Rattle.engine_reference.specs.Scanning.{held_keys, visible_keys};
+ghost use Rattle.engine_reference.specs.State.{Answers};
 ghost use Rattle.engine_reference.specs.declared.data.Read.{Read};
 ghost use Rattle.engine_reference.specs.declared.data.Record.{Record};
 ghost use Rattle.engine_cells.specs.Kept.{kept_at};
@@ -10,6 +11,7 @@ use crate::cell::Noted;
 use crate::finding::find_number;
 use crate::listing::push_held_keys;
 use crate::rooms::grow;
+use crate::showing::count_shown;
 use crate::tables::Tables;
 use engine_rules::Rules;
 use std::alloc::AllocError;
@@ -64,6 +66,13 @@ impl<K: Eq + Hash, V, S: BuildHasher, R: Rules<K, V>> Tables<K, V, S, R> {
         let mut keys = self.backlog.empty();
         push_held_keys(&self.cells, self.backlog.empty(), &mut keys)?;
         Ok(keys)
+    }
+
+    /// How many keys have a visible value, by a look at every record.
+    pub fn count_visible(&self, now: u64) -> usize
+        ensures { (answers : Answers K V R.Predicate R) → answers.covers ≡ R.covers → result ≡ length (visible_keys answers K.eq self.now.state now) }
+    {
+        count_shown(&self.cells, &self.backlog, now)
     }
 
     /// There is a ticket for each write that has room, and one more.

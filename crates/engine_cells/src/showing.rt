@@ -1,0 +1,55 @@
+//! How many records show a value.
+ghost use Rattle.std.specs.Prelude.{◌≡◌, ◌≤◌};
+ghost use Rattle.engine_cells.specs.Cells.{cell_at};
+ghost use Rattle.engine_cells.specs.Showing.{shows_value, shown_in, shown_part};
+ghost use Rattle.engine_cells.specs.Tallying.{sum_over};
+
+use crate::cell::{Cell, Noted, PlacedWrite};
+use engine_pending::{Backlog, is_dead};
+use engine_reference::Record;
+use engine_rules::Rules;
+use slab::Slab;
+
+/// Whether a record is held, alive, and nothing stands over its entry.
+fn shows_value<K, V, S, R: Rules<K, V>>(
+    found: &Record<K, V>,
+    backlog: &Backlog<K, V, Noted, PlacedWrite, S, R>,
+    now: u64,
+) -> bool
+    ensures { result ≡ shows_value R.covers backlog.now now found.now }
+{
+    found.is_held
+        && !is_dead(backlog.settings(), now, &found.entry)
+        && !backlog.is_over(&found.entry)
+}
+
+/// 1 where the record in a place shows a value, and else 0.
+fn shown_at<K, V, S, R: Rules<K, V>>(
+    cells: &Slab<Cell<K, V>>,
+    place: usize,
+    backlog: &Backlog<K, V, Noted, PlacedWrite, S, R>,
+    now: u64,
+) -> usize
+    ensures is { result ≡ shown_in R.covers backlog.now now (cell_at cells.now.slots place) }
+    ensures most { result ≤ 1 }
+{
+    match cells.get(place) {
+        Some(cell) => usize::from(shows_value(&cell.item, backlog, now)),
+        None => 0,
+    }
+}
+
+/// How many records show a value, by a look at every one.
+pub(crate) fn count_shown<K, V, S, R: Rules<K, V>>(
+    cells: &Slab<Cell<K, V>>,
+    backlog: &Backlog<K, V, Noted, PlacedWrite, S, R>,
+    now: u64,
+) -> usize
+    ensures { result ≡ sum_over (shown_part R.covers backlog.now now) cells.now.slots }
+{
+    let mut number = 0;
+    for place in 0..cells.capacity() {
+        number += shown_at(cells, place, backlog, now);
+    }
+    number
+}
