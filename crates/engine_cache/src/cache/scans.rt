@@ -1,11 +1,11 @@
 //! What a cache holds, and a look-up that passes over values.
-ghost use Rattle.std.specs.Prelude.{◌≡◌, ◌<◌, ℕ, Some, None, IfOk, OnErr, MatchOption, option_map};
+ghost use Rattle.std.specs.Prelude.{◌≡◌, ◌<◌, ℕ, length, Some, None, IfOk, OnErr, MatchOption, option_map};
 ghost use Rattle.std.specs.Fn.{FnOnceReturnsAt};
 ghost use Rattle.engine_rules.specs.Hashing.{hash_of_key};
 ghost use Rattle.engine_reference.specs.Asking.{answers_of};
 ghost use Rattle.engine_reference.specs.Records.{held_at};
 ghost use Rattle.engine_reference.specs.Visible.{visible_value};
-ghost use Rattle.engine_reference.specs.Scanning.{held_keys, LooksUpPast};
+ghost use Rattle.engine_reference.specs.Scanning.{held_keys, visible_keys, LooksUpPast};
 
 use crate::cache::BaseCache;
 use crate::noting::note_read;
@@ -35,6 +35,13 @@ impl<K: Eq + Hash, V, S: BuildHasher, R: Rules<K, V>> BaseCache<K, V, S, R> {
         }
         let found = self.tables.keys()?;
         Ok(Some(found))
+    }
+
+    /// How many keys have a visible value. It is no use of any; it takes no memory, and looks at every record.
+    pub fn count_visible(&self, now: Instant) -> usize
+        ensures { result ≡ length (visible_keys (answers_of R.weight_of R.created R.read R.updated R.covers) K.eq self.now now) }
+    {
+        self.tables.count_visible(now.as_nanos())
     }
 
     /// A clone of the visible value of a key. It is no use of it.
