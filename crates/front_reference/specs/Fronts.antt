@@ -72,10 +72,10 @@ pub record Front (K V P S R : Type 0) : Type 0 where
   pub step : ℕ
 
 module _ {K V P S R : Type 0} where
-  -- a call comes at no earlier moment, and at a later step, than the last
+  -- a call comes at no earlier moment and step than the last
   pub record ComesAfter (now step : ℕ) (f : Front K V P S R) : Type 0 where
     pub later : f.moment ≤ now
-    pub rises : f.step < step
+    pub further : f.step ≤ step
 
   -- only the moment and the step change
   abbrev pub passed : ℕ → ℕ → Front K V P S R → Front K V P S R

@@ -2,7 +2,7 @@
 
 use policy_base::Instant;
 
-/// When a call comes: its moment and its step. Moments may stay, steps rise from call to call.
+/// When a call comes: its moment and its step. Neither falls from call to call. A call that covers what was written at earlier steps comes at a later step than those before it.
 #[derive(Clone, Copy, PartialEq, Eq)]
 pub struct At {
     pub now: Instant,

@@ -15,7 +15,7 @@ use Rattle.front_reference.specs.declared.data.Op.{Op}
 use Rattle.front_reference.specs.declared.data.Op.TheVariants.{Nop, Put, Remove}
 use Rattle.front_reference.specs.declared.data.TurnKind.{TurnKind}
 use Rattle.front_state.specs.Accessing.{CoalescedIn, ComputedIn, GetsIn, GetsOptionIn, GetsResultIn, SeesIn, made_option, made_result}
-use Rattle.front_state.specs.Calls.{CoalescesIn, ComputesIn, Ways, visible_in, visible_of}
+use Rattle.front_places.specs.Calls.{CoalescesIn, ComputesIn, Ways, visible_in, visible_of}
 
 module _ {V F : Type 0} where
   -- how a coalesced call ends, by what is seen and not passed over

@@ -24,8 +24,8 @@ use Rattle.front_wholes.proofs.Drawn.{draws-long}
 use Rattle.front_reference.specs.declared.errors.CacheError.{CacheError}
 use Rattle.front_reference.specs.declared.errors.CacheError.TheVariants as errors
 use Rattle.front_wholes.specs.Covering.{CoversEach, IsCoverCause, TakeAll}
-use Rattle.front_state.specs.Calls.{IsSteadyBy, Ways, hash_in, visible_in, visible_of}
-use Rattle.front_state.specs.Covering.{CoversAll, IsCauseToCover, keys_in, keys_of}
+use Rattle.front_places.specs.Calls.{IsSteadyBy, Ways, hash_in, keys_of, visible_in, visible_of}
+use Rattle.front_state.specs.Covering.{CoversAll, IsCauseToCover, keys_in}
 use Rattle.front_iterator.specs.Coming.{all_pairs, source_at}
 use Rattle.front_iterator.proofs.Keyed.{Has, first-or}
 use Rattle.front_iterator.proofs.Fronts.{GoesOver, IsSpread, all_given}

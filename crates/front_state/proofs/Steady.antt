@@ -1,5 +1,5 @@
 -- A call that comes to the part of a key keeps the front steady.
-use Rattle.std.proofs.Common.{◌≡◌, refl, ap, sym, ◌∙◌, subst, ℕ, ◌^◌, ◌<◌, ◌≤◌, arith, Bool, true, List, [], ◌∷◌, length, get_or, Option, Some, None, inl, inr, ◌+◌, ◌++◌}
+use Rattle.std.proofs.Common.{◌≡◌, refl, ap, sym, ◌∙◌, subst, ℕ, ◌^◌, ◌<◌, ◌≤◌, arith, Bool, true, false, List, [], ◌∷◌, length, get_or, Option, Some, None, inl, inr, ◌+◌, ◌++◌}
 use Rattle.std.proofs.Math.Logic.{∥∥₁_elim, ∥∥₁_map}
 use Rattle.std.proofs.Props.{props}
 use Rattle.std.proofs.lemmas.Bool.{eq-eqb}
@@ -12,11 +12,10 @@ use Rattle.engine_reference.specs.Scanning.{NotesLookUp, past}
 use Rattle.engine_reference.specs.State.{State}
 use Rattle.engine_reference.specs.declared.data.Entry.{Entry}
 use Rattle.engine_reference.specs.Telling.{AreApart, entry_of}
-use Rattle.engine_reference.specs.Visible.{visible_value}
 use Rattle.front_reference.specs.Keeping.{Common, IsKept}
-use Rattle.front_reference.specs.Parts.{IsCause, Inserts, TakesOut}
+use Rattle.front_reference.specs.Parts.{Inserts, TakesOut}
 use Rattle.front_reference.specs.Wholes.{RunsPart}
-use Rattle.front_reference.specs.Fronts.{turn_at, Front, CallsAll, CallsAt, ComesAfter, passed, share_of, part_of, CallsEach, CallsPart, turn_of, part_by_hash, without_turn}
+use Rattle.front_reference.specs.Fronts.{Front, CallsAll, CallsAt, ComesAfter, passed, share_of, part_of, CallsEach, CallsPart, turn_of, part_by_hash, without_turn}
 use Rattle.engine_reference.specs.declared.data.Settings.{Settings}
 use Rattle.front_reference.specs.declared.errors.CacheError.{CacheError}
 use Rattle.front_reference.specs.declared.errors.CacheError.TheVariants as errors
@@ -26,17 +25,17 @@ use Rattle.front_reference.specs.declared.data.Computed.{Computed}
 use Rattle.front_reference.specs.declared.data.Made.{Made}
 use Rattle.front_reference.specs.declared.data.Op.{Op}
 use Rattle.front_laws.proofs.Kept.{calls_keep, kept-coalesced, kept-computed}
-use Rattle.front_state.proofs.Lists.{length-set_at, one_set}
+use Rattle.front_places.proofs.Lists.{length-set_at, one_set}
 use Rattle.front_reference.specs.Turns.{Begins, found_or, wait_or_lead, with_turn, abandoned, begun_compute}
 use Rattle.front_reference.specs.declared.data.TurnKind.{TurnKind}
 use Rattle.front_reference.specs.declared.data.OpenTurn.{OpenTurn}
 use Rattle.front_reference.specs.declared.data.TurnStart.{TurnStart}
 use Rattle.front_reference.specs.declared.data.TurnStart.TheVariants.{Found, Wait, Lead}
-use Rattle.front_state.specs.Turning.{IsFinishCause, Leads, WaitsOrLeads, EndsTurn}
-use Rattle.front_state.proofs.Turned.{turns-append, turns-without, turn-hashed}
+use Rattle.front_places.specs.Turning.{IsCauseAt, IsFinishCause, IsTurnPlace, Leads, WaitsOrLeads, EndsTurn}
+use Rattle.front_places.proofs.Turned.{turns-append, turns-without, turn-hashed}
 use Rattle.front_reference.specs.declared.data.TurnKind.TheVariants as turns
 use Rattle.front_reference.specs.declared.data.Op.TheVariants as op
-use Rattle.front_state.specs.Calls.{Ways, IsCauseOf, IsOpenAt, IsSteadyBy, LacksTickets, hash_in, CoalescesIn, ComputesIn, visible_of}
+use Rattle.front_places.specs.Calls.{Ways, IsCauseOf, IsOpenAt, IsSteadyBy, hash_in, CoalescesIn, ComputesIn, visible_of}
 
 -- what is there or not is known
 untruncated : {X : Type 0} (o : Option X) → ∥ o ≡ None ∥₁ → o ≡ None
@@ -52,14 +51,6 @@ if_ok-map A B (Ok x) f h = f x h
 if_ok-map A B (Err e) f h = h
 
 module _ {K V P S R : Type 0} (ways : Ways K V P S R) where
-  pub caused : (rooms : Settings → ℕ) (o : Option (State K V P S R)) (s : State K V P S R) (e : CacheError) → o ≡ Some s → IsCause (rooms s.settings) s e → IsCauseOf ways rooms o e
-  caused rooms o s errors.OutOfMemory is h = tt
-  caused rooms o s errors.UsedUp is h = subst (λ x. LacksTickets ways rooms x) (sym is) h
-  caused rooms o s errors.InvalidationClosuresDisabled is h = h
-  caused rooms o s errors.IdsInUse is h = h
-  caused rooms o s errors.UnknownTurn is h = h
-  caused rooms o s errors.Abandoned is h = h
-
   abbrev pub Keeps : Front K V P S R → Type 0
   Keeps f = ∥ IsSteadyBy ways f ∥₁
 
@@ -88,8 +79,7 @@ module _ {K V P S R : Type 0} (ways : Ways K V P S R) where
   steady-called : (f : Front K V P S R) (now step place h : ℕ) (key : K) (Rel : State K V P S R → State K V P S R → Type 0) (parts : List (State K V P S R))
       → ComesAfter now step f → h ≡ hash_in ways f key → place ≡ part_of f.bits h → KeepsPart key now step Rel → CallsAt place Rel f.parts parts → IsSteadyBy ways f → IsSteadyBy ways (passed now step (record f { parts = parts }))
   steady-called f now step place h key Rel parts after is placed keeps call k =
-      let rises = after.rises in
-      let less : f.step ≤ step = omega arith in
+      let less : f.step ≤ step = after.further in
       let belongs = λ (p : ℕ) (x : K). part_of f.bits (hash_in ways f x) == p in
       let own : belongs place key ≡ true = ap (λ n. part_of f.bits n == place) (sym is) ∙ ap (λ n. n == place) (sym placed) ∙ eq-eqb place place refl in
       let long : length parts ≡ length f.parts = ap length call.changed ∙ length-set_at f.parts place call.after in
@@ -156,6 +146,18 @@ module _ {K V P S R : Type 0} (ways : Ways K V P S R) where
   computed_key f g at place h key Decides answer parts same hashed placed call =
       called_key f g at.now at.step place h key (λ n s t. Computes ways.answers ways.eq key n at.now at.step Decides s t answer) parts same hashed placed call
 
+  -- the step may stay as it was
+  pub comes_still : (f g : Front K V P S R) (now : ℕ) → f ≡ g → g.moment ≤ now → ComesAfter now f.step g
+  comes_still f g now same later = let stays : g.step ≡ f.step = ap (λ (x : Front K V P S R). x.step) (sym same) in record { later = later; further = omega arith }
+
+  pub touched : (f g : Front K V P S R) (now place h : ℕ) (key : K) (parts : List (State K V P S R))
+      → f ≡ g → h ≡ hash_in ways f key → place ≡ part_of f.bits h → CallsAt place (NotesLookUp ways.answers ways.eq key h now false) f.parts parts
+      → CallsPart (hash_in ways g key) now g.step (NotesLookUp ways.answers ways.eq key (hash_in ways g key) now false) g (passed now f.step (record f { parts = parts }))
+  touched f g now place h key parts same hashed placed call =
+      subst (λ n. CallsPart {K = K} {V = V} {P = P} {S = S} {R = R} (hash_in ways g key) now n (NotesLookUp ways.answers ways.eq key (hash_in ways g key) now false) g (passed now f.step (record f { parts = parts })))
+      (ap (λ (x : Front K V P S R). x.step) same)
+      (called_key f g now f.step place h key (λ n. NotesLookUp ways.answers ways.eq key n now false) parts same hashed placed call)
+
   -- ---- calls on all parts
 
   pub called_all : (f g : Front K V P S R) (now step : ℕ) (Rel : State K V P S R → State K V P S R → Type 0) (parts : List (State K V P S R))
@@ -169,8 +171,7 @@ module _ {K V P S R : Type 0} (ways : Ways K V P S R) where
   steady-each : (f : Front K V P S R) (now step : ℕ) (Rel : State K V P S R → State K V P S R → Type 0) (parts : List (State K V P S R))
       → ComesAfter now step f → KeepsEach now step Rel → CallsEach Rel f.parts parts → IsSteadyBy ways f → IsSteadyBy ways (passed now step (record f { parts = parts }))
   steady-each f now step Rel parts after keeps call k =
-      let rises = after.rises in
-      let less : f.step ≤ step = omega arith in
+      let less : f.step ≤ step = after.further in
       record {
         kept = λ p t at.
             let low = slice_get_within parts p t at in
@@ -251,13 +252,7 @@ module _ {K V P S R : Type 0} (ways : Ways K V P S R) where
     opens = ap (λ (us : List (OpenTurn K)). record (passed at.now at.step (record f { parts = parts })) { turns = us; next_turn = f.next_turn + 1 }) begun;
   }
 
-  -- ---- what was looked at
-
-  pub found_by : (o : Option (State K V P S R)) (s : State K V P S R) (now : ℕ) (key : K) (ignored : Bool) (found : Option V) → o ≡ Some s → found ≡ past ignored (visible_value ways.answers ways.eq s now key) → found ≡ past ignored (visible_of ways o now key)
-  found_by o s now key ignored found at is = is ∙ ap (λ x. past ignored (visible_of ways x now key)) (sym at)
-
-  pub asked_by : (o : Option (State K V P S R)) (s : State K V P S R) (now : ℕ) (key : K) (Asks : V → Type 0) → o ≡ Some s → ((v : V) → visible_value ways.answers ways.eq s now key ≡ Some v → Asks v) → (v : V) → visible_of ways o now key ≡ Some v → Asks v
-  asked_by o s now key Asks at asked v is = asked v (sym (ap (λ x. visible_of ways x now key) at) ∙ is)
+  -- ---- the part of a hash
 
   pub same_part : (f g : Front K V P S R) (place h : ℕ) → f ≡ g → place ≡ part_of f.bits h → slice_get f.parts place ≡ part_by_hash g h
   same_part f g place h same placed = ap (λ n. slice_get f.parts n) placed ∙ ap (λ (x : Front K V P S R). part_by_hash x h) same
@@ -328,8 +323,7 @@ module _ {K V P S R : Type 0} (ways : Ways K V P S R) where
 
   steady-passed : (f : Front K V P S R) (now step : ℕ) → ComesAfter now step f → IsSteadyBy ways f → IsSteadyBy ways (passed now step f)
   steady-passed f now step after k =
-      let rises = after.rises in
-      let less : f.step ≤ step = omega arith in
+      let less : f.step ≤ step = after.further in
       record {
         kept = λ p s at. (calls_keep K V P S R).later f.common 63 ways.eq (λ key. part_of f.bits (hash_in ways f key) == p) f.moment f.step now step s after.later less (k.kept p s at);
         count = k.count;
@@ -424,10 +418,10 @@ module _ {K V P S R : Type 0} (ways : Ways K V P S R) where
       let one : t ≡ u = cc in
       subst (λ o. IsCauseOf ways rooms o e) (same_part f g place t.hash same placed ∙ ap (λ (x : OpenTurn K). part_by_hash g x.hash) one) cause
 
-  pub finish-caused : (f : Front K V P S R) (n : ℕ) (e : CacheError) → ((t : OpenTurn K) → turn_at f.turns n ≡ Some t → IsCauseOf ways (λ s. 1) (part_by_hash f t.hash) e) → (t : OpenTurn K) → turn_at f.turns n ≡ Some t → IsFinishCause ways n f e
-  finish-caused f n errors.OutOfMemory h t at = h
-  finish-caused f n errors.UsedUp h t at = h
-  finish-caused f n errors.InvalidationClosuresDisabled h t at = h
-  finish-caused f n errors.IdsInUse h t at = h
-  finish-caused f n errors.UnknownTurn h t at = absurd (h t at)
-  finish-caused f n errors.Abandoned h t at = h
+  pub finish-caused : (f : Front K V P S R) (n place : ℕ) (e : CacheError) → IsTurnPlace n f.turns place → IsCauseAt ways place f e → IsFinishCause ways n f e
+  finish-caused f n place errors.OutOfMemory h cause = (h.0, h.2, cause h.0 h.1)
+  finish-caused f n place errors.UsedUp h cause = (h.0, h.2, cause h.0 h.1)
+  finish-caused f n place errors.InvalidationClosuresDisabled h cause = (h.0, h.2, cause h.0 h.1)
+  finish-caused f n place errors.IdsInUse h cause = (h.0, h.2, cause h.0 h.1)
+  finish-caused f n place errors.UnknownTurn h cause = absurd (cause h.0 h.1)
+  finish-caused f n place errors.Abandoned h cause = (h.0, h.2, cause h.0 h.1)

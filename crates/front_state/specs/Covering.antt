@@ -1,8 +1,8 @@
 -- A predicate that is registered in all parts of a front, and why it is registered in none.
-use Rattle.std.specs.Prelude.{◌≡◌, ℕ, false, List, Option, Some, None, [], slice_get}
+use Rattle.std.specs.Prelude.{◌≡◌, ℕ, false, List, slice_get}
 use Rattle.rand_core.specs.Stream.{Stream}
-use Rattle.engine_reference.specs.Scanning.{held_keys}
 use Rattle.engine_reference.specs.State.{State}
+use Rattle.front_places.specs.Calls.{keys_of}
 use Rattle.front_reference.specs.Fronts.{Front, passed}
 use Rattle.front_reference.specs.declared.data.At.{At}
 use Rattle.front_reference.specs.declared.errors.CacheError.{CacheError}
@@ -21,10 +21,6 @@ module _ {K V P S R : Type 0} where
   IsCauseToCover f drawn left errors.InvalidationClosuresDisabled = (left ≡ drawn) × (f.common.settings.takes_predicates ≡ false)
   IsCauseToCover f drawn left e = IsCoverCause f.parts drawn left e
 
-  -- the keys that a part holds
-  abbrev pub keys_of : Option (State K V P S R) → List K
-  keys_of None = []
-  keys_of (Some s) = held_keys s.records
-
+  -- the keys that the part at a place holds
   abbrev pub keys_in : Front K V P S R → ℕ → List K
   keys_in f place = keys_of (slice_get f.parts place)

@@ -5,16 +5,15 @@ ghost use Rattle.engine_reference.specs.Calls.{cleared_by, removal_rooms};
 ghost use Rattle.engine_reference.specs.Asking.{answers_of};
 ghost use Rattle.front_reference.specs.Fronts.{CallsAll, ComesAfter};
 ghost use Rattle.front_reference.specs.Wholes.{RunsPart};
-ghost use Rattle.front_state.specs.Calls.{CoalescesBy, ComputesIn, InsertsIn, IsCauseIn, LooksUpIn, TakesOutIn, hash_in, held_value_in, visible_in, ways_by};
+ghost use Rattle.front_places.specs.Calls.{CoalescesBy, ComputesIn, InsertsIn, IsCauseIn, LooksUpIn, TakesOutIn, hash_in, held_value_in, visible_in, ways_by};
 
-use crate::hashing::{hash_key, place_of};
-use crate::places::{
-    coalesce_at, compute_at, contains_key_at, get_at, insert_at, invalidate_at, remove_at,
-};
-use crate::wholes::{clear_all, run_all};
 use engine_reference::Settings;
 use engine_rules::{Names, Rules};
-use front_keys::{IntoKey, LentKey, Shared};
+use front_keys::{IntoKey, LentKey, OwnedKey, Shared};
+use front_places::{
+    clear_all, coalesce_at, compute_at, contains_key_at, get_at, hash_key, insert_at,
+    invalidate_at, place_of, remove_at, run_all,
+};
 use front_reference::{At, CacheError, Computed, Made, Op, OpenTurn};
 use moka_engine::BaseCache;
 use policy_base::Instant;
@@ -25,12 +24,13 @@ use std::marker::Model;
 mod accessing;
 mod coalescing;
 mod covering;
+mod looking;
 mod making;
 mod reading;
 mod turning;
 
 /// A cache of 2^bits parts that is lent by `&mut`, so that each call is alone. Each key belongs to the part that the upper bits of its hash say.
-/// Each call is told its moment and its step: moments never fall, steps rise. A call that is refused has changed nothing, its moment and step included.
+/// Each call is told its moment and its step, neither of which falls. A clear and a predicate come at a later step than any call before, as they cover what was written at earlier steps. A call that is refused has changed nothing, its moment and step included.
 #[derive(Drop)]
 pub struct LentState<K: Eq + Hash, V, S: BuildHasher, R: Rules<K, V>> {
     alloc: Global,
@@ -51,7 +51,7 @@ impl<K: Eq + Hash, V, S: BuildHasher, R: Rules<K, V>> Model for LentState<K, V, 
     ghost use Rattle.std.specs.Prelude.{option_map};
     ghost use Rattle.std.specs.String.{string_bytes};
     ghost use Rattle.front_reference.specs.Fronts.{Front};
-    ghost use Rattle.front_state.specs.Calls.{IsSteadyBy, ways_by};
+    ghost use Rattle.front_places.specs.Calls.{IsSteadyBy, ways_by};
 
     ghost Value = { Front K V R.Predicate S R };
 
@@ -127,10 +127,32 @@ impl<K: Eq + Hash, V, S: BuildHasher, R: Rules<K, V>> LentState<K, V, S, R> {
         ensures err { OnErr result (self.new ≡ self.old) }
         ensures cause { IfErr result (IsCauseIn (ways_by R.Rules K.eq K.hash_input S.BuildHasher S.Hasher.Hasher) (λ _. 1) self.old key) }
     {
-        let At { now, step } = at;
         let hash = hash_key(&self.hasher, &key);
+        let alloc = self.alloc;
+        self.insert_with_hash(OwnedKey { key, alloc }, hash, value, at)
+    }
+
+    /// `insert` under what names a key, whose hash is known.
+    pub fn insert_with_hash<Q: IntoKey<Shared<K>>>(
+        &mut self,
+        name: Q,
+        hash: u64,
+        value: V,
+        at: At,
+    ) -> Result<(), CacheError>
+    where
+        K: Drop,
+        V: Drop,
+        requires hashed { hash ≡ hash_in (ways_by R.Rules K.eq K.hash_input S.BuildHasher S.Hasher.Hasher) self.old (Q.named_key name) }
+        requires becomes { Q.can_become name }
+        requires follows { ComesAfter at.now at.step self.old }
+        ensures inserts { OnOk result (InsertsIn (ways_by R.Rules K.eq K.hash_input S.BuildHasher S.Hasher.Hasher) (Q.named_key name) value at self.old self.new) }
+        ensures err { OnErr result (self.new ≡ self.old) }
+        ensures cause { IfErr result (IsCauseIn (ways_by R.Rules K.eq K.hash_input S.BuildHasher S.Hasher.Hasher) (λ _. 1) self.old (Q.named_key name)) }
+    {
+        let At { now, step } = at;
         let place = place_of(self.bits, hash);
-        let key = Shared::new(self.alloc, key)?;
+        let key = name.into_key()?;
         insert_at(&mut self.parts, place, key, hash, value, At { now, step })?;
         self.moment = now;
         self.step = step;
@@ -264,9 +286,10 @@ impl<K: Eq + Hash, V, S: BuildHasher, R: Rules<K, V>> LentState<K, V, S, R> {
         self.step = step;
     }
 
-    /// Covers every value that was written at an earlier step.
+    /// Covers every value that was written at an earlier step. It comes at a later step than any call before.
     pub fn invalidate_all(&mut self, at: At)
-        requires { ComesAfter at.now at.step self.old }
+        requires follows { ComesAfter at.now at.step self.old }
+        requires rises { self.old.step < at.step }
         ensures { CallsAll at.now at.step (λ s t. t ≡ cleared_by at.step s) self.old self.new }
     {
         let At { now, step } = at;

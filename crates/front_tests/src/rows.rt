@@ -109,6 +109,25 @@ const EVICTED: [(u64, Call); 33] = [
     (0, Call::NoneTold),
 ];
 
+/// What is used without its value stays, and what is only peeked at leaves.
+const TOUCHED: [(u64, Call); 15] = [
+    (0, Call::InsertNamed(1, 10)),
+    (0, Call::InsertNamed(2, 20)),
+    (0, Call::InsertNamed(3, 30)),
+    (0, Call::Run),
+    (1, Call::Touch(1)),
+    (1, Call::Peek(3, Some(30))),
+    (1, Call::Touch(2)),
+    (1, Call::Touch(9)),
+    (1, Call::Run),
+    (1, Call::Insert(4, 40)),
+    (1, Call::Run),
+    (1, Call::Peek(3, None)),
+    (1, Call::Peek(1, Some(10))),
+    (1, Call::Told(3, RemovalCause::Size)),
+    (1, Call::NoneTold),
+];
+
 /// What leaves after its deadline is told so, whoever takes it out; and so is what is written over.
 const TOLD: [(u64, Call); 13] = [
     (0, Call::Insert(1, 10)),
@@ -199,6 +218,11 @@ const APART: [(u64, Call); 10] = [
     (0, Call::Has(1, false)),
     (0, Call::Get(FAR, Some(20))),
 ];
+
+#[test]
+fn what_is_touched_stays(rt: HostRuntime) {
+    assert!(rt; are_right(rt.alloc(), SMALL, &TOUCHED));
+}
 
 #[test]
 fn closures_make_values(rt: HostRuntime) {

@@ -1,5 +1,5 @@
 //! Calls of a cache, one after another.
-ghost use Rattle.std.specs.Prelude.{◌≡◌, IfSome};
+ghost use Rattle.std.specs.Prelude.{◌≡◌, ◌<◌, IfSome};
 ghost use Rattle.front_reference.specs.Fronts.{ComesAfter};
 ghost use Rattle.front_state.specs.Calls.{hash_in};
 
@@ -49,7 +49,13 @@ fn start_of(start: TurnStart<u64>) -> Start {
 pub enum Call {
     Get(u64, Option<u64>),
     Has(u64, bool),
+    /// The visible value of a key, without a use of it.
+    Peek(u64, Option<u64>),
+    /// A use of a key, without its value.
+    Touch(u64),
     Insert(u64, u64),
+    /// `insert_with_hash` of what names a key.
+    InsertNamed(u64, u64),
     Remove(u64, Option<u64>),
     Invalidate(u64),
     Clear,
@@ -107,7 +113,8 @@ pub enum Done {
 
 /// When the next call comes: at this moment, or that of the last one where that is later.
 pub fn next(state: &Numbers, nanos: u64) -> Option<At>
-    ensures { IfSome result (λ at. ComesAfter at.now at.step state.now) }
+    ensures follows { IfSome result (λ at. ComesAfter at.now at.step state.now) }
+    ensures rises { IfSome result (λ at. state.now.step < at.step) }
 {
     let last = state.last_call();
     let step = last.step.checked_add(1)?;
@@ -134,13 +141,31 @@ pub fn numbers(alloc: Global, form: Form) -> Result<Numbers, BuildError> {
     builder.build_state(alloc, hasher, Instant::from_nanos(0))
 }
 
-/// Looks up, inserts and removes.
-fn perform_simple(state: &mut Numbers, at: At, call: Call) -> Result<bool, CacheError>
+/// Looks a key up without a clone of its value.
+fn perform_lent(state: &mut Numbers, at: At, call: Call) -> bool
     requires { ComesAfter at.now at.step state.old }
 {
     match call {
+        Call::Has(key, is_there) => state.contains_key(&key, at.now) == is_there,
+        Call::Peek(key, value) => match state.peek(&key, at.now) {
+            Some(found) => value == Some(*found),
+            None => value.is_none(),
+        },
+        Call::Touch(key) => {
+            state.touch(&key, at.now);
+            true
+        }
+        _ => false,
+    }
+}
+
+/// Looks up, inserts and removes.
+fn perform_simple(state: &mut Numbers, at: At, call: Call) -> Result<bool, CacheError>
+    requires follows { ComesAfter at.now at.step state.old }
+    requires rises { state.old.step < at.step }
+{
+    match call {
         Call::Get(key, value) => Ok(state.get(&key, at)? == value),
-        Call::Has(key, is_there) => Ok(state.contains_key(&key, at.now) == is_there),
         Call::Insert(key, value) => {
             state.insert(key, value, at)?;
             Ok(true)
@@ -168,6 +193,7 @@ fn perform_turn(alloc: Global, state: &mut Numbers, at: At, call: Call) -> Resul
     requires { ComesAfter at.now at.step state.old }
 {
     match call {
+        Call::InsertNamed(key, value) => insert_named(alloc, state, at, key, value),
         Call::OrInsert(key, value, answer) => or_insert(alloc, state, at, key, value, answer),
         Call::Begin(kind, key, start) => begin(alloc, state, at, kind, key, start),
         Call::BeginCompute(key, start) => begin_compute(alloc, state, at, key, start),
@@ -205,6 +231,21 @@ fn or_insert(
         || -> Result<Made<u64, ()>, AllocError> { Ok(Made::Value(value)) },
     )?;
     Ok(made == (Made::Value(answer.0), answer.1))
+}
+
+fn insert_named(
+    alloc: Global,
+    state: &mut Numbers,
+    at: At,
+    key: u64,
+    value: u64,
+) -> Result<bool, CacheError>
+    requires { ComesAfter at.now at.step state.old }
+{
+    let hash = state.hash(&key);
+    let name = ClonedKey { key: &key, alloc };
+    state.insert_with_hash(name, hash, value, at)?;
+    Ok(true)
 }
 
 fn begin(
@@ -246,7 +287,8 @@ fn is_told(state: &mut Numbers, key: u64, cause: RemovalCause) -> bool {
 }
 
 fn refuses_predicate(state: &mut Numbers, at: At) -> bool
-    requires { ComesAfter at.now at.step state.old }
+    requires follows { ComesAfter at.now at.step state.old }
+    requires rises { state.old.step < at.step }
 {
     let mut generator = SplitMix64::seed_from_u64(1);
     let answer = state.invalidate_entries_if(NoPredicate, &mut generator, at);
@@ -266,8 +308,8 @@ fn perform(alloc: Global, state: &mut Numbers, nanos: u64, call: Call) -> Result
         return Ok(false);
     };
     match call {
+        Call::Has(..) | Call::Peek(..) | Call::Touch(..) => Ok(perform_lent(state, at, call)),
         Call::Get(..)
-        | Call::Has(..)
         | Call::Insert(..)
         | Call::Remove(..)
         | Call::Invalidate(..)

@@ -1,4 +1,5 @@
 //! Predicates and what they cover.
+ghost use Rattle.std.specs.Prelude.{◌<◌};
 ghost use Rattle.front_reference.specs.Fronts.{ComesAfter};
 
 use crate::rules::{Covered, IsEither, covered, next};
@@ -56,7 +57,8 @@ const ALL_OR_NONE: [(u64, Call); 9] = [
 ];
 
 fn perform(state: &mut Covered, at: At, call: Call) -> Result<bool, CacheError>
-    requires { ComesAfter at.now at.step state.old }
+    requires follows { ComesAfter at.now at.step state.old }
+    requires rises { state.old.step < at.step }
 {
     match call {
         Call::Insert(key, value) => {
@@ -83,7 +85,8 @@ fn cover(
     zeros: u32,
     answer: Result<(), CacheError>,
 ) -> Result<bool, CacheError>
-    requires { ComesAfter at.now at.step state.old }
+    requires follows { ComesAfter at.now at.step state.old }
+    requires rises { state.old.step < at.step }
 {
     let mut generator = Turning(zeros);
     match state.invalidate_segments_if(IsEither(first, second), &mut generator, at) {
@@ -105,7 +108,10 @@ fn is_told(state: &mut Covered, first: u64, second: u64) -> bool {
 
 /// Whether a call answers what it is to. Where it was refused for memory it is made once more.
 fn is_right(state: &mut Covered, nanos: u64, call: Call) -> bool {
-    answers(state, nanos, call) == Ok(true) || answers(state, nanos, call) == Ok(true)
+    match answers(state, nanos, call) {
+        Ok(is_right) => is_right,
+        Err(_) => answers(state, nanos, call) == Ok(true),
+    }
 }
 
 fn answers(state: &mut Covered, nanos: u64, call: Call) -> Result<bool, CacheError> {
@@ -142,7 +148,10 @@ fn answers_first_id(alloc: Global) -> bool {
     let Ok(mut state) = covered(alloc, 1) else {
         return false;
     };
-    is_first_id(&mut state) == Ok(true) || is_first_id(&mut state) == Ok(true)
+    match is_first_id(&mut state) {
+        Ok(is_first) => is_first,
+        Err(_) => is_first_id(&mut state) == Ok(true),
+    }
 }
 
 #[test]

@@ -1,5 +1,5 @@
 //! The rows' caches: numbers under numbers, with a predicate on values.
-ghost use Rattle.std.specs.Prelude.{◌==◌, ◌||◌, IfSome};
+ghost use Rattle.std.specs.Prelude.{◌==◌, ◌<◌, ◌||◌, IfSome};
 ghost use Rattle.front_reference.specs.Fronts.{ComesAfter};
 
 use engine_rules::{Bundle, NoExpiry, Predicate, WeighOne};
@@ -48,7 +48,8 @@ fn built(alloc: Global, segments: usize) -> Result<Covered, BuildError> {
 
 /// When the next call comes: at this moment, or that of the last one where that is later.
 pub fn next(state: &Covered, nanos: u64) -> Option<At>
-    ensures { IfSome result (λ at. ComesAfter at.now at.step state.now) }
+    ensures follows { IfSome result (λ at. ComesAfter at.now at.step state.now) }
+    ensures rises { IfSome result (λ at. state.now.step < at.step) }
 {
     let last = state.last_call();
     let step = last.step.checked_add(1)?;

@@ -1,5 +1,5 @@
 //! What the lock guards.
-ghost use Rattle.std.specs.Prelude.{◌≡◌, IfSome};
+ghost use Rattle.std.specs.Prelude.{◌≡◌, ◌<◌, IfSome};
 ghost use Rattle.front_reference.specs.Fronts.{ComesAfter};
 
 use engine_rules::Rules;
@@ -42,6 +42,7 @@ impl<
     /// When the next call comes; never where the steps of 64 bits are used up.
     pub(crate) fn draw(&mut self) -> Option<At>
         ensures follows { IfSome result (λ at. ComesAfter at.now at.step self.old.state) }
+        ensures rises { IfSome result (λ at. self.old.state.step < at.step) }
         ensures state { self.new.state ≡ self.old.state }
     {
         let last = self.state.last_call();

@@ -5,7 +5,7 @@ ghost use Rattle.front_access.specs.Answering.{Suits};
 ghost use Rattle.front_reference.specs.declared.data.Made.{Made};
 ghost use Rattle.front_reference.specs.declared.data.TurnKind.TheVariants as turns;
 ghost use Rattle.front_state.specs.Accessing.{DecidesIn, GivesIn, MayCall};
-ghost use Rattle.front_state.specs.Calls.{ways_by};
+ghost use Rattle.front_places.specs.Calls.{ways_by};
 
 use crate::state::LentState;
 use engine_rules::Rules;
@@ -18,7 +18,7 @@ use std::hash::{BuildHasher, Hash, Hasher};
 impl<K: Eq + Hash + Drop, V: Clone + Drop, S: BuildHasher, R: Rules<K, V>> Access<K, V>
     for LentState<K, V, S, R> {
     ghost use Rattle.front_state.specs.Accessing.{CoalescedIn, ComputedIn, MayCall, SeesIn};
-    ghost use Rattle.front_state.specs.Calls.{ways_by};
+    ghost use Rattle.front_places.specs.Calls.{ways_by};
 
     type When = At;
 

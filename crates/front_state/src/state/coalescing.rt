@@ -8,7 +8,7 @@ ghost use Rattle.front_reference.specs.Fronts.{ComesAfter};
 ghost use Rattle.front_reference.specs.declared.data.Made.TheVariants as outcome;
 ghost use Rattle.front_reference.specs.declared.data.TurnKind.TheVariants as turns;
 ghost use Rattle.front_state.specs.Accessing.{GetsIn, GetsOptionIn, GetsResultIn, MayCall, made_option, made_result};
-ghost use Rattle.front_state.specs.Calls.{IsCauseIn, hash_in, ways_by};
+ghost use Rattle.front_places.specs.Calls.{IsCauseIn, hash_in, ways_by};
 
 use crate::state::LentState;
 use engine_rules::Rules;

@@ -1,54 +1,25 @@
 //! Calls on all parts of a cache: predicates, notices, the iterator; and the part of a key.
-ghost use Rattle.std.specs.Prelude.{◌≡◌, ◌<◌, ◌≤◌, ℕ, true, IfOk, IfErr, OnOk, OnErr, MatchOption, length, slice_get};
+ghost use Rattle.std.specs.Prelude.{◌≡◌, ◌<◌, ℕ, true, IfOk, IfErr, OnOk, OnErr, length};
 ghost use Rattle.std.specs.String.{string_bytes};
 ghost use Rattle.engine_reference.specs.Asking.{answers_of};
 ghost use Rattle.front_reference.specs.Fronts.{ComesAfter, part_of};
 ghost use Rattle.front_reference.specs.Wholes.{HasGiven, next_told, without_told};
-ghost use Rattle.front_state.specs.Calls.{IsOpenAt, IsSteadyBy, hash_in, visible_in, visible_of, ways_by};
-ghost use Rattle.front_state.specs.Covering.{CoversAll, IsCauseToCover, keys_in, keys_of};
+ghost use Rattle.front_places.specs.Calls.{IsSteadyBy, hash_in, visible_in, ways_by};
+ghost use Rattle.front_state.specs.Covering.{CoversAll, IsCauseToCover, keys_in};
 ghost use Rattle.front_wholes.specs.Covering.{id_text};
 
-use crate::hashing::{hash_key, place_of};
 use crate::state::LentState;
-use engine_rules::{Names, Rules};
+use engine_rules::Rules;
 use front_iterator::{Iter, ScanningGet};
 use front_keys::{LentKey, Shared};
+use front_places::{hash_key, keys_at, place_of, scan_at};
 use front_reference::{At, CacheError};
 use front_wholes::{clone_each, cover_all, next_notice, write_id};
-use moka_engine::{BaseCache, Notice};
+use moka_engine::Notice;
 use policy_base::Instant;
 use rand_core::Rng;
 use std::alloc::AllocError;
 use std::hash::{BuildHasher, Hash, Hasher};
-
-/// A clone of the value of a key that is visible in the part at a place. It is no use of it.
-fn scan_at<K: Eq + Hash, V: Clone, S: BuildHasher, R: Rules<K, V>, Q: Names<K>>(
-    parts: &[BaseCache<K, V, S, R>],
-    place: usize,
-    key: &Q,
-    hash: u64,
-    now: Instant,
-) -> Result<Option<V>, AllocError>
-    requires exact { (x y : V) → V.is_clone x y → y ≡ x }
-    requires there { IsOpenAt (ways_by R.Rules K.eq K.hash_input S.BuildHasher S.Hasher.Hasher) place (Q.named_key key.now) hash parts.now }
-    ensures { IfOk result (λ found. found ≡ visible_of (ways_by R.Rules K.eq K.hash_input S.BuildHasher S.Hasher.Hasher) (slice_get parts.now place) now (Q.named_key key.now)) }
-{
-    parts[place].get_with_hash_without_recording(key, hash, now)
-}
-
-/// Clones of the keys that the part at a place holds.
-fn keys_at<K: Eq + Hash + Clone + Drop, V, S: BuildHasher, R: Rules<K, V>>(
-    parts: &[BaseCache<K, V, S, R>],
-    place: usize,
-) -> Result<Option<Vec<K>>, AllocError>
-    requires exact_key { (x y : K) → K.is_clone x y → y ≡ x }
-    ensures { IfOk result (λ keys. MatchOption keys (length parts.now ≤ place) (λ found. found.items ≡ keys_of (slice_get parts.now place))) }
-{
-    if place >= parts.len() {
-        return Ok(None);
-    }
-    parts[place].keys(0)
-}
 
 impl<K: Eq + Hash, V, S: BuildHasher, R: Rules<K, V>> LentState<K, V, S, R> {
     /// The part that a key belongs to, by the upper bits of its hash.
@@ -75,7 +46,7 @@ impl<K: Eq + Hash, V, S: BuildHasher, R: Rules<K, V>> LentState<K, V, S, R> {
         next_notice(&mut self.parts)
     }
 
-    /// Registers a predicate in all parts, or in none where it is refused. It covers what was written at earlier steps. The identifier of the first part is answered.
+    /// Registers a predicate in all parts, or in none where it is refused. It covers what was written at earlier steps, so it comes at a later one than any before. The identifier of the first part is answered.
     fn cover<G: Rng>(
         &mut self,
         predicate: R::Predicate,
@@ -83,6 +54,7 @@ impl<K: Eq + Hash, V, S: BuildHasher, R: Rules<K, V>> LentState<K, V, S, R> {
         at: At,
     ) -> Result<u128, CacheError>
         requires follows { ComesAfter at.now at.step self.old }
+        requires rises { self.old.step < at.step }
         requires takes { self.old.common.settings.takes_predicates ≡ true }
         ensures covers { IfOk result (λ id. CoversAll predicate at (G.stream generator.old) (G.stream generator.new) id self.old self.new) }
         ensures err { OnErr result (self.new ≡ self.old) }
@@ -102,7 +74,7 @@ impl<K: Eq + Hash, V, S: BuildHasher, R: Rules<K, V>> LentState<K, V, S, R> {
         }
     }
 
-    /// Covers the values of earlier steps of which a predicate says yes, in all parts or, where it is refused, in none. An identifier is drawn for each part, and that of the first one is answered, in its hyphenated form of 36 bytes in lower case.
+    /// Covers the values of earlier steps of which a predicate says yes, in all parts or, where it is refused, in none. It comes at a later step than any call before. An identifier is drawn for each part, and that of the first one is answered, in its hyphenated form of 36 bytes in lower case.
     /// Only a cache that was made to take predicates takes one. A refusal for want of memory or of tickets draws nothing.
     pub fn invalidate_entries_if<G: Rng>(
         &mut self,
@@ -111,6 +83,7 @@ impl<K: Eq + Hash, V, S: BuildHasher, R: Rules<K, V>> LentState<K, V, S, R> {
         at: At,
     ) -> Result<String, CacheError>
         requires follows { ComesAfter at.now at.step self.old }
+        requires rises { self.old.step < at.step }
         ensures covers { IfOk result (λ text. (id : ℕ) × (string_bytes text ≡ id_text id) × CoversAll predicate at (G.stream generator.old) (G.stream generator.new) id self.old self.new) }
         ensures takes { OnOk result (self.old.common.settings.takes_predicates ≡ true) }
         ensures err { OnErr result (self.new ≡ self.old) }
@@ -133,6 +106,7 @@ impl<K: Eq + Hash, V, S: BuildHasher, R: Rules<K, V>> LentState<K, V, S, R> {
         at: At,
     ) -> Result<(), CacheError>
         requires follows { ComesAfter at.now at.step self.old }
+        requires rises { self.old.step < at.step }
         ensures covers { OnOk result ((id : ℕ) × CoversAll predicate at (G.stream generator.old) (G.stream generator.new) id self.old self.new) }
         ensures takes { OnOk result (self.old.common.settings.takes_predicates ≡ true) }
         ensures err { OnErr result (self.new ≡ self.old) }

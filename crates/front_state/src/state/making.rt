@@ -1,13 +1,13 @@
 //! Making a cache.
 ghost use Rattle.std.specs.Prelude.{◌≤◌, IfOk, option_map};
 ghost use Rattle.std.specs.String.{string_bytes};
-ghost use Rattle.front_state.specs.Making.{IsMadeWith};
+ghost use Rattle.front_places.specs.Making.{IsMadeWith};
 
 use super::LentState;
-use crate::making::{for_part, new_parts};
 use engine_reference::Settings;
 use engine_rules::Rules;
 use front_keys::Shared;
+use front_places::{for_part, new_parts};
 use policy_base::Instant;
 use std::alloc::{AllocError, Global};
 use std::hash::{BuildHasher, Hash};

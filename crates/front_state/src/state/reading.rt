@@ -5,8 +5,8 @@ ghost use Rattle.front_reference.specs.Wholes.{total_number, total_weight};
 ghost use Rattle.front_state.specs.Reading.{ShowsPolicy};
 
 use crate::state::LentState;
-use crate::wholes::{sum_numbers, sum_weights};
 use engine_rules::{Policy, Rules};
+use front_places::{sum_numbers, sum_weights};
 use front_reference::At;
 use std::hash::{BuildHasher, Hash};
 use std::time::Duration;
@@ -48,7 +48,7 @@ impl<K: Eq + Hash, V, S: BuildHasher, R: Rules<K, V>> LentState<K, V, S, R> {
         sum_weights(self.parts.as_slice())
     }
 
-    /// The moment and the step of the last call. The next one comes at no earlier moment, and at a later step.
+    /// The moment and the step of the last call. The next one comes at no earlier moment and step, and at a later step where it covers what was written before.
     pub fn last_call(&self) -> At
         ensures now { result.now ≡ self.now.moment }
         ensures step { result.step ≡ self.now.step }

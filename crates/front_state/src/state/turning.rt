@@ -9,15 +9,15 @@ ghost use Rattle.front_reference.specs.declared.data.Op.TheVariants as op;
 ghost use Rattle.front_reference.specs.declared.data.OpenTurn.{OpenTurn};
 ghost use Rattle.front_reference.specs.declared.data.TurnKind.TheVariants as turns;
 ghost use Rattle.front_reference.specs.declared.errors.CacheError.TheVariants.{UnknownTurn};
-ghost use Rattle.front_state.specs.Calls.{AsksOf, hash_in, seen_of, ways_by};
-ghost use Rattle.front_state.specs.Turning.{BeginsIn, EndsTurnAt, FinishesBy, IsCauseAt, IsFinishCause, IsTurnCause, IsTurnPlace, Leads, WaitsOrLeads};
+ghost use Rattle.front_places.specs.Calls.{AsksOf, hash_in, seen_of, ways_by};
+ghost use Rattle.front_places.specs.Turning.{BeginsIn, EndsTurnAt, FinishesBy, IsCauseAt, IsFinishCause, IsTurnCause, IsTurnPlace, Leads, WaitsOrLeads};
 
-use crate::hashing::place_of;
-use crate::places::{insert_or_back_at, look_at, note_at};
 use crate::state::LentState;
-use crate::turns::{find_turn, make_turn, place_of_turn};
 use engine_rules::{Names, Rules};
 use front_keys::{IntoKey, LentKey, Shared};
+use front_places::{
+    find_turn, insert_or_back_at, look_at, make_turn, note_at, place_of, place_of_turn,
+};
 use front_reference::{At, CacheError, Made, TurnKind, TurnStart};
 use policy_base::Instant;
 use std::alloc::AllocError;

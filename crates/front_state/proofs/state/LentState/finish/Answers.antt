@@ -1,6 +1,6 @@
 use Rattle.std.proofs.Common.{◌∙◌, subst, sym}
-use Rattle.front_state.specs.Calls.{ways_by}
-use Rattle.front_state.specs.Turning.{FinishesBy}
+use Rattle.front_places.specs.Calls.{ways_by}
+use Rattle.front_places.specs.Turning.{FinishesBy}
 use Rattle.front_state.proofs.Steady.{finish-caused}
 use Rattle.front_state.proofs.state.LentState.finish.Goals as goal
 
@@ -11,4 +11,4 @@ returns-in-Ok-clause-ends g c =
 
 pub returns-in-Err-clause-cause : goal.returns-in-Err-clause-cause
 returns-in-Err-clause-cause g c =
-    finish-caused (ways_by g.R.Rules g.K.PartialEq.eq g.K.Hash.hash_input g.S.BuildHasher g.S.Hasher.Hasher) c.args.self.now c.args.number _ (λ t at. c.in-Err.ensures.cause t (c.in-Some.ensures.found.1 ∙ sym c.in-Some.ensures.found.2 ∙ at)) c.in-Some.ensures.found.0 c.in-Some.ensures.found.2
+    finish-caused (ways_by g.R.Rules g.K.PartialEq.eq g.K.Hash.hash_input g.S.BuildHasher g.S.Hasher.Hasher) c.args.self.now c.args.number c.in-Some.place _ c.in-Some.ensures.found c.in-Err.ensures.cause

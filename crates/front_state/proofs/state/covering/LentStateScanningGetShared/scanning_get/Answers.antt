@@ -1,13 +1,13 @@
 use Rattle.std.proofs.Common.{subst, sym}
-use Rattle.front_state.specs.Calls.{IsOpenAt, ways_of}
+use Rattle.front_places.specs.Calls.{IsOpenAt, ways_by}
 use Rattle.front_state.proofs.Steady.{few_bits, open_at}
 use Rattle.front_state.proofs.state.covering.LentStateScanningGetShared.scanning_get.Goals as goal
 
 pub place_of-place-requires : goal.place_of-place-requires
-place_of-place-requires g c = few_bits (ways_of g.R.Rules.weight_of g.R.Rules.created g.R.Rules.read g.R.Rules.updated g.R.Rules.covers g.K.PartialEq.eq g.S.Hasher.Hasher.finish g.S.Hasher.Hasher.write g.S.BuildHasher.build_hasher g.K.Hash.hash_input) _ c.self.invariant
+place_of-place-requires g c = few_bits (ways_by g.R.Rules g.K.PartialEq.eq g.K.Hash.hash_input g.S.BuildHasher g.S.Hasher.Hasher) _ c.self.invariant
 
 pub scan_at-requires-clause-there : goal.scan_at-requires-clause-there
 scan_at-requires-clause-there g c =
-    let ways = (ways_of g.R.Rules.weight_of g.R.Rules.created g.R.Rules.read g.R.Rules.updated g.R.Rules.covers g.K.PartialEq.eq g.S.Hasher.Hasher.finish g.S.Hasher.Hasher.write g.S.BuildHasher.build_hasher g.K.Hash.hash_input) in
+    let ways = (ways_by g.R.Rules g.K.PartialEq.eq g.K.Hash.hash_input g.S.BuildHasher g.S.Hasher.Hasher) in
     subst (λ xs. IsOpenAt ways c.place_of-place.result c.deref-key.result.now c.hash_key-hash.result xs) (sym c.as_slice.ensures.value)
     (open_at ways _ c.place_of-place.result c.hash_key-hash.result c.deref-key.result.now c.self.invariant c.place_of-place.ensures.within c.hash_key-hash.ensures)

@@ -1,0 +1,5 @@
+pub mod Lists
+pub mod Eaches
+pub mod Found
+pub mod Turned
+pub mod Newness

@@ -1,0 +1,35 @@
+//! Look-ups that make no clone, and so take no memory.
+ghost use Rattle.std.specs.Prelude.{◌≡◌, ◌≤◌, option_map};
+ghost use Rattle.front_places.specs.Calls.{LooksUpIn, visible_in, ways_by};
+
+use crate::state::LentState;
+use engine_rules::Rules;
+use front_keys::LentKey;
+use front_places::{hash_key, note_at, peek_at, place_of};
+use policy_base::Instant;
+use std::hash::{BuildHasher, Hash, Hasher};
+
+impl<K: Eq + Hash, V, S: BuildHasher, R: Rules<K, V>> LentState<K, V, S, R> {
+    /// The visible value of a key, lent. It is no use of it.
+    pub fn peek(&self, key: &K, now: Instant) -> Option<&V>
+        ensures { option_map (λ value. value.now) result ≡ visible_in (ways_by R.Rules K.eq K.hash_input S.BuildHasher S.Hasher.Hasher) self.now now key.now }
+    {
+        let hash = hash_key(&self.hasher, key);
+        let place = place_of(self.bits, hash);
+        peek_at(self.parts.as_slice(), place, &LentKey { key }, hash, now)
+    }
+
+    /// A look-up whose value is not asked for: a use of what is visible, and else a miss that is counted. The step stays as it was.
+    pub fn touch(&mut self, key: &K, now: Instant)
+    where
+        K: Drop,
+        V: Drop,
+        requires { self.old.moment ≤ now }
+        ensures { LooksUpIn (ways_by R.Rules K.eq K.hash_input S.BuildHasher S.Hasher.Hasher) key.now (record { now = now; step = self.old.step }) self.old self.new }
+    {
+        let hash = hash_key(&self.hasher, key);
+        let place = place_of(self.bits, hash);
+        note_at(&mut self.parts, place, &LentKey { key }, hash, now, false);
+        self.moment = now;
+    }
+}
