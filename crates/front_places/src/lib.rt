@@ -16,4 +16,4 @@ pub use places::{
 };
 pub use scans::{keys_at, peek_at, scan_at};
 pub use turns::{find_turn, make_turn, place_of_turn};
-pub use wholes::{clear_all, run_all, sum_numbers, sum_weights};
+pub use wholes::{clear_all, count_visible, run_all, sum_numbers, sum_weights};

@@ -4,7 +4,7 @@ ghost use Rattle.engine_reference.specs.Calls.{cleared_by};
 ghost use Rattle.engine_reference.specs.State.{State};
 ghost use Rattle.engine_reference.specs.Asking.{answers_of};
 ghost use Rattle.front_reference.specs.Fronts.{CallsEach};
-ghost use Rattle.front_reference.specs.Wholes.{RunsPart};
+ghost use Rattle.front_reference.specs.Wholes.{RunsPart, visible_number};
 
 use engine_rules::Rules;
 use front_parts::run_pending_tasks;
@@ -66,6 +66,22 @@ pub fn sum_weights<K: Eq + Hash, V, S: BuildHasher, R: Rules<K, V>>(
     let mut rest = parts;
     while let Some((part, others)) = rest.split_first() {
         total = total.saturating_add(part.weighted_size());
+        rest = others;
+    }
+    total
+}
+
+/// How many keys have a visible value.
+pub fn count_visible<K: Eq + Hash, V, S: BuildHasher, R: Rules<K, V>>(
+    parts: &[BaseCache<K, V, S, R>],
+    now: Instant,
+) -> usize
+    ensures { result ≡ visible_number (answers_of R.weight_of R.created R.read R.updated R.covers) K.eq now parts.now }
+{
+    let mut total = 0usize;
+    let mut rest = parts;
+    while let Some((part, others)) = rest.split_first() {
+        total = total.saturating_add(part.count_visible(now));
         rest = others;
     }
     total

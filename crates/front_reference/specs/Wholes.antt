@@ -6,6 +6,7 @@ use Rattle.engine_reference.specs.declared.data.Notice.{Notice}
 use Rattle.engine_reference.specs.Calls.{with_predicate, without_notice, IsNew}
 use Rattle.engine_reference.specs.Laws.{CountsExactly}
 use Rattle.engine_reference.specs.Runs.{RunsToEnd}
+use Rattle.engine_reference.specs.Scanning.{visible_keys}
 use Rattle.engine_reference.specs.State.{State, Answers}
 use Rattle.engine_reference.specs.Visible.{visible}
 use Rattle.engine_identifiers.specs.Drawing.{Draws, AreInUse, is_registered}
@@ -75,6 +76,10 @@ module _ {K V P S R : Type 0} (answers : Answers K V P R) where
   pub record RunsPart (now : ℕ) (old new : State K V P S R) : Type 0 where
     pub runs : RunsToEnd answers now old new
     pub counts : CountsExactly K V P S R answers new
+
+  -- how many keys of the parts have a visible value, up to the largest number of 64 bits
+  abbrev pub visible_number : (K → K → Bool) → (now : ℕ) → List (State K V P S R) → ℕ
+  visible_number eq now ss = min (sum_by (λ s. length (visible_keys answers eq s now)) ss) 18446744073709551615
 
   -- What an iterator over a front has given once it has passed so many parts. The front does not change meanwhile, and keys are hashed so
   pub record HasGiven (eq : K → K → Bool) (hash : K → ℕ) (now : ℕ) (f : Front K V P S R) (parts : ℕ) (given : List (K × V)) : Type 0 where

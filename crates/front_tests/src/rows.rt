@@ -129,12 +129,14 @@ const TOUCHED: [(u64, Call); 15] = [
 ];
 
 /// What leaves after its deadline is told so, whoever takes it out; and so is what is written over.
-const TOLD: [(u64, Call); 13] = [
+const TOLD: [(u64, Call); 15] = [
     (0, Call::Insert(1, 10)),
     (0, Call::Insert(1, 11)),
     (0, Call::Told(1, RemovalCause::Replaced)),
     (0, Call::Insert(2, 20)),
     (0, Call::Insert(3, 30)),
+    (0, Call::Visible(3)),
+    (100_000_000, Call::Visible(0)),
     (100_000_000, Call::Remove(1, Some(11))),
     (100_000_000, Call::Told(1, RemovalCause::Expired)),
     (100_000_000, Call::Insert(2, 21)),
@@ -206,9 +208,10 @@ const HALVES: Form = Form {
 /// The key that differs from 1 in its highest bit alone, and so belongs to the other part.
 const FAR: u64 = 9_223_372_036_854_775_809;
 
-const APART: [(u64, Call); 10] = [
+const APART: [(u64, Call); 11] = [
     (0, Call::Insert(1, 10)),
     (0, Call::Insert(FAR, 20)),
+    (0, Call::Visible(2)),
     (0, Call::Run),
     (0, Call::Count(2)),
     (0, Call::Get(1, Some(10))),

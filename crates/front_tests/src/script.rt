@@ -53,6 +53,8 @@ pub enum Call {
     Peek(u64, Option<u64>),
     /// A use of a key, without its value.
     Touch(u64),
+    /// How many keys have a visible value.
+    Visible(usize),
     Insert(u64, u64),
     /// `insert_with_hash` of what names a key.
     InsertNamed(u64, u64),
@@ -151,6 +153,7 @@ fn perform_lent(state: &mut Numbers, at: At, call: Call) -> bool
             Some(found) => value == Some(*found),
             None => value.is_none(),
         },
+        Call::Visible(number) => state.count_visible(at.now) == number,
         Call::Touch(key) => {
             state.touch(&key, at.now);
             true
@@ -308,7 +311,9 @@ fn perform(alloc: Global, state: &mut Numbers, nanos: u64, call: Call) -> Result
         return Ok(false);
     };
     match call {
-        Call::Has(..) | Call::Peek(..) | Call::Touch(..) => Ok(perform_lent(state, at, call)),
+        Call::Has(..) | Call::Peek(..) | Call::Visible(..) | Call::Touch(..) => {
+            Ok(perform_lent(state, at, call))
+        }
         Call::Get(..)
         | Call::Insert(..)
         | Call::Remove(..)

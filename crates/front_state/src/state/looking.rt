@@ -1,11 +1,13 @@
 //! Look-ups that make no clone, and so take no memory.
 ghost use Rattle.std.specs.Prelude.{◌≡◌, ◌≤◌, option_map};
+ghost use Rattle.engine_reference.specs.Asking.{answers_of};
+ghost use Rattle.front_reference.specs.Wholes.{visible_number};
 ghost use Rattle.front_places.specs.Calls.{LooksUpIn, visible_in, ways_by};
 
 use crate::state::LentState;
 use engine_rules::Rules;
 use front_keys::LentKey;
-use front_places::{hash_key, note_at, peek_at, place_of};
+use front_places::{count_visible, hash_key, note_at, peek_at, place_of};
 use policy_base::Instant;
 use std::hash::{BuildHasher, Hash, Hasher};
 
@@ -17,6 +19,13 @@ impl<K: Eq + Hash, V, S: BuildHasher, R: Rules<K, V>> LentState<K, V, S, R> {
         let hash = hash_key(&self.hasher, key);
         let place = place_of(self.bits, hash);
         peek_at(self.parts.as_slice(), place, &LentKey { key }, hash, now)
+    }
+
+    /// How many keys have a visible value, up to 2^64 - 1. It is no use of any; it takes no memory, and looks at every record.
+    pub fn count_visible(&self, now: Instant) -> usize
+        ensures { result ≡ visible_number (answers_of R.weight_of R.created R.read R.updated R.covers) K.eq now self.now.parts }
+    {
+        count_visible(self.parts.as_slice(), now)
     }
 
     /// A look-up whose value is not asked for: a use of what is visible, and else a miss that is counted. The step stays as it was.
