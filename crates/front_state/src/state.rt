@@ -27,6 +27,7 @@ mod covering;
 mod looking;
 mod making;
 mod reading;
+mod showing;
 mod turning;
 
 /// A cache of 2^bits parts that is lent by `&mut`, so that each call is alone. Each key belongs to the part that the upper bits of its hash say.

@@ -12,4 +12,6 @@ mod rows;
 #[cfg(test)]
 mod script;
 #[cfg(test)]
+mod showing;
+#[cfg(test)]
 mod turns;

@@ -1,0 +1,67 @@
+//! How a cache prints, and what a loop over it gives.
+ghost use Rattle.std.specs.Prelude.{◌≡◌};
+
+use crate::state::LentState;
+use engine_rules::Rules;
+use front_iterator::Iter;
+use front_keys::Shared;
+use front_places::keys_at;
+use front_reference::CacheError;
+use std::fmt;
+use std::hash::{BuildHasher, Hash};
+
+impl<K: Eq + Hash + fmt::Debug + Drop, V: fmt::Debug, S: BuildHasher, R: Rules<K, V>> LentState<
+    K,
+    V,
+    S,
+    R,
+> {
+    /// Prints what is visible in the part at a place. It fails where there is no memory for its keys.
+    fn print_part<W: fmt::Write>(
+        &self,
+        place: usize,
+        entries: &mut fmt::DebugMap<'_, W>,
+    ) -> fmt::Result {
+        let Ok(Some(keys)) = keys_at(self.parts.as_slice(), place) else {
+            return Err(fmt::Error);
+        };
+        for key in &keys {
+            if let Some(value) = self.peek(&**key, self.moment) {
+                entries.entry(&**key, value);
+            }
+        }
+        Ok(())
+    }
+}
+
+/// A map of the keys and values that were visible at the moment of the last call. To print is no use of any; it fails where there is no memory for the keys.
+impl<K: Eq + Hash + fmt::Debug + Drop, V: fmt::Debug, S: BuildHasher, R: Rules<K, V>> fmt::Debug
+    for LentState<K, V, S, R> {
+    fn fmt<W: fmt::Write>(&self, f: &mut fmt::Formatter<W>) -> fmt::Result {
+        let mut entries = f.debug_map();
+        for place in 0..self.parts.len() {
+            self.print_part(place, &mut entries)?;
+        }
+        entries.finish()
+    }
+}
+
+/// What was visible at the moment of the last call, as `iter` gives it.
+impl<'a, K: Eq + Hash + Drop, V: Clone + Drop, S: BuildHasher, R: Rules<K, V>> IntoIterator
+    for &'a LentState<K, V, S, R> {
+    ghost use Rattle.std.specs.Prelude.{◌≡◌, length};
+    ghost use Rattle.engine_reference.specs.Asking.{answers_of};
+    ghost use Rattle.front_places.specs.Calls.{hash_in, ways_by};
+    ghost use Rattle.front_reference.specs.Wholes.{HasGiven};
+
+    type Item = Result<(Shared<K>, V), CacheError>;
+
+    type IntoIter = Iter<'a, Shared<K>, V, LentState<K, V, S, R>>;
+
+    ghost into_iter_gives = { λ f it. (it.source ≡ f.now) × (it.now ≡ f.now.moment)
+        × HasGiven (answers_of R.weight_of R.created R.read R.updated R.covers) K.eq (λ key. hash_in (ways_by R.Rules K.eq K.hash_input S.BuildHasher S.Hasher.Hasher) f.now key) f.now.moment f.now (length f.now.parts) it.coming };
+
+    fn into_iter(self) -> Iter<'a, Shared<K>, V, LentState<K, V, S, R>> {
+        self.iter(self.last_call().now)
+    }
+}
