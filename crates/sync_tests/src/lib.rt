@@ -2,8 +2,14 @@
 #![tactic(auto)]
 
 #[cfg(test)]
-mod calls;
-#[cfg(test)]
 mod caches;
 #[cfg(test)]
+mod calls;
+#[cfg(test)]
+mod crowds;
+#[cfg(test)]
+mod refusing;
+#[cfg(test)]
 mod turns;
+#[cfg(test)]
+mod wholes;
