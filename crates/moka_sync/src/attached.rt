@@ -153,21 +153,13 @@ impl<
     ) -> Result<(Made<V, Shared<R::Fault>>, bool), CacheError> {
         let _when = when;
         match kind {
-            Some(kind) => {
-                let mut question = Some(replace_if);
-                self.cache.coalesce(
-                    self.rt,
-                    kind,
-                    SharedName { key: &key },
-                    |value: &V| -> bool {
-                        match question.take() {
-                            Some(replace_if) => replace_if(value),
-                            None => true,
-                        }
-                    },
-                    make,
-                )
-            }
+            Some(kind) => self.cache.coalesce_asking_once(
+                self.rt,
+                kind,
+                SharedName { key: &key },
+                replace_if,
+                make,
+            ),
             None => self.cache.coalesce_now(self.rt, &key, replace_if, make),
         }
     }

@@ -6,6 +6,7 @@ ghost use Rattle.sync_slots.specs.Endings.{suits};
 ghost use Rattle.sync_slots.specs.Refusals.{IsTurnRefusal};
 
 use crate::cache::Cache;
+use crate::turns::BEGINNINGS;
 use engine_rules::Rules;
 use front_keys::{ClonedKey, OwnedKey, Shared};
 use front_reference::{CacheError, Made, TurnKind};
@@ -58,7 +59,7 @@ impl<
     fn make_value<
         H: Wait,
         A: Asked<K>,
-        P: FnMut(&V) -> bool + Drop,
+        P: Fn(&V) -> bool + Drop,
         M: FnOnce() -> V + Drop,
     >(
         &self,
@@ -81,6 +82,7 @@ impl<
                 requires { M.IsAlwaysCallable make }
                 ensures { IfOk result (λ made. suits turns.With made ≡ true) }
             { Ok(Made::Value(make())) },
+            BEGINNINGS,
         )?;
         Ok(value_made(made))
     }
@@ -111,6 +113,7 @@ impl<
                     None => Ok(Made::Nothing),
                 }
             },
+            BEGINNINGS,
         )?;
         Ok(option_made(made))
     }
@@ -142,6 +145,7 @@ impl<
                     Err(fault) => Ok(Made::Fault(Shared::new(alloc, fault)?)),
                 }
             },
+            BEGINNINGS,
         )?;
         Ok(result_made(made))
     }
@@ -186,7 +190,7 @@ impl<
     }
 
     /// The same as `get_with`, where a visible value of which `replace_if` says yes counts as none. A value that another call made meanwhile is not asked about.
-    pub fn get_with_if<H: Wait, M: FnOnce() -> V + Drop, P: FnMut(&V) -> bool + Drop>(
+    pub fn get_with_if<H: Wait, M: FnOnce() -> V + Drop, P: Fn(&V) -> bool + Drop>(
         &self,
         rt: &H,
         key: K,

@@ -18,7 +18,7 @@ use sync_env::Env;
 use sync_slots::{Asked, Ending, copy_made};
 
 /// How often a call that makes a value begins: where each turn that it waited for was given up, it is.
-const BEGINNINGS: u32 = 200;
+pub(crate) const BEGINNINGS: u32 = 200;
 
 /// A turn that the caller leads. It can't be dropped, so each path ends it or gives it up.
 pub(crate) struct Lead<'a, K: Eq + Hash, V, S: BuildHasher, R: Rules<K, V>, E> {
@@ -132,6 +132,31 @@ impl<
     }
 }
 
+/// Makes what a turn is for, and answers it as fresh.
+fn make_fresh<
+    K: Eq + Hash + Drop,
+    V: Clone + Drop,
+    S: BuildHasher + Drop,
+    R: Rules<K, V> + Drop,
+    E: Env + Drop,
+    H: Wait,
+    M: FnOnce() -> Result<Made<V, Shared<R::Fault>>, AllocError> + Drop,
+>(
+    lead: Lead<'_, K, V, S, R, E>,
+    rt: &H,
+    make: M,
+) -> Result<(Made<V, Shared<R::Fault>>, bool), CacheError>
+    requires callable { M.IsAlwaysCallable make }
+    requires suitable { MayMake lead.kind (M.post make) }
+    ensures answer { IfOk result (λ a. IsAnswer lead.kind (M.post make) a.0 a.1) }
+    ensures cause { IfErr result IsTurnRefusal }
+{
+    match lead.make(rt, make) {
+        Ok(made) => Ok((made, true)),
+        Err(refused) => Err(refused),
+    }
+}
+
 impl<
     K: Eq + Hash + Drop,
     V: Clone + Drop,
@@ -189,11 +214,47 @@ impl<
     }
 
     /// The visible value of a key of which `replace_if` does not say yes, or what another made meanwhile, and false; or what `make` makes, and true. A value that was made is kept.
-    /// Of several callers for the key one makes it, without the lock, and the others wait for it. After the 200th turn that was given up the call is.
+    /// Of several callers for the key one makes it, without the lock, and the others wait for it. Where each of so many turns that it waited for was given up, so is the call.
     pub(crate) fn coalesce<
         H: Wait,
         A: Asked<K>,
-        P: FnMut(&V) -> bool + Drop,
+        P: Fn(&V) -> bool + Drop,
+        M: FnOnce() -> Result<Made<V, Shared<R::Fault>>, AllocError> + Drop,
+    >(
+        &self,
+        rt: &H,
+        kind: TurnKind,
+        asked: A,
+        replace_if: P,
+        make: M,
+        times: u32,
+    ) -> Result<(Made<V, Shared<R::Fault>>, bool), CacheError>
+        requires becomes { (a : A) → A.can_become a }
+        requires exact { (x y : V) → V.is_clone x y → y ≡ x }
+        requires callable { P.IsAlwaysCallable replace_if × M.IsAlwaysCallable make }
+        requires suitable { MayMake kind (M.post make) }
+        ensures answer { IfOk result (λ a. IsAnswer kind (M.post make) a.0 a.1) }
+        ensures cause { IfErr result IsTurnRefusal }
+    {
+        let mut asked = asked;
+        for _ in 0..times {
+            match self.take_turn(rt, kind, asked, |value: &V| -> bool { replace_if(value) }) {
+                Ok(Turn::Answered(made)) => return Ok((made, false)),
+                Ok(Turn::Led(number)) => {
+                    return make_fresh(Lead::new(self, kind, number), rt, make);
+                }
+                Ok(Turn::GivenUp(again)) => asked = again,
+                Err(refused) => return Err(refused),
+            }
+        }
+        Err(CacheError::Abandoned)
+    }
+
+    /// The same with a closure that is asked once. Where the turn that was waited for is given up, what it said serves for what is visible then.
+    pub(crate) fn coalesce_asking_once<
+        H: Wait,
+        A: Asked<K>,
+        P: FnOnce(&V) -> bool + Drop,
         M: FnOnce() -> Result<Made<V, Shared<R::Fault>>, AllocError> + Drop,
     >(
         &self,
@@ -210,19 +271,23 @@ impl<
         ensures answer { IfOk result (λ a. IsAnswer kind (M.post make) a.0 a.1) }
         ensures cause { IfErr result IsTurnRefusal }
     {
-        let mut asked = asked;
-        let mut replace_if = replace_if;
-        for _ in 0..BEGINNINGS {
-            match self.take_turn(rt, kind, asked, |value: &V| replace_if(value))? {
-                Turn::Answered(made) => return Ok((made, false)),
-                Turn::Led(number) => {
-                    let lead = Lead::new(self, kind, number);
-                    return Ok((lead.make(rt, make)?, true));
-                }
-                Turn::GivenUp(again) => asked = again,
-            }
+        let mut was_passed_over = false;
+        match self.take_turn(rt, kind, asked, |value: &V| -> bool {
+            was_passed_over = replace_if(value);
+            was_passed_over
+        }) {
+            Ok(Turn::Answered(made)) => Ok((made, false)),
+            Ok(Turn::Led(number)) => make_fresh(Lead::new(self, kind, number), rt, make),
+            Ok(Turn::GivenUp(again)) => self.coalesce(
+                rt,
+                kind,
+                again,
+                |_: &V| -> bool { was_passed_over },
+                make,
+                BEGINNINGS - 1,
+            ),
+            Err(refused) => Err(refused),
         }
-        Err(CacheError::Abandoned)
     }
 
     /// The visible value of a key, unless `replace_if` says yes of it, and false; or what `make` makes, and true. All is done in one hold of the lock, and nobody is waited for.
