@@ -153,13 +153,9 @@ impl<
     ) -> Result<(Made<V, Shared<R::Fault>>, bool), CacheError> {
         let _when = when;
         match kind {
-            Some(kind) => self.cache.coalesce_asking_once(
-                self.rt,
-                kind,
-                SharedName { key: &key },
-                replace_if,
-                make,
-            ),
+            Some(kind) => self
+                .cache
+                .coalesce_asking_once(self.rt, kind, SharedName { key: &key }, replace_if, make),
             None => self.cache.coalesce_now(self.rt, &key, replace_if, make),
         }
     }

@@ -31,13 +31,8 @@ pub struct Cache<K: Eq + Hash, V, S: BuildHasher, R: Rules<K, V>, E> {
     pub(crate) alloc: Global,
 }
 
-impl<
-    K: Eq + Hash + Drop,
-    V: Drop,
-    S: BuildHasher + Drop,
-    R: Rules<K, V> + Drop,
-    E: Drop,
-> Clone for Cache<K, V, S, R, E> {
+impl<K: Eq + Hash + Drop, V: Drop, S: BuildHasher + Drop, R: Rules<K, V> + Drop, E: Drop> Clone
+    for Cache<K, V, S, R, E> {
     fn clone(&self) -> Result<Self, AllocError> {
         Ok(Cache {
             inner: Arc::try_clone(&self.inner)?,

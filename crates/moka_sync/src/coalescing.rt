@@ -56,12 +56,7 @@ impl<
     E: Env + Drop,
 > Cache<K, V, S, R, E> {
     /// The visible value that is not passed over, or the one that is made.
-    fn make_value<
-        H: Wait,
-        A: Asked<K>,
-        P: Fn(&V) -> bool + Drop,
-        M: FnOnce() -> V + Drop,
-    >(
+    fn make_value<H: Wait, A: Asked<K>, P: Fn(&V) -> bool + Drop, M: FnOnce() -> V + Drop>(
         &self,
         rt: &H,
         asked: A,

@@ -81,12 +81,7 @@ impl<
     }
 
     /// Puts a value, and answers it.
-    fn put_copy(
-        self,
-        rt: &impl Wait,
-        value: V,
-        was_seen: bool,
-    ) -> Result<Computed<V>, CacheError>
+    fn put_copy(self, rt: &impl Wait, value: V, was_seen: bool) -> Result<Computed<V>, CacheError>
         ensures { IfErr result IsEndRefusal }
     {
         match value.clone() {
@@ -165,11 +160,7 @@ impl<
     E: Env + Drop,
 > Cache<K, V, S, R, E> {
     /// Leads the compute turn of a key, once no other does; with the visible value, of which it is a use.
-    fn lead_compute<H: Wait>(
-        &self,
-        rt: &H,
-        key: &Shared<K>,
-    ) -> Result<(u64, Option<V>), CacheError>
+    fn lead_compute<H: Wait>(&self, rt: &H, key: &Shared<K>) -> Result<(u64, Option<V>), CacheError>
         requires exact { (x y : V) → V.is_clone x y → y ≡ x }
         ensures cause { IfErr result IsShortage }
     {

@@ -116,11 +116,14 @@ fn work_with<C: SharedNumbers + Sync, R: Threads + Wait + Sync>(
     requires { 0 < length keys.now }
 {
     let calls = order.calls;
-    let found = thread::map_indices(rt, alloc, order.threads, &|number: usize| -> u64
-        requires { 0 < length keys.now }
-    {
-        make_calls(rt, cache, keys, number.wrapping_mul(7919), calls)
-    });
+    let found = thread::map_indices(
+        rt,
+        alloc,
+        order.threads,
+        &|number: usize| -> u64
+            requires { 0 < length keys.now }
+        { make_calls(rt, cache, keys, number.wrapping_mul(7919), calls) },
+    );
     match found {
         Ok(found) => Some(found.iter().fold(0u64, |sum, one| sum.wrapping_add(*one))),
         Err(_) => None,

@@ -36,9 +36,12 @@ fn one_runs<R: Threads + Wait + Sync>(rt: &R, alloc: Global) -> bool {
     };
     let runs = AtomicU64::new(0);
     let all = shared.dial.readings().saturating_add(4);
-    each_says_yes(thread::map_indices(rt, alloc, 4, &|_: usize| {
-        make_once(rt, &shared, &runs, all)
-    })) && runs.load(Ordering::SeqCst) == 1
+    each_says_yes(thread::map_indices(
+        rt,
+        alloc,
+        4,
+        &|_: usize| { make_once(rt, &shared, &runs, all) },
+    )) && runs.load(Ordering::SeqCst) == 1
 }
 
 /// One more than the number of a key, or 1; after others had their chance to come between.
@@ -55,7 +58,12 @@ fn count_up(seen: Option<Entry<u64, u64>>) -> Op<u64> {
 /// Counts a key up 25 times.
 fn count_25<H: Wait>(rt: &H, cache: &Numbers) -> bool {
     for _ in 0..25u32 {
-        if cache.attach(rt).entry(1).and_compute_with(count_up).is_err() {
+        if cache
+            .attach(rt)
+            .entry(1)
+            .and_compute_with(count_up)
+            .is_err()
+        {
             return false;
         }
     }
@@ -67,9 +75,8 @@ fn counts_to_100<R: Threads + Wait + Sync>(rt: &R, alloc: Global) -> bool {
     let Ok(Dialled { cache, dial: _ }) = make_dialled(alloc, 1) else {
         return false;
     };
-    each_says_yes(thread::map_indices(rt, alloc, 4, &|_: usize| {
-        count_25(rt, &cache)
-    })) && cache.get(rt, &1) == Ok(Some(100))
+    each_says_yes(thread::map_indices(rt, alloc, 4, &|_: usize| { count_25(rt, &cache) }))
+        && cache.get(rt, &1) == Ok(Some(100))
 }
 
 /// One thread's calls: 10 is inserted and got, 20 is inserted, 10 is invalidated.
@@ -86,9 +93,8 @@ fn leaves_20<R: Threads + Wait + Sync>(rt: &R, alloc: Global) -> bool {
     let Ok(Dialled { cache, dial: _ }) = make_dialled(alloc, 1) else {
         return false;
     };
-    each_says_yes(thread::map_indices(rt, alloc, 4, &|_: usize| {
-        work(rt, &cache) == Ok(())
-    })) && cache.get(rt, &10) == Ok(None)
+    each_says_yes(thread::map_indices(rt, alloc, 4, &|_: usize| { work(rt, &cache) == Ok(()) }))
+        && cache.get(rt, &10) == Ok(None)
         && cache.get(rt, &20) == Ok(Some(200))
 }
 

@@ -6,6 +6,8 @@ mod caches;
 #[cfg(test)]
 mod calls;
 #[cfg(test)]
+mod choosing;
+#[cfg(test)]
 mod crowds;
 #[cfg(test)]
 mod refusing;

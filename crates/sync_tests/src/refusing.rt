@@ -108,11 +108,7 @@ fn next_leads<R: Threads + Wait + Sync>(rt: &R, alloc: Global) -> bool {
     let before = set.dial.readings();
     let leads = before.saturating_add(1);
     let waits = before.saturating_add(2);
-    let (led, followed) = thread::join(
-        rt,
-        || lead(rt, &set, waits),
-        || follow(rt, &set, leads),
-    );
+    let (led, followed) = thread::join(rt, || lead(rt, &set, waits), || follow(rt, &set, leads));
     led == Err(CacheError::OutOfMemory) && followed == Ok(2)
 }
 

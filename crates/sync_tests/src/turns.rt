@@ -29,11 +29,13 @@ fn sound_value(made: u64) -> Result<u64, u64> {
 fn try_key<H: Wait, M: FnOnce() -> u64 + Drop>(rt: &H, shared: &Dialled, make: M) -> Answer
     requires { M.IsAlwaysCallable make }
 {
-    let answer = shared
-        .cache
-        .try_get_with(rt, 0, || -> Result<u64, u64>
+    let answer = shared.cache.try_get_with(
+        rt,
+        0,
+        || -> Result<u64, u64>
             requires { M.IsAlwaysCallable make }
-        { sound_value(make()) });
+        { sound_value(make()) },
+    );
     match answer {
         Ok(Ok(value)) => Answer::Value(value),
         Ok(Err(fault)) => Answer::Fault(*fault),
@@ -44,11 +46,13 @@ fn try_key<H: Wait, M: FnOnce() -> u64 + Drop>(rt: &H, shared: &Dialled, make: M
 fn ask_key<H: Wait, M: FnOnce() -> u64 + Drop>(rt: &H, shared: &Dialled, make: M) -> Answer
     requires { M.IsAlwaysCallable make }
 {
-    let answer = shared
-        .cache
-        .optionally_get_with(rt, 0, || -> Option<u64>
+    let answer = shared.cache.optionally_get_with(
+        rt,
+        0,
+        || -> Option<u64>
             requires { M.IsAlwaysCallable make }
-        { some_value(make()) });
+        { some_value(make()) },
+    );
     match answer {
         Ok(Some(value)) => Answer::Value(value),
         Ok(None) => Answer::Nothing,

@@ -80,9 +80,12 @@ fn all_see<R: Threads + Wait + Sync>(rt: &R, alloc: Global) -> bool {
     if fill(rt, &cache, 1024).is_err() {
         return false;
     }
-    match thread::map_indices(rt, alloc, 16, &|number: usize| {
-        write_or_see(rt, alloc, &cache, number)
-    }) {
+    match thread::map_indices(
+        rt,
+        alloc,
+        16,
+        &|number: usize| { write_or_see(rt, alloc, &cache, number) },
+    ) {
         Ok(said) => said.iter().all(|yes| *yes),
         Err(_) => false,
     }
@@ -188,9 +191,11 @@ fn shows_what_is_set(alloc: Global) -> Result<bool, BuildError> {
         .build(alloc, env)?;
     let policy = cache.policy();
     let other = cache.clone()?;
-    Ok(policy.max_capacity() == Some(400)
-        && policy.num_segments() == 32
-        && other.name() == Some("tracked"))
+    Ok(
+        policy.max_capacity() == Some(400)
+            && policy.num_segments() == 32
+            && other.name() == Some("tracked"),
+    )
 }
 
 /// Segments are refused by their number alone.
