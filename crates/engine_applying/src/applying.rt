@@ -11,7 +11,7 @@ ghost use Rattle.engine_cells.specs.Stretches.{Stretch, StepsFor};
 
 use crate::deciding::{Decision, decide};
 use crate::displacing::displace_for;
-use engine_cells::Tables;
+use engine_tables::Tables;
 use engine_reference::{Upsert, Write};
 use engine_rules::{RemovalCause, Rules};
 use std::hash::{BuildHasher, Hash};

@@ -7,7 +7,7 @@ ghost use Rattle.engine_reference.specs.declared.data.Record.{Record};
 ghost use Rattle.engine_applying.specs.Deciding.{decided, decision, refused_as};
 
 use crate::contesting::is_won;
-use engine_cells::Tables;
+use engine_tables::Tables;
 use engine_reference::{Record, Upsert};
 use engine_rules::{EvictionPolicy, Rules};
 use std::hash::{BuildHasher, Hash};

@@ -12,10 +12,10 @@ ghost use Rattle.engine_reference.specs.Visible.{visible_record, visible_value};
 ghost use Rattle.engine_rules.specs.Hashing.{hash_of_key};
 
 use engine_calls::{clone_value, look_up, policy_of, tell_removed, write};
-use engine_cells::Tables;
 use engine_reference::{Entry, Notice, Settings};
 use engine_rules::{Names, Policy, Refusal, Rules};
 use engine_running::{run, run_if_due, try_run};
+use engine_tables::Tables;
 use policy_base::{HousekeeperConfig, Instant};
 use std::alloc::{AllocError, Global};
 use std::hash::{BuildHasher, Hash, Hasher};

@@ -7,9 +7,9 @@ ghost use Rattle.engine_reference.specs.Runs.{is_due};
 ghost use Rattle.engine_reference.specs.declared.data.Record.{Record};
 
 use engine_calls::{record_in, use_found, use_in};
-use engine_cells::Tables;
 use engine_rules::Rules;
 use engine_running::{run, run_if_due};
+use engine_tables::Tables;
 use policy_base::Instant;
 use std::hash::{BuildHasher, Hash};
 

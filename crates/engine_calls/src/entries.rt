@@ -11,10 +11,10 @@ ghost use Rattle.engine_reference.specs.declared.data.Record.{Record};
 
 use crate::looks::record_in;
 use crate::times::{own_expiration, time_left};
-use engine_cells::Tables;
 use engine_pending::is_dead;
 use engine_reference::{Entry, Settings};
 use engine_rules::{Expiration, RemovalCause, Rules};
+use engine_tables::Tables;
 use policy_base::Instant;
 use std::hash::{BuildHasher, Hash};
 

@@ -10,10 +10,10 @@ ghost use Rattle.engine_reference.specs.Visible.{is_visible, visible_record};
 ghost use Rattle.engine_reference.specs.declared.data.Record.{Record};
 ghost use Rattle.engine_rules.specs.Hashing.{hash_of_key};
 
-use engine_cells::Tables;
 use engine_pending::is_dead;
 use engine_reference::Record;
 use engine_rules::{Names, Rules};
+use engine_tables::Tables;
 use std::alloc::AllocError;
 use std::hash::{BuildHasher, Hash, Hasher};
 

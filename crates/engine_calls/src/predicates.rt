@@ -1,13 +1,14 @@
 //! Predicates that invalidate what they cover, in two halves: an identifier and room, and then the predicate.
-ghost use Rattle.std.specs.Prelude.{◌≡◌, ◌+◌, ◌<◌, ◌≤◌, ◌^◌, ◌⊎◌, true, false, IfOk, OnOk, OnErr};
+ghost use Rattle.std.specs.Prelude.{◌≡◌, ◌+◌, ◌<◌, ◌≤◌, ◌^◌, ◌⊎◌, true, false, IfOk, IfErr, OnOk, OnErr};
 ghost use Rattle.std.specs.Result.{IsErrOf};
+ghost use Rattle.engine_calls.specs.Refusing.{IsCauseToRegister};
 ghost use Rattle.engine_identifiers.specs.Drawing.{Draws, AreInUse, is_registered};
 ghost use Rattle.engine_reference.specs.Calls.{with_room, with_predicate, registered};
 
-use engine_cells::Tables;
 use engine_identifiers::draw;
 use engine_reference::Registered;
 use engine_rules::{Refusal, Rules};
+use engine_tables::Tables;
 use rand_core::Rng;
 use std::hash::{BuildHasher, Hash};
 
@@ -53,11 +54,7 @@ pub fn prepare<K: Eq + Hash, V, S: BuildHasher, R: Rules<K, V>, G: Rng>(
     ensures drawn { IfOk result (λ id. Draws (G.stream generator.old) (G.stream generator.new) (is_registered tables.old.state.predicates) id) }
     ensures err { OnErr result (tables.new ≡ tables.old) }
     ensures takes { OnOk result (tables.old.state.settings.takes_predicates ≡ true) }
-    ensures disabled { IsErrOf result Refusal.InvalidationClosuresDisabled → tables.old.state.settings.takes_predicates ≡ false }
-    ensures in_use { IsErrOf result Refusal.IdsInUse → AreInUse (G.stream generator.old) (G.stream generator.new) (is_registered tables.old.state.predicates) }
-    ensures used_up { IsErrOf result Refusal.UsedUp → 2 ^ 64 ≤ tables.old.state.next_ticket + tables.old.state.reserved + 1 }
-    ensures only { OnErr result ((IsErrOf result Refusal.IdsInUse) ⊎ (G.stream generator.new ≡ G.stream generator.old)) }
-    ensures kinds { OnErr result ((IsErrOf result Refusal.OutOfMemory) ⊎ ((IsErrOf result Refusal.InvalidationClosuresDisabled) ⊎ ((IsErrOf result Refusal.IdsInUse) ⊎ (IsErrOf result Refusal.UsedUp)))) }
+    ensures refused { IfErr result (IsCauseToRegister tables.old.state (G.stream generator.old) (G.stream generator.new)) }
 {
     reserve(tables)?;
     match draw_id(tables, generator) {
@@ -97,11 +94,7 @@ pub fn invalidate<K: Eq + Hash, V, S: BuildHasher, R: Rules<K, V>, G: Rng>(
     ensures drawn { IfOk result (λ id. Draws (G.stream generator.old) (G.stream generator.new) (is_registered tables.old.state.predicates) id) }
     ensures err { OnErr result (tables.new ≡ tables.old) }
     ensures takes { OnOk result (tables.old.state.settings.takes_predicates ≡ true) }
-    ensures disabled { IsErrOf result Refusal.InvalidationClosuresDisabled → tables.old.state.settings.takes_predicates ≡ false }
-    ensures in_use { IsErrOf result Refusal.IdsInUse → AreInUse (G.stream generator.old) (G.stream generator.new) (is_registered tables.old.state.predicates) }
-    ensures used_up { IsErrOf result Refusal.UsedUp → 2 ^ 64 ≤ tables.old.state.next_ticket + tables.old.state.reserved + 1 }
-    ensures only { OnErr result ((IsErrOf result Refusal.IdsInUse) ⊎ (G.stream generator.new ≡ G.stream generator.old)) }
-    ensures kinds { OnErr result ((IsErrOf result Refusal.OutOfMemory) ⊎ ((IsErrOf result Refusal.InvalidationClosuresDisabled) ⊎ ((IsErrOf result Refusal.IdsInUse) ⊎ (IsErrOf result Refusal.UsedUp)))) }
+    ensures refused { IfErr result (IsCauseToRegister tables.old.state (G.stream generator.old) (G.stream generator.new)) }
 {
     let id = prepare(tables, generator)?;
     commit(tables, id, predicate, step);

@@ -1,9 +1,9 @@
 -- The held keys that have a visible value are as many as the cells whose records show one.
-use Rattle.std.proofs.Common.{◌≡◌, refl, ap, sym, ◌∙◌, ℕ, zero, suc, ◌+◌, arith, Bool, true, false, cond, not, ◌&&◌, List, [], ◌∷◌, length, map, Option, Some, None, is_some}
+use Rattle.std.proofs.Common.{◌≡◌, refl, ap, sym, ◌∙◌, ℕ, zero, suc, ◌+◌, arith, Bool, true, false, cond, ◌&&◌, List, [], ◌∷◌, length, map, Option, Some, None, is_some}
 use Rattle.std.specs.Prelude.{filter, sum_by, count_by, option_map}
 use Rattle.std.proofs.lemmas.Bool.{and_from}
 use Rattle.std.proofs.lemmas.List.Sums.{sum_by-cons, length-filter}
-use Rattle.engine_pending.specs.Pending.{Pending, stands_over}
+use Rattle.engine_pending.specs.Pending.{Pending}
 use Rattle.engine_pending.specs.Whole.{whole}
 use Rattle.engine_reference.specs.declared.data.Read.{Read}
 use Rattle.engine_reference.specs.declared.data.Record.{Record}
@@ -11,11 +11,10 @@ use Rattle.engine_reference.specs.declared.data.Write.{Write}
 use Rattle.engine_reference.specs.Records.{held_at, held_entries}
 use Rattle.engine_reference.specs.Scanning.{held_keys, visible_keys}
 use Rattle.engine_reference.specs.State.{State, Answers}
-use Rattle.engine_reference.specs.Times.{has_come}
 use Rattle.engine_reference.specs.Visible.{is_visible, passing, visible_value}
 use Rattle.engine_cells.specs.declared.cell.Cell.{Cell}
 use Rattle.engine_cells.specs.Cells.{cell_at, records_by_number}
-use Rattle.engine_cells.specs.Showing.{shows_value, shown_part}
+use Rattle.engine_cells.specs.Showing.{shown_part}
 use Rattle.engine_cells.specs.Spotted.{is_match}
 use Rattle.engine_cells.specs.Tallying.{sum_over}
 use Rattle.engine_cells.proofs.Held.{held-there}

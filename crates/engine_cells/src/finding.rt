@@ -21,7 +21,7 @@ fn is_match<K: Eq, Q: Names<K>, V>(cells: &Slab<Cell<K, V>>, place: usize, key: 
 }
 
 /// Takes a place from under a hash, where it is to go.
-pub(crate) fn take_if(keys: &mut Keys, goes: bool, hash: u64, place: usize)
+pub fn take_if(keys: &mut Keys, goes: bool, hash: u64, place: usize)
     requires { goes ≡ true → IsUnder keys.old hash place }
     ensures { LeavesIf goes keys.old keys.new hash place }
 {
@@ -58,7 +58,7 @@ fn is_numbered<K, V>(cells: &Slab<Cell<K, V>>, place: usize, number: u64) -> boo
 }
 
 /// The place of the record of a number, which is held under this hash where it is there.
-pub(crate) fn find_number<K: Eq, V>(
+pub fn find_number<K: Eq, V>(
     cells: &Slab<Cell<K, V>>,
     keys: &Keys,
     number: u64,

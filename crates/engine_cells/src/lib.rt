@@ -1,4 +1,4 @@
-//! The fast tables of a cache of one part: records in a slab, the access list in a queue. Contracts speak of the reference cache's state.
+//! The cells of the fast tables of a cache of one part, and what is done with several of them: finding, listing, walks, totals, timers.
 #![tactic(auto)]
 
 mod cell;
@@ -7,11 +7,14 @@ mod listing;
 mod looking;
 mod rooms;
 mod showing;
-mod tables;
 mod tally;
 mod timing;
 
-pub use cell::{Cell, Noted, PlacedWrite};
-pub use finding::find_held;
-pub use tables::Tables;
+pub use cell::{Cell, Noted, PlacedWrite, QueueNodes};
+pub use finding::{find_held, find_number, take_if};
+pub use listing::push_held_keys;
+pub use looking::{first_expired, first_settled};
+pub use rooms::grow;
+pub use showing::count_shown;
 pub use tally::Tally;
+pub use timing::{set_changed, time_all};

@@ -11,7 +11,7 @@ use std::alloc::AllocError;
 
 /// The number of a held record, and its place.
 #[derive(Clone, Copy)]
-pub(crate) struct Stand {
+pub struct Stand {
     number: u64,
     place: usize,
 }
@@ -87,7 +87,7 @@ fn push_keys<K: Clone + Drop, V>(
 }
 
 /// Adds clones of the keys of all held records, in the order of their numbers.
-pub(crate) fn push_held_keys<K: Clone + Drop, V>(
+pub fn push_held_keys<K: Clone + Drop, V>(
     cells: &Slab<Cell<K, V>>,
     mut found: Vec<Stand>,
     keys: &mut Vec<K>,

@@ -1,11 +1,9 @@
 //! Walks over cells and the access queue.
 ghost use Rattle.std.specs.Prelude.{◌≡◌, ◌≤◌, ℕ, true, false, [], Some, None, IfSome, IfNone, is_some, if◌then◌else◌};
 ghost use Rattle.engine_reference.specs.Records.{settled_in};
-ghost use Rattle.engine_reference.specs.Runs.{first_of};
-ghost use Rattle.engine_reference.specs.declared.data.Record.{Record};
 ghost use Rattle.engine_cells.specs.Cells.{cell_at, record_in, records_by_number, numbers_in, HaveOwnNumbers, AreLinked};
 ghost use Rattle.engine_cells.specs.Awaiting.{AreAwaited};
-ghost use Rattle.engine_cells.specs.Looking.{is_expired, is_settled_as};
+ghost use Rattle.engine_cells.specs.Looking.{is_expired, is_settled_as, HasFirstSettled};
 ghost use Rattle.engine_cells.specs.declared.cell.Cell.{Cell};
 
 use crate::cell::Cell;
@@ -92,7 +90,7 @@ fn is_settled_at<K, V>(cells: &Slab<Cell<K, V>>, place: usize) -> bool
 pub fn first_settled<K, V>(cells: &Slab<Cell<K, V>>, queue: &Deque<KeyHashDate>) -> Option<usize>
     requires apart { HaveOwnNumbers cells.now.slots }
     requires linked { AreLinked cells.now.slots queue.now.nodes }
-    ensures found { IfSome result (λ i. (r : Record K V) × (record_in cells.now.slots i ≡ Some r) × (first_of (settled_in (records_by_number cells.now.slots) (numbers_in cells.now.slots queue.now.nodes)) ≡ Some r)) }
+    ensures found { IfSome result (HasFirstSettled cells.now.slots queue.now.nodes) }
     ensures none { IfNone result (settled_in (records_by_number cells.now.slots) (numbers_in cells.now.slots queue.now.nodes) ≡ []) }
 {
     match queue.first_where(|date| is_settled_at(cells, date.entry)) {

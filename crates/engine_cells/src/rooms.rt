@@ -12,7 +12,7 @@ use slab::Slab;
 
 /// Makes room for `more` records, where `waiting` of those that are there stand in no queue, and answers whether there
 /// was memory for it.
-pub(crate) fn grow<K, V>(
+pub fn grow<K, V>(
     cells: &mut Slab<Cell<K, V>>,
     access: &mut Deque<KeyHashDate>,
     order: &mut Deque<KeyHashDate>,

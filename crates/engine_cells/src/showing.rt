@@ -40,7 +40,7 @@ fn shown_at<K, V, S, R: Rules<K, V>>(
 }
 
 /// How many records show a value, by a look at every one.
-pub(crate) fn count_shown<K, V, S, R: Rules<K, V>>(
+pub fn count_shown<K, V, S, R: Rules<K, V>>(
     cells: &Slab<Cell<K, V>>,
     backlog: &Backlog<K, V, Noted, PlacedWrite, S, R>,
     now: u64,

@@ -15,7 +15,7 @@ pub struct Tally {
 
 impl Tally {
     /// With one more record.
-    pub(crate) fn with<K, V>(self, came: &Record<K, V>) -> Tally
+    pub fn with<K, V>(self, came: &Record<K, V>) -> Tally
         requires held { self.held < 2 ^ 100 }
         requires weight { self.weight < 2 ^ 100 }
         requires number { self.number < 2 ^ 100 }
@@ -30,7 +30,7 @@ impl Tally {
     }
 
     /// Without one of its records.
-    pub(crate) fn without<K, V>(self, went: &Record<K, V>) -> Tally
+    pub fn without<K, V>(self, went: &Record<K, V>) -> Tally
         requires held { held_part went.now ≤ self.held }
         requires weight { weight_at went.now ≤ self.weight }
         requires number { admitted_part went.now ≤ self.number }

@@ -10,7 +10,7 @@ use engine_timers::Expirations;
 use slab::Slab;
 
 /// A place expires at another moment than before, if it does.
-pub(crate) fn set_changed(
+pub fn set_changed(
     expirations: &mut Expirations,
     place: usize,
     before: Option<u64>,
@@ -52,7 +52,7 @@ fn time_place<K, V>(cells: &Slab<Cell<K, V>>, place: usize, expirations: &mut Ex
 }
 
 /// Each place gets the timer that it is to have, whatever there was memory for before.
-pub(crate) fn time_all<K, V>(cells: &Slab<Cell<K, V>>, expirations: &mut Expirations)
+pub fn time_all<K, V>(cells: &Slab<Cell<K, V>>, expirations: &mut Expirations)
     ensures { AreAwaited cells.now.slots expirations.new }
 {
     expirations.start_again();

@@ -1,5 +1,5 @@
 //! Tables.
-use engine_cells::Tables;
+use engine_tables::Tables;
 use engine_reference::Settings;
 use engine_rules::{Bundle, EvictionPolicy, NoExpiry, NoPredicate, Refusal, WeighOne};
 use std::alloc::{AllocError, Global};

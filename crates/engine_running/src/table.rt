@@ -6,7 +6,7 @@ ghost use Rattle.engine_reference.specs.State.{Answers};
 ghost use Rattle.engine_cells.specs.Stretches.{Stretch};
 ghost use Rattle.engine_running.specs.Tables.{LacksTableFor};
 
-use engine_cells::Tables;
+use engine_tables::Tables;
 use engine_rules::Rules;
 use policy_sketch::FrequencySketch;
 use std::alloc::AllocError;

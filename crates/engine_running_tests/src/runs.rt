@@ -2,7 +2,7 @@
 ghost use Rattle.std.specs.Prelude.{IfOk};
 ghost use Rattle.engine_reference.specs.Soundness.{IsSound};
 
-use engine_cells::Tables;
+use engine_tables::Tables;
 use engine_reference::Settings;
 use engine_rules::{Bundle, EvictionPolicy, NoExpiry, NoPredicate, WeighOne};
 use engine_running::try_run;

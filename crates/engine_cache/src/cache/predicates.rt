@@ -1,6 +1,7 @@
 //! Predicates that invalidate what they cover.
-ghost use Rattle.std.specs.Prelude.{◌≡◌, ◌+◌, ◌-◌, ◌<◌, ◌≤◌, ◌^◌, ◌⊎◌, true, false, IfOk, OnOk, OnErr};
+ghost use Rattle.std.specs.Prelude.{◌≡◌, ◌+◌, ◌-◌, ◌<◌, ◌≤◌, ◌^◌, ◌⊎◌, true, false, IfOk, IfErr, OnOk, OnErr};
 ghost use Rattle.std.specs.Result.{IsErrOf};
+ghost use Rattle.engine_calls.specs.Refusing.{IsCauseToRegister};
 ghost use Rattle.engine_identifiers.specs.Drawing.{Draws, AreInUse, is_registered};
 ghost use Rattle.engine_reference.specs.Calls.{with_room, with_predicate, without_room, registered};
 
@@ -22,11 +23,7 @@ impl<K: Eq + Hash, V, S: BuildHasher, R: Rules<K, V>> BaseCache<K, V, S, R> {
         ensures drawn { IfOk result (λ id. Draws (G.stream generator.old) (G.stream generator.new) (is_registered self.old.predicates) id) }
         ensures err { OnErr result (self.new ≡ self.old) }
         ensures takes { OnOk result (self.old.settings.takes_predicates ≡ true) }
-        ensures disabled { IsErrOf result Refusal.InvalidationClosuresDisabled → self.old.settings.takes_predicates ≡ false }
-        ensures in_use { IsErrOf result Refusal.IdsInUse → AreInUse (G.stream generator.old) (G.stream generator.new) (is_registered self.old.predicates) }
-        ensures used_up { IsErrOf result Refusal.UsedUp → 2 ^ 64 ≤ self.old.next_ticket + self.old.reserved + 1 }
-        ensures only { OnErr result ((IsErrOf result Refusal.IdsInUse) ⊎ (G.stream generator.new ≡ G.stream generator.old)) }
-        ensures kinds { OnErr result ((IsErrOf result Refusal.OutOfMemory) ⊎ ((IsErrOf result Refusal.InvalidationClosuresDisabled) ⊎ ((IsErrOf result Refusal.IdsInUse) ⊎ (IsErrOf result Refusal.UsedUp)))) }
+        ensures refused { IfErr result (IsCauseToRegister self.old (G.stream generator.old) (G.stream generator.new)) }
     {
         invalidate(&mut self.tables, predicate, step, generator)
     }
@@ -37,11 +34,7 @@ impl<K: Eq + Hash, V, S: BuildHasher, R: Rules<K, V>> BaseCache<K, V, S, R> {
         ensures drawn { IfOk result (λ id. Draws (G.stream generator.old) (G.stream generator.new) (is_registered self.old.predicates) id) }
         ensures err { OnErr result (self.new ≡ self.old) }
         ensures takes { OnOk result (self.old.settings.takes_predicates ≡ true) }
-        ensures disabled { IsErrOf result Refusal.InvalidationClosuresDisabled → self.old.settings.takes_predicates ≡ false }
-        ensures in_use { IsErrOf result Refusal.IdsInUse → AreInUse (G.stream generator.old) (G.stream generator.new) (is_registered self.old.predicates) }
-        ensures used_up { IsErrOf result Refusal.UsedUp → 2 ^ 64 ≤ self.old.next_ticket + self.old.reserved + 1 }
-        ensures only { OnErr result ((IsErrOf result Refusal.IdsInUse) ⊎ (G.stream generator.new ≡ G.stream generator.old)) }
-        ensures kinds { OnErr result ((IsErrOf result Refusal.OutOfMemory) ⊎ ((IsErrOf result Refusal.InvalidationClosuresDisabled) ⊎ ((IsErrOf result Refusal.IdsInUse) ⊎ (IsErrOf result Refusal.UsedUp)))) }
+        ensures refused { IfErr result (IsCauseToRegister self.old (G.stream generator.old) (G.stream generator.new)) }
     {
         prepare(&mut self.tables, generator)
     }

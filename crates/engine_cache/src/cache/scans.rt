@@ -110,7 +110,7 @@ impl<K: Eq + Hash, V, S: BuildHasher, R: Rules<K, V>> BaseCache<K, V, S, R> {
         requires hashed { hash ≡ hash_of_key S.Hasher.finish S.Hasher.write S.build_hasher K.hash_input self.old.hasher (Q.named_key key.now) }
         requires exact { (x y : V) → V.is_clone x y → y ≡ x }
         requires callable { F.IsAlwaysCallable ignore_if }
-        ensures found { IfOk result (λ found. LooksUpPast (answers_of R.weight_of R.created R.read R.updated R.covers) K.eq (Q.named_key key.now) hash now (FnOnceReturnsAt F.FnOnce ignore_if) self.old self.new found) }
+        ensures found { IfOk result (LooksUpPast (answers_of R.weight_of R.created R.read R.updated R.covers) K.eq (Q.named_key key.now) hash now (FnOnceReturnsAt F.FnOnce ignore_if) self.old self.new) }
         ensures err { OnErr result (self.new ≡ self.old) }
     {
         let seen = find(&self.tables, key, hash, now.as_nanos());

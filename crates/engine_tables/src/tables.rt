@@ -1,0 +1,858 @@
+//! The tables.
+ghost use Rattle.std.specs.Prelude.{◌≡◌, ℕ, ◌+◌, ◌-◌, ◌<◌, ◌≤◌, ◌^◌, min, true, false, [], ◌∷◌, ◌⊎◌, ◌++◌, length, remove, List, slice_get, slice_set, is_some, Some, None, IfSome, IfNone, IfOk, OnOk, OnErr, ◌↔◌, option_copied, if◌then◌else◌, ◌≢◌, option_map};
+ghost use Rattle.std.specs.String.{string_bytes};
+ghost use Rattle.std.specs.Result.{IsErrOf};
+ghost use Rattle.std.specs.Int.{IsNextPowerOfTwo};
+ghost use Rattle.engine_reference.specs.Records.{record_at, held_at, changed_at, without_record, without, moved_to_back, settled_in, admitted_number, admitted_weight, held_weight};
+ghost use Rattle.engine_reference.specs.Admission.{is_above};
+ghost use Rattle.engine_reference.specs.declared.data.Record.{Record};
+ghost use Rattle.engine_reference.specs.Visible.{told, is_covered};
+ghost use Rattle.engine_reference.specs.State.{Answers};
+ghost use Rattle.engine_cells.specs.Fitting.{StandsIn, HasPlaceFor, StepsOut, ComesLast};
+ghost use Rattle.engine_cells.specs.Noting.{read_of, write_of, number_written, AimsRight, AimsOnlyAt};
+ghost use Rattle.engine_reference.specs.Runs.{after_hit, after_read, after_removal, next_to_evict, is_due};
+ghost use Rattle.engine_reference.specs.Calls.{IsNew, without_room, without_notice, cleared_by, registered, sent, unsent_at, is_full};
+ghost use Rattle.engine_rules.specs.Hashing.{hash_of_key};
+ghost use Rattle.engine_reference.specs.Soundness.{AreOnce, IsIn};
+ghost use Rattle.engine_cells.specs.Looking.{is_expired, behind};
+ghost use Rattle.engine_reference.specs.declared.data.Read.{Read};
+ghost use Rattle.policy_sketch.specs.Counts.{incremented, grown};
+ghost use Rattle.engine_cells.specs.Writing.{put_for, with_put_for, IsNewcomer};
+ghost use Rattle.engine_tables.specs.Changing.{ChangesAt, GoesToBack, IsWrittenOver, IsMarkedRemoved, CountsAt, IsForgotten, LeavesAt, taken_down};
+ghost use Rattle.engine_cells.specs.Kept.{numbered_at, kept_at, StandsFirst, is_admitted_as, is_removed_as};
+
+use engine_cells::{
+    Cell, Noted, PlacedWrite, QueueNodes, Tally, find_held, first_expired, first_settled, grow,
+    set_changed, take_if, time_all,
+};
+use engine_keys::Keys;
+use engine_pending::Backlog;
+use engine_reference::{Entry, Notice, Record, Registered, Settings, Upsert, Write};
+use engine_rules::{Names, Refusal, RemovalCause, Rules};
+use engine_timers::Expirations;
+use policy_base::{CacheRegion, KeyHashDate, NodeId};
+use policy_queue::{Deque, names_stand};
+use policy_sketch::FrequencySketch;
+use slab::Slab;
+use std::alloc::{AllocError, Global};
+use std::hash::{BuildHasher, Hash, Hasher};
+use std::marker::Model;
+use std::mem;
+
+mod again;
+
+/// The tables of a cache of one part. Each method that changes them makes one change, for which there is room.
+#[derive(Drop)]
+pub struct Tables<K: Eq + Hash, V, S: BuildHasher, R: Rules<K, V>> {
+    cells: Slab<Cell<K, V>>,
+    access: Deque<KeyHashDate>,
+    order: Deque<KeyHashDate>,
+    tally: Tally,
+    next_number: u64,
+    keys: Keys,
+    expirations: Expirations,
+    backlog: Backlog<K, V, Noted, PlacedWrite, S, R>,
+}
+
+impl<K: Eq + Hash, V, S: BuildHasher, R: Rules<K, V>> Model for Tables<K, V, S, R> {
+    ghost use Rattle.std.specs.Prelude.{ℕ, ◌+◌, ◌≤◌, ◌<◌, ◌^◌};
+    ghost use Rattle.slab.specs.Slab.{slab_len};
+    ghost use Rattle.engine_pending.specs.Whole.{whole};
+    ghost use Rattle.engine_cells.specs.Cells.{records_by_number, numbers_in, numbers_of, all_turned};
+    ghost use Rattle.engine_cells.specs.Fitting.{FitsQueue, unqueued};
+    ghost use Rattle.engine_cells.specs.Noting.{read_of, write_of, AreAllAimed};
+    ghost use Rattle.engine_cells.specs.Kept.{Kept};
+    ghost use Rattle.engine_cells.specs.Tallying.{IsTallied};
+    ghost use Rattle.engine_cells.specs.Spotted.{AreSpotted, AreHashed};
+    ghost use Rattle.engine_cells.specs.Awaiting.{AreAwaited};
+    ghost use Rattle.engine_rules.specs.Hashing.{hash_of_key};
+
+    ghost Value = { Kept K V R.Predicate S R };
+
+    ghost view = { λ c. record {
+      state = whole read_of write_of (records_by_number c.cells.slots) (numbers_in c.cells.slots c.access.nodes) (numbers_in c.cells.slots c.order.nodes) c.next_number c.backlog;
+      numbers = numbers_of c.cells.slots;
+    } };
+
+    // cells and queues fit together; each record has room in both queues and for its notice, and what is reserved serves a write; what waits, and the hashes of keys, lead to their records; what expires has a timer
+    ghost invariant = { λ c. record {
+      kept : FitsQueue c.cells.slots c.access c.next_number;
+      listed : FitsQueue (all_turned c.cells.slots) c.order c.next_number;
+      cells : slab_len c.cells + c.backlog.reserved ≤ c.cells.capacity;
+      access : unqueued c.cells.slots + c.backlog.reserved ≤ c.access.room;
+      order : unqueued (all_turned c.cells.slots) + c.backlog.reserved ≤ c.order.room;
+      notices : slab_len c.cells + c.backlog.reserved ≤ c.backlog.notice_room;
+      tallied : IsTallied c.cells.slots c.tally;
+      aimed : AreAllAimed c.cells.slots c.next_number c.backlog.reads c.backlog.writes c.backlog.unsent;
+      tickets : c.backlog.next_ticket + c.backlog.reserved < 2 ^ 64;
+      numbers : c.next_number ≤ c.backlog.next_ticket;
+      spotted : AreSpotted K.eq c.cells.slots c.keys;
+      hashed : AreHashed (hash_of_key S.Hasher.finish S.Hasher.write S.build_hasher K.hash_input c.backlog.hasher) c.cells.slots;
+      keys : c.backlog.reserved ≤ c.keys.space;
+      awaited : ∥ AreAwaited c.cells.slots c.expirations ∥₁;
+    } };
+}
+
+impl<K: Eq + Hash, V, S: BuildHasher, R: Rules<K, V>> Tables<K, V, S, R> {
+    /// The tables of a cache that was just made.
+    pub fn new(
+        alloc: Global,
+        name: Option<String>,
+        settings: Settings,
+        hasher: S,
+        rules: R,
+    ) -> Result<Self, AllocError>
+    where
+        S: Drop,
+        R: Drop,
+        ensures { IfOk result (λ made. IsNew (option_map string_bytes name) settings hasher rules made.state) }
+    {
+        let backlog = Backlog::new(alloc, name, settings, hasher, rules)?;
+        Ok(Tables {
+            cells: Slab::new(alloc),
+            access: Deque::new(alloc, CacheRegion::MainProbation),
+            order: Deque::new(alloc, CacheRegion::Other),
+            tally: Tally {
+                held: 0,
+                weight: 0,
+                number: 0,
+            },
+            next_number: 0,
+            keys: Keys::new(alloc),
+            expirations: Expirations::new(alloc),
+            backlog,
+        })
+    }
+
+    // ---- room
+
+    /// Makes room for `by` more writes or predicates, which are then not refused.
+    pub fn make_room(&mut self, by: u64) -> Result<(), Refusal>
+        ensures ok { OnOk result (self.new ≡ record self.old { state = record self.old.state { reserved = self.old.state.reserved + by } }) }
+        ensures err { OnErr result (self.new ≡ self.old) }
+        ensures used_up { (result ≡ Err Refusal.UsedUp) ↔ (2 ^ 64 ≤ self.old.state.next_ticket + self.old.state.reserved + by) }
+        ensures only { OnErr result ((IsErrOf result Refusal.OutOfMemory) ⊎ (IsErrOf result Refusal.UsedUp)) }
+    {
+        let reserved = self.backlog.reserved();
+        let free = (u64::MAX - self.backlog.next_ticket()).saturating_sub(reserved);
+        if free < by {
+            return Err(Refusal::UsedUp);
+        }
+        let more = reserved + by;
+        let waiting = self.cells.len() - self.tally.number as usize;
+        let has_grown = grow(
+            &mut self.cells,
+            &mut self.access,
+            &mut self.order,
+            &mut self.keys,
+            more as usize,
+            waiting,
+        );
+        if !has_grown {
+            return Err(Refusal::OutOfMemory);
+        }
+        self.backlog.make_room(by, self.cells.len())
+    }
+
+    /// Gives up the room of one write or predicate.
+    pub fn release_room(&mut self)
+        requires { 0 < self.old.state.reserved }
+        ensures { self.new ≡ record self.old { state = without_room self.old.state } }
+    {
+        self.backlog.release_room();
+    }
+
+    // ---- clears and predicates
+
+    /// Covers every entry of an earlier step.
+    pub fn clear(&mut self, step: u64)
+        ensures { self.new ≡ record self.old { state = cleared_by step self.old.state } }
+    {
+        self.backlog.clear(step);
+    }
+
+    /// Registers a predicate, for which there is room.
+    pub fn register(&mut self, predicate: Registered<R::Predicate>)
+        requires { 0 < self.old.state.reserved }
+        ensures { self.new ≡ record self.old { state = registered predicate self.old.state } }
+    {
+        self.backlog.register(predicate);
+    }
+
+    /// The predicate at a place of them goes.
+    pub fn end_predicate(&mut self, place: usize)
+        requires { place < length self.old.state.predicates }
+        ensures { self.new ≡ record self.old { state = record self.old.state { predicates = remove self.old.state.predicates place } } }
+    {
+        self.backlog.end_predicate(place);
+    }
+
+    /// The predicates.
+    pub fn predicates(&self) -> &[Registered<R::Predicate>]
+        ensures { result.now ≡ self.now.state.predicates }
+    {
+        self.backlog.predicates()
+    }
+
+    /// Whether a later clear or predicate stands over an entry.
+    pub fn is_over(&self, entry: &Entry<K, V>) -> bool
+        ensures { (answers : Answers K V R.Predicate R) → answers.covers ≡ R.covers → result ≡ is_covered answers self.now.state entry.now }
+    {
+        self.backlog.is_over(entry)
+    }
+
+    // ---- records
+
+    /// The record in a place.
+    pub fn record(&self, place: usize) -> Option<&Record<K, V>>
+        ensures { option_copied result ≡ kept_at self.now place }
+    {
+        match self.cells.get(place) {
+            Some(cell) => Some(&cell.item),
+            None => None,
+        }
+    }
+
+    /// How many places there are at most: each record stands in one of them.
+    pub fn places(&self) -> usize
+        ensures most { length self.now.numbers ≤ result }
+        ensures stand { (r : Record K V) → record_at self.now.state.records r.number ≡ Some r → (i : ℕ) × (i < length self.now.numbers) × (kept_at self.now i ≡ Some r) }
+    {
+        self.cells.capacity()
+    }
+
+    /// The place of a key's record, where it is held, by the key's hash.
+    pub fn place_of<Q: Names<K>>(&self, key: &Q, hash: u64) -> Option<usize>
+        requires hashed { hash ≡ hash_of_key S.Hasher.finish S.Hasher.write S.build_hasher K.hash_input self.now.state.hasher (Q.named_key key.now) }
+        ensures found { IfSome result (λ i. (r : Record K V) × (kept_at self.now i ≡ Some r) × (held_at K.eq self.now.state.records (Q.named_key key.now) ≡ Some r)) }
+        ensures hash { IfSome result (λ i. (r : Record K V) → kept_at self.now i ≡ Some r → r.hash ≡ hash) }
+        ensures none { IfNone result (held_at K.eq self.now.state.records (Q.named_key key.now) ≡ None) }
+    {
+        find_held(&self.cells, &self.keys, key, hash)
+    }
+
+    /// A look-up uses the record in a place.
+    pub fn use_at(&mut self, place: usize, used: u64, expires: Option<u64>)
+        requires { is_some (kept_at self.old place) ≡ true }
+        ensures { ChangesAt (λ x. record x { entry = record x.entry { used = used; expires = expires } }) place self.old self.new }
+    {
+        let cell = &mut self.cells[place];
+        cell.item.entry.used = used;
+        let before = cell.item.entry.expires;
+        cell.item.entry.expires = expires;
+        set_changed(&mut self.expirations, place, before, expires);
+    }
+
+    /// Moves the number of the record in a place to the back of the access list, where it is admitted.
+    pub fn use_again(&mut self, place: usize)
+        requires { is_some (kept_at self.old place) ≡ true }
+        ensures { GoesToBack place self.old self.new }
+    {
+        names_stand(&self.access);
+        if let Some(id) = self.cells[place].nodes.access_queue {
+            match self.access.move_to_back(id) {
+                Ok(()) => {}
+                Err(_) => unreachable!(),
+            }
+        }
+    }
+
+    /// Adds the record of a new key, and its write, for which there is room. Its place is answered.
+    pub fn add(&mut self, added: Record<K, V>) -> usize
+        requires room { 0 < self.old.state.reserved }
+        requires newcomer { IsNewcomer K.eq (hash_of_key S.Hasher.finish S.Hasher.write S.build_hasher K.hash_input self.old.state.hasher) self.old.state added }
+        ensures vacant { numbered_at self.old.numbers result ≡ None }
+        ensures place { kept_at self.new result ≡ Some added }
+        ensures others { (i : ℕ) → i ≢ result → numbered_at self.new.numbers i ≡ numbered_at self.old.numbers i }
+        ensures state { self.new.state ≡ with_put_for added (record self.old.state { records = self.old.state.records ++ added ∷ []; next_number = self.old.state.next_number + 1 }) }
+    {
+        let _many = self.cells.len();
+        self.tally = self.tally.with(&added);
+        let write = put_of(&added, self.tally.held);
+        let hash = added.hash;
+        let expires = added.entry.expires;
+        let nodes = QueueNodes::nowhere();
+        let place = self.cells.insert_reserved(Cell { item: added, nodes });
+        self.keys.put(hash, place);
+        self.expirations.set(place, expires);
+        self.backlog.add_write(PlacedWrite { place, write });
+        self.next_number += 1;
+        place
+    }
+
+    /// Writes over the entry in a place, which is told where removals are told, and adds the write, for which there is room.
+    /// The new key compares alike.
+    pub fn write_over(&mut self, place: usize, entry: Entry<K, V>, cause: RemovalCause)
+    where
+        K: Drop,
+        V: Drop,
+        requires there { is_some (kept_at self.old place) ≡ true }
+        requires room { 0 < self.old.state.reserved }
+        requires fits { (r : Record K V) → kept_at self.old place ≡ Some r → r.writes < 2 ^ 64 - 1 }
+        requires alike { (r : Record K V) → kept_at self.old place ≡ Some r → K.eq r.entry.key entry.key ≡ true }
+        ensures { IsWrittenOver entry cause place self.old self.new }
+    {
+        let _many = self.cells.len();
+        let expires = entry.expires;
+        let cell = &mut self.cells[place];
+        let others = self.tally.without(&cell.item);
+        let before = cell.item.entry.expires;
+        let replaced = mem::replace(&mut cell.item.entry, entry);
+        cell.item.writes += 1;
+        self.tally = others.with(&cell.item);
+        let write = put_of(&cell.item, self.tally.held);
+        set_changed(&mut self.expirations, place, before, expires);
+        self.backlog.tell(true, cause, replaced);
+        self.backlog.add_write(PlacedWrite { place, write });
+    }
+
+    /// The record in a place is no longer held, and its removal waits to be sent, for which there is room.
+    pub fn mark_removed(&mut self, place: usize)
+        requires there { is_some (kept_at self.old place) ≡ true }
+        requires room { 0 < self.old.state.reserved }
+        requires fits { (r : Record K V) → kept_at self.old place ≡ Some r → r.writes < 2 ^ 64 - 1 }
+        ensures { IsMarkedRemoved place self.old self.new }
+    {
+        let _many = self.cells.len();
+        let cell = &mut self.cells[place];
+        let number = cell.item.number;
+        let hash = cell.item.hash;
+        let was_held = cell.item.is_held;
+        let others = self.tally.without(&cell.item);
+        cell.item.is_held = false;
+        cell.item.writes += 1;
+        self.tally = others.with(&cell.item);
+        take_if(&mut self.keys, was_held, hash, place);
+        self.expirations.set(place, None);
+        let write = Write::Removed(number);
+        self.backlog.add_write(PlacedWrite { place, write });
+    }
+
+    /// A write of the record in a place is applied, and the record stays as it is otherwise, not admitted where it was not.
+    pub fn put_off(&mut self, place: usize, write: u64)
+        requires { is_some (kept_at self.old place) ≡ true }
+        ensures { ChangesAt (λ x. record x { applied = write }) place self.old self.new }
+    {
+        let cell = &mut self.cells[place];
+        cell.item.applied = write;
+    }
+
+    /// The record in a place, which is not held, goes. It was told when it was removed.
+    pub fn forget(&mut self, place: usize)
+    where
+        K: Drop,
+        V: Drop,
+        requires there { is_some (kept_at self.old place) ≡ true }
+        requires unheld { (r : Record K V) → kept_at self.old place ≡ Some r → r.is_held ≡ false }
+        ensures { IsForgotten place self.old self.new }
+    {
+        self.leave(place, RemovalCause::Explicit);
+    }
+
+    /// Tells an entry that was removed, where removals are told, in the room of one write.
+    pub fn tell_removed(&mut self, cause: RemovalCause, entry: Entry<K, V>)
+    where
+        K: Drop,
+        V: Drop,
+        requires room { 0 < self.old.state.reserved }
+        ensures { self.new ≡ record self.old { state = record self.old.state { notices = told self.old.state.settings.tells cause entry self.old.state.notices; reserved = self.old.state.reserved - 1 } } }
+    {
+        self.backlog.tell_removed(cause, entry);
+    }
+
+    /// The removal of the record of a number is applied: it goes, where it is there and not held. It can only stand in this place.
+    pub fn apply_removal(&mut self, place: usize, number: u64)
+    where
+        K: Drop,
+        V: Drop,
+        requires { AimsOnlyAt self.old.numbers place number }
+        ensures { self.new.state ≡ after_removal (record_at self.old.state.records number) self.old.state }
+    {
+        let _ = &self.cells;
+        if self.is_removed_at(place, number) {
+            self.forget(place);
+        }
+    }
+
+    /// Whether a place has the record of a number, and it is not held.
+    fn is_removed_at(&self, place: usize, number: u64) -> bool
+        ensures { result ≡ is_removed_as number (kept_at self.now place) }
+    {
+        match self.cells.get(place) {
+            Some(cell) => is_removed_as(&cell.item, number),
+            None => false,
+        }
+    }
+
+    /// What all that is held weighs, whether admitted or not.
+    pub fn held_weight(&self) -> u128
+        ensures { result ≡ held_weight self.now.state.records }
+    {
+        self.tally.held
+    }
+
+    /// What the admitted records weigh.
+    pub fn admitted_weight(&self) -> u128
+        ensures is { result ≡ admitted_weight self.now.state.records }
+        ensures light { result < 2 ^ 100 }
+    {
+        let _many = self.cells.len();
+        self.tally.weight
+    }
+
+    /// How many records are admitted.
+    pub fn admitted_number(&self) -> u64
+        ensures { result ≡ admitted_number self.now.state.records }
+    {
+        let _many = self.cells.len();
+        self.tally.number as u64
+    }
+
+    /// The record in a place leaves, and is told where it was held and removals are told.
+    pub fn leave(&mut self, place: usize, cause: RemovalCause)
+    where
+        K: Drop,
+        V: Drop,
+        requires { is_some (kept_at self.old place) ≡ true }
+        ensures { LeavesAt cause place self.old self.new }
+    {
+        names_stand(&self.access);
+        names_stand(&self.order);
+        let Cell { item, nodes } = self.cells.remove(place);
+        self.tally = self.tally.without(&item);
+        take_off(&mut self.access, nodes.access_queue);
+        take_off(&mut self.order, nodes.write_queue);
+        take_if(&mut self.keys, item.is_held, item.hash, place);
+        self.expirations.set(place, None);
+        self.backlog.tell(item.is_held, cause, item.entry);
+    }
+
+    /// The place of the record used longest ago.
+    pub fn oldest(&self) -> Option<usize>
+        ensures first { IfSome result (λ i. (r : Record K V) × (kept_at self.now i ≡ Some r) × (slice_get self.now.state.access 0 ≡ Some r.number) × (is_some r.counts ≡ true)) }
+        ensures none { IfNone result (self.now.state.access ≡ []) }
+    {
+        match self.access.peek_front() {
+            Some(date) => Some(date.entry),
+            None => None,
+        }
+    }
+
+    /// The place of the record behind that of a place on the access list.
+    pub fn next_used(&self, place: usize) -> Option<usize>
+        requires { (r : Record K V) × (kept_at self.now place ≡ Some r) × (is_some r.counts ≡ true) }
+        ensures next { (r : Record K V) → kept_at self.now place ≡ Some r → IfSome result (StandsFirst self.now (behind r.number self.now.state.access)) }
+        ensures last { (r : Record K V) → kept_at self.now place ≡ Some r → IfNone result (behind r.number self.now.state.access ≡ []) }
+    {
+        let Some(id) = self.cells[place].nodes.access_queue else {
+            unreachable!()
+        };
+        match self.access.peek_behind(id) {
+            Some(date) => Some(date.entry),
+            None => None,
+        }
+    }
+
+    /// No number stands on the access list twice, and each there is of an admitted record.
+    pub fn access_stands(&self)
+        ensures once { AreOnce self.now.state.access }
+        ensures admitted { (number : ℕ) → IsIn number self.now.state.access → is_admitted_as number (record_at self.now.state.records number) ≡ true }
+    {
+        names_stand(&self.access);
+    }
+
+    /// The place of the record whose write was applied longest ago.
+    pub fn first_written(&self) -> Option<usize>
+        ensures first { IfSome result (λ i. (r : Record K V) × (kept_at self.now i ≡ Some r) × (slice_get self.now.state.order 0 ≡ Some r.number) × (is_some r.counts ≡ true)) }
+        ensures none { IfNone result (self.now.state.order ≡ []) }
+    {
+        match self.order.peek_front() {
+            Some(date) => Some(date.entry),
+            None => None,
+        }
+    }
+
+    /// The place of the settled record used longest ago.
+    pub fn first_settled(&self) -> Option<usize>
+        ensures found { IfSome result (λ i. (r : Record K V) × (kept_at self.now i ≡ Some r) × (next_to_evict self.now.state ≡ Some r)) }
+        ensures none { IfNone result (settled_in self.now.state.records self.now.state.access ≡ []) }
+    {
+        first_settled(&self.cells, &self.access)
+    }
+
+    /// The place of a held record whose own expiration was reached.
+    pub fn first_due(&self, now: u64) -> Option<usize>
+        ensures found { IfSome result (λ i. (r : Record K V) × (kept_at self.now i ≡ Some r) × (is_expired now r ≡ true)) }
+        ensures none { IfNone result ((r : Record K V) → record_at self.now.state.records r.number ≡ Some r → is_expired now r ≡ false) }
+    {
+        first_expired(&self.cells, &self.expirations, now)
+    }
+
+    /// Where there was no memory for a timer, it is asked for again.
+    pub fn mend_timers(&mut self)
+        ensures { self.new ≡ self.old }
+    {
+        if !self.expirations.is_whole() {
+            time_all(&self.cells, &mut self.expirations);
+        }
+    }
+
+    /// Whether the admitted records weigh more than the capacity.
+    pub fn is_too_heavy(&self) -> bool
+        ensures { result ≡ is_above self.now.state.settings.capacity (admitted_weight self.now.state.records) }
+    {
+        match self.backlog.settings().capacity {
+            Some(capacity) => u128::from(capacity) < self.tally.weight,
+            None => false,
+        }
+    }
+
+    /// What the cache was made with.
+    pub fn settings(&self) -> Settings
+        ensures { result ≡ self.now.state.settings }
+    {
+        self.backlog.settings()
+    }
+
+    /// The step of the last clear, or 0.
+    pub fn cleared(&self) -> u64
+        ensures { result ≡ self.now.state.cleared }
+    {
+        self.backlog.cleared()
+    }
+
+    /// How often hashes were asked for.
+    pub fn sketch(&self) -> &FrequencySketch
+        ensures { result.now ≡ self.now.state.sketch }
+    {
+        self.backlog.sketch()
+    }
+
+    /// How many records were admitted at the end of the last run.
+    pub fn number(&self) -> u64
+        ensures { result ≡ self.now.state.number }
+    {
+        self.backlog.number()
+    }
+
+    /// What the admitted records weighed at the end of the last run.
+    pub fn weight(&self) -> u64
+        ensures { result ≡ self.now.state.weight }
+    {
+        self.backlog.weight()
+    }
+
+    /// The moment of the last run, in nanoseconds.
+    pub fn ran(&self) -> u64
+        ensures { result ≡ self.now.state.ran }
+    {
+        self.backlog.ran()
+    }
+
+    /// Whether the last run wanted the sketch's table and there was no memory for it.
+    pub fn table_refused(&self) -> bool
+        ensures { result ≡ self.now.state.table_refused }
+    {
+        self.backlog.table_refused()
+    }
+
+    /// The number of the next record.
+    pub fn next_number(&self) -> u64
+        ensures { result ≡ self.now.state.next_number }
+    {
+        self.next_number
+    }
+
+    /// The ticket of the next write.
+    pub fn next_ticket(&self) -> u64
+        ensures { result ≡ self.now.state.next_ticket }
+    {
+        self.backlog.next_ticket()
+    }
+
+    /// What the cache is called.
+    pub fn name(&self) -> Option<&str>
+        ensures { option_map (λ text. text.now) result ≡ self.now.state.name }
+    {
+        self.backlog.name()
+    }
+
+    /// The rules.
+    pub fn rules(&self) -> &R
+        ensures { result.now ≡ self.now.state.rules }
+    {
+        self.backlog.rules()
+    }
+
+    /// What makes hashers.
+    pub fn hasher(&self) -> &S
+        ensures { result.now ≡ self.now.state.hasher }
+    {
+        self.backlog.hasher()
+    }
+
+    /// Takes down number and weight of the admitted records at the end of a run.
+    pub fn finish_run(&mut self, now: u64, table_refused: bool)
+        ensures { self.new ≡ record self.old { state = taken_down now table_refused self.old.state } }
+    {
+        let _many = self.cells.len();
+        let number = self.tally.number as u64;
+        let weight = capped(self.tally.weight);
+        self.backlog.finish_run(number, weight, now, table_refused);
+    }
+
+    /// Makes the sketch's table for so many hashes.
+    pub fn make_table(&mut self, hashes: u32) -> Result<(), AllocError>
+        ensures made { OnOk result ((words : ℕ) × IsNextPowerOfTwo (min hashes (2 ^ 24)) words × (self.new ≡ record self.old { state = record self.old.state { sketch = grown self.old.state.sketch words hashes } })) }
+        ensures err { OnErr result (self.new ≡ self.old) }
+    {
+        self.backlog.make_table(hashes)
+    }
+
+    /// Whether a run is due: 64 writes or 64 reads wait, or the last run is 300 milliseconds old.
+    pub fn is_due(&self, now: u64) -> bool
+        ensures { result ≡ is_due self.now.state now }
+    {
+        self.backlog.is_due(now)
+    }
+
+    // ---- notices
+
+    /// The oldest notice that was not taken.
+    pub fn next_notice(&mut self) -> Option<Notice<K, V>>
+        ensures notice { result ≡ slice_get self.old.state.notices 0 }
+        ensures taken { self.new ≡ record self.old { state = without_notice self.old.state } }
+    {
+        self.backlog.next_notice()
+    }
+
+    // ---- writes that wait
+
+    /// How many writes wait to be applied.
+    pub fn number_of_writes(&self) -> usize
+        ensures { result ≡ length self.now.state.writes }
+    {
+        self.backlog.number_of_writes()
+    }
+
+    /// The write that waits longest.
+    pub fn first_write(&self) -> Option<&PlacedWrite>
+        ensures { option_map write_of (option_copied result) ≡ slice_get self.now.state.writes 0 }
+    {
+        self.backlog.first_write()
+    }
+
+    /// Moves the write of a ticket into the queue. An unknown ticket is refused before a full queue.
+    pub fn send(&mut self, ticket: u64) -> Result<(), Refusal>
+        ensures ok { OnOk result (self.new ≡ record self.old { state = sent ticket self.old.state }) }
+        ensures known { OnOk result (is_some (unsent_at self.old.state.unsent ticket) ≡ true) }
+        ensures err { OnErr result (self.new ≡ self.old) }
+        ensures unknown { IsErrOf result Refusal.UnknownTicket → unsent_at self.old.state.unsent ticket ≡ None }
+        ensures full { IsErrOf result Refusal.QueueFull → (is_some (unsent_at self.old.state.unsent ticket) ≡ true) × (is_full self.old.state ≡ true) }
+        ensures only { OnErr result ((IsErrOf result Refusal.UnknownTicket) ⊎ (IsErrOf result Refusal.QueueFull)) }
+    {
+        self.backlog.send(ticket)
+    }
+
+    /// Takes off the write that waits longest. Only in the place that is told can its record stand.
+    pub fn pop_write(&mut self) -> PlacedWrite
+        requires { 0 < length self.old.state.writes }
+        ensures first { self.old.state.writes ≡ write_of result ∷ self.new.state.writes }
+        ensures right { AimsOnlyAt self.new.numbers result.place (number_written result.write) }
+        ensures rest { self.new ≡ record self.old { state = record self.old.state { writes = self.new.state.writes } } }
+    {
+        match self.backlog.pop_write() {
+            Some(write) => write,
+            None => unreachable!(),
+        }
+    }
+
+    // ---- reads that wait
+
+    /// How many reads wait to be counted.
+    pub fn number_of_reads(&self) -> usize
+        ensures { result ≡ length self.now.state.reads }
+    {
+        self.backlog.number_of_reads()
+    }
+
+    /// A look-up that found the record in a place waits to be counted, for which there is room.
+    pub fn push_hit(&mut self, place: usize, hash: u64)
+        requires room { length self.old.state.reads < 64 }
+        requires there { is_some (kept_at self.old place) ≡ true }
+        ensures { (r : Record K V) × (kept_at self.old place ≡ Some r) × (self.new ≡ record self.old { state = record self.old.state { reads = self.old.state.reads ++ Read.Hit r.number hash ∷ [] } }) }
+    {
+        let number = self.cells[place].item.number;
+        self.backlog.push_read(Noted::Hit {
+            place,
+            number,
+            hash,
+        });
+    }
+
+    /// A look-up that found nothing waits to be counted, for which there is room.
+    pub fn push_miss(&mut self, hash: u64)
+        requires { length self.old.state.reads < 64 }
+        ensures { self.new ≡ record self.old { state = record self.old.state { reads = self.old.state.reads ++ Read.Miss hash ∷ [] } } }
+    {
+        self.backlog.push_read(Noted::Miss(hash));
+    }
+
+    /// Counts a hash as asked for.
+    pub fn count_hash(&mut self, hash: u64)
+        ensures { self.new ≡ record self.old { state = record self.old.state { sketch = incremented self.old.state.sketch hash } } }
+    {
+        self.backlog.count_hash(hash);
+    }
+
+    /// Takes off the oldest read.
+    pub fn pop_read(&mut self) -> Noted
+        requires { 0 < length self.old.state.reads }
+        ensures first { self.old.state.reads ≡ read_of result ∷ self.new.state.reads }
+        ensures right { AimsRight self.new.numbers result }
+        ensures rest { self.new ≡ record self.old { state = record self.old.state { reads = self.new.state.reads } } }
+    {
+        match self.backlog.pop_read() {
+            Some(noted) => noted,
+            None => unreachable!(),
+        }
+    }
+
+    /// Moves the record of a number to the back of the access list, where it is there and admitted. It can only stand in this place.
+    pub fn hit(&mut self, place: usize, number: u64)
+        requires { AimsOnlyAt self.old.numbers place number }
+        ensures { self.new ≡ record self.old { state = after_hit (record_at self.old.state.records number) self.old.state } }
+    {
+        let _ = &self.cells;
+        if self.is_admitted_at(place, number) {
+            self.use_again(place);
+        }
+    }
+
+    /// Whether the record of a number is there. It can only stand in this place.
+    pub fn has_record(&self, place: usize, number: u64) -> bool
+        requires { AimsOnlyAt self.now.numbers place number }
+        ensures there { result ≡ true → (r : Record K V) × (kept_at self.now place ≡ Some r) × (record_at self.now.state.records number ≡ Some r) }
+        ensures gone { result ≡ false → record_at self.now.state.records number ≡ None }
+    {
+        match self.cells.get(place) {
+            Some(cell) => cell.item.number == number,
+            None => false,
+        }
+    }
+
+    /// Whether a place has the record of a number, and it is admitted.
+    fn is_admitted_at(&self, place: usize, number: u64) -> bool
+        ensures { result ≡ is_admitted_as number (kept_at self.now place) }
+    {
+        match self.cells.get(place) {
+            Some(cell) => is_admitted_as(&cell.item, number),
+            None => false,
+        }
+    }
+
+    /// Applies the oldest read.
+    pub fn apply_read(&mut self)
+        requires { 0 < length self.old.state.reads }
+        ensures { (r : Read) × (rest : List Read) × (self.old.state.reads ≡ r ∷ rest) × (self.new ≡ record self.old { state = after_read r (record self.old.state { reads = rest }) }) }
+    {
+        match self.pop_read() {
+            Noted::Hit {
+                place,
+                number,
+                hash,
+            } => {
+                self.count_hash(hash);
+                self.hit(place, number);
+            }
+            Noted::Miss(hash) => self.count_hash(hash),
+        }
+    }
+
+    /// The record in a place counts with a weight, at the back of the access list.
+    pub fn count(&mut self, place: usize, write: u64, weight: u32)
+        requires { is_some (kept_at self.old place) ≡ true }
+        ensures { CountsAt write weight place self.old self.new }
+    {
+        names_stand(&self.access);
+        names_stand(&self.order);
+        let nodes = self.cells[place].nodes;
+        let used = put_last(&mut self.access, nodes.access_queue, place);
+        let written = put_last(&mut self.order, nodes.write_queue, place);
+        let _many = self.cells.len();
+        let cell = &mut self.cells[place];
+        let others = self.tally.without(&cell.item);
+        cell.nodes.access_queue = Some(used);
+        cell.nodes.write_queue = Some(written);
+        cell.item.applied = write;
+        cell.item.counts = Some(weight);
+        self.tally = others.with(&cell.item);
+    }
+}
+
+/// Moves a node, if there is one, to the back of a queue; else a node for the place comes there, for which there is room.
+fn put_last(queue: &mut Deque<KeyHashDate>, node: Option<NodeId>, place: usize) -> NodeId
+    requires has { StandsIn node queue.old }
+    requires room { HasPlaceFor node queue.old }
+    ensures { ComesLast node place result queue.old queue.new }
+{
+    match node {
+        Some(id) => match queue.move_to_back(id) {
+            Ok(()) => id,
+            Err(_) => unreachable!(),
+        },
+        None => match queue.push_back(KeyHashDate { entry: place }) {
+            Ok(id) => id,
+            Err(_) => unreachable!(),
+        },
+    }
+}
+
+/// Takes a node, if there is one, out of a queue.
+fn take_off(queue: &mut Deque<KeyHashDate>, node: Option<NodeId>)
+    requires { StandsIn node queue.old }
+    ensures { StepsOut node queue.old queue.new }
+{
+    match node {
+        Some(id) => match queue.unlink_and_drop(id) {
+            Ok(()) => {}
+            Err(_) => unreachable!(),
+        },
+        None => {}
+    }
+}
+
+/// Whether a record has a number, and is not held.
+fn is_removed_as<K, V>(found: &Record<K, V>, number: u64) -> bool
+    ensures { result ≡ is_removed_as number (Some found.now) }
+{
+    found.number == number && !found.is_held
+}
+
+/// Whether a record has a number, and is admitted.
+fn is_admitted_as<K, V>(found: &Record<K, V>, number: u64) -> bool
+    ensures { result ≡ is_admitted_as number (Some found.now) }
+{
+    found.number == number && found.counts.is_some()
+}
+
+/// The write of a record as it stands, where so much is held.
+fn put_of<K, V>(written: &Record<K, V>, kept: u128) -> Write
+    ensures { result ≡ put_for written.now kept }
+{
+    Write::Put(Upsert {
+        number: written.number,
+        write: written.writes,
+        weight: written.entry.weight,
+        hash: written.hash,
+        kept,
+    })
+}
+
+/// A weight as it is kept: at most the greatest that fits.
+fn capped(weight: u128) -> u64
+    ensures { result ≡ min weight 18446744073709551615 }
+{
+    let most = weight.min(18_446_744_073_709_551_615);
+    most as u64
+}
