@@ -10,7 +10,7 @@ mod showing;
 mod tally;
 mod timing;
 
-pub use cell::{Cell, Noted, PlacedWrite, QueueNodes};
+pub use cell::{Cell, NodeName, Noted, PlacedWrite, QueueNodes};
 pub use finding::{find_held, find_number, take_if};
 pub use listing::push_held_keys;
 pub use looking::{first_expired, first_settled};

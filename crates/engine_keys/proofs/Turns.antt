@@ -210,3 +210,11 @@ all_turns es hash end P turned none all p t at = elim (same_or_apart hash end ha
       let above : end < t → ⊥ = λ less. true≢false (sym (turned.solid hash t end less (ap is_some at)) ∙ ap is_some none) in
       all t p (omega (arith, above)) at
 ]
+
+pub none_if : {X : Type 0} (o : Option X) → is_some o ≡ false → o ≡ None
+none_if None h = refl
+none_if (Some x) h = absurd (true≢false h)
+
+-- where a hash has one turn at most, a place under it stands at the first
+pub only_turn : (es : List (Spot × ℕ)) (hash place t : ℕ) → AreTurned es → spot_at es hash 1 ≡ None → spot_at es hash t ≡ Some place → spot_at es hash 0 ≡ Some place
+only_turn es hash place t turned none at = all_turns es hash 1 (λ p. spot_at es hash 0 ≡ Some p) turned none (λ u p less some. let zero : u ≡ 0 = omega (arith, less) in ap (λ x. spot_at es hash x) (sym zero) ∙ some) place t at

@@ -98,6 +98,18 @@ impl Keys {
         requires { IsUnder self.old hash place }
         ensures { LeavesFrom self.old self.new hash place }
     {
+        if place_at(&self.spots, hash, 1).is_none() {
+            let _only = self.spots.swap_remove(&Spot { hash, turn: 0 });
+        } else {
+            self.take_among(hash, place);
+        }
+    }
+
+    /// The same, where others stand under the hash too.
+    fn take_among(&mut self, hash: u64, place: usize)
+        requires { IsUnder self.old hash place }
+        ensures { LeavesFrom self.old self.new hash place }
+    {
         let turn = turn_of(&self.spots, hash, place);
         let last = turns_of(&self.spots, hash) - 1;
         fill(&mut self.spots, hash, turn, last);

@@ -22,8 +22,8 @@ ghost use Rattle.engine_tables.specs.Changing.{ChangesAt, GoesToBack, IsWrittenO
 ghost use Rattle.engine_cells.specs.Kept.{numbered_at, kept_at, StandsFirst, is_admitted_as, is_removed_as};
 
 use engine_cells::{
-    Cell, Noted, PlacedWrite, QueueNodes, Tally, find_held, first_expired, first_settled, grow,
-    set_changed, take_if, time_all,
+    Cell, NodeName, Noted, PlacedWrite, QueueNodes, Tally, find_held, first_expired, first_settled,
+    grow, set_changed, take_if, time_all,
 };
 use engine_keys::Keys;
 use engine_pending::Backlog;
@@ -249,7 +249,7 @@ impl<K: Eq + Hash, V, S: BuildHasher, R: Rules<K, V>> Tables<K, V, S, R> {
         ensures { GoesToBack place self.old self.new }
     {
         names_stand(&self.access);
-        if let Some(id) = self.cells[place].nodes.access_queue {
+        if let Some(id) = self.cells[place].nodes.access_queue.get() {
             match self.access.move_to_back(id) {
                 Ok(()) => {}
                 Err(_) => unreachable!(),
@@ -420,8 +420,8 @@ impl<K: Eq + Hash, V, S: BuildHasher, R: Rules<K, V>> Tables<K, V, S, R> {
         names_stand(&self.order);
         let Cell { item, nodes } = self.cells.remove(place);
         self.tally = self.tally.without(&item);
-        take_off(&mut self.access, nodes.access_queue);
-        take_off(&mut self.order, nodes.write_queue);
+        take_off(&mut self.access, &nodes.access_queue);
+        take_off(&mut self.order, &nodes.write_queue);
         take_if(&mut self.keys, item.is_held, item.hash, place);
         self.expirations.set(place, None);
         self.backlog.tell(item.is_held, cause, item.entry);
@@ -444,7 +444,7 @@ impl<K: Eq + Hash, V, S: BuildHasher, R: Rules<K, V>> Tables<K, V, S, R> {
         ensures next { (r : Record K V) → kept_at self.now place ≡ Some r → IfSome result (StandsFirst self.now (behind r.number self.now.state.access)) }
         ensures last { (r : Record K V) → kept_at self.now place ≡ Some r → IfNone result (behind r.number self.now.state.access ≡ []) }
     {
-        let Some(id) = self.cells[place].nodes.access_queue else {
+        let Some(id) = self.cells[place].nodes.access_queue.get() else {
             unreachable!()
         };
         match self.access.peek_behind(id) {
@@ -776,14 +776,14 @@ impl<K: Eq + Hash, V, S: BuildHasher, R: Rules<K, V>> Tables<K, V, S, R> {
     {
         names_stand(&self.access);
         names_stand(&self.order);
-        let nodes = self.cells[place].nodes;
-        let used = put_last(&mut self.access, nodes.access_queue, place);
-        let written = put_last(&mut self.order, nodes.write_queue, place);
+        let nodes = &self.cells[place].nodes;
+        let used = put_last(&mut self.access, &nodes.access_queue, place);
+        let written = put_last(&mut self.order, &nodes.write_queue, place);
+        let names = QueueNodes::of(used, written);
         let _many = self.cells.len();
         let cell = &mut self.cells[place];
         let others = self.tally.without(&cell.item);
-        cell.nodes.access_queue = Some(used);
-        cell.nodes.write_queue = Some(written);
+        cell.nodes = names;
         cell.item.applied = write;
         cell.item.counts = Some(weight);
         self.tally = others.with(&cell.item);
@@ -791,12 +791,12 @@ impl<K: Eq + Hash, V, S: BuildHasher, R: Rules<K, V>> Tables<K, V, S, R> {
 }
 
 /// Moves a node, if there is one, to the back of a queue; else a node for the place comes there, for which there is room.
-fn put_last(queue: &mut Deque<KeyHashDate>, node: Option<NodeId>, place: usize) -> NodeId
-    requires has { StandsIn node queue.old }
-    requires room { HasPlaceFor node queue.old }
-    ensures { ComesLast node place result queue.old queue.new }
+fn put_last(queue: &mut Deque<KeyHashDate>, node: &NodeName, place: usize) -> NodeId
+    requires has { StandsIn node.now queue.old }
+    requires room { HasPlaceFor node.now queue.old }
+    ensures { ComesLast node.now place result queue.old queue.new }
 {
-    match node {
+    match node.get() {
         Some(id) => match queue.move_to_back(id) {
             Ok(()) => id,
             Err(_) => unreachable!(),
@@ -809,11 +809,11 @@ fn put_last(queue: &mut Deque<KeyHashDate>, node: Option<NodeId>, place: usize) 
 }
 
 /// Takes a node, if there is one, out of a queue.
-fn take_off(queue: &mut Deque<KeyHashDate>, node: Option<NodeId>)
-    requires { StandsIn node queue.old }
-    ensures { StepsOut node queue.old queue.new }
+fn take_off(queue: &mut Deque<KeyHashDate>, node: &NodeName)
+    requires { StandsIn node.now queue.old }
+    ensures { StepsOut node.now queue.old queue.new }
 {
-    match node {
+    match node.get() {
         Some(id) => match queue.unlink_and_drop(id) {
             Ok(()) => {}
             Err(_) => unreachable!(),

@@ -46,9 +46,9 @@ invariant_of-self g c =
     let same : c.index.result.now ≡ y = cc in
     let comes = subst (λ (z : Cell g.row.K.Denot g.row.V.Denot). ComesLast z.nodes.access_queue c.args.place c.put_last-used.result before after) same c.put_last-used.ensures in
     let order_comes = subst (λ (z : Cell g.row.K.Denot g.row.V.Denot). ComesLast z.nodes.write_queue c.args.place c.put_last-written.result order_before order_after) same c.put_last-written.ensures in
-    let d : Cell g.row.K.Denot g.row.V.Denot = record y { item = record y.item { applied = c.args.write; counts = Some c.args.weight }; nodes = record y.nodes { access_queue = Some c.put_last-used.result; write_queue = Some c.put_last-written.result } } in
-    let k = counted cells before after c.self.inside.next_number c.args.place c.self.inside.backlog.reserved y d c.put_last-used.result c.names_stand.ensures c.self.invariant.kept there refl refl refl c.self.invariant.access comes in
-    let o = ordered cells order_before order_after c.self.inside.next_number c.args.place c.self.inside.backlog.reserved y d c.put_last-written.result c.names_stand-2.ensures c.self.invariant.listed there refl refl refl c.self.invariant.order order_comes in
+    let d : Cell g.row.K.Denot g.row.V.Denot = record y { item = record y.item { applied = c.args.write; counts = Some c.args.weight }; nodes = c.of-names.result } in
+    let k = counted cells before after c.self.inside.next_number c.args.place c.self.inside.backlog.reserved y d c.put_last-used.result c.names_stand.ensures c.self.invariant.kept there refl c.of-names.ensures.access_queue refl c.self.invariant.access comes in
+    let o = ordered cells order_before order_after c.self.inside.next_number c.args.place c.self.inside.backlog.reserved y d c.put_last-written.result c.names_stand-2.ensures c.self.invariant.listed there refl c.of-names.ensures.write_queue refl c.self.invariant.order order_comes in
     record {
       kept = k.kept;
       listed = o.kept;
@@ -79,9 +79,9 @@ returns g c =
     let same : c.index.result.now ≡ y = cc in
     let comes = subst (λ (z : Cell g.row.K.Denot g.row.V.Denot). ComesLast z.nodes.access_queue c.args.place c.put_last-used.result before after) same c.put_last-used.ensures in
     let order_comes = subst (λ (z : Cell g.row.K.Denot g.row.V.Denot). ComesLast z.nodes.write_queue c.args.place c.put_last-written.result order_before order_after) same c.put_last-written.ensures in
-    let d : Cell g.row.K.Denot g.row.V.Denot = record y { item = record y.item { applied = c.args.write; counts = Some c.args.weight }; nodes = record y.nodes { access_queue = Some c.put_last-used.result; write_queue = Some c.put_last-written.result } } in
-    let k = counted cells before after c.self.inside.next_number c.args.place c.self.inside.backlog.reserved y d c.put_last-used.result c.names_stand.ensures c.self.invariant.kept there refl refl refl c.self.invariant.access comes in
-    let o = ordered cells order_before order_after c.self.inside.next_number c.args.place c.self.inside.backlog.reserved y d c.put_last-written.result c.names_stand-2.ensures c.self.invariant.listed there refl refl refl c.self.invariant.order order_comes in
+    let d : Cell g.row.K.Denot g.row.V.Denot = record y { item = record y.item { applied = c.args.write; counts = Some c.args.weight }; nodes = c.of-names.result } in
+    let k = counted cells before after c.self.inside.next_number c.args.place c.self.inside.backlog.reserved y d c.put_last-used.result c.names_stand.ensures c.self.invariant.kept there refl c.of-names.ensures.access_queue refl c.self.invariant.access comes in
+    let o = ordered cells order_before order_after c.self.inside.next_number c.args.place c.self.inside.backlog.reserved y d c.put_last-written.result c.names_stand-2.ensures c.self.invariant.listed there refl c.of-names.ensures.write_queue refl c.self.invariant.order order_comes in
     let f = λ (r : Record g.row.K.Denot g.row.V.Denot). record r { applied = c.args.write; counts = Some c.args.weight } in (
       y.item,
       ap (λ t. kept_at t c.args.place) (sym c.self.view_is) ∙ kept-in cells c.args.place c.self.invariant.kept.apart ∙ there-record cells c.args.place y there,

@@ -19,7 +19,7 @@ unreachable-requires g c =
     let there : cell_at cells c.args.place ≡ Some cell = c.index.ensures in
     let h = c.requires in
     let same : h.0 ≡ cell.item = same_Some _ _ (sym h.1 ∙ ap (λ t. kept_at t c.args.place) (sym c.self.view_is) ∙ kept-in cells c.args.place c.self.invariant.kept.apart ∙ there-record cells c.args.place cell there) in
-    true≢false (sym h.2 ∙ ap (λ x. is_some x.counts) same ∙ sym (c.self.invariant.kept.admitted c.args.place cell there) ∙ ap (λ o. is_some o) c.in_default.is)
+    true≢false (sym h.2 ∙ ap (λ x. is_some x.counts) same ∙ sym (c.self.invariant.kept.admitted c.args.place cell there) ∙ ap (λ o. is_some o) (sym c.get.ensures ∙ c.in_default.is))
 
 pub returns-in-Some-peek_behind-clause-next : goal.returns-in-Some-peek_behind-clause-next
 returns-in-Some-peek_behind-clause-next g c = λ r at.
@@ -36,7 +36,7 @@ returns-in-Some-peek_behind-clause-next g c = λ r at.
       ap (λ t. kept_at t i) (sym c.self.view_is) ∙ kept-in cells i apart ∙ there-record cells i f.cell f.there,
       ap (λ t. slice_get (behind r.number t.state.access) 0) (sym c.self.view_is)
           ∙ ap (λ x. slice_get (behind x.number (numbers_in cells nodes)) 0) same
-          ∙ ap (λ ns. slice_get ns 0) (sym (access-behind cells nodes c.self.inside.next_number c.args.place cell c.in-Some.id c.self.invariant.kept there c.in-Some.is))
+          ∙ ap (λ ns. slice_get ns 0) (sym (access-behind cells nodes c.self.inside.next_number c.args.place cell c.in-Some.id c.self.invariant.kept there (sym c.get.ensures ∙ c.in-Some.is)))
           ∙ f.first,
       f.counts,
     )
@@ -51,5 +51,5 @@ returns-in-None-clause-last g c = λ r at.
     let none = none-behind (tail (from_id c.in-Some.id nodes)) (sym c.in-None.ensures) in
     ap (λ t. behind r.number t.state.access) (sym c.self.view_is)
     ∙ ap (λ x. behind x.number (numbers_in cells nodes)) same
-    ∙ sym (access-behind cells nodes c.self.inside.next_number c.args.place cell c.in-Some.id c.self.invariant.kept there c.in-Some.is)
+    ∙ sym (access-behind cells nodes c.self.inside.next_number c.args.place cell c.in-Some.id c.self.invariant.kept there (sym c.get.ensures ∙ c.in-Some.is))
     ∙ ap (λ l. numbers_in cells l) none

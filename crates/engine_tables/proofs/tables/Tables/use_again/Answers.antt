@@ -8,7 +8,7 @@ use Rattle.engine_tables.proofs.tables.Tables.use_again.Goals as goal
 pub unreachable-requires : goal.unreachable-requires
 unreachable-requires g c =
     let there = c.index.ensures in
-    let found = listed-there c.self.inside.cells.slots c.self.inside.access.nodes c.self.inside.next_number c.args.place c.index.result.now c.in-Some.id c.self.invariant.kept there c.in-Some.is in
+    let found = listed-there c.self.inside.cells.slots c.self.inside.access.nodes c.self.inside.next_number c.args.place c.index.result.now c.in-Some.id c.self.invariant.kept there (sym c.get.ensures ∙ c.in-Some.is) in
     let e : false ≡ true = c.in-Err.ensures.found.1 (ap (λ o. is_some o) found) in
     cc
 
@@ -18,10 +18,10 @@ invariant_of-self g c =
     let cells = c.self.inside.cells.slots in
     let nodes = c.self.inside.access.nodes in
     let id = c.in-Some.id in
-    let found = listed-there cells nodes c.self.inside.next_number c.args.place c.index.result.now id c.self.invariant.kept there c.in-Some.is in
+    let found = listed-there cells nodes c.self.inside.next_number c.args.place c.index.result.now id c.self.invariant.kept there (sym c.get.ensures ∙ c.in-Some.is) in
     let moves = c.in-Ok.ensures.moves in
     record {
-      kept = rw moves.nodes (kept-moved cells nodes c.self.inside.next_number c.args.place id c.self.inside.access.region c.self.inside.access.next_serial c.names_stand.ensures c.self.invariant.kept (access-there cells c.args.place c.index.result.now id there c.in-Some.is));
+      kept = rw moves.nodes (kept-moved cells nodes c.self.inside.next_number c.args.place id c.self.inside.access.region c.self.inside.access.next_serial c.names_stand.ensures c.self.invariant.kept (access-there cells c.args.place c.index.result.now id there (sym c.get.ensures ∙ c.in-Some.is)));
       cells = c.self.invariant.cells;
       listed = c.self.invariant.listed;
       order = c.self.invariant.order;
@@ -45,7 +45,7 @@ returns-in-Ok g c =
     let moves = c.in-Ok.ensures.moves in (
       c.index.result.now.item,
       ap (λ t. kept_at t c.args.place) (sym c.self.view_is) ∙ kept-in cells c.args.place c.self.invariant.kept.apart ∙ there-record cells c.args.place c.index.result.now there,
-      λ counts. rw (moves.nodes, ← c.self.view_is, access-moved cells nodes c.self.inside.next_number c.args.place c.index.result.now c.in-Some.id c.self.inside.access.region c.self.inside.access.next_serial c.names_stand.ensures c.self.invariant.kept there c.in-Some.is) refl,
+      λ counts. rw (moves.nodes, ← c.self.view_is, access-moved cells nodes c.self.inside.next_number c.args.place c.index.result.now c.in-Some.id c.self.inside.access.region c.self.inside.access.next_serial c.names_stand.ensures c.self.invariant.kept there (sym c.get.ensures ∙ c.in-Some.is)) refl,
     )
 
 pub returns-in_default : goal.returns-in_default
@@ -56,7 +56,7 @@ returns-in_default g c =
       ap (λ t. kept_at t c.args.place) (sym c.self.view_is) ∙ kept-in cells c.args.place c.self.invariant.kept.apart ∙ there-record cells c.args.place c.index.result.now there,
       λ counts.
           let a = c.self.invariant.kept.admitted c.args.place c.index.result.now there in
-          let b : is_some c.index.result.now.nodes.access_queue ≡ false = ap (λ o. is_some o) c.in_default.is in
+          let b : is_some c.index.result.now.nodes.access_queue ≡ false = ap (λ o. is_some o) (sym c.get.ensures ∙ c.in_default.is) in
           let e : false ≡ true = sym b ∙ a ∙ counts in
           absurd (cc),
     )
