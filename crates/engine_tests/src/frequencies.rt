@@ -1,8 +1,7 @@
 //! Rows on newcomers: under TinyLFU a newcomer comes in where it was asked for more often than those that would go for it.
-use crate::engine::Fast;
-use crate::rules::ITSELF;
-use crate::script::{CASE, Case, Look, Row, SECOND, SETTINGS, first_wrong, none_wrong};
+use crate::playing::none_wrong;
 use engine_reference::Settings;
+use engine_rows::{CASE, Case, ITSELF, Look, Row, SECOND, SETTINGS};
 use engine_rules::{EvictionPolicy, RemovalCause};
 
 const TINY_LFU: Settings = Settings {
@@ -177,5 +176,5 @@ const CASES: &[Case<'static>] = &[
 
 #[test]
 fn frequencies_of_the_engine(rt: HostRuntime) {
-    none_wrong(&rt, first_wrong::<Fast>(rt.alloc(), CASES));
+    none_wrong(&rt, rt.alloc(), CASES);
 }

@@ -1,7 +1,6 @@
 //! The hash of a key, by the hasher that a cache was made with.
-use crate::engine::Folding;
-use crate::script::SETTINGS;
 use engine_cache::BaseCache;
+use engine_rows::{Folding, SETTINGS};
 use engine_rules::{Bundle, NoExpiry, NoPredicate, WeighOne};
 use policy_base::HousekeeperConfig;
 use std::alloc::{AllocError, Global};

@@ -1,12 +1,8 @@
-//! Rows that each engine is to pass, over a trait of its calls.
+//! Tests of the cache of one part: rows of `engine_rows` on it, and its calls beside them.
 #![tactic(auto)]
 
 #[cfg(test)]
-mod engine;
-#[cfg(test)]
 mod frequencies;
-#[cfg(test)]
-mod generators;
 #[cfg(test)]
 mod hashes;
 #[cfg(test)]
@@ -16,14 +12,10 @@ mod looks;
 #[cfg(test)]
 mod names;
 #[cfg(test)]
+mod playing;
+#[cfg(test)]
 mod predicates;
 #[cfg(test)]
 mod refusals;
-#[cfg(test)]
-mod rules;
-#[cfg(test)]
-mod script;
-#[cfg(test)]
-mod values;
 #[cfg(test)]
 mod writes;

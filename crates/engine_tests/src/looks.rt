@@ -1,8 +1,8 @@
 //! Rows on look-ups.
 
-use crate::engine::Fast;
-use crate::script::{CASE, Case, Look, Row, SECOND, SETTINGS, first_wrong, none_wrong};
+use crate::playing::none_wrong;
 use engine_reference::Settings;
+use engine_rows::{CASE, Case, Look, Row, SECOND, SETTINGS};
 
 const CASES: &[Case<'static>] = &[
     // An empty cache shows nothing.
@@ -115,5 +115,5 @@ const CASES: &[Case<'static>] = &[
 
 #[test]
 fn looks_of_the_engine(rt: HostRuntime) {
-    none_wrong(&rt, first_wrong::<Fast>(rt.alloc(), CASES));
+    none_wrong(&rt, rt.alloc(), CASES);
 }

@@ -1,9 +1,9 @@
 //! Rows on predicates.
 
-use crate::engine::Fast;
-use crate::script::{CASE, Case, Look, Row, SETTINGS, first_wrong, none_wrong};
+use crate::playing::none_wrong;
 use engine_cache::Refusal;
 use engine_reference::Settings;
+use engine_rows::{CASE, Case, Look, Row, SETTINGS};
 use engine_rules::RemovalCause;
 
 /// The random UUID whose free bits are all 0: what is left is the version, 4, and the variant, binary 10.
@@ -80,5 +80,5 @@ const CASES: &[Case<'static>] = &[
 
 #[test]
 fn predicates_of_the_engine(rt: HostRuntime) {
-    none_wrong(&rt, first_wrong::<Fast>(rt.alloc(), CASES));
+    none_wrong(&rt, rt.alloc(), CASES);
 }

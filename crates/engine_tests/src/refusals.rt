@@ -1,10 +1,9 @@
 //! A row on a value whose clone is refused: the calls answer so and leave all as it was.
 
-use crate::engine::Fast;
-use crate::script::{CASE, Case, Look, Row, SETTINGS, first_wrong, none_wrong};
-use crate::values::NOT_CLONED;
+use crate::playing::none_wrong;
 use engine_cache::Refusal;
 use engine_reference::Settings;
+use engine_rows::{CASE, Case, Look, NOT_CLONED, Row, SETTINGS};
 
 const CASES: &[Case<'static>] = &[
     // Look-ups and a removal answer that the clone is refused. The value is still there, was not used, and no ticket was given for it.
@@ -42,5 +41,5 @@ const CASES: &[Case<'static>] = &[
 
 #[test]
 fn refusals_of_the_engine(rt: HostRuntime) {
-    none_wrong(&rt, first_wrong::<Fast>(rt.alloc(), CASES));
+    none_wrong(&rt, rt.alloc(), CASES);
 }

@@ -1,9 +1,9 @@
 //! Rows on writes, times, room and maintenance.
 
-use crate::engine::Fast;
-use crate::script::{CASE, Case, Look, Row, SECOND, SETTINGS, first_wrong, none_wrong};
+use crate::playing::none_wrong;
 use engine_cache::Refusal;
 use engine_reference::Settings;
+use engine_rows::{CASE, Case, Look, Row, SECOND, SETTINGS};
 use engine_rules::RemovalCause;
 
 const CASES: &[Case<'static>] = &[
@@ -215,5 +215,5 @@ const CASES: &[Case<'static>] = &[
 
 #[test]
 fn writes_of_the_engine(rt: HostRuntime) {
-    none_wrong(&rt, first_wrong::<Fast>(rt.alloc(), CASES));
+    none_wrong(&rt, rt.alloc(), CASES);
 }

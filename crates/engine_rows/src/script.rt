@@ -9,7 +9,6 @@ use engine_reference::Settings;
 use engine_rules::{EvictionPolicy, RemovalCause};
 use policy_base::Instant;
 use std::alloc::{AllocError, Global};
-use std::process::Abort;
 use std::time::Duration;
 
 /// A second, in nanoseconds.
@@ -475,9 +474,4 @@ pub fn first_wrong<E: Engine>(
         }
     }
     Ok(None)
-}
-
-/// Each case came out so.
-pub fn none_wrong(rt: &impl Abort, wrong: Result<Option<(usize, usize)>, AllocError>) {
-    assert_eq!(rt; wrong, Ok(None));
 }
