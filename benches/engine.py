@@ -2,14 +2,16 @@
 """Times the cache of one part beside the kit's `LruCache`: look-ups, writes over, inserts above the capacity, and what a value takes.
 
 Build the program first: in crates/engine_bench, `rt run` leaves it at out/engine_bench. Each time is the difference of two
-runs, one of which fills the same cache, draws keys the same way and goes through them without a call, by the processor time
-of the best of some, which are taken in turn. Memory is the most that a run had resident, less that of a run of one value.
+runs of one round, one of which fills the same cache, draws keys the same way and goes through them without a call, by the
+processor time. A factor compares runs of one round; what is printed are medians over the rounds, and the least and the greatest
+factor. Memory is the most that a run had resident, less that of a run of one value.
 It needs GNU `time`. `engine.py SIZE..` takes these sizes in place of 1,000, 100,000 and 1,000,000. Ends with status 1 where at 100,000 a look-up
 takes more than 4 times `LruCache`'s, an insert more than 3 times its `put`, or a value more than 260 bytes above its key and
 itself, where the space was made at once.
 """
 import os
 import pathlib
+import statistics
 import subprocess
 import sys
 
@@ -19,7 +21,7 @@ WORKS = ["gets", "writes", "fetches"]
 SIZES = [1_000, 100_000, 1_000_000]
 DRAWN = 1_000_000
 PASSES = 2
-RUNS = 2
+ROUNDS = 5
 PAIR_BYTES = 16
 GET_BOUND = 4.0
 INSERT_BOUND = 3.0
@@ -47,28 +49,33 @@ def resident_of(*kind):
     return int(subprocess.run(words, capture_output=True, text=True, check=True).stderr.split()[-1]) * 1024
 
 
-def all_spent(size):
-    """By cache, work and draws the processor seconds of the best of some runs."""
+def kinds_of_round():
+    """The runs of one round: cache, work and draws."""
     kinds = [(cache, work, draws) for draws in ["uniform", "zipf"] for work in ["loops"] + WORKS for cache in CACHES]
     kinds += [(cache, "inserts", "uniform") for cache in CACHES] + [("lru", work, "uniform") for work in ["loops", "inserts"]]
-    best = {}
-    for _ in range(RUNS):
-        for kind in kinds:
-            spent = spent_by(*kind, size, DRAWN, PASSES)
-            best[kind] = min(spent, best.get(kind, spent))
-    return best
+    return kinds
+
+
+def round_of(size):
+    """By cache, work and draws the nanoseconds of a call, and how many times `LruCache`'s that is, in one round."""
+    spent = {kind: spent_by(*kind, size, DRAWN, PASSES) for kind in kinds_of_round()}
+    nanos = {(cache, work, draws): (seconds - spent[cache, "loops", draws]) / (DRAWN * PASSES) * 1e9
+             for (cache, work, draws), seconds in spent.items() if work != "loops"}
+    factors = {(cache, work, draws): once / nanos["lru_cache", work, draws] for (cache, work, draws), once in nanos.items()}
+    return nanos, factors
 
 
 def print_times(size):
-    """Prints what the calls take at a size, and answers by work and draws how many times `LruCache`'s the engine's take."""
-    best = all_spent(size)
-    nanos = {(cache, work, draws): (spent - best[cache, "loops", draws]) / (DRAWN * PASSES) * 1e9
-             for (cache, work, draws), spent in best.items() if work != "loops"}
-    factors = {}
-    for (cache, work, draws), once in nanos.items():
-        factors[cache, work, draws] = once / nanos["lru_cache", work, draws]
-        print(f"{size:,}: {work} {draws}: {cache} {once:.0f} ns, {factors[cache, work, draws]:.1f} times lru_cache", flush=True)
-    return factors
+    """Prints what the calls take at a size, and answers by work and draws how many times `LruCache`'s the engine's take: medians over the rounds."""
+    rounds = [round_of(size) for _ in range(ROUNDS)]
+    medians = {}
+    for kind in rounds[0][0]:
+        once = statistics.median(nanos[kind] for nanos, _ in rounds)
+        factors = [factors[kind] for _, factors in rounds]
+        medians[kind] = statistics.median(factors)
+        cache, work, draws = kind
+        print(f"{size:,}: {work} {draws}: {cache} {once:.0f} ns, {medians[kind]:.1f} times lru_cache ({min(factors):.1f} to {max(factors):.1f})", flush=True)
+    return medians
 
 
 def bytes_a_value(cache, work, size):
