@@ -1,5 +1,5 @@
 //! Expirations by place.
-ghost use Rattle.std.specs.Prelude.{◌≡◌, ◌<◌, ◌≤◌, ℕ, true, [], IfNone, Some};
+ghost use Rattle.std.specs.Prelude.{◌≡◌, ◌<◌, ◌≤◌, ℕ, true, [], IfSome, IfNone, Some};
 ghost use Rattle.engine_timers.specs.Awaited.{IsAwaited, IsSet, KeepsOthers};
 
 use crate::names::set;
@@ -64,9 +64,10 @@ impl Expirations {
         self.is_whole = both(self.is_whole, is_set);
     }
 
-    /// The place that expires first, where its moment has come.
+    /// The place that expires first, where its moment has come: its timer's at least.
     pub fn first_due(&self, now: Instant) -> Option<usize>
-        ensures { IfNone result ((place time : ℕ) → IsAwaited self.now place time → now < time) }
+        ensures found { IfSome result (λ place. IsAwaited self.now place now) }
+        ensures none { IfNone result ((place time : ℕ) → IsAwaited self.now place time → now < time) }
     {
         match self.wheel.first_due(now) {
             Some(timer) => Some(timer.node.entry_info),
