@@ -28,6 +28,9 @@ impl<K, V> Entry<K, V> {
     }
 
     /// The key.
+    /// ```
+    /// let key = entry.key();
+    /// ```
     pub fn key(&self) -> &K
         ensures { result.now ≡ self.now.key }
     {
@@ -35,6 +38,9 @@ impl<K, V> Entry<K, V> {
     }
 
     /// The value.
+    /// ```
+    /// let value = entry.value();
+    /// ```
     pub fn value(&self) -> &V
         ensures { result.now ≡ self.now.value }
     {
@@ -42,6 +48,9 @@ impl<K, V> Entry<K, V> {
     }
 
     /// Gives up the entry for its value.
+    /// ```
+    /// let value = cache.entry(7, at).or_insert(49)?.into_value();
+    /// ```
     pub fn into_value(self) -> V
     where
         K: Drop,
@@ -51,6 +60,11 @@ impl<K, V> Entry<K, V> {
     }
 
     /// Whether the call that answered this made the value, or put it.
+    /// ```
+    /// if !entry.is_fresh() {
+    ///     count_hit();
+    /// }
+    /// ```
     pub fn is_fresh(&self) -> bool
         ensures { result ≡ self.now.is_fresh }
     {
@@ -58,6 +72,11 @@ impl<K, V> Entry<K, V> {
     }
 
     /// Whether that call put the value in the place of a visible one.
+    /// ```
+    /// if entry.is_old_value_replaced() {
+    ///     count_update();
+    /// }
+    /// ```
     pub fn is_old_value_replaced(&self) -> bool
         ensures { result ≡ self.now.is_old_value_replaced }
     {
@@ -99,6 +118,11 @@ impl<K, V> CompResult<K, V> {
     }
 
     /// Whether there was no value, and there is none.
+    /// ```
+    /// if done.is_still_none() {
+    ///     show_nobody();
+    /// }
+    /// ```
     pub fn is_still_none(&self) -> bool
         ensures { result ≡ is_none (entry_in self.now) }
     {
@@ -109,6 +133,9 @@ impl<K, V> CompResult<K, V> {
     }
 
     /// The entry, if there is one.
+    /// ```
+    /// let value = done.into_entry().map(|entry| entry.into_value());
+    /// ```
     pub fn into_entry(self) -> Option<Entry<K, V>>
     where
         K: Drop,
@@ -124,6 +151,9 @@ impl<K, V> CompResult<K, V> {
     }
 
     /// The entry, of which there is one.
+    /// ```
+    /// let entry = cache.entry(7, at).and_compute_with(|_| Op::Put(1))?.unwrap();
+    /// ```
     pub fn unwrap(self) -> Entry<K, V>
     where
         K: Drop,

@@ -35,6 +35,9 @@ pub type RefKeyEntrySelector<'a, K, A, W> = EntrySelector<'a, K, A, W>;
 
 impl<'a, K, A, W: Copy> EntrySelector<'a, K, A, W> {
     /// A selector of the entry of a key.
+    /// ```
+    /// let selector = EntrySelector::new(&mut cache, 7, at, alloc);
+    /// ```
     pub fn new(owner: &'a mut A, key: K, when: W, alloc: Global) -> Self
         ensures same_reference { result.owner.ghost_name ≡ owner.entry.ghost_name }
         ensures owner { result.owner.now ≡ owner.old }
@@ -86,6 +89,10 @@ impl<'a, K, A, W: Copy> EntrySelector<'a, K, A, W> {
     }
 
     /// The visible value of the key, or the one that `make` makes, which is kept. Of several callers for the key one makes it, and the others wait for it.
+    /// ```
+    /// let entry = cache.entry(7, at).or_insert_with(|| 49)?;
+    /// let value = entry.into_value();
+    /// ```
     pub fn or_insert_with<V: Clone + Drop, F: Drop, M: FnOnce() -> V + Drop>(
         self,
         make: M,
@@ -109,6 +116,9 @@ impl<'a, K, A, W: Copy> EntrySelector<'a, K, A, W> {
     }
 
     /// The same, where a visible value of which `replace_if` says yes counts as none. The entry does not say that a value was replaced.
+    /// ```
+    /// let entry = cache.entry(7, at).or_insert_with_if(|| 50, |old| *old < 50)?;
+    /// ```
     pub fn or_insert_with_if<
         V: Clone + Drop,
         F: Drop,
@@ -134,6 +144,9 @@ impl<'a, K, A, W: Copy> EntrySelector<'a, K, A, W> {
     }
 
     /// The visible value of the key, or this one, which is then kept. It is not coalesced: nobody else's call is waited for.
+    /// ```
+    /// let entry = cache.entry(7, at).or_insert(49)?;
+    /// ```
     pub fn or_insert<V: Clone + Drop, F: Drop>(self, value: V) -> Result<Entry<K, V>, CacheError>
     where
         K: Drop,
@@ -153,6 +166,9 @@ impl<'a, K, A, W: Copy> EntrySelector<'a, K, A, W> {
     }
 
     /// The visible value of the key, or the default one, which is then kept. It is not coalesced: nobody else's call is waited for.
+    /// ```
+    /// let entry = cache.entry(7, at).or_default()?;
+    /// ```
     pub fn or_default<V: Clone + Default + Drop, F: Drop>(self) -> Result<Entry<K, V>, CacheError>
     where
         K: Drop,
@@ -172,6 +188,12 @@ impl<'a, K, A, W: Copy> EntrySelector<'a, K, A, W> {
     }
 
     /// The visible value of the key, or the one that `make` makes, which is kept, or `None` where it makes none. Coalesced with calls of its kind.
+    /// ```
+    /// match cache.entry(7, at).or_optionally_insert_with(|| find_user(7))? {
+    ///     Some(entry) => show(entry.value()),
+    ///     None => show_nobody(),
+    /// }
+    /// ```
     pub fn or_optionally_insert_with<V: Clone + Drop, F: Drop, M: FnOnce() -> Option<V> + Drop>(
         self,
         make: M,
@@ -202,6 +224,12 @@ impl<'a, K, A, W: Copy> EntrySelector<'a, K, A, W> {
     }
 
     /// The visible value of the key, or the one that `make` makes, which is kept, or why it could make none. Coalesced with calls of its kind, which then answer the same fault.
+    /// ```
+    /// match cache.entry(7, at).or_try_insert_with(|| read_row(7))? {
+    ///     Ok(entry) => show(entry.value()),
+    ///     Err(fault) => report(&fault),
+    /// }
+    /// ```
     pub fn or_try_insert_with<V: Clone + Drop, F: Drop, M: FnOnce() -> Result<V, F> + Drop>(
         self,
         make: M,
@@ -242,6 +270,12 @@ impl<'a, K, A, W: Copy> EntrySelector<'a, K, A, W> {
     }
 
     /// Lets `decide` say by the entry, if there is one, what is to be done with the key, and does it; where `decide` fails nothing is written. Calls of this kind for one key come one after another.
+    /// ```
+    /// let answer = cache.entry(7, at).and_try_compute_with(|seen| match seen {
+    ///     Some(entry) => Ok(Op::Put(parse(entry.value())?)),
+    ///     None => Ok(Op::Nop),
+    /// })?;
+    /// ```
     pub fn and_try_compute_with<
         V: Clone + Drop,
         E: Drop,
@@ -277,6 +311,12 @@ impl<'a, K, A, W: Copy> EntrySelector<'a, K, A, W> {
     }
 
     /// Lets `decide` say by the entry, if there is one, what is to be done with the key, and does it. Calls of this kind for one key come one after another.
+    /// ```
+    /// let done = cache.entry(7, at).and_compute_with(|seen| match seen {
+    ///     Some(_) => Op::Remove,
+    ///     None => Op::Put(1),
+    /// })?;
+    /// ```
     pub fn and_compute_with<V: Clone + Drop, D: FnOnce(Option<Entry<K, V>>) -> Op<V> + Drop>(
         self,
         decide: D,
@@ -303,6 +343,12 @@ impl<'a, K, A, W: Copy> EntrySelector<'a, K, A, W> {
     }
 
     /// Puts the value that `make` makes of the entry, if there is one. The entry is fresh, and says whether a visible value was replaced. Calls of this kind for one key come one after another.
+    /// ```
+    /// let entry = cache.entry(7, at).and_upsert_with(|seen| match seen {
+    ///     Some(entry) => entry.into_value().saturating_add(1),
+    ///     None => 1,
+    /// })?;
+    /// ```
     pub fn and_upsert_with<V: Clone + Drop, M: FnOnce(Option<Entry<K, V>>) -> V + Drop>(
         self,
         make: M,

@@ -61,3 +61,10 @@ pub record IsBuilt {K V Q S X W P F : Type 0} (p : Plan) (expiry : X) (weigher :
   pub enough : p.segments ≤ 2 ^ bits
   pub least : (n : ℕ) → p.segments ≤ 2 ^ n → bits ≤ n
   pub made : IsMadeWith (option_map string_bytes p.name) bits (settings_of p moment) hasher rules f
+
+-- the same, of plain rules: with this capacity and so many segments, and nothing else set
+pub record IsBuiltPlainly {K V Q S X W P F : Type 0} (max_capacity segments moment : ℕ) (f : Front K V Q S (Bundle X W P F)) : Type 0 where
+  pub expiry : X
+  pub weigher : W
+  pub hasher : S
+  pub built : IsBuilt (record blank { max_capacity = Some max_capacity; segments = segments }) expiry weigher hasher moment f

@@ -41,6 +41,9 @@ pub struct CacheBuilder<X, W, P, F> {
 
 impl CacheBuilder<NoExpiry, WeighOne, NoPredicate, ()> {
     /// A builder of a cache that holds at most this weight.
+    /// ```
+    /// let cache: CacheState<u64, u64> = CacheBuilder::new(1000).build_state(alloc, hasher, moment)?;
+    /// ```
     pub fn new(max_capacity: u64) -> Self
         ensures { result.plan ≡ record blank { max_capacity = Some max_capacity } }
     {
@@ -75,6 +78,9 @@ impl Default for CacheBuilder<NoExpiry, WeighOne, NoPredicate, ()> {
 
 impl<X, W, P, F> CacheBuilder<X, W, P, F> {
     /// What the cache is called.
+    /// ```
+    /// let builder = CacheBuilder::new(1000).name(name);
+    /// ```
     pub fn name(mut self, name: String) -> Self
         ensures { result ≡ record self { plan = record self.plan { name = Some name } } }
     {
@@ -83,6 +89,10 @@ impl<X, W, P, F> CacheBuilder<X, W, P, F> {
     }
 
     /// The weight that the cache holds at most, of all segments together.
+    /// At capacity 0 no value is kept.
+    /// ```
+    /// let builder = CacheBuilder::default().max_capacity(1000);
+    /// ```
     pub fn max_capacity(mut self, max_capacity: u64) -> Self
         ensures { result ≡ record self { plan = record self.plan { max_capacity = Some max_capacity } } }
     {
@@ -91,6 +101,9 @@ impl<X, W, P, F> CacheBuilder<X, W, P, F> {
     }
 
     /// For how many entries there is room from the start.
+    /// ```
+    /// let builder = CacheBuilder::new(1000).initial_capacity(100);
+    /// ```
     pub fn initial_capacity(mut self, number_of_entries: usize) -> Self
         ensures { result ≡ record self { plan = record self.plan { initial_capacity = number_of_entries } } }
     {
@@ -99,6 +112,10 @@ impl<X, W, P, F> CacheBuilder<X, W, P, F> {
     }
 
     /// Of how many segments the cache is made, each with its share of the capacity: so many, or the next power of two. From 1 to 65,536.
+    /// A segment's share is the capacity divided by their number, rounded up, so together they may hold a little more.
+    /// ```
+    /// let cache: SegmentedState<u64, u64> = CacheBuilder::new(1000).segments(4).build_state(alloc, hasher, moment)?;
+    /// ```
     pub fn segments(mut self, segments: usize) -> Self
         ensures { result ≡ record self { plan = record self.plan { segments = segments } } }
     {
@@ -107,6 +124,10 @@ impl<X, W, P, F> CacheBuilder<X, W, P, F> {
     }
 
     /// Which entries the cache lets go where it is too heavy. TinyLFU at first.
+    /// TinyLFU keeps what is asked for often and lets a newcomer in only where it is asked for more often than what would have to go; LRU lets go what was used least recently.
+    /// ```
+    /// let builder = CacheBuilder::new(1000).eviction_policy(EvictionPolicy::lru());
+    /// ```
     pub fn eviction_policy(mut self, policy: EvictionPolicy) -> Self
         ensures { result ≡ record self { plan = record self.plan { policy = policy } } }
     {
@@ -115,6 +136,10 @@ impl<X, W, P, F> CacheBuilder<X, W, P, F> {
     }
 
     /// Removals are told, as notices to be taken.
+    /// `next_notice` takes them. Where nobody does they pile up, one for each removal.
+    /// ```
+    /// let builder = CacheBuilder::new(1000).eviction_listener();
+    /// ```
     pub fn eviction_listener(mut self) -> Self
         ensures { result ≡ record self { plan = record self.plan { tells = true } } }
     {
@@ -123,6 +148,9 @@ impl<X, W, P, F> CacheBuilder<X, W, P, F> {
     }
 
     /// How long after its write a value lives: at most 1000 years of 365 days.
+    /// ```
+    /// let builder = CacheBuilder::new(1000).time_to_live(Duration::from_secs(60));
+    /// ```
     pub fn time_to_live(mut self, duration: Duration) -> Self
         ensures { result ≡ record self { plan = record self.plan { expiration = record self.plan.expiration { time_to_live = Some duration } } } }
     {
@@ -131,6 +159,10 @@ impl<X, W, P, F> CacheBuilder<X, W, P, F> {
     }
 
     /// How long after its last use a value lives: at most 1000 years of 365 days.
+    /// A use is a write or a `get`; `contains_key`, `peek` and the iterator are none.
+    /// ```
+    /// let builder = CacheBuilder::new(1000).time_to_idle(Duration::from_secs(60));
+    /// ```
     pub fn time_to_idle(mut self, duration: Duration) -> Self
         ensures { result ≡ record self { plan = record self.plan { expiration = record self.plan.expiration { time_to_idle = Some duration } } } }
     {
@@ -139,6 +171,10 @@ impl<X, W, P, F> CacheBuilder<X, W, P, F> {
     }
 
     /// How long each value lives by itself.
+    /// The earliest of a value's own time, the time to live and the time to idle ends it. An own time is kept in steps of 4096 ns, rounded down.
+    /// ```
+    /// let builder = CacheBuilder::new(1000).expire_after(OwnTime);
+    /// ```
     pub fn expire_after<Y>(self, expiry: Y) -> CacheBuilder<Y, W, P, F>
     where
         X: Drop,
@@ -155,6 +191,10 @@ impl<X, W, P, F> CacheBuilder<X, W, P, F> {
     }
 
     /// What each value weighs.
+    /// Weights say how much fits; they do not choose what goes.
+    /// ```
+    /// let builder = CacheBuilder::new(1_000_000).weigher(ByLength);
+    /// ```
     pub fn weigher<U>(self, weigher: U) -> CacheBuilder<X, U, P, F>
     where
         W: Drop,
@@ -171,6 +211,9 @@ impl<X, W, P, F> CacheBuilder<X, W, P, F> {
     }
 
     /// Predicates of a type are taken, which invalidate the values that they cover.
+    /// ```
+    /// let builder = CacheBuilder::new(1000).support_invalidation_closures::<OlderThan>();
+    /// ```
     pub fn support_invalidation_closures<Q>(self) -> CacheBuilder<X, W, Q, F>
         ensures plan { result.plan ≡ record self.plan { takes_predicates = true } }
         ensures expiry { result.expiry ≡ self.expiry }
@@ -187,6 +230,9 @@ impl<X, W, P, F> CacheBuilder<X, W, P, F> {
     }
 
     /// What the making of a value may fail with.
+    /// ```
+    /// let builder = CacheBuilder::new(1000).faults::<ReadError>();
+    /// ```
     pub fn faults<G>(self) -> CacheBuilder<X, W, P, G>
         ensures plan { result.plan ≡ self.plan }
         ensures expiry { result.expiry ≡ self.expiry }
@@ -201,12 +247,18 @@ impl<X, W, P, F> CacheBuilder<X, W, P, F> {
     }
 
     /// A cache that is lent, made at a moment, which hashes keys by this hasher. Where keys come from strangers it is to be one that they cannot foresee.
-    pub fn build_state<K: Eq + Hash + Drop, V: Drop, S: BuildHasher + Drop>(
+    /// Settings are tested here, in the order of `BuildError`.
+    /// ```
+    /// let cache: CacheState<u64, u64> = CacheBuilder::new(1000)
+    ///     .time_to_live(Duration::from_secs(60))
+    ///     .build_state(alloc, StdHasher::new(), moment)?;
+    /// ```
+    pub fn build_state<K: Eq + Hash + Drop, V: Drop, S: BuildHasher + Drop, C>(
         self,
         alloc: Global,
         hasher: S,
         moment: Instant,
-    ) -> Result<LentState<K, V, S, Bundle<X, W, P, F>>, BuildError>
+    ) -> Result<LentState<K, V, S, Bundle<X, W, P, F>, C>, BuildError>
     where
         X: Expiry<K, V> + Drop,
         W: Weigher<K, V> + Drop,
@@ -228,7 +280,7 @@ impl<X, W, P, F> CacheBuilder<X, W, P, F> {
         let bits = bits_for(plan.segments);
         let settings = settings_of(&plan, moment);
         let rules = Bundle::new(expiry, weigher);
-        let state = LentState::new(
+        let state = LentState::with_parts(
             alloc,
             plan.name,
             bits,

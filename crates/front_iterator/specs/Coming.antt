@@ -51,6 +51,21 @@ module _ {K V : Type 0} where
   TakesFirst None old new = (old ≡ []) × (new ≡ [])
   TakesFirst (Some pair) old new = old ≡ pair ∷ new
 
+  -- the same, of the pairs of keys of which the next one is last
+  abbrev pub TriesLast : Source K V → Option (K × V) → (old new : List K) → Type 0
+  TriesLast source found old new = Tries found (pairs_back source old) (pairs_back source new)
+
+  abbrev pub TakesLast : Source K V → Option (K × V) → (old new : List K) → Type 0
+  TakesLast source found old new = TakesFirst found (pairs_back source old) (pairs_back source new)
+
+  -- the same, of all pairs that are still to come of such keys and of the segments from a place on
+  abbrev pub TakesComing : Source K V → Option (K × V) → (old : List K) → (old_place : ℕ) → (new : List K) → (new_place : ℕ) → Type 0
+  TakesComing source found old old_place new new_place = TakesFirst found (coming_of source old old_place) (coming_of source new new_place)
+
+  -- none of those that are still to come is taken
+  abbrev pub LeavesComing : Source K V → (old : List K) → (old_place : ℕ) → (new : List K) → (new_place : ℕ) → Type 0
+  LeavesComing source old old_place new new_place = coming_of source new new_place ≡ coming_of source old old_place
+
   -- the keys that are left when there is no pair: none
   abbrev pub LeavesKeys : Option (K × V) → List K → Type 0
   LeavesKeys None keys = keys ≡ []

@@ -35,6 +35,9 @@ impl<'a, K, V, C: ScanningGet<K, V>> Model for Iter<'a, K, V, C> {
 
 impl<'a, K: Drop, V, C: ScanningGet<K, V>> Iter<'a, K, V, C> {
     /// An iterator over what is visible at a moment. No memory is taken for it.
+    /// ```
+    /// let pairs = Iter::new(alloc, &cache, now);
+    /// ```
     pub fn new(alloc: Global, source: &'a C, now: Instant) -> Self
         ensures source { result.source ≡ source.now }
         ensures now { result.now ≡ now }

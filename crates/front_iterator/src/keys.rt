@@ -1,6 +1,6 @@
 //! Keys that are tried one after another.
 ghost use Rattle.std.specs.Prelude.{◌≡◌, ◌+◌, ◌<◌, IfOk, OnOk, OnErr, length, reverse};
-ghost use Rattle.front_iterator.specs.Coming.{LeavesKeys, TakesFirst, Tries, coming_of, pairs_back, source_at};
+ghost use Rattle.front_iterator.specs.Coming.{LeavesComing, LeavesKeys, TakesComing, TakesLast, TriesLast, pairs_back, source_at};
 
 use crate::scanning::ScanningGet;
 use policy_base::Instant;
@@ -14,7 +14,7 @@ fn try_last<K: Drop, V, C: ScanningGet<K, V>>(
 ) -> Result<Option<(K, V)>, AllocError>
     requires can_scan { C.can_scan source.now }
     requires some { 0 < length keys.old.items }
-    ensures found { IfOk result (λ found. Tries found (pairs_back (source_at C.segments C.keys_in C.value_of source.now now) keys.old.items) (pairs_back (source_at C.segments C.keys_in C.value_of source.now now) keys.new.items)) }
+    ensures found { IfOk result (λ found. TriesLast (source_at C.segments C.keys_in C.value_of source.now now) found keys.old.items keys.new.items) }
     ensures shorter { OnOk result (length keys.new.items + 1 ≡ length keys.old.items) }
     ensures err { OnErr result (keys.new.items ≡ keys.old.items) }
 {
@@ -37,7 +37,7 @@ fn take_last<K: Drop, V, C: ScanningGet<K, V>>(
     keys: &mut Vec<K>,
 ) -> Result<Option<(K, V)>, AllocError>
     requires { C.can_scan source.now }
-    ensures found { IfOk result (λ found. TakesFirst found (pairs_back (source_at C.segments C.keys_in C.value_of source.now now) keys.old.items) (pairs_back (source_at C.segments C.keys_in C.value_of source.now now) keys.new.items)) }
+    ensures found { IfOk result (λ found. TakesLast (source_at C.segments C.keys_in C.value_of source.now now) found keys.old.items keys.new.items) }
     ensures left { IfOk result (λ found. LeavesKeys found keys.new.items) }
     ensures err { OnErr result (pairs_back (source_at C.segments C.keys_in C.value_of source.now now) keys.new.items ≡ pairs_back (source_at C.segments C.keys_in C.value_of source.now now) keys.old.items) }
 {
@@ -73,8 +73,8 @@ pub(crate) fn advance<K: Drop, V, C: ScanningGet<K, V>>(
     place: &mut usize,
 ) -> Result<Option<(K, V)>, AllocError>
     requires { C.can_scan source.now }
-    ensures found { IfOk result (λ found. TakesFirst found (coming_of (source_at C.segments C.keys_in C.value_of source.now now) keys.old.items place.old) (coming_of (source_at C.segments C.keys_in C.value_of source.now now) keys.new.items place.new)) }
-    ensures err { OnErr result (coming_of (source_at C.segments C.keys_in C.value_of source.now now) keys.new.items place.new ≡ coming_of (source_at C.segments C.keys_in C.value_of source.now now) keys.old.items place.old) }
+    ensures found { IfOk result (λ found. TakesComing (source_at C.segments C.keys_in C.value_of source.now now) found keys.old.items place.old keys.new.items place.new) }
+    ensures err { OnErr result (LeavesComing (source_at C.segments C.keys_in C.value_of source.now now) keys.old.items place.old keys.new.items place.new) }
 {
     let count = source.num_cht_segments();
     while *place < count {

@@ -1,12 +1,13 @@
 -- A predicate that is registered in all parts of a front, and why it is registered in none.
-use Rattle.std.specs.Prelude.{◌≡◌, ℕ, false, List, slice_get}
+use Rattle.std.specs.Prelude.{◌≡◌, ℕ, false, List, length, slice_get}
 use Rattle.rand_core.specs.Stream.{Stream}
 use Rattle.engine_reference.specs.State.{State}
-use Rattle.front_places.specs.Calls.{keys_of}
+use Rattle.front_places.specs.Calls.{Ways, hash_in, keys_of}
 use Rattle.front_reference.specs.Fronts.{Front, passed}
 use Rattle.front_reference.specs.declared.data.At.{At}
 use Rattle.front_reference.specs.declared.errors.CacheError.{CacheError}
 use Rattle.front_reference.specs.declared.errors.CacheError.TheVariants as errors
+use Rattle.front_reference.specs.Wholes.{HasGiven}
 use Rattle.front_wholes.specs.Covering.{CoversEach, IsCoverCause}
 
 module _ {K V P S R : Type 0} where
@@ -24,3 +25,7 @@ module _ {K V P S R : Type 0} where
   -- the keys that the part at a place holds
   abbrev pub keys_in : Front K V P S R → ℕ → List K
   keys_in f place = keys_of (slice_get f.parts place)
+
+-- an iterator gives this at a moment, if it is asked to its end: each key that is visible in any part, once, with its value, and no other
+abbrev pub GivesVisible : {K V P S R : Type 0} → Ways K V P S R → (now : ℕ) → Front K V P S R → List (K × V) → Type 0
+GivesVisible ways now f given = HasGiven ways.answers ways.eq (λ key. hash_in ways f key) now f (length f.parts) given

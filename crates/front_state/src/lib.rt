@@ -3,4 +3,4 @@
 
 mod state;
 
-pub use state::LentState;
+pub use state::{LentState, Segmented, Single};

@@ -19,7 +19,7 @@ use moka_engine::BaseCache;
 use policy_base::Instant;
 use std::alloc::{AllocError, Global};
 use std::hash::{BuildHasher, Hash, Hasher};
-use std::marker::Model;
+use std::marker::{Model, PhantomData};
 
 mod accessing;
 mod coalescing;
@@ -30,10 +30,19 @@ mod reading;
 mod showing;
 mod turning;
 
+/// The form of a cache that is made by its capacity alone.
+#[derive(Clone, Copy, Debug, PartialEq, Eq, Drop)]
+pub struct Single;
+
+/// The form of a cache that is made by its capacity and how many segments it has.
+#[derive(Clone, Copy, Debug, PartialEq, Eq, Drop)]
+pub struct Segmented;
+
 /// A cache of 2^bits parts that is lent by `&mut`, so that each call is alone. Each key belongs to the part that the upper bits of its hash say.
 /// Each call is told its moment and its step, neither of which falls. A clear and a predicate come at a later step than any call before, as they cover what was written at earlier steps. A call that is refused has changed nothing, its moment and step included.
+/// The form says by which `new` and `builder` it goes, and nothing else: each has the same calls, and any number of parts.
 #[derive(Drop)]
-pub struct LentState<K: Eq + Hash, V, S: BuildHasher, R: Rules<K, V>> {
+pub struct LentState<K: Eq + Hash, V, S: BuildHasher, R: Rules<K, V>, C = Single> {
     alloc: Global,
     parts: Vec<BaseCache<Shared<K>, V, Shared<S>, Shared<R>>>,
     bits: u32,
@@ -46,9 +55,10 @@ pub struct LentState<K: Eq + Hash, V, S: BuildHasher, R: Rules<K, V>> {
     next_turn: u64,
     moment: Instant,
     step: u64,
+    form: PhantomData<C>,
 }
 
-impl<K: Eq + Hash, V, S: BuildHasher, R: Rules<K, V>> Model for LentState<K, V, S, R> {
+impl<K: Eq + Hash, V, S: BuildHasher, R: Rules<K, V>, C> Model for LentState<K, V, S, R, C> {
     ghost use Rattle.std.specs.Prelude.{option_map};
     ghost use Rattle.std.specs.String.{string_bytes};
     ghost use Rattle.front_reference.specs.Fronts.{Front};
@@ -81,8 +91,12 @@ impl<K: Eq + Hash, V, S: BuildHasher, R: Rules<K, V>> Model for LentState<K, V, 
     }) ∥₁ };
 }
 
-impl<K: Eq + Hash, V, S: BuildHasher, R: Rules<K, V>> LentState<K, V, S, R> {
+impl<K: Eq + Hash, V, S: BuildHasher, R: Rules<K, V>, C> LentState<K, V, S, R, C> {
     /// The hash of a key, which the calls with a hash are handed.
+    /// ```
+    /// let hash = cache.hash(&7);
+    /// cache.insert_with_hash(OwnedKey { key: 7, alloc }, hash, value, at)?;
+    /// ```
     pub fn hash(&self, key: &K) -> u64
         ensures { result ≡ hash_in (ways_by R.Rules K.eq K.hash_input S.BuildHasher S.Hasher.Hasher) self.now key.now }
     {
@@ -90,6 +104,13 @@ impl<K: Eq + Hash, V, S: BuildHasher, R: Rules<K, V>> LentState<K, V, S, R> {
     }
 
     /// A clone of the visible value of a key, of which it is a use.
+    /// A use makes its record young for eviction and puts its idle deadline off; a miss is counted for TinyLFU, too. Maintenance that is due comes between the answer and the use: at 64 calls that wait for it, or 300 ms after the last run. To look without a use there are `peek` and `contains_key`.
+    /// ```
+    /// match cache.get(&7, at)? {
+    ///     Some(value) => Ok(value),
+    ///     None => read_slowly(7),
+    /// }
+    /// ```
     pub fn get(&mut self, key: &K, at: At) -> Result<Option<V>, AllocError>
     where
         K: Drop,
@@ -110,6 +131,12 @@ impl<K: Eq + Hash, V, S: BuildHasher, R: Rules<K, V>> LentState<K, V, S, R> {
     }
 
     /// Whether a key has a visible value. It is no use of it.
+    /// Expired and covered values count as absent, whether maintenance has removed them or not.
+    /// ```
+    /// if !cache.contains_key(&7, at.now) {
+    ///     cache.insert(7, 49, at)?;
+    /// }
+    /// ```
     pub fn contains_key(&self, key: &K, now: Instant) -> bool
         ensures { result ≡ is_some (visible_in (ways_by R.Rules K.eq K.hash_input S.BuildHasher S.Hasher.Hasher) self.now now key.now) }
     {
@@ -119,6 +146,10 @@ impl<K: Eq + Hash, V, S: BuildHasher, R: Rules<K, V>> LentState<K, V, S, R> {
     }
 
     /// Inserts a value. A cache of capacity 0 takes none.
+    /// A value that is there already goes, and is told `Replaced`, or `Expired` or `Explicit` where that came before. The new one is visible at once, also above the capacity: maintenance, which comes with this call where it is due, decides what stays. One heavier than its segment's share is let go by a run.
+    /// ```
+    /// cache.insert(7, 49, at)?;
+    /// ```
     pub fn insert(&mut self, key: K, value: V, at: At) -> Result<(), CacheError>
     where
         K: Drop,
@@ -134,6 +165,10 @@ impl<K: Eq + Hash, V, S: BuildHasher, R: Rules<K, V>> LentState<K, V, S, R> {
     }
 
     /// `insert` under what names a key, whose hash is known.
+    /// ```
+    /// let hash = cache.hash(&name);
+    /// cache.insert_with_hash(ClonedKey { key: &name, alloc }, hash, value, at)?;
+    /// ```
     pub fn insert_with_hash<Q: IntoKey<Shared<K>>>(
         &mut self,
         name: Q,
@@ -161,6 +196,10 @@ impl<K: Eq + Hash, V, S: BuildHasher, R: Rules<K, V>> LentState<K, V, S, R> {
     }
 
     /// Removes a key, whether its deadline has come or not, and answers its value.
+    /// The removal is told `Expired` where the deadline has come, else `Explicit`. How often the key was used stays counted.
+    /// ```
+    /// let last = cache.remove(&7, at)?;
+    /// ```
     pub fn remove(&mut self, key: &K, at: At) -> Result<Option<V>, CacheError>
     where
         K: Drop,
@@ -182,6 +221,10 @@ impl<K: Eq + Hash, V, S: BuildHasher, R: Rules<K, V>> LentState<K, V, S, R> {
     }
 
     /// Removes a key, whether its deadline has come or not.
+    /// As `remove`, without a clone of the value.
+    /// ```
+    /// cache.invalidate(&7, at)?;
+    /// ```
     pub fn invalidate(&mut self, key: &K, at: At) -> Result<(), CacheError>
     where
         K: Drop,
@@ -203,6 +246,12 @@ impl<K: Eq + Hash, V, S: BuildHasher, R: Rules<K, V>> LentState<K, V, S, R> {
 
     /// The visible value of a key, of which it is a use, and false; or what `make` makes, and true: a value is then inserted. A visible value of which `replace_if` says yes counts as none.
     /// Closures run before anything changes, and the key is made only where a value is inserted. `make` may be refused for memory, and then so is the call.
+    /// The calls that make a value by their names, as `get_with`, are made of it; selectors are, too.
+    /// ```
+    /// let hash = cache.hash(&7);
+    /// let name = OwnedKey { key: 7, alloc };
+    /// let (made, is_fresh) = cache.coalesce(name, hash, at, |_| false, || Ok(Made::Value(49)))?;
+    /// ```
     pub fn coalesce<
         F: Drop,
         Q: IntoKey<Shared<K>>,
@@ -246,6 +295,15 @@ impl<K: Eq + Hash, V, S: BuildHasher, R: Rules<K, V>> LentState<K, V, S, R> {
 
     /// Lets a closure decide by the visible value of a key what is to be done with it, and does so after the look-up's read. Where the closure fails nothing is done but that read, and its error is answered.
     /// The closure runs before anything changes, and the key is made only where a value is put.
+    /// `and_compute_with` and its kind are made of it.
+    /// ```
+    /// let hash = cache.hash(&7);
+    /// let name = OwnedKey { key: 7, alloc };
+    /// let done = cache.compute(name, hash, at, |seen| match seen {
+    ///     Some(_) => Ok(Op::Remove),
+    ///     None => Err("there is none"),
+    /// })?;
+    /// ```
     pub fn compute<E: Drop, Q: IntoKey<Shared<K>>, D: FnOnce(Option<V>) -> Result<Op<V>, E> + Drop>(
         &mut self,
         name: Q,
@@ -274,6 +332,11 @@ impl<K: Eq + Hash, V, S: BuildHasher, R: Rules<K, V>> LentState<K, V, S, R> {
     }
 
     /// Runs maintenance of each part to its end, after which the counts are exact.
+    /// It removes what has expired or is covered, and then the least useful values until each segment is within its share. Calls do so by themselves where it is due, so a program needs it only for exact counts, or to have notices and memory without further calls.
+    /// ```
+    /// cache.run_pending_tasks(at);
+    /// let exact = cache.entry_count();
+    /// ```
     pub fn run_pending_tasks(&mut self, at: At)
     where
         K: Drop,
@@ -288,6 +351,10 @@ impl<K: Eq + Hash, V, S: BuildHasher, R: Rules<K, V>> LentState<K, V, S, R> {
     }
 
     /// Covers every value that was written at an earlier step. It comes at a later step than any call before.
+    /// The values are invisible at once; runs remove them later, and tell them `Explicit`. It takes no memory and looks at no record.
+    /// ```
+    /// cache.invalidate_all(at);
+    /// ```
     pub fn invalidate_all(&mut self, at: At)
         requires follows { ComesAfter at.now at.step self.old }
         requires rises { self.old.step < at.step }

@@ -4,22 +4,19 @@
 pub use front_access::{
     Access, CompResult, Entry, EntrySelector, OwnedKeyEntrySelector, RefKeyEntrySelector,
 };
-pub use front_builder::{BuildError, CacheBuilder};
+pub use front_builder::{
+    BuildError, CacheBuilder, CacheState, NewSegmentedState, NewState, PlainBuilder, PlainRules,
+    SegmentedState, StdHasher,
+};
 pub use front_iterator::{Iter, ScanningGet};
 pub use front_keys::{ClonedKey, IntoKey, LentKey, OwnedKey, Shared};
 pub use front_reference::{At, CacheError, Computed, Made, Op, OpenTurn, TurnKind, TurnStart};
-pub use front_state::LentState;
+pub use front_state::{LentState, Segmented, Single};
 pub use moka_engine::{
     Bundle, EvictionPolicy, Expiration, ExpirationPolicy, Expiry, Instant, Names, NoExpiry,
     NoPredicate, Notice, Policy, Predicate, PredicateError, RemovalCause, Rules, Settings,
     WeighOne, Weigher,
 };
-
-/// A cache that is lent, of one part.
-pub type CacheState<K, V, S, R> = LentState<K, V, S, R>;
-
-/// A cache that is lent, of several segments. It is the same type: how many segments there are is said where it is built.
-pub type SegmentedState<K, V, S, R> = LentState<K, V, S, R>;
 
 /// Functions whose contracts are laws of what the contracts speak of.
 pub mod laws {

@@ -15,8 +15,8 @@ use front_reference::{At, CacheError, Computed, Made, Op, TurnKind};
 use std::alloc::AllocError;
 use std::hash::{BuildHasher, Hash, Hasher};
 
-impl<K: Eq + Hash + Drop, V: Clone + Drop, S: BuildHasher, R: Rules<K, V>> Access<K, V>
-    for LentState<K, V, S, R> {
+impl<K: Eq + Hash + Drop, V: Clone + Drop, S: BuildHasher, R: Rules<K, V>, C> Access<K, V>
+    for LentState<K, V, S, R, C> {
     ghost use Rattle.front_state.specs.Accessing.{CoalescedIn, ComputedIn, MayCall, SeesIn};
     ghost use Rattle.front_places.specs.Calls.{ways_by};
 
@@ -72,8 +72,12 @@ impl<K: Eq + Hash + Drop, V: Clone + Drop, S: BuildHasher, R: Rules<K, V>> Acces
     }
 }
 
-impl<K: Eq + Hash, V, S: BuildHasher, R: Rules<K, V>> LentState<K, V, S, R> {
+impl<K: Eq + Hash, V, S: BuildHasher, R: Rules<K, V>, C> LentState<K, V, S, R, C> {
     /// A selector of the entry of a key. Of its calls one can be made, which comes at this moment and step.
+    /// ```
+    /// let entry = cache.entry(7, at).or_insert_with(|| 49)?;
+    /// let was_made_now = entry.is_fresh();
+    /// ```
     pub fn entry<'a>(&'a mut self, key: K, at: At) -> OwnedKeyEntrySelector<'a, K, Self, At>
         ensures same_reference { result.owner.ghost_name ≡ self.entry.ghost_name }
         ensures owner { result.owner.now ≡ self.old }
@@ -85,6 +89,12 @@ impl<K: Eq + Hash, V, S: BuildHasher, R: Rules<K, V>> LentState<K, V, S, R> {
     }
 
     /// The same by a key that is lent, which is cloned.
+    /// ```
+    /// let count = cache.entry_by_ref(&name, at)?.and_upsert_with(|seen| match seen {
+    ///     Some(entry) => entry.into_value().saturating_add(1),
+    ///     None => 1,
+    /// })?;
+    /// ```
     pub fn entry_by_ref<'a>(
         &'a mut self,
         key: &K,

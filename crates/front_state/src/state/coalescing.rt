@@ -14,11 +14,17 @@ use crate::state::LentState;
 use engine_rules::Rules;
 use front_keys::{ClonedKey, IntoKey, OwnedKey, Shared};
 use front_reference::{At, CacheError, Made};
-use std::alloc::AllocError;
+use std::alloc::{AllocError, Global};
 use std::hash::{BuildHasher, Hash, Hasher};
 use std::sync::Arc;
 
-impl<K: Eq + Hash + Drop, V: Clone + Drop, S: BuildHasher, R: Rules<K, V>> LentState<K, V, S, R> {
+impl<K: Eq + Hash + Drop, V: Clone + Drop, S: BuildHasher, R: Rules<K, V>, C> LentState<
+    K,
+    V,
+    S,
+    R,
+    C,
+> {
     /// The visible value of a key that is not passed over, or the one that is made.
     fn make_value<Q: IntoKey<Shared<K>>, P: FnOnce(&V) -> bool + Drop, M: FnOnce() -> V + Drop>(
         &mut self,
@@ -42,10 +48,7 @@ impl<K: Eq + Hash + Drop, V: Clone + Drop, S: BuildHasher, R: Rules<K, V>> LentS
             hash,
             at,
             replace_if,
-            || -> Result<Made<V, ()>, AllocError>
-                requires { M.IsAlwaysCallable make }
-                ensures { IfOk result (IsValueOf (M.post make)) }
-            { Ok(Made::Value(make())) },
+            || -> Result<Made<V, ()>, AllocError> { Ok(Made::Value(make())) },
         )?;
         Ok(value_made(made))
     }
@@ -71,18 +74,8 @@ impl<K: Eq + Hash + Drop, V: Clone + Drop, S: BuildHasher, R: Rules<K, V>> LentS
             name,
             hash,
             at,
-            |_: &V| -> bool
-                ensures { result ≡ false }
-            { false },
-            || -> Result<Made<V, ()>, AllocError>
-                requires { M.IsAlwaysCallable make }
-                ensures { IfOk result (IsOptionOf (M.post make)) }
-            {
-                match make() {
-                    Some(value) => Ok(Made::Value(value)),
-                    None => Ok(Made::Nothing),
-                }
-            },
+            |_| false,
+            || -> Result<Made<V, ()>, AllocError> { Ok(made_of_option(make())) },
         )?;
         Ok(option_made(made))
     }
@@ -109,23 +102,17 @@ impl<K: Eq + Hash + Drop, V: Clone + Drop, S: BuildHasher, R: Rules<K, V>> LentS
             name,
             hash,
             at,
-            |_: &V| -> bool
-                ensures { result ≡ false }
-            { false },
-            || -> Result<Made<V, Shared<F>>, AllocError>
-                requires { M.IsAlwaysCallable make }
-                ensures { IfOk result (IsResultOf (M.post make)) }
-            {
-                match make() {
-                    Ok(value) => Ok(Made::Value(value)),
-                    Err(fault) => Ok(Made::Fault(Shared::new(alloc, fault)?)),
-                }
-            },
+            |_| false,
+            || -> Result<Made<V, Shared<F>>, AllocError> { made_of_result(alloc, make()) },
         )?;
         Ok(result_made(made))
     }
 
     /// The visible value of a key, of which it is a use, or the one that `make` makes, which is kept.
+    /// On a cache that is lent no other caller can come between: `make` runs once where nothing is visible, and not at all elsewhere. It runs before anything changes; where memory is refused after it the value is dropped, and the cache is as before.
+    /// ```
+    /// let square = cache.get_with(7, || 49, at)?;
+    /// ```
     pub fn get_with<M: FnOnce() -> V + Drop>(
         &mut self,
         key: K,
@@ -156,6 +143,9 @@ impl<K: Eq + Hash + Drop, V: Clone + Drop, S: BuildHasher, R: Rules<K, V>> LentS
     }
 
     /// The same by a key that is lent, and cloned only where a value is kept.
+    /// ```
+    /// let page = cache.get_with_by_ref(&address, || fetch(&address), at)?;
+    /// ```
     pub fn get_with_by_ref<M: FnOnce() -> V + Drop>(
         &mut self,
         key: &K,
@@ -189,6 +179,10 @@ impl<K: Eq + Hash + Drop, V: Clone + Drop, S: BuildHasher, R: Rules<K, V>> LentS
     }
 
     /// The same as `get_with`, where a visible value of which `replace_if` says yes counts as none.
+    /// `replace_if` is asked of a visible value, once; one that it refuses counts as a miss.
+    /// ```
+    /// let fresh = cache.get_with_if(7, || 50, |old| *old < 50, at)?;
+    /// ```
     pub fn get_with_if<M: FnOnce() -> V + Drop, P: FnOnce(&V) -> bool + Drop>(
         &mut self,
         key: K,
@@ -212,6 +206,10 @@ impl<K: Eq + Hash + Drop, V: Clone + Drop, S: BuildHasher, R: Rules<K, V>> LentS
     }
 
     /// The visible value of a key, of which it is a use, or the one that `make` makes, which is kept, or `None` where it makes none.
+    /// A `None` is not kept: the next call asks `make` anew.
+    /// ```
+    /// let user = cache.optionally_get_with(7, || find_user(7), at)?;
+    /// ```
     pub fn optionally_get_with<M: FnOnce() -> Option<V> + Drop>(
         &mut self,
         key: K,
@@ -234,6 +232,9 @@ impl<K: Eq + Hash + Drop, V: Clone + Drop, S: BuildHasher, R: Rules<K, V>> LentS
     }
 
     /// The same by a key that is lent, and cloned only where a value is kept.
+    /// ```
+    /// let user = cache.optionally_get_with_by_ref(&name, || find_named(&name), at)?;
+    /// ```
     pub fn optionally_get_with_by_ref<M: FnOnce() -> Option<V> + Drop>(
         &mut self,
         key: &K,
@@ -259,6 +260,13 @@ impl<K: Eq + Hash + Drop, V: Clone + Drop, S: BuildHasher, R: Rules<K, V>> LentS
     }
 
     /// The visible value of a key, of which it is a use, or the one that `make` makes, which is kept, or why it could make none.
+    /// A fault is not kept: the next call asks `make` anew. It stands behind an `Arc`, since callers that share a cache get the same one.
+    /// ```
+    /// match cache.try_get_with(7, || read_row(7), at)? {
+    ///     Ok(row) => show(&row),
+    ///     Err(fault) => report(&fault),
+    /// }
+    /// ```
     pub fn try_get_with<F: Drop, M: FnOnce() -> Result<V, F> + Drop>(
         &mut self,
         key: K,
@@ -281,6 +289,9 @@ impl<K: Eq + Hash + Drop, V: Clone + Drop, S: BuildHasher, R: Rules<K, V>> LentS
     }
 
     /// The same by a key that is lent, and cloned only where a value is kept.
+    /// ```
+    /// let row = cache.try_get_with_by_ref(&name, || read_named(&name), at)?;
+    /// ```
     pub fn try_get_with_by_ref<F: Drop, M: FnOnce() -> Result<V, F> + Drop>(
         &mut self,
         key: &K,
@@ -306,6 +317,9 @@ impl<K: Eq + Hash + Drop, V: Clone + Drop, S: BuildHasher, R: Rules<K, V>> LentS
     }
 
     /// The same as `get_with`, under the name that a cache of segments has for it.
+    /// ```
+    /// let square = cache.get_or_insert_with(7, || 49, at)?;
+    /// ```
     pub fn get_or_insert_with<M: FnOnce() -> V + Drop>(
         &mut self,
         key: K,
@@ -323,6 +337,9 @@ impl<K: Eq + Hash + Drop, V: Clone + Drop, S: BuildHasher, R: Rules<K, V>> LentS
     }
 
     /// The same as `try_get_with`, under the name that a cache of segments has for it.
+    /// ```
+    /// let row = cache.get_or_try_insert_with(7, || read_row(7), at)?;
+    /// ```
     pub fn get_or_try_insert_with<F: Drop, M: FnOnce() -> Result<V, F> + Drop>(
         &mut self,
         key: K,
@@ -337,6 +354,29 @@ impl<K: Eq + Hash + Drop, V: Clone + Drop, S: BuildHasher, R: Rules<K, V>> LentS
         ensures cause { IfErr result (IsCauseIn (ways_by R.Rules K.eq K.hash_input S.BuildHasher S.Hasher.Hasher) (λ _. 1) self.old key) }
     {
         self.try_get_with(key, make, at)
+    }
+}
+
+/// What was made, where there may be none.
+fn made_of_option<V>(answer: Option<V>) -> Made<V, ()>
+    ensures { result ≡ made_option answer }
+{
+    match answer {
+        Some(value) => Made::Value(value),
+        None => Made::Nothing,
+    }
+}
+
+/// What was made, or why not.
+fn made_of_result<V: Drop, F: Drop>(
+    alloc: Global,
+    answer: Result<V, F>,
+) -> Result<Made<V, Shared<F>>, AllocError>
+    ensures { IfOk result (λ made. made ≡ made_result answer) }
+{
+    match answer {
+        Ok(value) => Ok(Made::Value(value)),
+        Err(fault) => Ok(Made::Fault(Shared::new(alloc, fault)?)),
     }
 }
 

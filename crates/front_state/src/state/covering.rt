@@ -1,11 +1,10 @@
 //! Calls on all parts of a cache: predicates, notices, the iterator; and the part of a key.
 ghost use Rattle.std.specs.Prelude.{◌≡◌, ◌<◌, ℕ, true, IfOk, IfErr, OnOk, OnErr, length};
 ghost use Rattle.std.specs.String.{string_bytes};
-ghost use Rattle.engine_reference.specs.Asking.{answers_of};
 ghost use Rattle.front_reference.specs.Fronts.{ComesAfter, part_of};
-ghost use Rattle.front_reference.specs.Wholes.{HasGiven, next_told, without_told};
+ghost use Rattle.front_reference.specs.Wholes.{next_told, without_told};
 ghost use Rattle.front_places.specs.Calls.{IsSteadyBy, hash_in, visible_in, ways_by};
-ghost use Rattle.front_state.specs.Covering.{CoversAll, IsCauseToCover, keys_in};
+ghost use Rattle.front_state.specs.Covering.{CoversAll, GivesVisible, IsCauseToCover, keys_in};
 ghost use Rattle.front_wholes.specs.Covering.{id_text};
 
 use crate::state::LentState;
@@ -21,8 +20,11 @@ use rand_core::Rng;
 use std::alloc::AllocError;
 use std::hash::{BuildHasher, Hash, Hasher};
 
-impl<K: Eq + Hash, V, S: BuildHasher, R: Rules<K, V>> LentState<K, V, S, R> {
+impl<K: Eq + Hash, V, S: BuildHasher, R: Rules<K, V>, C> LentState<K, V, S, R, C> {
     /// The part that a key belongs to, by the upper bits of its hash.
+    /// ```
+    /// let segment = cache.part(&7);
+    /// ```
     pub fn part(&self, key: &K) -> usize
         ensures part { result ≡ part_of self.now.bits (hash_in (ways_by R.Rules K.eq K.hash_input S.BuildHasher S.Hasher.Hasher) self.now key.now) }
         ensures within { result < length self.now.parts }
@@ -32,6 +34,9 @@ impl<K: Eq + Hash, V, S: BuildHasher, R: Rules<K, V>> LentState<K, V, S, R> {
     }
 
     /// Does nothing. What a cache keeps between its calls, for those whose own laws rest on it.
+    /// ```
+    /// cache.keeps();
+    /// ```
     pub fn keeps(&self)
         ensures { ∥ IsSteadyBy (ways_by R.Rules K.eq K.hash_input S.BuildHasher S.Hasher.Hasher) self.now ∥₁ }
     {
@@ -39,6 +44,12 @@ impl<K: Eq + Hash, V, S: BuildHasher, R: Rules<K, V>> LentState<K, V, S, R> {
     }
 
     /// Takes the oldest notice of the first part that has one.
+    /// Only a cache whose builder was told `eviction_listener` has any. A removal is told when it happens, which for expired, covered and evicted values is at a run, so later than they became invisible. Notices wait until they are taken.
+    /// ```
+    /// while let Some(notice) = cache.next_notice() {
+    ///     log(&notice.key, notice.cause);
+    /// }
+    /// ```
     pub fn next_notice(&mut self) -> Option<Notice<Shared<K>, V>>
         ensures notice { result ≡ next_told self.old.parts }
         ensures taken { self.new ≡ record self.old { parts = without_told self.old.parts } }
@@ -76,6 +87,9 @@ impl<K: Eq + Hash, V, S: BuildHasher, R: Rules<K, V>> LentState<K, V, S, R> {
 
     /// Covers the values of earlier steps of which a predicate says yes, in all parts or, where it is refused, in none. It comes at a later step than any call before. An identifier is drawn for each part, and that of the first one is answered, in its hyphenated form of 36 bytes in lower case.
     /// Only a cache that was made to take predicates takes one. A refusal for want of memory or of tickets draws nothing.
+    /// ```
+    /// let id = cache.invalidate_entries_if(OlderThan(30), &mut generator, at)?;
+    /// ```
     pub fn invalidate_entries_if<G: Rng>(
         &mut self,
         predicate: R::Predicate,
@@ -99,6 +113,9 @@ impl<K: Eq + Hash, V, S: BuildHasher, R: Rules<K, V>> LentState<K, V, S, R> {
     }
 
     /// `invalidate_entries_if` without an identifier, as several segments have it.
+    /// ```
+    /// cache.invalidate_segments_if(OlderThan(30), &mut generator, at)?;
+    /// ```
     pub fn invalidate_segments_if<G: Rng>(
         &mut self,
         predicate: R::Predicate,
@@ -120,8 +137,8 @@ impl<K: Eq + Hash, V, S: BuildHasher, R: Rules<K, V>> LentState<K, V, S, R> {
     }
 }
 
-impl<K: Eq + Hash + Drop, V: Clone, S: BuildHasher, R: Rules<K, V>> ScanningGet<Shared<K>, V>
-    for LentState<K, V, S, R> {
+impl<K: Eq + Hash + Drop, V: Clone, S: BuildHasher, R: Rules<K, V>, C> ScanningGet<Shared<K>, V>
+    for LentState<K, V, S, R, C> {
     ghost segments = { λ f. length f.parts };
 
     ghost keys_in = { keys_in };
@@ -146,12 +163,19 @@ impl<K: Eq + Hash + Drop, V: Clone, S: BuildHasher, R: Rules<K, V>> ScanningGet<
     }
 }
 
-impl<K: Eq + Hash + Drop, V: Clone, S: BuildHasher, R: Rules<K, V>> LentState<K, V, S, R> {
+impl<K: Eq + Hash + Drop, V: Clone, S: BuildHasher, R: Rules<K, V>, C> LentState<K, V, S, R, C> {
     /// An iterator over what is visible at a moment: each key once, with a clone of its value. It takes no memory, its items do; no item is a use.
-    pub fn iter(&self, now: Instant) -> Iter<'_, Shared<K>, V, LentState<K, V, S, R>>
+    /// Keys of one segment are cloned at a time, so the order is open and no value is given that went before its turn.
+    /// ```
+    /// for pair in cache.iter(now) {
+    ///     let (key, value) = pair?;
+    ///     show(&key, value);
+    /// }
+    /// ```
+    pub fn iter(&self, now: Instant) -> Iter<'_, Shared<K>, V, LentState<K, V, S, R, C>>
         ensures source { result.source ≡ self.now }
         ensures now { result.now ≡ now }
-        ensures coming { HasGiven (answers_of R.weight_of R.created R.read R.updated R.covers) K.eq (λ key. hash_in (ways_by R.Rules K.eq K.hash_input S.BuildHasher S.Hasher.Hasher) self.now key) now self.now (length self.now.parts) result.coming }
+        ensures coming { GivesVisible (ways_by R.Rules K.eq K.hash_input S.BuildHasher S.Hasher.Hasher) now self.now result.coming }
     {
         Iter::new(self.alloc, self, now)
     }

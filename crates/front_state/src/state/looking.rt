@@ -11,8 +11,11 @@ use front_places::{count_visible, hash_key, note_at, peek_at, place_of};
 use policy_base::Instant;
 use std::hash::{BuildHasher, Hash, Hasher};
 
-impl<K: Eq + Hash, V, S: BuildHasher, R: Rules<K, V>> LentState<K, V, S, R> {
+impl<K: Eq + Hash, V, S: BuildHasher, R: Rules<K, V>, C> LentState<K, V, S, R, C> {
     /// The visible value of a key, lent. It is no use of it.
+    /// ```
+    /// let length = cache.peek(&7, now).map(|text| text.len());
+    /// ```
     pub fn peek(&self, key: &K, now: Instant) -> Option<&V>
         ensures { option_map (λ value. value.now) result ≡ visible_in (ways_by R.Rules K.eq K.hash_input S.BuildHasher S.Hasher.Hasher) self.now now key.now }
     {
@@ -22,6 +25,9 @@ impl<K: Eq + Hash, V, S: BuildHasher, R: Rules<K, V>> LentState<K, V, S, R> {
     }
 
     /// How many keys have a visible value, up to 2^64 - 1. It is no use of any; it takes no memory, and looks at every record.
+    /// ```
+    /// let number = cache.count_visible(now);
+    /// ```
     pub fn count_visible(&self, now: Instant) -> usize
         ensures { result ≡ visible_number (answers_of R.weight_of R.created R.read R.updated R.covers) K.eq now self.now.parts }
     {
@@ -29,6 +35,9 @@ impl<K: Eq + Hash, V, S: BuildHasher, R: Rules<K, V>> LentState<K, V, S, R> {
     }
 
     /// A look-up whose value is not asked for: a use of what is visible, and else a miss that is counted. The step stays as it was.
+    /// ```
+    /// cache.touch(&7, now);
+    /// ```
     pub fn touch(&mut self, key: &K, now: Instant)
     where
         K: Drop,

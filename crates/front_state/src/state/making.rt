@@ -11,15 +11,21 @@ use front_places::{for_part, new_parts};
 use policy_base::Instant;
 use std::alloc::{AllocError, Global};
 use std::hash::{BuildHasher, Hash};
+use std::marker::PhantomData;
 
-impl<K: Eq + Hash + Drop, V: Drop, S: BuildHasher + Drop, R: Rules<K, V> + Drop> LentState<
+impl<K: Eq + Hash + Drop, V: Drop, S: BuildHasher + Drop, R: Rules<K, V> + Drop, C> LentState<
     K,
     V,
     S,
     R,
+    C,
 > {
     /// A cache of 2^bits parts, at most 2^16, that holds nothing. The capacity of its settings is that of all parts together, of which each gets its share; there is room for so many entries in all.
-    pub fn new(
+    /// `CacheBuilder` makes its arguments, and tests them.
+    /// ```
+    /// let cache: CacheState<u64, u64> = LentState::with_parts(alloc, None, 2, 0, settings, hasher, rules)?;
+    /// ```
+    pub fn with_parts(
         alloc: Global,
         name: Option<String>,
         bits: u32,
@@ -52,6 +58,7 @@ impl<K: Eq + Hash + Drop, V: Drop, S: BuildHasher + Drop, R: Rules<K, V> + Drop>
             next_turn: 0,
             moment: Instant::from_nanos(settings.made),
             step: 0,
+            form: PhantomData,
         })
     }
 }

@@ -11,8 +11,11 @@ use front_reference::At;
 use std::hash::{BuildHasher, Hash};
 use std::time::Duration;
 
-impl<K: Eq + Hash, V, S: BuildHasher, R: Rules<K, V>> LentState<K, V, S, R> {
+impl<K: Eq + Hash, V, S: BuildHasher, R: Rules<K, V>, C> LentState<K, V, S, R, C> {
     /// What the cache is called, if it was given a name.
+    /// ```
+    /// let title = cache.name().unwrap_or("a cache");
+    /// ```
     pub fn name(&self) -> Option<&str>
         ensures { option_map (λ text. text.now) result ≡ self.now.name }
     {
@@ -23,6 +26,9 @@ impl<K: Eq + Hash, V, S: BuildHasher, R: Rules<K, V>> LentState<K, V, S, R> {
     }
 
     /// The wanted capacity, the number of parts, and the times that the cache was made with, up to the last moment that there is.
+    /// ```
+    /// let capacity = cache.policy().max_capacity();
+    /// ```
     pub fn policy(&self) -> Policy
         ensures { ShowsPolicy self.now result }
     {
@@ -35,6 +41,11 @@ impl<K: Eq + Hash, V, S: BuildHasher, R: Rules<K, V>> LentState<K, V, S, R> {
     }
 
     /// How many entries there are, as of the last run of each part, up to 2^64 - 1.
+    /// Writes and removals since then are not counted yet, and expired values still are: after `run_pending_tasks` the number is exact. `count_visible` counts what is visible now.
+    /// ```
+    /// cache.run_pending_tasks(at);
+    /// let number = cache.entry_count();
+    /// ```
     pub fn entry_count(&self) -> u64
         ensures { result ≡ total_number self.now }
     {
@@ -42,6 +53,11 @@ impl<K: Eq + Hash, V, S: BuildHasher, R: Rules<K, V>> LentState<K, V, S, R> {
     }
 
     /// What they weigh, as of the last run of each part, up to 2^64 - 1.
+    /// It is as approximate as `entry_count`.
+    /// ```
+    /// cache.run_pending_tasks(at);
+    /// let weight = cache.weighted_size();
+    /// ```
     pub fn weighted_size(&self) -> u64
         ensures { result ≡ total_weight self.now }
     {
@@ -49,6 +65,10 @@ impl<K: Eq + Hash, V, S: BuildHasher, R: Rules<K, V>> LentState<K, V, S, R> {
     }
 
     /// The moment and the step of the last call. The next one comes at no earlier moment and step, and at a later step where it covers what was written before.
+    /// ```
+    /// let last = cache.last_call();
+    /// let at = At { now: clock.max(last.now), step: last.step.checked_add(1)? };
+    /// ```
     pub fn last_call(&self) -> At
         ensures now { result.now ≡ self.now.moment }
         ensures step { result.step ≡ self.now.step }

@@ -10,11 +10,12 @@ use front_reference::CacheError;
 use std::fmt;
 use std::hash::{BuildHasher, Hash};
 
-impl<K: Eq + Hash + fmt::Debug + Drop, V: fmt::Debug, S: BuildHasher, R: Rules<K, V>> LentState<
+impl<K: Eq + Hash + fmt::Debug + Drop, V: fmt::Debug, S: BuildHasher, R: Rules<K, V>, C> LentState<
     K,
     V,
     S,
     R,
+    C,
 > {
     /// Prints what is visible in the part at a place. It fails where there is no memory for its keys.
     fn print_part<W: fmt::Write>(
@@ -35,8 +36,8 @@ impl<K: Eq + Hash + fmt::Debug + Drop, V: fmt::Debug, S: BuildHasher, R: Rules<K
 }
 
 /// A map of the keys and values that were visible at the moment of the last call. To print is no use of any; it fails where there is no memory for the keys.
-impl<K: Eq + Hash + fmt::Debug + Drop, V: fmt::Debug, S: BuildHasher, R: Rules<K, V>> fmt::Debug
-    for LentState<K, V, S, R> {
+impl<K: Eq + Hash + fmt::Debug + Drop, V: fmt::Debug, S: BuildHasher, R: Rules<K, V>, C> fmt::Debug
+    for LentState<K, V, S, R, C> {
     fn fmt<W: fmt::Write>(&self, f: &mut fmt::Formatter<W>) -> fmt::Result {
         let mut entries = f.debug_map();
         for place in 0..self.parts.len() {
@@ -47,21 +48,20 @@ impl<K: Eq + Hash + fmt::Debug + Drop, V: fmt::Debug, S: BuildHasher, R: Rules<K
 }
 
 /// What was visible at the moment of the last call, as `iter` gives it.
-impl<'a, K: Eq + Hash + Drop, V: Clone + Drop, S: BuildHasher, R: Rules<K, V>> IntoIterator
-    for &'a LentState<K, V, S, R> {
-    ghost use Rattle.std.specs.Prelude.{◌≡◌, length};
-    ghost use Rattle.engine_reference.specs.Asking.{answers_of};
-    ghost use Rattle.front_places.specs.Calls.{hash_in, ways_by};
-    ghost use Rattle.front_reference.specs.Wholes.{HasGiven};
+impl<'a, K: Eq + Hash + Drop, V: Clone + Drop, S: BuildHasher, R: Rules<K, V>, C> IntoIterator
+    for &'a LentState<K, V, S, R, C> {
+    ghost use Rattle.std.specs.Prelude.{◌≡◌};
+    ghost use Rattle.front_places.specs.Calls.{ways_by};
+    ghost use Rattle.front_state.specs.Covering.{GivesVisible};
 
     type Item = Result<(Shared<K>, V), CacheError>;
 
-    type IntoIter = Iter<'a, Shared<K>, V, LentState<K, V, S, R>>;
+    type IntoIter = Iter<'a, Shared<K>, V, LentState<K, V, S, R, C>>;
 
     ghost into_iter_gives = { λ f it. (it.source ≡ f.now) × (it.now ≡ f.now.moment)
-        × HasGiven (answers_of R.weight_of R.created R.read R.updated R.covers) K.eq (λ key. hash_in (ways_by R.Rules K.eq K.hash_input S.BuildHasher S.Hasher.Hasher) f.now key) f.now.moment f.now (length f.now.parts) it.coming };
+        × GivesVisible (ways_by R.Rules K.eq K.hash_input S.BuildHasher S.Hasher.Hasher) f.now.moment f.now it.coming };
 
-    fn into_iter(self) -> Iter<'a, Shared<K>, V, LentState<K, V, S, R>> {
+    fn into_iter(self) -> Iter<'a, Shared<K>, V, LentState<K, V, S, R, C>> {
         self.iter(self.last_call().now)
     }
 }

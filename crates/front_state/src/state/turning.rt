@@ -23,8 +23,13 @@ use policy_base::Instant;
 use std::alloc::AllocError;
 use std::hash::{BuildHasher, Hash, Hasher};
 
-impl<K: Eq + Hash, V, S: BuildHasher, R: Rules<K, V>> LentState<K, V, S, R> {
+impl<K: Eq + Hash, V, S: BuildHasher, R: Rules<K, V>, C> LentState<K, V, S, R, C> {
     /// Whether no turn of a kind and a key is under way.
+    /// ```
+    /// if cache.is_turn_free(TurnKind::With, &7) {
+    ///     let value = cache.get_with(7, || 49, at)?;
+    /// }
+    /// ```
     pub fn is_turn_free(&self, kind: TurnKind, key: &K) -> bool
         ensures { result ≡ is_none (turn_of K.eq self.now.turns kind key.now) }
     {
@@ -140,6 +145,13 @@ impl<K: Eq + Hash, V, S: BuildHasher, R: Rules<K, V>> LentState<K, V, S, R> {
 
     /// Begins a call that makes a value: the visible value, of which it is a use; or the turn of this kind and key that is under way; or a new one, which the caller leads. A visible value of which `replace_if` says yes counts as none.
     /// The key is made only where a turn begins.
+    /// ```
+    /// match cache.begin(TurnKind::With, OwnedKey { key: 7, alloc }, hash, at, |_| false)? {
+    ///     TurnStart::Found(value) => show(value),
+    ///     TurnStart::Wait(turn) => wait_for(turn),
+    ///     TurnStart::Lead(turn) => load(turn),
+    /// }
+    /// ```
     pub fn begin<Q: IntoKey<Shared<K>>, P: FnOnce(&V) -> bool + Drop>(
         &mut self,
         kind: TurnKind,
@@ -209,6 +221,9 @@ impl<K: Eq + Hash, V, S: BuildHasher, R: Rules<K, V>> LentState<K, V, S, R> {
     }
 
     /// Begins a compute call, which looks nothing up: the turn of this key that is under way, or a new one, which the caller leads.
+    /// ```
+    /// let start = cache.begin_compute(OwnedKey { key: 7, alloc }, hash, at)?;
+    /// ```
     pub fn begin_compute<Q: IntoKey<Shared<K>>>(
         &mut self,
         name: Q,
@@ -261,6 +276,9 @@ impl<K: Eq + Hash, V, S: BuildHasher, R: Rules<K, V>> LentState<K, V, S, R> {
     }
 
     /// Gives up a turn. Only a number under which no turn is under way is refused.
+    /// ```
+    /// cache.abandon(turn, at)?;
+    /// ```
     pub fn abandon(&mut self, number: u64, at: At) -> Result<(), CacheError>
     where
         K: Drop,
@@ -318,6 +336,13 @@ impl<K: Eq + Hash, V, S: BuildHasher, R: Rules<K, V>> LentState<K, V, S, R> {
     }
 
     /// Ends a turn with what was made: a value is inserted under its key, whatever happened to the key meanwhile; what is no value changes nothing else. Where it is refused the outcome is handed back, and a turn that is under way stays so.
+    /// ```
+    /// let made: Made<u64, ()> = Made::Value(49);
+    /// match cache.finish(turn, made, at) {
+    ///     Ok(()) => Ok(()),
+    ///     Err((refused, made)) => keep_for_later(turn, made, refused),
+    /// }
+    /// ```
     pub fn finish<F: Drop>(
         &mut self,
         number: u64,

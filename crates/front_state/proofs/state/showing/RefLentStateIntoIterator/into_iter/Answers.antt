@@ -1,7 +1,6 @@
-use Rattle.std.proofs.Common.{◌≡◌, ◌∙◌, subst, length}
-use Rattle.engine_reference.specs.Asking.{answers_of}
-use Rattle.front_places.specs.Calls.{hash_in, ways_by}
-use Rattle.front_reference.specs.Wholes.{HasGiven}
+use Rattle.std.proofs.Common.{◌∙◌, subst}
+use Rattle.front_places.specs.Calls.{ways_by}
+use Rattle.front_state.specs.Covering.{GivesVisible}
 use Rattle.front_state.proofs.state.showing.RefLentStateIntoIterator.into_iter.Goals as goal
 
 pub returns : goal.returns
@@ -9,6 +8,6 @@ returns g c = record {
   into_iter_gives = (
     c.iter.ensures.source,
     c.iter.ensures.now ∙ c.last_call.ensures.now,
-    subst (λ n. HasGiven (answers_of g.R.Rules.weight_of g.R.Rules.created g.R.Rules.read g.R.Rules.updated g.R.Rules.covers) g.K.PartialEq.eq (λ key. hash_in (ways_by g.R.Rules g.K.PartialEq.eq g.K.Hash.hash_input g.S.BuildHasher g.S.Hasher.Hasher) c.args.self.now key) n c.args.self.now (length c.args.self.now.parts) c.iter.result.coming) c.last_call.ensures.now c.iter.ensures.coming,
+    subst (λ now. GivesVisible (ways_by g.R.Rules g.K.PartialEq.eq g.K.Hash.hash_input g.S.BuildHasher g.S.Hasher.Hasher) now c.args.self.now c.iter.result.coming) c.last_call.ensures.now c.iter.ensures.coming,
   );
 }

@@ -4,7 +4,7 @@ use Rattle.engine_reference.specs.declared.data.Settings.{Settings}
 use Rattle.front_reference.specs.Fronts.{share_of}
 use Rattle.front_places.specs.Calls.{ways_by}
 use Rattle.front_places.proofs.Newness.{new_steady}
-use Rattle.front_state.proofs.state.LentState.new.Goals as goal
+use Rattle.front_state.proofs.state.LentState.with_parts.Goals as goal
 
 pub invariant_of-result : goal.invariant_of-result
 invariant_of-result g c =
