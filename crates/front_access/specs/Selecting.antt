@@ -6,17 +6,22 @@ use Rattle.front_reference.specs.declared.data.Made.TheVariants.{Value, Nothing,
 use Rattle.front_reference.specs.declared.data.Op.{Op}
 use Rattle.front_reference.specs.declared.data.Op.TheVariants.{Put}
 use Rattle.front_reference.specs.declared.data.TurnKind.{TurnKind}
-use Rattle.front_reference.specs.declared.data.TurnKind.TheVariants.{Optionally}
+use Rattle.front_reference.specs.declared.data.TurnKind.TheVariants.{Optionally, With}
 use Rattle.front_access.specs.declared.entry.CompResult.{CompResult}
 use Rattle.front_access.specs.declared.entry.Entry.{Entry}
 use Rattle.front_access.specs.declared.selector.EntrySelector.{EntrySelector}
-use Rattle.front_access.specs.Answering.{IsCoalesced, IsComputed, Suits}
+use Rattle.front_access.specs.Answering.{IsCoalesced, IsComputed, IsValueOf, Suits}
 use Rattle.front_access.specs.Entries.{entry_in, entry_with, result_shown}
 
 -- a coalesced call of the selected key
 abbrev pub Selects : {C W K V F : Type 0} → (C → W → K → Option V → Type 0) → (C → W → Option TurnKind → K → Bool → Made V F → Bool → C → Type 0)
     → Option TurnKind → EntrySelector K C W → C → (V → Bool → Type 0) → (Made V F → Type 0) → Made V F → Bool → Type 0
 Selects sees coalesced kind s new Ignores Makes answer is_fresh = IsCoalesced sees coalesced kind s.when s.key s.owner.now new Ignores Makes answer is_fresh
+
+-- a call of the selected key that is coalesced and always makes a value, and its entry
+abbrev pub SelectsValue : {C W K V F : Type 0} → (C → W → K → Option V → Type 0) → (C → W → Option TurnKind → K → Bool → Made V F → Bool → C → Type 0)
+    → EntrySelector K C W → C → (V → Bool → Type 0) → (V → Type 0) → Entry K V → Type 0
+SelectsValue sees coalesced s new Ignores Makes e = Selects sees coalesced (Some With) s new Ignores (IsValueOf Makes) (Value e.value) e.is_fresh
 
 module _ {K V F : Type 0} where
   -- the entry of what was answered, where it is a value

@@ -10,7 +10,7 @@ ghost use Rattle.front_reference.specs.declared.data.Op.TheVariants as op;
 ghost use Rattle.front_reference.specs.declared.data.TurnKind.TheVariants as turns;
 ghost use Rattle.front_access.specs.Answering.{Suits, passes_none, IsValueOf, IsOptionOf, IsResultOf};
 ghost use Rattle.front_access.specs.Entries.{entry_with, seen_entry, result_shown};
-ghost use Rattle.front_access.specs.Selecting.{Selects, ComputesEntry, GivesOption, GivesResult, IsResultShown, DecidesAlways, PutsEntry, option_shown, with_fault};
+ghost use Rattle.front_access.specs.Selecting.{Selects, SelectsValue, ComputesEntry, GivesOption, GivesResult, IsResultShown, DecidesAlways, PutsEntry, option_shown, with_fault};
 
 use crate::access::Access;
 use crate::entry::{CompResult, Entry};
@@ -103,7 +103,7 @@ impl<'a, K, A, W: Copy> EntrySelector<'a, K, A, W> {
         requires exact { (x y : V) → V.is_clone x y → y ≡ x }
         requires free { A.may_call self.owner.now self.when (Some turns.With) self.key }
         requires callable { M.IsAlwaysCallable make }
-        ensures entry { IfOk result (λ e. Selects A.sees A.coalesced (Some turns.With) self.entry self.exit.0.now passes_none (IsValueOf (M.post make)) (outcome.Value e.value) e.is_fresh) }
+        ensures entry { IfOk result (SelectsValue A.sees A.coalesced self.entry self.exit.0.now passes_none (M.post make)) }
         ensures shown { IfOk result (λ e. e ≡ entry_with self.entry.key e.value e.is_fresh false) }
         ensures err { OnErr result (self.exit.0.now ≡ self.entry.owner.now) }
     {
@@ -131,7 +131,7 @@ impl<'a, K, A, W: Copy> EntrySelector<'a, K, A, W> {
         requires exact { (x y : V) → V.is_clone x y → y ≡ x }
         requires free { A.may_call self.owner.now self.when (Some turns.With) self.key }
         requires callable { P.IsAlwaysCallable replace_if × M.IsAlwaysCallable make }
-        ensures entry { IfOk result (λ e. Selects A.sees A.coalesced (Some turns.With) self.entry self.exit.0.now (FnOnceReturnsAt P.FnOnce replace_if) (IsValueOf (M.post make)) (outcome.Value e.value) e.is_fresh) }
+        ensures entry { IfOk result (SelectsValue A.sees A.coalesced self.entry self.exit.0.now (FnOnceReturnsAt P.FnOnce replace_if) (M.post make)) }
         ensures shown { IfOk result (λ e. e ≡ entry_with self.entry.key e.value e.is_fresh false) }
         ensures err { OnErr result (self.exit.0.now ≡ self.entry.owner.now) }
     {

@@ -58,6 +58,10 @@ module _ {K V : Type 0} where
   abbrev pub TakesLast : Source K V → Option (K × V) → (old new : List K) → Type 0
   TakesLast source found old new = TakesFirst found (pairs_back source old) (pairs_back source new)
 
+  -- none of them is taken
+  abbrev pub LeavesPairs : Source K V → (old new : List K) → Type 0
+  LeavesPairs source old new = pairs_back source new ≡ pairs_back source old
+
   -- the same, of all pairs that are still to come of such keys and of the segments from a place on
   abbrev pub TakesComing : Source K V → Option (K × V) → (old : List K) → (old_place : ℕ) → (new : List K) → (new_place : ℕ) → Type 0
   TakesComing source found old old_place new new_place = TakesFirst found (coming_of source old old_place) (coming_of source new new_place)

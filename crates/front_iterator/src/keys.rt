@@ -1,6 +1,6 @@
 //! Keys that are tried one after another.
 ghost use Rattle.std.specs.Prelude.{◌≡◌, ◌+◌, ◌<◌, IfOk, OnOk, OnErr, length, reverse};
-ghost use Rattle.front_iterator.specs.Coming.{LeavesComing, LeavesKeys, TakesComing, TakesLast, TriesLast, pairs_back, source_at};
+ghost use Rattle.front_iterator.specs.Coming.{LeavesComing, LeavesKeys, LeavesPairs, TakesComing, TakesLast, TriesLast, source_at};
 
 use crate::scanning::ScanningGet;
 use policy_base::Instant;
@@ -39,7 +39,7 @@ fn take_last<K: Drop, V, C: ScanningGet<K, V>>(
     requires { C.can_scan source.now }
     ensures found { IfOk result (λ found. TakesLast (source_at C.segments C.keys_in C.value_of source.now now) found keys.old.items keys.new.items) }
     ensures left { IfOk result (λ found. LeavesKeys found keys.new.items) }
-    ensures err { OnErr result (pairs_back (source_at C.segments C.keys_in C.value_of source.now now) keys.new.items ≡ pairs_back (source_at C.segments C.keys_in C.value_of source.now now) keys.old.items) }
+    ensures err { OnErr result (LeavesPairs (source_at C.segments C.keys_in C.value_of source.now now) keys.old.items keys.new.items) }
 {
     while !keys.is_empty() {
         match try_last(source, now, keys)? {

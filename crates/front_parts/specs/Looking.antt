@@ -1,13 +1,21 @@
 -- A look-up with an operation after it, and what that did.
 use Rattle.std.specs.Prelude.{◌≡◌, ℕ, Bool, false, Option, Some, Result, Ok}
 use Rattle.engine_reference.specs.State.{State, Answers}
+use Rattle.engine_reference.specs.Records.{held_entries}
+use Rattle.engine_reference.specs.Telling.{AreApart}
 use Rattle.engine_reference.specs.Visible.{visible_value}
 use Rattle.front_reference.specs.declared.data.At.{At}
 use Rattle.front_reference.specs.declared.data.Computed.{Computed}
 use Rattle.front_reference.specs.declared.data.Made.{Made}
 use Rattle.front_reference.specs.declared.data.Op.{Op}
 use Rattle.front_reference.specs.declared.data.Op.TheVariants as op
-use Rattle.front_reference.specs.Parts.{Acts, Coalesces, computed_as, held_value}
+use Rattle.front_reference.specs.Parts.{Acts, Coalesces, IsReady, computed_as, held_value}
+
+-- a call on a key may come to a part, which is as parts are between calls
+pub record IsOpen {K V P S R : Type 0} (eq : K → K → Bool) (hash_by : S → K → ℕ) (key : K) (hash : ℕ) (s : State K V P S R) : Type 0 where
+  pub hashed : hash ≡ hash_by s.hasher key
+  pub ready : IsReady s
+  pub apart : AreApart eq (held_entries s.records)
 
 module _ {K V P S R : Type 0} (answers : Answers K V P R) where
   -- the visible value of a key, if there is one, is asked about

@@ -9,7 +9,7 @@ ghost use Rattle.engine_reference.specs.Asking.{answers_of};
 ghost use Rattle.engine_rules.specs.Hashing.{hash_of_key};
 ghost use Rattle.front_reference.specs.Parts.{IsCause, IsReady, Computes, computed_as};
 ghost use Rattle.front_reference.specs.declared.data.Op.TheVariants as op;
-ghost use Rattle.front_parts.specs.Looking.{OperatesAfterLook, RemovesAfterLook};
+ghost use Rattle.front_parts.specs.Looking.{IsOpen, OperatesAfterLook, RemovesAfterLook};
 
 use crate::coalesced::{note, note_and_insert};
 use crate::removals::{clone_shown, prepare, take_out};
@@ -60,12 +60,10 @@ fn operate<
     at: At,
     was_seen: bool,
 ) -> Result<Computed<V>, CacheError>
-    requires hashed { hash ≡ hash_of_key S.Hasher.finish S.Hasher.write S.build_hasher K.hash_input part.old.hasher (Q.named_key name) }
+    requires open { IsOpen K.eq (hash_of_key S.Hasher.finish S.Hasher.write S.build_hasher K.hash_input) (Q.named_key name) hash part.old }
     requires becomes { Q.can_become name }
     requires exact_key { (x y : K) → K.is_clone x y → y ≡ x }
     requires exact { (x y : V) → V.is_clone x y → y ≡ x }
-    requires ready { IsReady part.old }
-    requires apart { AreApart K.eq (held_entries part.old.records) }
     requires seen { was_seen ≡ is_some (visible_value (answers_of R.weight_of R.created R.read R.updated R.covers) K.eq part.old at.now (Q.named_key name)) }
     ensures operates { IfOk result (λ done. OperatesAfterLook (answers_of R.weight_of R.created R.read R.updated R.covers) K.eq (Q.named_key name) hash at.now at.step does part.old part.new done) }
     ensures err { OnErr result (part.new ≡ part.old) }
@@ -138,13 +136,11 @@ pub fn compute<
     at: At,
     decide: D,
 ) -> Result<Result<Computed<V>, E>, CacheError>
-    requires hashed { hash ≡ hash_of_key S.Hasher.finish S.Hasher.write S.build_hasher K.hash_input part.old.hasher (Q.named_key name) }
+    requires open { IsOpen K.eq (hash_of_key S.Hasher.finish S.Hasher.write S.build_hasher K.hash_input) (Q.named_key name) hash part.old }
     requires becomes { Q.can_become name }
     requires exact_key { (x y : K) → K.is_clone x y → y ≡ x }
     requires exact { (x y : V) → V.is_clone x y → y ≡ x }
     requires decides { D.IsAlwaysCallable decide }
-    requires ready { IsReady part.old }
-    requires apart { AreApart K.eq (held_entries part.old.records) }
     ensures computes { IfOk result (Computes (answers_of R.weight_of R.created R.read R.updated R.covers) K.eq (Q.named_key name) hash at.now at.step (D.post decide) part.old part.new) }
     ensures err { OnErr result (part.new ≡ part.old) }
     ensures cause { IfErr result (IsCause (removal_rooms part.old.settings) part.old) }

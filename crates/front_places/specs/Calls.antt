@@ -65,6 +65,10 @@ module _ {K V P S R : Type 0} (ways : Ways K V P S R) where
   abbrev pub AsksOf : Option (State K V P S R) → (now : ℕ) → K → (Ignores : V → Bool → Type 0) → (ignored : Bool) → Type 0
   AsksOf o now key Ignores ignored = (value : V) → visible_of o now key ≡ Some value → Ignores value ignored
 
+  -- the same, as the first of two answers
+  abbrev pub IsAskedFirst : Option (State K V P S R) → (now : ℕ) → K → (Ignores : V → Bool → Type 0) → Bool × Option V → Type 0
+  IsAskedFirst o now key Ignores answer = AsksOf o now key Ignores answer.0
+
   -- what is visible of it and not passed over
   abbrev pub seen_of : Option (State K V P S R) → (now : ℕ) → K → (ignored : Bool) → Option V
   seen_of o now key ignored = past ignored (visible_of o now key)

@@ -6,7 +6,7 @@ ghost use Rattle.engine_reference.specs.Scanning.{NotesLookUp};
 ghost use Rattle.engine_reference.specs.Asking.{answers_of};
 ghost use Rattle.front_reference.specs.Parts.{Inserts, TakesOut};
 ghost use Rattle.front_reference.specs.Fronts.{CallsAt};
-ghost use Rattle.front_places.specs.Calls.{AsksOf, CoalescesAt, ComputesAt, IsCauseOf, IsOpenAt, seen_of, visible_of, held_of, ways_by};
+ghost use Rattle.front_places.specs.Calls.{CoalescesAt, ComputesAt, IsAskedFirst, IsCauseOf, IsOpenAt, seen_of, visible_of, held_of, ways_by};
 
 use engine_rules::{Names, Rules};
 use front_keys::IntoKey;
@@ -216,7 +216,7 @@ pub fn look_at<
     requires there { IsOpenAt (ways_by R.Rules K.eq K.hash_input S.BuildHasher S.Hasher.Hasher) place (Q.named_key key.now) hash parts.now }
     requires exact { (x y : V) → V.is_clone x y → y ≡ x }
     requires callable { P.IsAlwaysCallable replace_if }
-    ensures asked { IfOk result (λ a. AsksOf (ways_by R.Rules K.eq K.hash_input S.BuildHasher S.Hasher.Hasher) (slice_get parts.now place) now (Q.named_key key.now) (FnOnceReturnsAt P.FnOnce replace_if) a.0) }
+    ensures asked { IfOk result (IsAskedFirst (ways_by R.Rules K.eq K.hash_input S.BuildHasher S.Hasher.Hasher) (slice_get parts.now place) now (Q.named_key key.now) (FnOnceReturnsAt P.FnOnce replace_if)) }
     ensures found { IfOk result (λ a. a.1 ≡ seen_of (ways_by R.Rules K.eq K.hash_input S.BuildHasher S.Hasher.Hasher) (slice_get parts.now place) now (Q.named_key key.now) a.0) }
 {
     let looked = look(&parts[place], key, hash, now, replace_if)?;

@@ -2,6 +2,7 @@
 ghost use Rattle.front_reference.specs.Fronts.{ComesAfter};
 
 use crate::script::{Closure, Done, Numbers};
+use crate::selecting::perform_select;
 use front_access::{CompResult, Entry};
 use front_reference::{At, CacheError, Op, TurnKind};
 
@@ -17,6 +18,7 @@ pub fn perform_closure(state: &mut Numbers, at: At, call: Closure) -> Result<boo
         Closure::CountUp(..) | Closure::TakeOut(..) | Closure::Upsert(..) => {
             perform_compute(state, at, call)
         }
+        Closure::Select(key, call) => perform_select(state, at, key, call),
         Closure::OrInsert(key, value, answer) => or_insert(state, at, key, value, answer),
         Closure::OrInsertIf(key, old, value, answer) => {
             or_insert_if(state, at, key, old, value, answer)

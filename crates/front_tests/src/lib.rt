@@ -6,12 +6,18 @@ mod building;
 #[cfg(test)]
 mod closures;
 #[cfg(test)]
+mod crowds;
+#[cfg(test)]
 mod hashing;
 #[cfg(test)]
 mod rows;
 #[cfg(test)]
 mod script;
 #[cfg(test)]
+mod selecting;
+#[cfg(test)]
 mod showing;
+#[cfg(test)]
+mod states;
 #[cfg(test)]
 mod turns;

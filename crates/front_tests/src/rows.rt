@@ -1,4 +1,5 @@
 use crate::script::{Call, Closure, Done, Form, are_right};
+use crate::selecting::Select;
 use engine_rules::RemovalCause;
 
 /// A number by which keys spread over parts.
@@ -62,6 +63,100 @@ const SELECTED: [(u64, Call); 16] = [
         100_000_000,
         Call::With(Closure::TakeOut(3, Done::StillNone)),
     ),
+];
+
+/// Each other call that makes a value, where none is there, where one is, and where its closure makes none.
+const CHOSEN: [(u64, Call); 18] = [
+    (0, Call::With(Closure::Select(1, Select::Get(7, 7)))),
+    (0, Call::With(Closure::Select(1, Select::Get(8, 7)))),
+    (
+        0,
+        Call::With(Closure::Select(2, Select::Optionally(None, None))),
+    ),
+    (
+        0,
+        Call::With(Closure::Select(2, Select::Optionally(Some(5), Some(5)))),
+    ),
+    (
+        0,
+        Call::With(Closure::Select(3, Select::Try(Err(()), Err(())))),
+    ),
+    (0, Call::With(Closure::Select(3, Select::Try(Ok(6), Ok(6))))),
+    (
+        0,
+        Call::With(Closure::Select(4, Select::OrInsertWith(3, (3, true)))),
+    ),
+    (
+        0,
+        Call::With(Closure::Select(4, Select::OrInsertWith(6, (3, false)))),
+    ),
+    (
+        0,
+        Call::With(Closure::Select(5, Select::OrDefault((0, true)))),
+    ),
+    (
+        0,
+        Call::With(Closure::Select(5, Select::OrDefault((0, false)))),
+    ),
+    (
+        0,
+        Call::With(Closure::Select(6, Select::OrOptionally(None, None))),
+    ),
+    (
+        0,
+        Call::With(Closure::Select(6, Select::OrOptionally(Some(8), Some((8, true))))),
+    ),
+    (
+        0,
+        Call::With(Closure::Select(7, Select::OrTry(Err(()), Err(())))),
+    ),
+    (
+        0,
+        Call::With(Closure::Select(7, Select::OrTry(Ok(9), Ok((9, true))))),
+    ),
+    (
+        0,
+        Call::With(Closure::Select(7, Select::TryCompute(Err(()), Err(())))),
+    ),
+    (
+        0,
+        Call::With(Closure::Select(7, Select::TryCompute(Ok(None), Ok(Some(9))))),
+    ),
+    (
+        0,
+        Call::With(Closure::Select(7, Select::TryCompute(Ok(Some(2)), Ok(Some(2))))),
+    ),
+    (0, Call::With(Closure::Select(8, Select::Put(4)))),
+];
+
+/// A compute call takes out what has expired, and that is told.
+const TAKEN_OUT: [(u64, Call); 4] = [
+    (0, Call::Insert(1, 10)),
+    (
+        100_000_000,
+        Call::With(Closure::TakeOut(1, Done::Removed(10))),
+    ),
+    (100_000_000, Call::Told(1, RemovalCause::Expired)),
+    (100_000_000, Call::NoneTold),
+];
+
+/// Three segments, which become four, each with a share of 3 of a capacity of 10; all keys belong to one.
+const SHARED: Form = Form {
+    segments: 3,
+    capacity: Some(10),
+    live: 1_000_000,
+    factor: 0,
+};
+
+const FITTING: [(u64, Call); 8] = [
+    (0, Call::Insert(0, 10)),
+    (0, Call::Insert(1, 11)),
+    (0, Call::Insert(2, 12)),
+    (0, Call::Run),
+    (0, Call::Count(3)),
+    (0, Call::Insert(3, 13)),
+    (0, Call::Run),
+    (0, Call::Count(3)),
 ];
 
 /// A cache of capacity 3.
@@ -221,6 +316,21 @@ const APART: [(u64, Call); 11] = [
     (0, Call::Has(1, false)),
     (0, Call::Get(FAR, Some(20))),
 ];
+
+#[test]
+fn further_calls_make_values(rt: HostRuntime) {
+    assert!(rt; are_right(rt.alloc(), SHORT, &CHOSEN));
+}
+
+#[test]
+fn what_expired_is_taken_out(rt: HostRuntime) {
+    assert!(rt; are_right(rt.alloc(), SHORT, &TAKEN_OUT));
+}
+
+#[test]
+fn a_share_is_rounded_up(rt: HostRuntime) {
+    assert!(rt; are_right(rt.alloc(), SHARED, &FITTING));
+}
 
 #[test]
 fn what_is_touched_stays(rt: HostRuntime) {

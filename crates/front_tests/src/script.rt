@@ -5,6 +5,7 @@ ghost use Rattle.front_state.specs.Calls.{hash_in};
 
 use crate::closures::perform_closure;
 use crate::hashing::Times;
+use crate::selecting::Select;
 use engine_rules::{Bundle, EvictionPolicy, NoExpiry, NoPredicate, RemovalCause, WeighOne};
 use front_builder::{BuildError, CacheBuilder};
 use front_keys::{ClonedKey, OwnedKey};
@@ -101,6 +102,8 @@ pub enum Closure {
     CountUp(u64, Done),
     /// A compute call that removes.
     TakeOut(u64, Done),
+    /// A call for a key.
+    Select(u64, Select),
 }
 
 /// What a compute call did.

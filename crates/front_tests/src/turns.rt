@@ -1,4 +1,5 @@
 use crate::script::{Call, Form, Start, are_right};
+use engine_rules::RemovalCause;
 use front_reference::{CacheError, TurnKind};
 
 /// A cache of one part without bounds, and one of four.
@@ -19,7 +20,7 @@ const FOUR: Form = Form {
 const UNKNOWN: Result<(), CacheError> = Err(CacheError::UnknownTurn);
 
 /// One turn of a kind and a key; a value that was made is inserted whatever happened to the key meanwhile.
-const TURNS: [(u64, Call); 16] = [
+const TURNS: [(u64, Call); 17] = [
     (0, Call::Begin(TurnKind::Try, 7, Start::Lead(0))),
     (0, Call::Begin(TurnKind::Try, 7, Start::Wait(0))),
     (0, Call::Begin(TurnKind::With, 7, Start::Lead(1))),
@@ -27,6 +28,7 @@ const TURNS: [(u64, Call); 16] = [
     (0, Call::IsFree(TurnKind::With, 7, false)),
     (1, Call::Insert(7, 1)),
     (2, Call::Finish(0, 2, Ok(()))),
+    (2, Call::Told(7, RemovalCause::Replaced)),
     (2, Call::Get(7, Some(2))),
     (2, Call::Begin(TurnKind::Try, 7, Start::Found(2))),
     (3, Call::Finish(0, 3, UNKNOWN)),

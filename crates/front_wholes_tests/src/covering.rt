@@ -121,17 +121,51 @@ fn answers(state: &mut Covered, nanos: u64, call: Call) -> Result<bool, CacheErr
     perform(state, at, call)
 }
 
-fn are_right(alloc: Global, segments: usize, calls: &[(u64, Call)]) -> bool {
-    let Ok(mut state) = covered(alloc, segments) else {
-        return false;
-    };
+fn all_right(state: &mut Covered, calls: &[(u64, Call)]) -> bool {
     for place in 0..calls.len() {
         let (nanos, call) = calls[place];
-        if !is_right(&mut state, nanos, call) {
+        if !is_right(state, nanos, call) {
             return false;
         }
     }
     true
+}
+
+fn are_right(alloc: Global, segments: usize, calls: &[(u64, Call)]) -> bool {
+    match covered(alloc, segments) {
+        Ok(mut state) => all_right(&mut state, calls),
+        Err(_) => false,
+    }
+}
+
+/// The first key of a part, below 1000.
+fn key_of(state: &Covered, part: usize) -> Option<u64> {
+    for key in 0..1000 {
+        if state.part(&key) == part {
+            return Some(key);
+        }
+    }
+    None
+}
+
+/// One key in each of two parts, with the same value: the second part refuses a predicate that covers both, and neither keeps it.
+fn each_part_keeps_its_key(alloc: Global) -> bool {
+    let Ok(mut state) = covered(alloc, 2) else {
+        return false;
+    };
+    let (Some(first), Some(second)) = (key_of(&state, 0), key_of(&state, 1)) else {
+        return false;
+    };
+    let calls = [
+        (0, Call::Insert(first, 7)),
+        (0, Call::Insert(second, 7)),
+        (1, Call::Cover(9, 9, 4, Ok(()))),
+        (2, Call::Cover(7, 7, 0, Err(CacheError::IdsInUse))),
+        (3, Call::Get(first, Some(7))),
+        (3, Call::Get(second, Some(7))),
+        (3, Call::NoneTold),
+    ];
+    all_right(&mut state, &calls)
 }
 
 /// The identifier of one part, drawn from bytes of 0: a UUID of version 4.
@@ -167,6 +201,11 @@ fn names_of_four_parts(rt: HostRuntime) {
 #[test]
 fn all_or_none(rt: HostRuntime) {
     assert!(rt; are_right(rt.alloc(), 2, &ALL_OR_NONE));
+}
+
+#[test]
+fn refused_by_the_second_part(rt: HostRuntime) {
+    assert!(rt; each_part_keeps_its_key(rt.alloc()));
 }
 
 #[test]

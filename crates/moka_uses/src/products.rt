@@ -2,13 +2,9 @@
 ghost use Rattle.std.specs.Prelude.{◌≡◌, [], IfOk};
 
 use crate::reading::{next_call, read_through};
-use moka::{
-    BuildError, Bundle, CacheBuilder, CacheError, CacheState, Instant, NoExpiry, NoPredicate,
-    WeighOne,
-};
+use moka::{BuildError, CacheBuilder, CacheError, CacheState, Instant, StdHasher};
 use sqlite::{Alter, Connection, Error, params};
 use std::alloc::Global;
-use std::hash::{BuildHasherDefault, FoldHasher};
 use std::sync::Arc;
 use std::time::Duration;
 use thiserror::Error;
@@ -44,12 +40,7 @@ pub enum ProductError {
 #[derive(Drop)]
 pub struct Products<S: Alter> {
     table: Connection<S>,
-    cache: CacheState<
-        i64,
-        Product,
-        BuildHasherDefault<FoldHasher>,
-        Bundle<NoExpiry, WeighOne, NoPredicate, ()>,
-    >,
+    cache: CacheState<i64, Product>,
 }
 
 /// The product of a row.
@@ -80,7 +71,7 @@ impl<S: Alter + Drop> Products<S> {
     {
         let cache = CacheBuilder::new(CAPACITY)
             .time_to_live(Duration::from_secs(SECONDS))
-            .build_state(alloc, BuildHasherDefault::new(), clock)?;
+            .build_state(alloc, StdHasher::new(), clock)?;
         Ok(Products { table, cache })
     }
 

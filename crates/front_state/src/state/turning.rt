@@ -9,7 +9,7 @@ ghost use Rattle.front_reference.specs.declared.data.Op.TheVariants as op;
 ghost use Rattle.front_reference.specs.declared.data.OpenTurn.{OpenTurn};
 ghost use Rattle.front_reference.specs.declared.data.TurnKind.TheVariants as turns;
 ghost use Rattle.front_reference.specs.declared.errors.CacheError.TheVariants.{UnknownTurn};
-ghost use Rattle.front_places.specs.Calls.{AsksOf, hash_in, seen_of, ways_by};
+ghost use Rattle.front_places.specs.Calls.{IsAskedFirst, hash_in, seen_of, ways_by};
 ghost use Rattle.front_places.specs.Turning.{BeginsIn, EndsTurnAt, FinishesBy, IsCauseAt, IsFinishCause, IsTurnCause, IsTurnPlace, Leads, WaitsOrLeads};
 
 use crate::state::LentState;
@@ -56,7 +56,7 @@ impl<K: Eq + Hash, V, S: BuildHasher, R: Rules<K, V>, C> LentState<K, V, S, R, C
         requires hashed { hash ≡ hash_in (ways_by R.Rules K.eq K.hash_input S.BuildHasher S.Hasher.Hasher) self.now (Q.named_key key.now) }
         requires exact { (x y : V) → V.is_clone x y → y ≡ x }
         requires callable { P.IsAlwaysCallable replace_if }
-        ensures asked { IfOk result (λ a. AsksOf (ways_by R.Rules K.eq K.hash_input S.BuildHasher S.Hasher.Hasher) (part_by_hash self.now hash) now (Q.named_key key.now) (FnOnceReturnsAt P.FnOnce replace_if) a.0) }
+        ensures asked { IfOk result (IsAskedFirst (ways_by R.Rules K.eq K.hash_input S.BuildHasher S.Hasher.Hasher) (part_by_hash self.now hash) now (Q.named_key key.now) (FnOnceReturnsAt P.FnOnce replace_if)) }
         ensures found { IfOk result (λ a. a.1 ≡ seen_of (ways_by R.Rules K.eq K.hash_input S.BuildHasher S.Hasher.Hasher) (part_by_hash self.now hash) now (Q.named_key key.now) a.0) }
     {
         let place = place_of(self.bits, hash);

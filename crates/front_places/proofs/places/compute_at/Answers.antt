@@ -4,8 +4,14 @@ use Rattle.front_places.proofs.Found.{caused}
 use Rattle.front_places.specs.Calls.{ways_by}
 use Rattle.front_places.proofs.places.compute_at.Goals as goal
 
-pub compute-requires-clause-ready : goal.compute-requires-clause-ready
-compute-requires-clause-ready g c = c.requires.there.ready c.index_mut-part.result.now (there c.args.parts.now.items c.args.place c.index_mut-part.result.now c.requires.there.within c.index_mut-part.ensures.value)
+pub compute-requires-clause-open : goal.compute-requires-clause-open
+compute-requires-clause-open g c =
+    let at = there c.args.parts.now.items c.args.place c.index_mut-part.result.now c.requires.there.within c.index_mut-part.ensures.value in
+    record {
+      hashed = c.requires.there.hashed c.index_mut-part.result.now at;
+      ready = c.requires.there.ready c.index_mut-part.result.now at;
+      apart = c.requires.there.apart c.index_mut-part.result.now at;
+    }
 
 pub returns-in-Ok-clause-computes : goal.returns-in-Ok-clause-computes
 returns-in-Ok-clause-computes g c = let u = c.in-Ok.ensures.computes in called_at _ c.args.parts.now.items c.args.place c.index_mut-part.result.now c.compute.new.part c.requires.there.within c.index_mut-part.ensures.value u
