@@ -58,14 +58,12 @@ fn empty(state: &mut Numbers) -> bool {
 
 /// How many notices there are, if each is of a cause.
 fn count_told(state: &mut Numbers, cause: RemovalCause) -> Option<u64> {
-    let mut number = 0;
-    for _ in 0..KEYS {
+    for number in 0..KEYS {
         match state.next_notice() {
             Some(notice) => {
                 if notice.cause != cause {
                     return None;
                 }
-                number += 1;
             }
             None => return Some(number),
         }
