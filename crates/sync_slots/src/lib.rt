@@ -2,7 +2,9 @@
 #![tactic(auto)]
 
 mod names;
+mod slot;
 mod slots;
 
 pub use names::{Asked, SharedName, WaitingName};
-pub use slots::{Ending, Slots, copy_made};
+pub use slot::Ending;
+pub use slots::{Slots, copy_made};

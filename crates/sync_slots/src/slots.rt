@@ -1,44 +1,16 @@
 //! Who waits for which turn, and how it ended.
-ghost use Rattle.std.specs.Prelude.{◌≡◌, ◌<◌, ◌≤◌, true, IfOk, IfErr, IfSome, OnOk, length, vec_len, vec_capacity};
+ghost use Rattle.std.specs.Prelude.{◌≡◌, ◌<◌, ◌≤◌, ◌&&◌, [], true, position, ◌+◌, nat_lt, IfOk, IfErr, IfSome, OnOk, OnErr, length, vec_len, vec_capacity};
+ghost use Rattle.std.specs.List.{list_any};
+ghost use Rattle.front_reference.specs.Fronts.{same_kind};
 ghost use Rattle.front_reference.specs.declared.data.TurnKind.{TurnKind};
 ghost use Rattle.front_reference.specs.declared.errors.CacheError.TheVariants as errors;
 ghost use Rattle.sync_slots.specs.Endings.{fits, suits};
+ghost use Rattle.sync_slots.specs.Waiting.{JoinsAt, OpensAtEnd, is_slot_of};
+ghost use Rattle.sync_slots.specs.declared.slot.Ending.TheVariants.{Underway};
 
+use crate::slot::{Ending, Slot};
 use front_reference::{CacheError, Made, TurnKind};
 use std::alloc::{AllocError, Global};
-use std::fmt::{self, Debug, Formatter, Write};
-
-/// What became of a turn.
-#[derive(Drop)]
-pub enum Ending<V, F> {
-    /// It is under way.
-    Underway,
-    /// It ended with this, which is for all that wait.
-    Done(Made<V, F>),
-    /// It ended with nothing for those that wait: they begin again.
-    GivenUp,
-}
-
-impl<V, F> Debug for Ending<V, F> {
-    fn fmt<W: Write>(&self, f: &mut Formatter<W>) -> fmt::Result {
-        f.write_str(match self {
-            Ending::Underway => "Computing",
-            Ending::Done(Made::Nothing) => "ReadyNone",
-            Ending::Done(_) => "Ready",
-            Ending::GivenUp => "InitFuturePanicked",
-        })
-    }
-}
-
-/// One turn that is led, or that some still wait for.
-#[derive(Drop)]
-pub(crate) struct Slot<V, F> {
-    kind: TurnKind,
-    number: u64,
-    waiting: u64,
-    ending: Ending<V, F>,
-    ghost fitting: { fits kind ending ≡ true },
-}
 
 /// All of them.
 #[derive(Drop)]
@@ -48,7 +20,8 @@ pub struct Slots<V, F> {
 
 /// Whether two kinds are the same.
 fn is_kind(kind: TurnKind, other: TurnKind) -> bool
-    ensures { result ≡ true → kind ≡ other }
+    ensures same { result ≡ true → kind ≡ other }
+    ensures value { result ≡ same_kind kind other }
 {
     match kind {
         TurnKind::With => matches!(other, TurnKind::With),
@@ -61,13 +34,16 @@ fn is_kind(kind: TurnKind, other: TurnKind) -> bool
 impl<V: Drop, F: Drop> Slot<V, F> {
     /// Whether it is the turn of this kind and number.
     fn is(&self, kind: TurnKind, number: u64) -> bool
-        ensures { result ≡ true → self.now.kind ≡ kind }
+        ensures same { result ≡ true → self.now.kind ≡ kind }
+        ensures value { result ≡ is_slot_of kind number self.now }
     {
         self.number == number && is_kind(self.kind, kind)
     }
 
     /// Whether the turn is under way.
-    fn is_underway(&self) -> bool {
+    fn is_underway(&self) -> bool
+        ensures { result ≡ true → self.now.ending ≡ Underway }
+    {
         matches!(&self.ending, Ending::Underway)
     }
 
@@ -81,7 +57,9 @@ impl<V: Drop, F: Drop> Slot<V, F> {
 
     /// One more waits.
     fn join(&mut self) -> Result<(), CacheError>
-        ensures { IfErr result (λ e. e ≡ errors.UsedUp) }
+        ensures joins { OnOk result (self.new ≡ record self.old { waiting = self.old.waiting + 1 }) }
+        ensures err { OnErr result (self.new ≡ self.old) }
+        ensures cause { IfErr result (λ e. e ≡ errors.UsedUp) }
     {
         match self.waiting.checked_add(1) {
             Some(waiting) => {
@@ -120,19 +98,17 @@ pub fn copy_made<V: Clone, F: Clone>(made: &Made<V, F>) -> Result<Made<V, F>, Al
 
 /// The place of the turn of a kind and number.
 fn place_of<V: Drop, F: Drop>(slots: &[Slot<V, F>], kind: TurnKind, number: u64) -> Option<usize>
+    ensures value { result ≡ position (is_slot_of kind number) slots.now }
     ensures within { IfSome result (λ i. i < length slots.now) }
 {
-    for (i, slot) in slots.iter().enumerate() {
-        if slot.is(kind, number) {
-            return Some(i);
-        }
-    }
-    None
+    slots.iter().position(|slot| slot.is(kind, number))
 }
 
 impl<V: Drop, F: Drop> Slots<V, F> {
     /// No turns.
-    pub fn new(alloc: Global) -> Self {
+    pub fn new(alloc: Global) -> Self
+        ensures { result.slots.items ≡ [] }
+    {
         Slots {
             slots: Vec::new(alloc),
         }
@@ -140,14 +116,16 @@ impl<V: Drop, F: Drop> Slots<V, F> {
 
     /// Makes room for one turn more.
     pub fn reserve(&mut self) -> Result<(), AllocError>
-        ensures { OnOk result (vec_len self.new.slots < vec_capacity self.new.slots) }
+        ensures room { OnOk result (vec_len self.new.slots < vec_capacity self.new.slots) }
+        ensures same { self.new.slots.items ≡ self.old.slots.items }
     {
         self.slots.reserve(1)
     }
 
     /// A turn begins, in room that was made.
     pub fn open(&mut self, kind: TurnKind, number: u64)
-        requires { vec_len self.old.slots < vec_capacity self.old.slots }
+        requires room { vec_len self.old.slots < vec_capacity self.old.slots }
+        ensures opens { OpensAtEnd kind number self.old.slots.items self.new.slots.items }
     {
         self.slots.push_reserved(Slot {
             kind,
@@ -159,7 +137,9 @@ impl<V: Drop, F: Drop> Slots<V, F> {
 
     /// One more waits for a turn.
     pub fn join(&mut self, kind: TurnKind, number: u64) -> Result<(), CacheError>
-        ensures { IfErr result (λ e. e ≡ errors.UsedUp) }
+        ensures joins { OnOk result (JoinsAt (position (is_slot_of kind number) self.old.slots.items) self.old.slots.items self.new.slots.items) }
+        ensures err { OnErr result (self.new.slots.items ≡ self.old.slots.items) }
+        ensures cause { IfErr result (λ e. e ≡ errors.UsedUp) }
     {
         match place_of(self.slots.as_slice(), kind, number) {
             Some(place) => {
@@ -171,11 +151,12 @@ impl<V: Drop, F: Drop> Slots<V, F> {
     }
 
     /// Whether some wait for a turn.
-    pub fn is_waited_for(&self, kind: TurnKind, number: u64) -> bool {
-        match place_of(self.slots.as_slice(), kind, number) {
-            Some(place) => 0 < self.slots[place].waiting,
-            None => false,
-        }
+    pub fn is_waited_for(&self, kind: TurnKind, number: u64) -> bool
+        ensures { result ≡ list_any (λ slot. is_slot_of kind number slot && nat_lt 0 slot.waiting) self.now.slots.items }
+    {
+        self.slots
+            .iter()
+            .any(|slot| slot.is(kind, number) && 0 < slot.waiting)
     }
 
     /// A turn ends, and is kept only where some wait for it.

@@ -1,0 +1,38 @@
+//! How one turn stands.
+ghost use Rattle.std.specs.Prelude.{◌≡◌, true};
+ghost use Rattle.sync_slots.specs.Endings.{fits};
+
+use front_reference::{Made, TurnKind};
+use std::fmt::{self, Debug, Formatter, Write};
+
+/// What became of a turn.
+#[derive(Drop)]
+pub enum Ending<V, F> {
+    /// It is under way.
+    Underway,
+    /// It ended with this, which is for all that wait.
+    Done(Made<V, F>),
+    /// It ended with nothing for those that wait: they begin again.
+    GivenUp,
+}
+
+impl<V, F> Debug for Ending<V, F> {
+    fn fmt<W: Write>(&self, f: &mut Formatter<W>) -> fmt::Result {
+        f.write_str(match self {
+            Ending::Underway => "Computing",
+            Ending::Done(Made::Nothing) => "ReadyNone",
+            Ending::Done(_) => "Ready",
+            Ending::GivenUp => "InitFuturePanicked",
+        })
+    }
+}
+
+/// One turn that is led, or that some still wait for.
+#[derive(Drop)]
+pub(crate) struct Slot<V, F> {
+    pub(crate) kind: TurnKind,
+    pub(crate) number: u64,
+    pub(crate) waiting: u64,
+    pub(crate) ending: Ending<V, F>,
+    ghost fitting: { fits kind ending ≡ true },
+}
