@@ -11,9 +11,9 @@ ghost use Rattle.engine_cells.specs.Stretches.{Stretch, StepsFor};
 
 use crate::deciding::{Decision, decide};
 use crate::displacing::displace_for;
-use engine_tables::Tables;
 use engine_reference::{Upsert, Write};
 use engine_rules::{RemovalCause, Rules};
+use engine_tables::Tables;
 use std::hash::{BuildHasher, Hash};
 
 /// A write of the record in a place is applied.

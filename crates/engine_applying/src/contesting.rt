@@ -8,8 +8,8 @@ ghost use Rattle.engine_reference.specs.declared.data.Record.{Record};
 ghost use Rattle.engine_applying.specs.Contesting.{is_won, GoesPast, from_place, IsOnList, outcome, IsDecided};
 
 use crate::deciding::record_in;
-use engine_tables::Tables;
 use engine_rules::Rules;
+use engine_tables::Tables;
 use std::hash::{BuildHasher, Hash};
 
 /// A contest under way: what is left of the newcomer's weight for others to make room for, how much more often it was

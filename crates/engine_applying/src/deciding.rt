@@ -7,9 +7,9 @@ ghost use Rattle.engine_reference.specs.declared.data.Record.{Record};
 ghost use Rattle.engine_applying.specs.Deciding.{decided, decision, refused_as};
 
 use crate::contesting::is_won;
-use engine_tables::Tables;
 use engine_reference::{Record, Upsert};
 use engine_rules::{EvictionPolicy, Rules};
+use engine_tables::Tables;
 use std::hash::{BuildHasher, Hash};
 
 /// What is done about a pending write of a record that is there.

@@ -6,9 +6,9 @@ ghost use Rattle.engine_reference.specs.declared.data.Record.{Record};
 ghost use Rattle.engine_applying.specs.Displacing.{front_of, displaced, GivesWay, KeepsUncounted};
 
 use crate::deciding::record_in;
-use engine_tables::Tables;
 use engine_reference::Upsert;
 use engine_rules::{RemovalCause, Rules};
+use engine_tables::Tables;
 use std::hash::{BuildHasher, Hash};
 
 /// The place of the next to go, where some of the weight is left to reach.

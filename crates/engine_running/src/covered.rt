@@ -8,8 +8,8 @@ ghost use Rattle.engine_reference.specs.State.{Answers};
 ghost use Rattle.engine_running.specs.Covered.{is_covered_as, IsScanned, NoneIsCovered, CoverNone};
 ghost use Rattle.engine_sweeping.specs.Stretches.{KeepsRest};
 
-use engine_tables::Tables;
 use engine_rules::{RemovalCause, Rules};
+use engine_tables::Tables;
 use std::hash::{BuildHasher, Hash};
 
 /// Whether the record in a place is held, and a clear or a predicate stands over it.

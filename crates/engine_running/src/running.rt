@@ -10,9 +10,9 @@ ghost use Rattle.engine_reference.specs.State.{Answers};
 use crate::covered::end_predicates;
 use crate::table::grow;
 use engine_applying::{apply_reads, apply_writes};
-use engine_tables::Tables;
 use engine_rules::Rules;
 use engine_sweeping::settle;
+use engine_tables::Tables;
 use std::alloc::AllocError;
 use std::hash::{BuildHasher, Hash};
 

@@ -6,8 +6,8 @@ ghost use Rattle.engine_reference.specs.State.{Answers};
 ghost use Rattle.engine_cells.specs.Stretches.{Stretch};
 ghost use Rattle.engine_running.specs.Tables.{LacksTableFor};
 
-use engine_tables::Tables;
 use engine_rules::Rules;
+use engine_tables::Tables;
 use policy_sketch::FrequencySketch;
 use std::alloc::AllocError;
 use std::hash::{BuildHasher, Hash};

@@ -2,10 +2,10 @@
 ghost use Rattle.std.specs.Prelude.{IfOk};
 ghost use Rattle.engine_reference.specs.Soundness.{IsSound};
 
-use engine_tables::Tables;
 use engine_reference::Settings;
 use engine_rules::{Bundle, EvictionPolicy, NoExpiry, NoPredicate, WeighOne};
 use engine_running::try_run;
+use engine_tables::Tables;
 use std::alloc::{AllocError, Global};
 use std::hash::{BuildHasherDefault, FoldHasher};
 
