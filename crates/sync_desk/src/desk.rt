@@ -1,6 +1,7 @@
 //! What the lock guards.
 ghost use Rattle.std.specs.Prelude.{◌≡◌, ◌<◌, IfSome};
 ghost use Rattle.front_reference.specs.Fronts.{ComesAfter};
+ghost use Rattle.front_reference.specs.Wholes.{total_number, total_weight};
 
 use engine_rules::Rules;
 use front_keys::Shared;
@@ -52,12 +53,16 @@ impl<
     }
 
     /// How many entries there are, as of the last run of each part.
-    pub fn entry_count(&self) -> u64 {
+    pub fn entry_count(&self) -> u64
+        ensures { result ≡ total_number self.now.state }
+    {
         self.state.entry_count()
     }
 
     /// What they weigh, as of the last run of each part.
-    pub fn weighted_size(&self) -> u64 {
+    pub fn weighted_size(&self) -> u64
+        ensures { result ≡ total_weight self.now.state }
+    {
         self.state.weighted_size()
     }
 }

@@ -4,6 +4,7 @@
 mod calls;
 mod desk;
 mod turns;
+mod wholes;
 
 pub use desk::Desk;
 pub use turns::{ComputeStart, Start};

@@ -1,7 +1,7 @@
 //! Turns: who leads, who waits, and how they end.
 ghost use Rattle.std.specs.Prelude.{◌≡◌, true, None, Ok, IfOk, IfErr, OnErr, IsSome};
 ghost use Rattle.front_reference.specs.Fronts.{turn_of};
-ghost use Rattle.sync_desk.specs.Coalescing.{IsMadeOrFound};
+ghost use Rattle.sync_desk.specs.Coalescing.{GivesUp, IsMadeOrFound};
 ghost use Rattle.sync_slots.specs.Endings.{fits, suits};
 ghost use Rattle.sync_slots.specs.Refusals.{IsEndRefusal, IsShortage};
 
@@ -255,7 +255,9 @@ impl<
     }
 
     /// Gives the turn that the caller leads up: those that wait begin again. Nothing of it can be refused.
-    pub fn abandon(&mut self, kind: TurnKind, number: u64) {
+    pub fn abandon(&mut self, kind: TurnKind, number: u64)
+        ensures { GivesUp number self.old.state self.new.state }
+    {
         if let Some(at) = self.draw() {
             let _known = self.state.abandon(number, at);
         }

@@ -1,7 +1,7 @@
 -- Why calls of a shared cache are refused.
 use Rattle.std.specs.Prelude.{◌≡◌, ◌⊎◌}
 use Rattle.front_reference.specs.declared.errors.CacheError.{CacheError}
-use Rattle.front_reference.specs.declared.errors.CacheError.TheVariants.{OutOfMemory, UsedUp, UnknownTurn, Abandoned}
+use Rattle.front_reference.specs.declared.errors.CacheError.TheVariants.{OutOfMemory, InvalidationClosuresDisabled, IdsInUse, UsedUp, UnknownTurn, Abandoned}
 
 -- there was no memory, or the numbers of 64 bits are used up
 abbrev pub IsShortage : CacheError → Type 0
@@ -16,3 +16,9 @@ IsEndRefusal e = IsShortage e ⊎ (e ≡ UnknownTurn)
 -- a call that makes a value is refused: as its turn does not end, or as each of 200 turns that it waited for was given up
 abbrev pub IsTurnRefusal : CacheError → Type 0
 IsTurnRefusal e = IsEndRefusal e ⊎ (e ≡ Abandoned)
+
+-- a predicate is not taken: for want of memory or numbers, as none are taken, or as each identifier that was drawn is in use
+abbrev pub IsCoverRefusal : CacheError → Type 0
+IsCoverRefusal InvalidationClosuresDisabled = Unit {0}
+IsCoverRefusal IdsInUse = Unit {0}
+IsCoverRefusal e = IsShortage e

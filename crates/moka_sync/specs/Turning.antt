@@ -1,0 +1,39 @@
+-- What calls that make a value come to.
+use Rattle.std.specs.Prelude.{◌≡◌, Bool, true, Option, MatchOption, Result, Ok}
+use Rattle.std.specs.declared.alloc.AllocError.{AllocError}
+use Rattle.front_access.specs.Answering.{Decides, Gives}
+use Rattle.front_reference.specs.declared.data.Computed.{Computed}
+use Rattle.front_reference.specs.declared.data.Made.{Made}
+use Rattle.front_reference.specs.declared.data.Op.{Op}
+use Rattle.front_reference.specs.declared.data.TurnKind.{TurnKind}
+use Rattle.moka_sync.specs.declared.turns.Turn.{Turn}
+use Rattle.moka_sync.specs.declared.turns.Turn.TheVariants.{Answered, Led, GivenUp}
+use Rattle.sync_slots.specs.Endings.{suits}
+
+-- a closure decided by something that it was shown, and what it decided was done; or its error is answered
+abbrev pub DoesAsDecided : {V E : Type 0} → (Says : Option V → Result (Op V) E → Type 0) → Result (Computed V) E → Type 0
+DoesAsDecided Says answer = Decides (λ seen. Unit {0}) (λ does done. Unit {0}) Says answer
+
+module _ {V F : Type 0} where
+  -- what was waited for was given up, or ended with such as its kind may
+  abbrev pub HasReceived : TurnKind → Option (Made V F) → Type 0
+  HasReceived kind received = MatchOption received (Unit {0}) (λ made. suits kind made ≡ true)
+
+  -- what a call came to, where it is an answer, is such as its kind may have
+  abbrev pub HasAnswer : {A : Type 0} → TurnKind → Turn A V F → Type 0
+  HasAnswer kind (Answered made) = suits kind made ≡ true
+  HasAnswer kind (Led number) = Unit {0}
+  HasAnswer kind (GivenUp asked) = Unit {0}
+
+  -- what is answered as fresh was made; of what was seen nothing is said
+  abbrev pub GivesFresh : {E : Type 0} → (Ignores : V → Bool → Type 0) → (Makes : Result (Made V F) E → Type 0) → Made V F → (is_fresh : Bool) → Type 0
+  GivesFresh Ignores Makes answer is_fresh = Gives (λ seen. Unit {0}) (λ ignored made fresh. Unit {0}) Ignores (λ made. Makes (Ok made)) answer is_fresh
+
+  -- whatever a closure makes is such as a turn of the kind may end with
+  abbrev pub MayMake : TurnKind → (Result (Made V F) AllocError → Type 0) → Type 0
+  MayMake kind Makes = (made : Made V F) → Makes (Ok made) → suits kind made ≡ true
+
+  -- what is answered is such as a turn of the kind may end with; where it is fresh, it was made here
+  pub record IsAnswer (kind : TurnKind) (Makes : Result (Made V F) AllocError → Type 0) (answer : Made V F) (is_fresh : Bool) : Type 0 where
+    pub suits : suits kind answer ≡ true
+    pub made : is_fresh ≡ true → Makes (Ok answer)

@@ -1,0 +1,215 @@
+//! A cache with what lets its calls wait.
+ghost use Rattle.std.specs.Prelude.{◌≡◌, Ok, IfOk, IfErr, OnErr};
+ghost use Rattle.front_access.specs.Answering.{Suits};
+ghost use Rattle.front_reference.specs.declared.data.Made.{Made};
+ghost use Rattle.moka_sync.specs.Turning.{DoesAsDecided, GivesFresh};
+ghost use Rattle.std.specs.Fn.{FnOnceReturnsAt};
+
+use crate::cache::Cache;
+use crate::iterator::Iter;
+use engine_rules::Rules;
+use front_access::{Access, OwnedKeyEntrySelector, RefKeyEntrySelector};
+use front_keys::Shared;
+use front_reference::{CacheError, Computed, Made, Op, TurnKind};
+use std::alloc::AllocError;
+use std::fmt::{self, Debug, Formatter, Write};
+use std::hash::{BuildHasher, Hash};
+use std::sync::Wait;
+use sync_env::Env;
+use sync_slots::SharedName;
+
+/// A handle of a cache that threads share, with what lets its calls wait for the lock. Selectors are made of it, it is gone over, and printed.
+#[derive(Drop)]
+pub struct Attached<K: Eq + Hash, V: Clone, S: BuildHasher, R: Rules<K, V>, E, H> {
+    cache: Cache<K, V, S, R, E>,
+    rt: H,
+    ghost exact: { (x y : V) → V.is_clone x y → y ≡ x },
+}
+
+impl<
+    K: Eq + Hash + Drop,
+    V: Clone + Drop,
+    S: BuildHasher + Drop,
+    R: Rules<K, V> + Drop,
+    E: Env + Drop,
+> Cache<K, V, S, R, E> {
+    /// This handle of the cache, with what lets its calls wait.
+    pub fn attach<H: Wait>(self, rt: H) -> Attached<K, V, S, R, E, H>
+        requires exact { (x y : V) → V.is_clone x y → y ≡ x }
+    {
+        Attached { cache: self, rt }
+    }
+}
+
+impl<
+    K: Eq + Hash + Drop,
+    V: Clone + Drop,
+    S: BuildHasher + Drop,
+    R: Rules<K, V> + Drop,
+    E: Env + Drop,
+    H: Wait,
+> Attached<K, V, S, R, E, H> {
+    /// A selector of the entry of a key. Of its calls one can be made.
+    pub fn entry<'b>(&'b mut self, key: K) -> OwnedKeyEntrySelector<'b, K, Self, ()>
+        ensures key { result.key ≡ key }
+    {
+        let alloc = self.cache.alloc;
+        OwnedKeyEntrySelector::new(self, key, (), alloc)
+    }
+
+    /// The same by a key that is lent, which is cloned.
+    pub fn entry_by_ref<'b>(
+        &'b mut self,
+        key: &K,
+    ) -> Result<RefKeyEntrySelector<'b, K, Self, ()>, AllocError>
+    where
+        K: Clone,
+        requires exact_key { (x y : K) → K.is_clone x y → y ≡ x }
+        ensures key { IfOk result (λ s. s.key ≡ key.now) }
+    {
+        let alloc = self.cache.alloc;
+        let own = key.clone()?;
+        Ok(RefKeyEntrySelector::new(self, own, (), alloc))
+    }
+
+    /// A call that makes a value, of a kind, for which others are waited, or of none.
+    fn coalesce_at<
+        P: FnOnce(&V) -> bool + Drop,
+        M: FnOnce() -> Result<Made<V, Shared<R::Fault>>, AllocError> + Drop,
+    >(
+        &self,
+        key: Shared<K>,
+        kind: Option<TurnKind>,
+        replace_if: P,
+        make: M,
+    ) -> Result<(Made<V, Shared<R::Fault>>, bool), CacheError>
+        requires exact { (x y : V) → V.is_clone x y → y ≡ x }
+        requires callable { P.IsAlwaysCallable replace_if × M.IsAlwaysCallable make }
+        requires suitable { (made : Made V R.Fault) → M.post make (Ok made) → Suits kind made }
+        ensures gives { IfOk result (λ a. GivesFresh (FnOnceReturnsAt P.FnOnce replace_if) (M.post make) a.0 a.1) }
+        ensures suits { IfOk result (λ a. Suits kind a.0) }
+    {
+        match kind {
+            Some(kind) => self
+                .cache
+                .coalesce_asking_once(&self.rt, kind, SharedName { key: &key }, replace_if, make),
+            None => self.cache.coalesce_now(&self.rt, &key, replace_if, make),
+        }
+    }
+
+    /// A compute call.
+    fn compute_at<X: Drop, D: FnOnce(Option<V>) -> Result<Op<V>, X> + Drop>(
+        &self,
+        key: Shared<K>,
+        decide: D,
+    ) -> Result<Result<Computed<V>, X>, CacheError>
+        requires exact { (x y : V) → V.is_clone x y → y ≡ x }
+        requires callable { D.IsAlwaysCallable decide }
+        ensures { IfOk result (DoesAsDecided (λ seen decided. D.post decide seen decided)) }
+    {
+        self.cache.compute(&self.rt, &key, decide)
+    }
+
+    /// An iterator over the visible keys with clones of their values. It holds the lock for the keys of one segment, and then for an item at a time. To look is no use of a value.
+    pub fn iter(&self) -> Iter<'_, K, V, S, R, E, H> {
+        Iter::new(&self.cache, &self.rt)
+    }
+}
+
+impl<
+    K: Eq + Hash + Debug + Drop,
+    V: Clone + Debug + Drop,
+    S: BuildHasher + Drop,
+    R: Rules<K, V> + Drop,
+    E: Env + Drop,
+    H: Wait,
+> Debug for Attached<K, V, S, R, E, H> {
+    fn fmt<W: Write>(&self, f: &mut Formatter<W>) -> fmt::Result {
+        let mut out = f.debug_map();
+        for item in self.iter() {
+            match item {
+                Ok((key, value)) => {
+                    out.entry(&key, &value);
+                }
+                Err(_) => return Err(fmt::Error),
+            }
+        }
+        out.finish()
+    }
+}
+
+impl<
+    'b,
+    K: Eq + Hash + Drop,
+    V: Clone + Drop,
+    S: BuildHasher + Drop,
+    R: Rules<K, V> + Drop,
+    E: Env + Drop,
+    H: Wait,
+> IntoIterator for &'b Attached<K, V, S, R, E, H> {
+    type Item = Result<(Shared<K>, V), CacheError>;
+
+    type IntoIter = Iter<'b, K, V, S, R, E, H>;
+
+    fn into_iter(self) -> Iter<'b, K, V, S, R, E, H> {
+        self.iter()
+    }
+}
+
+impl<
+    K: Eq + Hash + Drop,
+    V: Clone + Drop,
+    S: BuildHasher + Drop,
+    R: Rules<K, V> + Drop,
+    E: Env + Drop,
+    H: Wait,
+> Access<K, V> for Attached<K, V, S, R, E, H> {
+    type When = ();
+
+    type Fault = R::Fault;
+
+    ghost may_call = { λ _ _ _ _. Unit {0} };
+
+    ghost sees = { λ _ _ _ _. Unit {0} };
+
+    ghost coalesced = { λ _ _ _ _ _ _ _ _. Unit {0} };
+
+    ghost computed = { λ _ _ _ _ _ _. Unit {0} };
+
+    fn coalesce<
+        P: FnOnce(&V) -> bool + Drop,
+        M: FnOnce() -> Result<Made<V, Shared<R::Fault>>, AllocError> + Drop,
+    >(
+        &mut self,
+        key: Shared<K>,
+        when: (),
+        kind: Option<TurnKind>,
+        replace_if: P,
+        make: M,
+    ) -> Result<(Made<V, Shared<R::Fault>>, bool), CacheError>
+        requires exact { (x y : V) → V.is_clone x y → y ≡ x }
+        requires callable { P.IsAlwaysCallable replace_if × M.IsAlwaysCallable make }
+        requires suitable { (made : Made V R.Fault) → M.post make (Ok made) → Suits kind made }
+        ensures gives { IfOk result (λ a. GivesFresh (FnOnceReturnsAt P.FnOnce replace_if) (M.post make) a.0 a.1) }
+        ensures suits { IfOk result (λ a. Suits kind a.0) }
+        ensures err { OnErr result (self.new ≡ self.old) }
+    {
+        let _when = when;
+        self.coalesce_at(key, kind, replace_if, make)
+    }
+
+    fn compute<X: Drop, D: FnOnce(Option<V>) -> Result<Op<V>, X> + Drop>(
+        &mut self,
+        key: Shared<K>,
+        when: (),
+        decide: D,
+    ) -> Result<Result<Computed<V>, X>, CacheError>
+        requires exact { (x y : V) → V.is_clone x y → y ≡ x }
+        requires callable { D.IsAlwaysCallable decide }
+        ensures decides { IfOk result (DoesAsDecided (λ seen decided. D.post decide seen decided)) }
+        ensures err { OnErr result (self.new ≡ self.old) }
+    {
+        let _when = when;
+        self.compute_at(key, decide)
+    }
+}

@@ -1,0 +1,211 @@
+//! Calls that decide by the entry of a key what is to be done with it. They come one at a time for a key.
+ghost use Rattle.std.specs.Prelude.{◌≡◌, IfOk, IfErr};
+ghost use Rattle.front_access.specs.Answering.{IsOutcomeOf};
+ghost use Rattle.front_reference.specs.declared.data.Op.TheVariants as op;
+ghost use Rattle.moka_sync.specs.Turning.{DoesAsDecided};
+ghost use Rattle.sync_slots.specs.Refusals.{IsEndRefusal, IsShortage};
+
+use crate::cache::Cache;
+use crate::turns::Lead;
+use engine_rules::Rules;
+use front_keys::Shared;
+use front_reference::{CacheError, Computed, Op, TurnKind};
+use std::hash::{BuildHasher, Hash};
+use std::sync::Wait;
+use sync_desk::ComputeStart;
+use sync_env::Env;
+
+/// What was done where a value was put.
+fn put_done<V>(value: V, was_seen: bool) -> Computed<V>
+    ensures { IsOutcomeOf (op.Put value) result }
+{
+    if was_seen {
+        Computed::ReplacedWith(value)
+    } else {
+        Computed::Inserted(value)
+    }
+}
+
+/// What was done where a value was removed, if one was.
+fn remove_done<V>(removed: Option<V>) -> Computed<V>
+    ensures { IsOutcomeOf op.Remove result }
+{
+    match removed {
+        Some(value) => Computed::Removed(value),
+        None => Computed::StillNone,
+    }
+}
+
+/// What was done where nothing was.
+fn nothing_done<V>(seen: Option<V>) -> Computed<V>
+    ensures { IsOutcomeOf op.Nop result }
+{
+    match seen {
+        Some(value) => Computed::Unchanged(value),
+        None => Computed::StillNone,
+    }
+}
+
+impl<
+    'a,
+    K: Eq + Hash + Drop,
+    V: Clone + Drop,
+    S: BuildHasher + Drop,
+    R: Rules<K, V> + Drop,
+    E: Env + Drop,
+> Lead<'a, K, V, S, R, E> {
+    /// Ends a compute turn by putting a value, or gives it up where that is refused.
+    fn put(self, rt: &impl Wait, value: V) -> Result<(), CacheError>
+        ensures { IfErr result IsEndRefusal }
+    {
+        let Lead {
+            cache,
+            kind: _,
+            number,
+        } = self;
+        let mut guard = cache.inner.desk.lock(rt);
+        let desk = &mut *guard;
+        let ended = desk.put(number, value);
+        drop(guard);
+        cache.inner.changed.notify_all();
+        ended
+    }
+
+    /// Ends a compute turn by removing its key, or gives it up where that is refused.
+    fn take_out(self, rt: &impl Wait, key: &K) -> Result<Option<V>, CacheError>
+        requires exact { (x y : V) → V.is_clone x y → y ≡ x }
+        ensures { IfErr result IsShortage }
+    {
+        let Lead {
+            cache,
+            kind: _,
+            number,
+        } = self;
+        let mut guard = cache.inner.desk.lock(rt);
+        let desk = &mut *guard;
+        let removed = desk.take_out(number, key);
+        drop(guard);
+        cache.inner.changed.notify_all();
+        removed
+    }
+
+    /// Puts a value, and answers it.
+    fn put_copy(self, rt: &impl Wait, value: V, was_seen: bool) -> Result<Computed<V>, CacheError>
+        ensures does { IfOk result (IsOutcomeOf (op.Put value)) }
+        ensures cause { IfErr result IsEndRefusal }
+    {
+        match value.clone() {
+            Ok(kept) => match self.put(rt, kept) {
+                Ok(()) => Ok(put_done(value, was_seen)),
+                Err(refused) => Err(refused),
+            },
+            Err(_) => {
+                self.abandon(rt);
+                Err(CacheError::OutOfMemory)
+            }
+        }
+    }
+
+    /// Does what was decided, and ends the turn.
+    fn perform(
+        self,
+        rt: &impl Wait,
+        key: &K,
+        seen: Option<V>,
+        decided: Op<V>,
+    ) -> Result<Computed<V>, CacheError>
+        requires exact { (x y : V) → V.is_clone x y → y ≡ x }
+        ensures does { IfOk result (IsOutcomeOf decided) }
+        ensures cause { IfErr result IsEndRefusal }
+    {
+        match decided {
+            Op::Put(value) => self.put_copy(rt, value, seen.is_some()),
+            Op::Remove => match self.take_out(rt, key) {
+                Ok(removed) => Ok(remove_done(removed)),
+                Err(refused) => Err(refused),
+            },
+            Op::Nop => {
+                self.abandon(rt);
+                Ok(nothing_done(seen))
+            }
+        }
+    }
+
+    /// Lets a closure decide, without the lock, and does what it decided. Where it fails nothing is done but the look-up's read.
+    fn decide<X: Drop, H: Wait, D: FnOnce(Option<V>) -> Result<Op<V>, X> + Drop>(
+        self,
+        rt: &H,
+        key: &K,
+        seen: Option<V>,
+        decide: D,
+    ) -> Result<Result<Computed<V>, X>, CacheError>
+        requires exact { (x y : V) → V.is_clone x y → y ≡ x }
+        requires callable { D.IsAlwaysCallable decide }
+        ensures does { IfOk result (DoesAsDecided (λ seen decided. D.post decide seen decided)) }
+        ensures cause { IfErr result IsEndRefusal }
+    {
+        let kept = match seen.clone() {
+            Ok(kept) => kept,
+            Err(_) => {
+                self.abandon(rt);
+                return Err(CacheError::OutOfMemory);
+            }
+        };
+        match decide(seen) {
+            Ok(op) => match self.perform(rt, key, kept, op) {
+                Ok(done) => Ok(Ok(done)),
+                Err(refused) => Err(refused),
+            },
+            Err(fault) => {
+                self.abandon(rt);
+                Ok(Err(fault))
+            }
+        }
+    }
+}
+
+impl<
+    K: Eq + Hash + Drop,
+    V: Clone + Drop,
+    S: BuildHasher + Drop,
+    R: Rules<K, V> + Drop,
+    E: Env + Drop,
+> Cache<K, V, S, R, E> {
+    /// Leads the compute turn of a key, once no other does; with the visible value, of which it is a use.
+    fn lead_compute<H: Wait>(&self, rt: &H, key: &Shared<K>) -> Result<(u64, Option<V>), CacheError>
+        requires exact { (x y : V) → V.is_clone x y → y ≡ x }
+        ensures cause { IfErr result IsShortage }
+    {
+        for _ in rt.forever() {
+            let mut guard = self.inner.desk.lock(rt);
+            let desk = &mut *guard;
+            match desk.begin_compute(key)? {
+                ComputeStart::Lead(number, seen) => return Ok((number, seen)),
+                ComputeStart::Wait(number) => {
+                    let _nothing = self.wait_for(rt, guard, TurnKind::Compute, number)?;
+                }
+            }
+        }
+        unreachable!()
+    }
+
+    /// Lets `decide` say by the visible value what is to be done with a key, does it, and answers what was done; or the error of `decide`, and then nothing is written. `decide` runs without the lock, and such calls for one key come one at a time.
+    pub(crate) fn compute<X: Drop, H: Wait, D: FnOnce(Option<V>) -> Result<Op<V>, X> + Drop>(
+        &self,
+        rt: &H,
+        key: &Shared<K>,
+        decide: D,
+    ) -> Result<Result<Computed<V>, X>, CacheError>
+        requires exact { (x y : V) → V.is_clone x y → y ≡ x }
+        requires callable { D.IsAlwaysCallable decide }
+        ensures does { IfOk result (DoesAsDecided (λ seen decided. D.post decide seen decided)) }
+        ensures cause { IfErr result IsEndRefusal }
+    {
+        let (number, seen) = match self.lead_compute(rt, key) {
+            Ok(led) => led,
+            Err(refused) => return Err(refused),
+        };
+        let lead = Lead::new(self, TurnKind::Compute, number);
+        lead.decide(rt, &**key, seen, decide)
+    }
+}

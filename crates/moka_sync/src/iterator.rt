@@ -1,0 +1,166 @@
+//! The iterator.
+ghost use Rattle.std.specs.Prelude.{◌≡◌, ◌<◌, IfOk, IfErr, length};
+ghost use Rattle.std.specs.Iterator.{at_most};
+ghost use Rattle.front_reference.specs.declared.errors.CacheError.TheVariants as errors;
+ghost use Rattle.std.specs.Sync.Forever.{forever_left};
+
+use crate::cache::Cache;
+use engine_rules::Rules;
+use front_keys::Shared;
+use front_reference::CacheError;
+use std::hash::{BuildHasher, Hash};
+use std::sync::{Forever, Wait};
+use sync_env::Env;
+
+/// The visible keys of a cache that threads share, each once, with clones of their values. What is removed before its turn is not given.
+/// Each item is a pair of a key and a value, or a refusal for want of memory, after which the next call tries the same place again.
+#[derive(Drop)]
+pub struct Iter<'a, K: Eq + Hash, V: Clone, S: BuildHasher, R: Rules<K, V>, E, H: Wait> {
+    cache: &'a Cache<K, V, S, R, E>,
+    rt: &'a H,
+    // How many calls there may still be.
+    turns: Forever<'a, H>,
+    // The keys of the segment before the one at `place` that are still to be tried, the next one last.
+    keys: Vec<Shared<K>>,
+    place: usize,
+    ghost exact: { (x y : V) → V.is_clone x y → y ≡ x },
+}
+
+impl<
+    K: Eq + Hash + Drop,
+    V: Clone + Drop,
+    S: BuildHasher + Drop,
+    R: Rules<K, V> + Drop,
+    E: Env + Drop,
+> Cache<K, V, S, R, E> {
+    /// The keys of a segment.
+    fn keys_of<H: Wait>(&self, rt: &H, segment: usize) -> Result<Vec<Shared<K>>, CacheError>
+        requires exact { (x y : V) → V.is_clone x y → y ≡ x }
+        ensures cause { IfErr result (λ e. e ≡ errors.OutOfMemory) }
+    {
+        let guard = self.inner.desk.lock(rt);
+        match guard.keys(segment)? {
+            Some(keys) => Ok(keys),
+            None => Ok(Vec::new(self.alloc)),
+        }
+    }
+
+    /// A clone of the visible value of a key, of which it is no use.
+    fn scan<H: Wait>(&self, rt: &H, key: &Shared<K>) -> Result<Option<V>, CacheError>
+        requires exact { (x y : V) → V.is_clone x y → y ≡ x }
+        ensures cause { IfErr result (λ e. e ≡ errors.OutOfMemory) }
+    {
+        let mut guard = self.inner.desk.lock(rt);
+        let desk = &mut *guard;
+        desk.scan(key)
+    }
+
+    /// The value of the last key, which is then taken away.
+    fn try_last<H: Wait>(
+        &self,
+        rt: &H,
+        keys: &mut Vec<Shared<K>>,
+    ) -> Result<Option<(Shared<K>, V)>, CacheError>
+        requires exact { (x y : V) → V.is_clone x y → y ≡ x }
+        requires some { 0 < length keys.old.items }
+        ensures shorter { IfOk result (λ _. length keys.new.items < length keys.old.items) }
+        ensures cause { IfErr result (λ e. e ≡ errors.OutOfMemory) }
+    {
+        let last = keys.len() - 1;
+        let value = self.scan(rt, &keys[last])?;
+        let key = match keys.pop() {
+            Some(key) => key,
+            None => unreachable!(),
+        };
+        match value {
+            Some(value) => Ok(Some((key, value))),
+            None => Ok(None),
+        }
+    }
+
+    /// The last key that has a value, with its value. It is taken away, and so are those behind it.
+    fn take_last<H: Wait>(
+        &self,
+        rt: &H,
+        keys: &mut Vec<Shared<K>>,
+    ) -> Result<Option<(Shared<K>, V)>, CacheError>
+        requires exact { (x y : V) → V.is_clone x y → y ≡ x }
+        ensures cause { IfErr result (λ e. e ≡ errors.OutOfMemory) }
+    {
+        while !keys.is_empty() {
+            match self.try_last(rt, keys)? {
+                Some(pair) => return Ok(Some(pair)),
+                None => {}
+            }
+        }
+        Ok(None)
+    }
+
+    /// The first pair that is still to come, of the keys and of the segments from a place on.
+    fn advance<H: Wait>(
+        &self,
+        rt: &H,
+        keys: &mut Vec<Shared<K>>,
+        place: &mut usize,
+    ) -> Result<Option<(Shared<K>, V)>, CacheError>
+        requires exact { (x y : V) → V.is_clone x y → y ≡ x }
+        ensures cause { IfErr result (λ e. e ≡ errors.OutOfMemory) }
+    {
+        let count = self.policy().num_segments();
+        while *place < count {
+            match self.take_last(rt, keys)? {
+                Some(pair) => return Ok(Some(pair)),
+                None => {}
+            }
+            *keys = self.keys_of(rt, *place)?;
+            *place += 1;
+        }
+        self.take_last(rt, keys)
+    }
+}
+
+impl<
+    'a,
+    K: Eq + Hash + Drop,
+    V: Clone + Drop,
+    S: BuildHasher + Drop,
+    R: Rules<K, V> + Drop,
+    E: Env + Drop,
+    H: Wait,
+> Iter<'a, K, V, S, R, E, H> {
+    /// An iterator that gave nothing. It takes no memory, its items do.
+    pub(crate) fn new(cache: &'a Cache<K, V, S, R, E>, rt: &'a H) -> Self
+        requires exact { (x y : V) → V.is_clone x y → y ≡ x }
+    {
+        Iter {
+            cache,
+            rt,
+            turns: rt.forever(),
+            keys: Vec::new(cache.alloc),
+            place: 0,
+        }
+    }
+}
+
+impl<
+    'a,
+    K: Eq + Hash + Drop,
+    V: Clone + Drop,
+    S: BuildHasher + Drop,
+    R: Rules<K, V> + Drop,
+    E: Env + Drop,
+    H: Wait,
+> Iterator for Iter<'a, K, V, S, R, E, H> {
+    type Item = Result<(Shared<K>, V), CacheError>;
+
+    ghost remaining = { λ it. at_most (forever_left it.turns) };
+
+    fn next(&mut self) -> Option<Result<(Shared<K>, V), CacheError>> {
+        self.turns.next();
+        match self.cache.advance(self.rt, &mut self.keys, &mut self.place) {
+            Ok(Some(pair)) => Some(Ok(pair)),
+            Ok(None) => None,
+            Err(_) => Some(Err(CacheError::OutOfMemory)),
+        }
+    }
+}

@@ -1,0 +1,314 @@
+//! Turns: who leads one ends it, and who waits for one sees how it ended.
+ghost use Rattle.std.specs.Prelude.{◌≡◌, true, Ok, IfOk, IfErr};
+ghost use Rattle.front_reference.specs.declared.data.Made.{Made};
+ghost use Rattle.moka_sync.specs.Turning.{HasAnswer, HasReceived, IsAnswer, MayMake};
+ghost use Rattle.sync_desk.specs.Coalescing.{IsMadeOrFound};
+ghost use Rattle.sync_slots.specs.Endings.{suits};
+ghost use Rattle.sync_slots.specs.Refusals.{IsShortage, IsEndRefusal, IsTurnRefusal};
+
+use crate::cache::Cache;
+use engine_rules::Rules;
+use front_keys::Shared;
+use front_reference::{CacheError, Made, TurnKind};
+use std::alloc::AllocError;
+use std::hash::{BuildHasher, Hash};
+use std::sync::{MutexGuard, Wait};
+use sync_desk::{Desk, Start};
+use sync_env::Env;
+use sync_slots::{Asked, Ending, copy_made};
+
+/// How often a call that makes a value begins: where each turn that it waited for was given up, it is.
+pub(crate) const BEGINNINGS: u32 = 200;
+
+/// A turn that the caller leads. It can't be dropped, so each path ends it or gives it up.
+pub(crate) struct Lead<'a, K: Eq + Hash, V, S: BuildHasher, R: Rules<K, V>, E> {
+    pub(crate) cache: &'a Cache<K, V, S, R, E>,
+    pub(crate) kind: TurnKind,
+    pub(crate) number: u64,
+}
+
+/// What a call that makes a value comes to.
+enum Turn<A, V, F> {
+    /// A visible value, or what another made.
+    Answered(Made<V, F>),
+    /// The turn of this number began, and the caller leads it.
+    Led(u64),
+    /// The turn that was waited for was given up.
+    GivenUp(A),
+}
+
+impl<
+    'a,
+    K: Eq + Hash + Drop,
+    V: Clone + Drop,
+    S: BuildHasher + Drop,
+    R: Rules<K, V> + Drop,
+    E: Env + Drop,
+> Lead<'a, K, V, S, R, E> {
+    /// A turn that began.
+    pub(crate) fn new(cache: &'a Cache<K, V, S, R, E>, kind: TurnKind, number: u64) -> Self
+        ensures { result.kind ≡ kind }
+    {
+        Lead {
+            cache,
+            kind,
+            number,
+        }
+    }
+
+    /// Ends the turn with what was made, or gives it up where that is refused.
+    fn finish(self, rt: &impl Wait, made: Made<V, Shared<R::Fault>>) -> Result<(), CacheError>
+        requires { suits self.kind made ≡ true }
+        ensures { IfErr result IsEndRefusal }
+    {
+        let Lead {
+            cache,
+            kind,
+            number,
+        } = self;
+        let mut guard = cache.inner.desk.lock(rt);
+        let desk = &mut *guard;
+        let ended = desk.finish(kind, number, made);
+        drop(guard);
+        cache.inner.changed.notify_all();
+        ended
+    }
+
+    /// Gives the turn up.
+    pub(crate) fn abandon(self, rt: &impl Wait) {
+        let Lead {
+            cache,
+            kind,
+            number,
+        } = self;
+        let mut guard = cache.inner.desk.lock(rt);
+        let desk = &mut *guard;
+        desk.abandon(kind, number);
+        drop(guard);
+        cache.inner.changed.notify_all();
+    }
+
+    /// Ends the turn with what was made, and answers it.
+    fn finish_with(
+        self,
+        rt: &impl Wait,
+        made: Made<V, Shared<R::Fault>>,
+    ) -> Result<Made<V, Shared<R::Fault>>, CacheError>
+        requires { suits self.kind made ≡ true }
+        ensures made { IfOk result (λ answer. answer ≡ made) }
+        ensures cause { IfErr result IsEndRefusal }
+    {
+        match copy_made(&made) {
+            Ok(kept) => match self.finish(rt, kept) {
+                Ok(()) => Ok(made),
+                Err(refused) => Err(refused),
+            },
+            Err(_) => {
+                self.abandon(rt);
+                Err(CacheError::OutOfMemory)
+            }
+        }
+    }
+
+    /// Makes what the turn is for, without the lock, ends the turn with it, and answers it.
+    fn make<H: Wait, M: FnOnce() -> Result<Made<V, Shared<R::Fault>>, AllocError> + Drop>(
+        self,
+        rt: &H,
+        make: M,
+    ) -> Result<Made<V, Shared<R::Fault>>, CacheError>
+        requires callable { M.IsAlwaysCallable make }
+        requires suitable { MayMake self.kind (M.post make) }
+        ensures made { IfOk result (λ answer. M.post make (Ok answer)) }
+        ensures suits { IfOk result (λ answer. suits self.entry.kind answer ≡ true) }
+        ensures cause { IfErr result IsEndRefusal }
+    {
+        match make() {
+            Ok(made) => self.finish_with(rt, made),
+            Err(_) => {
+                self.abandon(rt);
+                Err(CacheError::OutOfMemory)
+            }
+        }
+    }
+}
+
+/// Makes what a turn is for, and answers it as fresh.
+fn make_fresh<
+    K: Eq + Hash + Drop,
+    V: Clone + Drop,
+    S: BuildHasher + Drop,
+    R: Rules<K, V> + Drop,
+    E: Env + Drop,
+    H: Wait,
+    M: FnOnce() -> Result<Made<V, Shared<R::Fault>>, AllocError> + Drop,
+>(
+    lead: Lead<'_, K, V, S, R, E>,
+    rt: &H,
+    make: M,
+) -> Result<(Made<V, Shared<R::Fault>>, bool), CacheError>
+    requires callable { M.IsAlwaysCallable make }
+    requires suitable { MayMake lead.kind (M.post make) }
+    ensures answer { IfOk result (λ a. IsAnswer lead.entry.kind (M.post make) a.0 a.1) }
+    ensures cause { IfErr result IsTurnRefusal }
+{
+    match lead.make(rt, make) {
+        Ok(made) => Ok((made, true)),
+        Err(refused) => Err(refused),
+    }
+}
+
+impl<
+    K: Eq + Hash + Drop,
+    V: Clone + Drop,
+    S: BuildHasher + Drop,
+    R: Rules<K, V> + Drop,
+    E: Env + Drop,
+> Cache<K, V, S, R, E> {
+    /// Waits for a turn to end: what it ended with, or nothing where it was given up. The lock is let go while it waits.
+    pub(crate) fn wait_for<H: Wait>(
+        &self,
+        rt: &H,
+        guard: MutexGuard<'_, Desk<K, V, S, R, E>>,
+        kind: TurnKind,
+        number: u64,
+    ) -> Result<Option<Made<V, Shared<R::Fault>>>, CacheError>
+        ensures fits { IfOk result (HasReceived kind) }
+        ensures cause { IfErr result IsShortage }
+    {
+        let mut guard = guard;
+        for _ in rt.forever() {
+            let desk = &mut *guard;
+            match desk.look(kind, number)? {
+                Ending::Underway => guard = self.inner.changed.wait(rt, guard),
+                Ending::Done(made) => return Ok(Some(made)),
+                Ending::GivenUp => return Ok(None),
+            }
+        }
+        unreachable!()
+    }
+
+    /// Begins a call that makes a value, and waits where another leads its turn. All but the waiting is one hold of the lock.
+    fn take_turn<H: Wait, A: Asked<K>, P: FnOnce(&V) -> bool + Drop>(
+        &self,
+        rt: &H,
+        kind: TurnKind,
+        asked: A,
+        replace_if: P,
+    ) -> Result<Turn<A, V, Shared<R::Fault>>, CacheError>
+        requires becomes { (a : A) → A.can_become a }
+        requires exact { (x y : V) → V.is_clone x y → y ≡ x }
+        requires callable { P.IsAlwaysCallable replace_if }
+        ensures answers { IfOk result (HasAnswer kind) }
+        ensures cause { IfErr result IsShortage }
+    {
+        let mut guard = self.inner.desk.lock(rt);
+        let desk = &mut *guard;
+        match desk.begin(kind, asked, replace_if)? {
+            Start::Found(value) => Ok(Turn::Answered(Made::Value(value))),
+            Start::Lead(number) => Ok(Turn::Led(number)),
+            Start::Wait(number, asked) => match self.wait_for(rt, guard, kind, number)? {
+                Some(made) => Ok(Turn::Answered(made)),
+                None => Ok(Turn::GivenUp(asked)),
+            },
+        }
+    }
+
+    /// The visible value of a key of which `replace_if` does not say yes, or what another made meanwhile, and false; or what `make` makes, and true. A value that was made is kept.
+    /// Of several callers for the key one makes it, without the lock, and the others wait for it. Where each of so many turns that it waited for was given up, so is the call.
+    pub(crate) fn coalesce<
+        H: Wait,
+        A: Asked<K>,
+        P: Fn(&V) -> bool + Drop,
+        M: FnOnce() -> Result<Made<V, Shared<R::Fault>>, AllocError> + Drop,
+    >(
+        &self,
+        rt: &H,
+        kind: TurnKind,
+        asked: A,
+        replace_if: P,
+        make: M,
+        times: u32,
+    ) -> Result<(Made<V, Shared<R::Fault>>, bool), CacheError>
+        requires becomes { (a : A) → A.can_become a }
+        requires exact { (x y : V) → V.is_clone x y → y ≡ x }
+        requires callable { P.IsAlwaysCallable replace_if × M.IsAlwaysCallable make }
+        requires suitable { MayMake kind (M.post make) }
+        ensures answer { IfOk result (λ a. IsAnswer kind (M.post make) a.0 a.1) }
+        ensures cause { IfErr result IsTurnRefusal }
+    {
+        let mut asked = asked;
+        for _ in 0..times {
+            match self.take_turn(rt, kind, asked, |value: &V| -> bool { replace_if(value) }) {
+                Ok(Turn::Answered(made)) => return Ok((made, false)),
+                Ok(Turn::Led(number)) => {
+                    return make_fresh(Lead::new(self, kind, number), rt, make);
+                }
+                Ok(Turn::GivenUp(again)) => asked = again,
+                Err(refused) => return Err(refused),
+            }
+        }
+        Err(CacheError::Abandoned)
+    }
+
+    /// The same with a closure that is asked once. Where the turn that was waited for is given up, what it said serves for what is visible then.
+    pub(crate) fn coalesce_asking_once<
+        H: Wait,
+        A: Asked<K>,
+        P: FnOnce(&V) -> bool + Drop,
+        M: FnOnce() -> Result<Made<V, Shared<R::Fault>>, AllocError> + Drop,
+    >(
+        &self,
+        rt: &H,
+        kind: TurnKind,
+        asked: A,
+        replace_if: P,
+        make: M,
+    ) -> Result<(Made<V, Shared<R::Fault>>, bool), CacheError>
+        requires becomes { (a : A) → A.can_become a }
+        requires exact { (x y : V) → V.is_clone x y → y ≡ x }
+        requires callable { P.IsAlwaysCallable replace_if × M.IsAlwaysCallable make }
+        requires suitable { MayMake kind (M.post make) }
+        ensures answer { IfOk result (λ a. IsAnswer kind (M.post make) a.0 a.1) }
+        ensures cause { IfErr result IsTurnRefusal }
+    {
+        let mut was_passed_over = false;
+        match self.take_turn(rt, kind, asked, |value: &V| -> bool {
+            was_passed_over = replace_if(value);
+            was_passed_over
+        }) {
+            Ok(Turn::Answered(made)) => Ok((made, false)),
+            Ok(Turn::Led(number)) => make_fresh(Lead::new(self, kind, number), rt, make),
+            Ok(Turn::GivenUp(again)) => self.coalesce(
+                rt,
+                kind,
+                again,
+                |_: &V| -> bool { was_passed_over },
+                make,
+                BEGINNINGS - 1,
+            ),
+            Err(refused) => Err(refused),
+        }
+    }
+
+    /// The visible value of a key, unless `replace_if` says yes of it, and false; or what `make` makes, and true. All is done in one hold of the lock, and nobody is waited for.
+    pub(crate) fn coalesce_now<
+        H: Wait,
+        P: FnOnce(&V) -> bool + Drop,
+        M: FnOnce() -> Result<Made<V, Shared<R::Fault>>, AllocError> + Drop,
+    >(
+        &self,
+        rt: &H,
+        key: &Shared<K>,
+        replace_if: P,
+        make: M,
+    ) -> Result<(Made<V, Shared<R::Fault>>, bool), CacheError>
+        requires exact { (x y : V) → V.is_clone x y → y ≡ x }
+        requires callable { P.IsAlwaysCallable replace_if × M.IsAlwaysCallable make }
+        ensures answer { IfOk result (λ a. IsMadeOrFound (λ made. M.post make (Ok made)) a.0 a.1) }
+        ensures cause { IfErr result IsShortage }
+    {
+        let mut guard = self.inner.desk.lock(rt);
+        let desk = &mut *guard;
+        desk.coalesce_now(key, replace_if, make)
+    }
+}

@@ -1,0 +1,81 @@
+//! Calls on all segments: predicates, notices, and what iterators look at.
+ghost use Rattle.std.specs.Prelude.{◌≡◌, true, IfErr, OnOk, OnErr};
+ghost use Rattle.front_reference.specs.declared.errors.CacheError.TheVariants as errors;
+ghost use Rattle.front_reference.specs.Wholes.{next_told, without_told};
+ghost use Rattle.sync_slots.specs.Refusals.{IsCoverRefusal};
+
+use crate::desk::Desk;
+use engine_rules::Rules;
+use front_iterator::ScanningGet;
+use front_keys::Shared;
+use front_reference::CacheError;
+use moka_engine::Notice;
+use std::hash::{BuildHasher, Hash};
+use sync_env::Env;
+
+/// Why a predicate is refused: that none are taken, identifiers, memory, or else numbers.
+fn cover_refusal_of(refused: CacheError) -> CacheError
+    ensures { IsCoverRefusal result }
+{
+    match refused {
+        CacheError::InvalidationClosuresDisabled => CacheError::InvalidationClosuresDisabled,
+        CacheError::IdsInUse => CacheError::IdsInUse,
+        CacheError::OutOfMemory => CacheError::OutOfMemory,
+        _ => CacheError::UsedUp,
+    }
+}
+
+impl<
+    K: Eq + Hash + Drop,
+    V: Clone + Drop,
+    S: BuildHasher + Drop,
+    R: Rules<K, V> + Drop,
+    E: Env + Drop,
+> Desk<K, V, S, R, E> {
+    /// Covers the values that were written before of which a predicate says yes, in all segments or, where it is refused, in none. Its identifier is answered, in its hyphenated form of 36 bytes in lower case.
+    pub fn invalidate_entries_if(&mut self, predicate: R::Predicate) -> Result<String, CacheError>
+        ensures takes { OnOk result (self.old.state.common.settings.takes_predicates ≡ true) }
+        ensures err { OnErr result (self.new.state ≡ self.old.state) }
+        ensures cause { IfErr result IsCoverRefusal }
+    {
+        let Some(at) = self.draw() else {
+            return Err(CacheError::UsedUp);
+        };
+        let Desk { state, env, .. } = self;
+        match state.invalidate_entries_if(predicate, env, at) {
+            Ok(id) => Ok(id),
+            Err(refused) => Err(cover_refusal_of(refused)),
+        }
+    }
+
+    /// Takes the oldest notice of the first segment that has one.
+    pub fn next_notice(&mut self) -> Option<Notice<Shared<K>, V>>
+        ensures notice { result ≡ next_told self.old.state.parts }
+    {
+        self.state.next_notice()
+    }
+
+    /// Clones of the keys of a segment, those of dead and covered values among them, or `None` where there is no such segment.
+    pub fn keys(&self, segment: usize) -> Result<Option<Vec<Shared<K>>>, CacheError>
+        requires exact { (x y : V) → V.is_clone x y → y ≡ x }
+        ensures cause { IfErr result (λ e. e ≡ errors.OutOfMemory) }
+    {
+        match self.state.keys(segment) {
+            Ok(keys) => Ok(keys),
+            Err(_) => Err(CacheError::OutOfMemory),
+        }
+    }
+
+    /// A clone of the visible value of a key. It is no use of it, and no call that changes anything.
+    pub fn scan(&mut self, key: &Shared<K>) -> Result<Option<V>, CacheError>
+        requires exact { (x y : V) → V.is_clone x y → y ≡ x }
+        ensures state { self.new.state ≡ self.old.state }
+        ensures cause { IfErr result (λ e. e ≡ errors.OutOfMemory) }
+    {
+        let now = self.env.now().max(self.state.last_call().now);
+        match self.state.scanning_get(key, now) {
+            Ok(found) => Ok(found),
+            Err(_) => Err(CacheError::OutOfMemory),
+        }
+    }
+}
