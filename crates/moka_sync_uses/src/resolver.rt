@@ -1,0 +1,71 @@
+//! A resolver of names.
+ghost use Rattle.std.specs.Prelude.{◌≡◌, IfErr};
+ghost use Rattle.sync_slots.specs.Refusals.{IsTurnRefusal};
+
+use engine_rules::{Bundle, NoExpiry, NoPredicate, WeighOne};
+use front_builder::{BuildError, CacheBuilder};
+use front_reference::CacheError;
+use moka_sync::{Build, Cache, Env, StdHasher};
+use std::alloc::Global;
+use std::sync::{Arc, Wait};
+use std::time::Duration;
+
+/// What is asked where an answer is not known. It may take long, and threads ask it at the same time.
+pub trait Upstream {
+    /// The address of a name.
+    fn ask(&self, name: &str) -> Result<u32, Unresolved>;
+}
+
+/// A name that has no address.
+#[derive(Clone, Copy, Debug, PartialEq, Eq, Drop)]
+pub struct Unresolved;
+
+/// The rules of the answers: each weighs one.
+type AnswerRules = Bundle<NoExpiry, WeighOne, NoPredicate, Unresolved>;
+
+/// Answers the addresses of names, for all threads that share it. Answers are kept for a time; that a name has none is not kept, and is asked again.
+#[derive(Drop)]
+pub struct Resolver<U, E> {
+    answers: Cache<String, u32, StdHasher, AnswerRules, E>,
+    upstream: U,
+    alloc: Global,
+}
+
+impl<U: Upstream + Drop, E: Env + Drop> Resolver<U, E> {
+    /// A resolver that keeps at most so many answers, each for this time.
+    pub fn new(
+        alloc: Global,
+        answers: u64,
+        time: Duration,
+        upstream: U,
+        env: E,
+    ) -> Result<Self, BuildError> {
+        let answers = CacheBuilder::new(answers)
+            .time_to_live(time)
+            .faults::<Unresolved>()
+            .build(alloc, env)?;
+        Ok(Resolver {
+            answers,
+            upstream,
+            alloc,
+        })
+    }
+
+    /// The address of a name. Where threads ask for a name at the same time, one asks the upstream, and the others wait for its answer.
+    pub fn resolve<H: Wait>(
+        &self,
+        rt: &H,
+        name: &str,
+    ) -> Result<Result<u32, Arc<Unresolved>>, CacheError>
+        ensures { IfErr result IsTurnRefusal }
+    {
+        let own = match String::from_str(self.alloc, name) {
+            Ok(own) => own,
+            Err(_) => return Err(CacheError::OutOfMemory),
+        };
+        self.answers
+            .try_get_with(rt, own, || -> Result<u32, Unresolved> {
+                self.upstream.ask(name)
+            })
+    }
+}
