@@ -20,3 +20,4 @@ pub mod Follows
 pub mod Configs
 pub mod Summary
 pub mod BelongsIn
+pub mod Keys

@@ -6,6 +6,8 @@ mod config;
 mod event;
 mod grammar;
 mod input;
+mod key;
+mod note_key;
 mod seq;
 mod transcript;
 
@@ -14,5 +16,7 @@ pub use config::{Config, EvictionPolicy, Weight};
 pub use event::{Event, Instant, Outcome};
 pub use grammar::{are_same, key_fits};
 pub use input::{Conn, Input, LoadId, ServiceError};
+pub use key::Key;
+pub use note_key::NoteKey;
 pub use seq::{Bytes, Seq, copy_bytes};
 pub use transcript::{Accepted, Note, Record, RemovalCause, Step, Transcript};

@@ -8,7 +8,7 @@ ghost use Rattle.audit_text_reader.specs.Items.{config_in_words, head_of, feed_i
 ghost use Rattle.audit_text_reader.specs.Lines.{line_words};
 
 use crate::fields::{LineFault, Words};
-use audit_model::{Accepted, Config, Event, Instant, Note, Outcome, Seq, Step};
+use audit_model::{Accepted, Config, Event, Instant, Note, NoteKey, Outcome, Seq, Step};
 use audit_text::{put_config, put_event, put_made, put_note, put_own, put_whole_step};
 use std::alloc::{AllocError, Global};
 
@@ -319,7 +319,11 @@ fn read_note(alloc: Global, words: &mut Words<'_>) -> Result<Note, LineFault>
     let cause = words.cause()?;
     let key = words.bytes(alloc)?;
     let value = words.bytes(alloc)?;
-    Ok(Note { cause, key, value })
+    Ok(Note {
+        cause,
+        key: NoteKey::from(key.into_vec()),
+        value,
+    })
 }
 
 /// A step behind its word, without notes.

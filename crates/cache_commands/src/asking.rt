@@ -6,7 +6,8 @@ ghost use Rattle.cache_store.specs.Values.{IsMoment};
 
 use crate::commands::SHORT;
 use crate::writing::{take_back, write};
-use cache_store::{Key, Store};
+use audit_model::Key;
+use cache_store::Store;
 use itoa::Buffer;
 use std::alloc::AllocError;
 

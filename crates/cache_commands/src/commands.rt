@@ -8,8 +8,8 @@ ghost use Rattle.cache_commands.specs.Answered.{IsAnswered, IsTakable};
 ghost use Rattle.cache_store.specs.Values.{IsMoment, IsSpent};
 
 use crate::writing::write;
-use audit_model::{Accepted, LineError};
-use cache_store::{Counts, Key, Store, StoreError};
+use audit_model::{Accepted, Key, LineError};
+use cache_store::{Counts, Store, StoreError};
 use itoa::Buffer;
 use std::alloc::AllocError;
 

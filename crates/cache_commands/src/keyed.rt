@@ -11,8 +11,8 @@ ghost use Rattle.cache_store.specs.Values.{GivesNote, IsMoment, IsSoundStore, Is
 use crate::loading::store_outcome;
 use crate::running::{Ran, run_request};
 use audit_lines::Request;
-use audit_model::{Accepted, Note, Outcome};
-use cache_store::{Key, Store, StoreError};
+use audit_model::{Accepted, Key, Note, Outcome};
+use cache_store::{Store, StoreError};
 use std::alloc::{AllocError, Global};
 use std::marker::Model;
 

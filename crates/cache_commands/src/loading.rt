@@ -9,8 +9,8 @@ ghost use Rattle.cache_store.specs.Values.{IsLive, IsMoment, IsSpent};
 
 use crate::commands::{accepts, get};
 use crate::writing::write;
-use audit_model::{Accepted, Outcome};
-use cache_store::{Key, Store, StoreError};
+use audit_model::{Accepted, Key, Outcome};
+use cache_store::{Store, StoreError};
 use std::alloc::AllocError;
 
 /// Answers a `LOAD` that finds a live value, which is a use of it, and says whether it found one. Where it found none, nothing has

@@ -14,8 +14,8 @@ use crate::loading::load;
 use crate::sums::add;
 use crate::writing::write;
 use audit_lines::{Request, read_line};
-use audit_model::Accepted;
-use cache_store::{Key, Store, StoreError};
+use audit_model::{Accepted, Key};
+use cache_store::{Store, StoreError};
 use std::alloc::AllocError;
 
 /// What a line did besides its reply.

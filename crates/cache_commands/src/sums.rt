@@ -12,8 +12,8 @@ ghost use Rattle.cache_store.specs.Values.{AcceptsValue, Does, IsMoment, IsSpent
 use crate::commands::{SHORT, accepts};
 use crate::writing::write;
 use audit_lines::number;
-use audit_model::Accepted;
-use cache_store::{Key, Store, StoreError};
+use audit_model::{Accepted, Key};
+use cache_store::{Store, StoreError};
 use itoa::Buffer;
 use std::alloc::AllocError;
 

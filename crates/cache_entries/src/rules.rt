@@ -2,8 +2,7 @@
 ghost use Rattle.cache_parts.specs.Parts.{service_answers};
 
 use crate::value::StoredValue;
-use audit_model::{Bytes, Weight};
-use cache_store::Key;
+use audit_model::{Bytes, Key, Weight};
 use engine_rules::{Expiration, Rules};
 use policy_base::Instant;
 use std::time::Duration;

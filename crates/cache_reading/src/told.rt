@@ -66,7 +66,7 @@ pub fn copy_note(alloc: Global, note: &Note) -> Result<Note, AllocError>
 {
     Ok(Note {
         cause: note.cause,
-        key: copy_bytes(alloc, &note.key)?,
+        key: note.key.clone()?,
         value: copy_bytes(alloc, &note.value)?,
     })
 }

@@ -3,5 +3,4 @@ pub mod Handing
 pub mod Running
 pub mod Recency
 pub mod Identifiers
-pub mod Keys
 pub mod Values

@@ -10,8 +10,7 @@ ghost use Rattle.cache_store.specs.Promises.{using, deleting, covering, syncing}
 ghost use Rattle.cache_store.specs.Values.{Values, IsMoment, IsAcceptable, IsSpent, IsSoundStore, Does, AcceptsValue, LacksIdentifiers, IsSettled, GivesNote, IsLive, AreLive};
 
 use crate::error::StoreError;
-use crate::key::Key;
-use audit_model::{Config, Note};
+use audit_model::{Config, Key, Note};
 use std::alloc::AllocError;
 
 /// How many values are held, and what they weigh.

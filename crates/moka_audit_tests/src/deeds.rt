@@ -1,6 +1,6 @@
 //! What a step does to the values held, as tables of rows.
 use audit_held::{Held, Holding};
-use audit_model::{Bytes, Config, EvictionPolicy, Note, RemovalCause, Seq, Weight};
+use audit_model::{Bytes, Config, EvictionPolicy, Note, NoteKey, RemovalCause, Seq, Weight};
 use audit_notes::{Covering, Deed, do_deed, live};
 use std::alloc::{AllocError, Global};
 use std::test::Fail;
@@ -106,7 +106,7 @@ fn bytes(alloc: Global, text: &[u8]) -> Result<Bytes, AllocError> {
 
 fn note_of(alloc: Global, told: Told<'_>) -> Result<Note, AllocError> {
     let (cause, key, value) = told;
-    let key = bytes(alloc, key)?;
+    let key = NoteKey::from(Vec::from_slice(alloc, key)?);
     let value = bytes(alloc, value)?;
     Ok(Note { cause, key, value })
 }

@@ -2,8 +2,8 @@
 use crate::lengths::ByLength;
 use crate::script::{Row, first_wrong, none_wrong};
 use crate::turning::Turning;
-use audit_model::{Config, EvictionPolicy, RemovalCause, Weight};
-use cache_store::{Key, Store, StoreError};
+use audit_model::{Config, EvictionPolicy, Key, RemovalCause, Weight};
+use cache_store::{Store, StoreError};
 use plain_store::{FixedHasher, PlainStore};
 use rand_core::SeedableRng;
 use rand_xoshiro::SplitMix64;

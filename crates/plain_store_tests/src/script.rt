@@ -3,8 +3,8 @@
 ghost use Rattle.std.specs.Prelude.{◌≡◌, ◌≤◌, ◌<◌, ◌^◌, IfSome};
 ghost use Rattle.audit_model.specs.History.{accepts_values};
 
-use audit_model::{Config, Note, RemovalCause};
-use cache_store::{Key, Store};
+use audit_model::{Config, Key, Note, RemovalCause};
+use cache_store::Store;
 use plain_store::{KeyHasher, PlainStore};
 use rand_core::Rng;
 use std::alloc::{AllocError, Global};

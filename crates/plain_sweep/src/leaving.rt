@@ -6,7 +6,7 @@ ghost use Rattle.plain_table.specs.Items.{held_of};
 ghost use Rattle.plain_sweep.specs.Swept.{cause_gone, note_of, left_by, told_by, swept};
 
 use crate::deadlines::is_dead;
-use audit_model::{Config, Note, RemovalCause, Seq};
+use audit_model::{Config, Note, NoteKey, RemovalCause, Seq};
 use plain_table::{Kept, Table};
 use std::collections::VecDeque;
 
@@ -67,7 +67,7 @@ pub fn tell(notes: &mut VecDeque<Note>, cause: RemovalCause, key: Vec<u8>, kept:
     notes
         .push_back(Note {
             cause,
-            key: Seq::from_vec(key),
+            key: NoteKey::from(key),
             value: Seq::from_vec(kept.bytes),
         })
         .unwrap();

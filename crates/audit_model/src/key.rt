@@ -3,7 +3,7 @@ ghost use Rattle.std.specs.Prelude.{◌≡◌, ◌≤◌, ◌∷◌, [], length,
 ghost use Rattle.audit_model.specs.Bytewise.{same};
 ghost use Rattle.std.specs.Cmp.{partial_equiv_from_equiv};
 ghost use Rattle.std.specs.Cmp.Lexicographic.{nat_list_eq_equiv};
-ghost use Rattle.cache_store.specs.Keys.{same_feeds};
+ghost use Rattle.audit_model.specs.Keys.{same_feeds};
 
 use std::alloc::{AllocError, Global};
 use std::hash::{Hash, Hasher};
