@@ -1,4 +1,4 @@
-//! A keyed hasher.
+//! Hashers of keys.
 ghost use Rattle.std.specs.Prelude.{◌≡◌, ◌%◌, ◌^◌};
 
 use std::hash::{BuildHasher, DefaultHasher, Hasher};
@@ -25,6 +25,33 @@ impl<H: Hasher> Hasher for WordHasher<H> {
     }
 }
 
+/// Builds the hashers of another builder, as `WordHasher`s.
+#[derive(Drop)]
+pub struct WordBuilder<S> {
+    inner: S,
+}
+
+impl<S> WordBuilder<S> {
+    /// Over this builder.
+    pub fn new(inner: S) -> WordBuilder<S>
+        ensures { result ≡ record { inner = inner } }
+    {
+        WordBuilder { inner }
+    }
+}
+
+impl<S: BuildHasher> BuildHasher for WordBuilder<S> {
+    type Hasher = WordHasher<S::Hasher>;
+
+    ghost build_hasher = { λ builder. record { inner = S.build_hasher builder.inner } };
+
+    fn build_hasher(&self) -> WordHasher<S::Hasher> {
+        WordHasher {
+            inner: self.inner.build_hasher(),
+        }
+    }
+}
+
 /// SipHash-1-3 behind a secret key: whoever does not know the key cannot choose keys that collide.
 ///
 /// The secret is hashed once, and each hash goes on from there.
@@ -43,11 +70,11 @@ impl KeyedHasher {
 }
 
 impl BuildHasher for KeyedHasher {
-    type Hasher = WordHasher<DefaultHasher>;
+    type Hasher = DefaultHasher;
 
-    ghost build_hasher = { λ hasher. record { inner = hasher.start } };
+    ghost build_hasher = { λ hasher. hasher.start };
 
-    fn build_hasher(&self) -> WordHasher<DefaultHasher> {
-        WordHasher { inner: self.start }
+    fn build_hasher(&self) -> DefaultHasher {
+        self.start
     }
 }

@@ -5,5 +5,5 @@ mod hasher;
 mod rules;
 mod value;
 
-pub use hasher::{KeyedHasher, WordHasher};
+pub use hasher::{KeyedHasher, WordBuilder, WordHasher};
 pub use value::StoredValue;
