@@ -1,0 +1,6 @@
+pub mod Calls
+pub mod Beginning
+pub mod Live
+pub mod Drains
+pub mod Sorting
+pub mod Gathering
