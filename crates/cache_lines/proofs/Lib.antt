@@ -2,7 +2,7 @@ mod AnsweredLine
 pub mod Drawn
 mod HeldFeeds
 mod HeldRuns
-mod Knowing
+pub mod Knowing
 pub mod LineRuns
 pub mod LoadWaits
 mod NotesTaken

@@ -1,0 +1,14 @@
+mod Courses
+mod Follows
+mod Joined
+mod Opened
+mod Orders
+mod Own
+mod Pieces
+mod Putting
+mod Records
+mod Reruns
+mod Spots
+mod Table
+mod Takings
+mod Turning

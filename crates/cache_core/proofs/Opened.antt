@@ -1,0 +1,199 @@
+-- Openings and closings of a namespace, as records that follow.
+use Rattle.std.proofs.Common.{◌≡◌, ℕ, zero, suc, ◌+◌, Bool, true, false, not, ◌&&◌, ◌||◌, ◌==◌, cond, List, [], ◌∷◌, ◌++◌, length, map, Option, Some, None, if◌then◌else◌, refl, sym, ap, ◌∙◌, arith, length-append, subst, inr}
+use Rattle.std.specs.Prelude.{is_some, is_none, slice_set}
+use Rattle.std.specs.List.{find}
+use Rattle.std.specs.Option.{option_map, option_or}
+use Rattle.std.proofs.lemmas.Bool.{eq-eqb}
+use Rattle.std.proofs.lemmas.List.{append-nil, length-map}
+use Rattle.std.proofs.lemmas.Option.{slice_get_within}
+use Rattle.audit_model.specs.Belongs.{refusal_where}
+use Rattle.audit_model.specs.Follows.{known_in}
+use Rattle.audit_model.specs.Situation as model
+use Rattle.audit_model.specs.Situation.{HeldValue, Situation, connection_in, without_connection, without_waiting}
+use Rattle.audit_model.specs.declared.command.Closing.{Closing}
+use Rattle.audit_model.specs.declared.command.Closing.TheVariants as by
+use Rattle.audit_model.specs.declared.config.Config.{Config}
+use Rattle.audit_model.specs.declared.event.Event.{Event}
+use Rattle.audit_model.specs.declared.event.Event.TheVariants as event
+use Rattle.audit_model.specs.declared.input.ServiceError.TheVariants as error
+use Rattle.audit_model.specs.declared.transcript.Record.{Record}
+use Rattle.cache_lines.specs.Drawing.{identifiers_in}
+use Rattle.cache_lines.specs.Lines.{ready}
+use Rattle.cache_lines.specs.Waiting.{under_way, when_left}
+use Rattle.cache_lines.specs.declared.base.Base.{Base}
+use Rattle.cache_lines.proofs.Drawn.{spends-same}
+use Rattle.cache_loads.specs.Pending.{SameTaken, loads_pending, sent_of}
+use Rattle.cache_loads.specs.declared.loads.Loads.{Loads}
+use Rattle.cache_loads.specs.declared.standing.Standing.TheVariants as now
+use Rattle.cache_store.specs.Values.{IsSoundStore, Values}
+use Rattle.cache_tape.specs.Taped.{IsAtRest, Taped, finishes, started}
+use Rattle.cache_core.specs.Fed.{ReplacedAt}
+use Rattle.cache_core.specs.Parts.{standing_as}
+use Rattle.cache_core.specs.Shown.{open_from, shown}
+use Rattle.cache_core.specs.State.{IsInOrder, State, at_number, situation_with, state_of}
+use Rattle.cache_core.specs.Turned.{Turned, Turns, closing_behind, reason_of, with_record}
+use Rattle.cache_core.specs.declared.connection.Connection.{Connection}
+use Rattle.cache_core.proofs.Orders.{order-turned}
+use Rattle.cache_core.proofs.Spots.{seen-same}
+use Rattle.cache_core.proofs.Table.{dropped-at, opened-last}
+use Rattle.cache_core.proofs.Turning.{closings-by, known-open, opened-same, sit}
+
+abbrev pub record_of : Event → Record
+record_of happened = record { event = happened; own = None; notices = []; steps = [] }
+
+-- a record without steps, begun and ended
+pub kept-bare : (happened : Event) (tape middle final : Option Taped) → IsAtRest tape → middle ≡ option_map (started 0) tape → final ≡ option_map (finishes happened None []) middle
+    → final ≡ option_map (with_record (record_of happened)) tape
+kept-bare happened None middle final rests begun ended = ended ∙ ap (option_map (finishes happened None [])) begun
+kept-bare happened (Some t) middle final rests begun ended =
+    ended ∙ ap (option_map (finishes happened None [])) begun
+    ∙ ap (λ b. Some (record { records = t.records ++ record_of happened ∷ []; begun = b; steps = []; spare = 0; drafted = None })) (sym rests.closed)
+    ∙ ap (λ ss. Some (record { records = t.records ++ record_of happened ∷ []; begun = t.begun; steps = ss; spare = 0; drafted = None })) (sym rests.steps)
+    ∙ ap (λ n. Some (record { records = t.records ++ record_of happened ∷ []; begun = t.begun; steps = t.steps; spare = n; drafted = None })) (sym rests.spare)
+    ∙ ap (λ d. Some (record { records = t.records ++ record_of happened ∷ []; begun = t.begun; steps = t.steps; spare = t.spare; drafted = d })) (sym rests.undrafted)
+
+none-more : {A : Type 0} (b : Bool) (xs : List A) → xs ≡ xs ++ (if b then [] else [])
+none-more true xs = sym (append-nil xs)
+none-more false xs = sym (append-nil xs)
+
+-- ---- an opening
+
+last-number : {A : Type 0} (f : Connection → A) (d : A) (cs : List Connection) (new : Connection) → f new ≡ d → (n : ℕ) → at_number d (map f (cs ++ new ∷ [])) n ≡ at_number d (map f cs) n
+last-number f d [] new e zero = refl
+last-number f d [] new e (suc zero) = e
+last-number f d [] new e (suc (suc n)) = refl
+last-number f d (c ∷ cs) new e zero = refl
+last-number f d (c ∷ cs) new e (suc zero) = refl
+last-number f d (c ∷ cs) new e (suc (suc n)) = last-number f d cs new e (suc n)
+
+count-more : (cs : List Connection) (new : Connection) → length (map (λ (c : Connection). c.closing) (cs ++ new ∷ [])) ≡ suc (length (map (λ (c : Connection). c.closing) cs))
+count-more cs new = let a = length-map (cs ++ new ∷ []) (λ (c : Connection). c.closing) in let b = length-map cs (λ (c : Connection). c.closing) in let l = length-append cs (new ∷ []) in omega (arith, a, b, l)
+
+find-more : (n : ℕ) (xs ys : List model.Connection) → is_some (find (λ c. c.number == n) xs) ≡ true → is_some (find (λ c. c.number == n) (xs ++ ys)) ≡ true
+find-more n [] ys e = let no : false ≡ true = e in cc
+find-more n (x ∷ xs) ys e = go (x.number == n) (find-more n xs ys) e
+  where
+    go : (b : Bool) → (is_some (find (λ (c : model.Connection). c.number == n) xs) ≡ true → is_some (find (λ (c : model.Connection). c.number == n) (xs ++ ys)) ≡ true)
+        → is_some (cond b (Some x) (find (λ (c : model.Connection). c.number == n) xs)) ≡ true → is_some (cond b (Some x) (find (λ (c : model.Connection). c.number == n) (xs ++ ys))) ≡ true
+    go true next h = refl
+    go false next h = next h
+
+stays-open : (a b : Bool) → (b ≡ true → a ≡ true) → (a || not b) ≡ true
+stays-open true b h = refl
+stays-open false true h = h refl
+stays-open false false h = refl
+
+-- a connection that stays open is closed as it was
+stays-closing : (config : Config) (s next : Situation) (entry : Record) (n : ℕ) (o : Option Closing) → (is_some (connection_in n s) ≡ true → is_some (connection_in n next) ≡ true) → o ≡ closing_behind config s entry next o n
+stays-closing config s next entry n (Some why) stays = refl
+stays-closing config s next entry n None stays = sym (ap (λ b. if b then None else Some (reason_of config s n entry.event entry.steps)) (stays-open (is_some (connection_in n next)) (is_some (connection_in n s)) stays))
+
+module _ {S T : Type 0} (view : S → Values) (tape : T → Option Taped) (base : Base S T) (final : T) (latest m : ℕ) (cs : List Connection) (new : Connection) (e : m ≡ suc (length cs)) (free : new.standing ≡ now.Ready) (empty : new.unread.bytes ≡ []) (silent : new.output.text.items ≡ []) (is_open : new.closing ≡ None)
+    (kept : tape final ≡ option_map (with_record (record_of (event.Open m))) (tape base.tape)) where
+  abbrev config : Config
+  config = (view base.store).frame.config
+
+  abbrev last : State S T
+  last = state_of (record { store = base.store; loads = base.loads; tape = final }) latest (cs ++ new ∷ [])
+
+  -- the new connection comes last
+  listed : open_from 1 (cs ++ new ∷ []) ≡ open_from 1 cs ++ ready m [] ∷ []
+  listed =
+      let n_is : 1 + length cs ≡ m = omega (arith, e) in
+      opened-last 1 cs new (ap is_none is_open) ∙ ap (λ k. open_from 1 cs ++ shown k new ∷ []) n_is
+      ∙ ap (λ st. open_from 1 cs ++ standing_as m st new.waited new.unread.bytes ∷ []) free ∙ ap (λ bs. open_from 1 cs ++ ready m bs ∷ []) empty
+
+  pub turned-open : IsSoundStore (view base.store) → (held : List HeldValue) → (view base.store).Stands held
+      → Turned view tape (state_of base latest cs) last (situation_with view (state_of base latest cs) held) (record_of (event.Open m))
+  turned-open sound held stands =
+      let s = sit latest (under_way base.loads) cs (view base.store).frame.dropped held in
+      let count = length-map cs (λ (c : Connection). c.closing) in
+      let number_is : m ≡ suc (length (map (λ (c : Connection). c.closing) cs)) = omega (arith, e, count) in
+      let next = situation_with view last held in
+      record {
+        next = next;
+        stands = record { held = held; stands = stands; is = refl };
+        follows =
+            ap (λ b. if b && true then Some (record s { opened = suc s.opened; connections = open_from 1 cs ++ ready m [] ∷ [] }) else None) (eq-eqb m (suc s.opened) number_is)
+            ∙ ap (λ ks. Some (record s { opened = suc s.opened; connections = ks })) (sym listed)
+            ∙ ap (λ n. Some (record s { opened = n; connections = open_from 1 (cs ++ new ∷ []) })) (sym (count-more cs new));
+        kept = kept;
+        outputs = λ n. last-number (λ (c : Connection). c.output.text.items) [] cs new silent n ∙ none-more (is_some (tape base.tape)) (at_number [] (map (λ (c : Connection). c.output.text.items) cs) n);
+        notes = none-more (is_some (tape base.tape)) (view base.store).untaken;
+        closings = λ n.
+            last-number (λ (c : Connection). c.closing) None cs new is_open n
+            ∙ stays-closing config s next (record_of (event.Open m)) n (at_number None (map (λ (c : Connection). c.closing) cs) n)
+            (λ h. ap (λ ks. is_some (find (λ (k : model.Connection). k.number == n) ks)) listed ∙ find-more n (open_from 1 cs) (ready m [] ∷ []) h);
+        parted = refl;
+        timely = refl;
+        bounded = sound.bounded held stands;
+        draws = spends-same (identifiers_in (view base.store));
+        ordered = λ places order plain agrees. (agrees, tt);
+      }
+
+  pub turns-open : IsSoundStore (view base.store) → Turns view tape (state_of base latest cs) last (event.Open m) false
+  turns-open sound = record {
+    turned = λ s st. (record_of (event.Open m), record { event_is = refl; ends = refl }, subst (λ x. Turned view tape (state_of base latest cs) last x (record_of (event.Open m))) (sym st.is) (turned-open sound st.held st.stands));
+    stays = record { config = refl; part_of = refl; made = refl; namespace = refl; taken = refl };
+  }
+
+  pub order-open : IsSoundStore (view base.store) → IsInOrder view tape (state_of base latest cs) → IsInOrder view tape last
+  order-open sound order = order-turned view tape (state_of base latest cs) last _ _ (record { held = sound.some; stands = sound.stands; is = refl }) (turned-open sound sound.some sound.stands) order refl order.in_time order.moment
+
+-- ---- a closing
+
+module _ {S T : Type 0} (view : S → Values) (tape : T → Option Taped) (base : Base S T) (left : Loads) (final : T) (latest m i : ℕ) (cs ds : List Connection) (p : ReplacedAt cs ds i) (e : m ≡ suc i) (is_open : p.was.closing ≡ None) (closed : p.is.closing ≡ Some by.Asked) (stays : p.is.output.text.items ≡ p.was.output.text.items)
+    (leaves : under_way left ≡ when_left false m (under_way base.loads)) (kept : tape final ≡ option_map (with_record (record_of (event.Close m))) (tape base.tape)) where
+  abbrev closed_last : State S T
+  closed_last = state_of (record { store = base.store; loads = left; tape = final }) latest ds
+
+  pub turned-close : IsSoundStore (view base.store) → (held : List HeldValue) → (view base.store).Stands held
+      → Turned view tape (state_of base latest cs) closed_last (situation_with view (state_of base latest cs) held) (record_of (event.Close m))
+  turned-close sound held stands =
+      let frame = (view base.store).frame in
+      let s = sit latest (under_way base.loads) cs frame.dropped held in
+      let next = situation_with view closed_last held in
+      let known = known-open m i p.was s cs refl refl e p.at is_open in
+      let rest : Option Situation = Some (without_connection m s) in
+      let within = slice_get_within cs i p.was p.at in
+      let relisted : open_from 1 (slice_set cs i p.is) ≡ open_from 1 ds = ap (open_from 1) (sym p.set) in
+      let count : length (map (λ (c : Connection). c.closing) cs) ≡ length (map (λ (c : Connection). c.closing) ds) = sym (ap (λ xs. length (map (λ (c : Connection). c.closing) xs)) p.set ∙ opened-same cs i p.is) in
+      let texts = ap (map (λ (c : Connection). c.output.text.items)) p.set ∙ seen-same (λ (c : Connection). c.output.text.items) cs i p.was p.is p.at stays in
+      record {
+        next = next;
+        stands = record { held = held; stands = stands; is = refl };
+        follows =
+            ap (λ a. if is_none (option_or (refusal_where (not a) error.NoConnection) (refusal_where (not ((known_in s).is_open m)) error.Closed)) && true && true then rest else None) known.0
+            ∙ ap (λ a. if is_none (refusal_where (not a) error.Closed) && true && true then rest else None) known.1
+            ∙ ap (λ ks. Some (record s { connections = ks; pending = map (without_waiting m) s.pending })) (dropped-at m 1 i p.is cs (omega (arith, e)) within (ap is_none closed) ∙ relisted)
+            ∙ ap (λ n. Some (record s { opened = n; connections = open_from 1 ds; pending = map (without_waiting m) s.pending })) count
+            ∙ ap (λ l. Some (sit latest l ds frame.dropped held)) (sym leaves);
+        kept = kept;
+        outputs = λ n. ap (λ xs. at_number [] xs n) texts ∙ none-more (is_some (tape base.tape)) (at_number [] (map (λ (c : Connection). c.output.text.items) cs) n);
+        notes = none-more (is_some (tape base.tape)) (view base.store).untaken;
+        closings = λ n.
+            ap (λ xs. at_number None (map (λ (c : Connection). c.closing) xs) n) p.set
+            ∙ closings-by frame.config s next (record_of (event.Close m)) cs i p.was p.is p.at is_open refl (sym relisted) (inr closed) n;
+        parted = refl;
+        timely = refl;
+        bounded = sound.bounded held stands;
+        draws = spends-same (identifiers_in (view base.store));
+        ordered = λ places order plain agrees. (agrees, tt);
+      }
+
+  pub turns-close : IsSoundStore (view base.store) → SameTaken base.loads left → Turns view tape (state_of base latest cs) closed_last (event.Close m) false
+  turns-close sound goes = record {
+    turned = λ s st. (record_of (event.Close m), record { event_is = refl; ends = refl }, subst (λ x. Turned view tape (state_of base latest cs) closed_last x (record_of (event.Close m))) (sym st.is) (turned-close sound st.held st.stands));
+    stays = record { config = refl; part_of = refl; made = refl; namespace = goes.namespace; taken = goes.taken };
+  }
+
+  pub order-close : IsSoundStore (view base.store) → IsInOrder view tape (state_of base latest cs) → IsInOrder view tape closed_last
+  order-close sound order = order-turned view tape (state_of base latest cs) closed_last _ _ (record { held = sound.some; stands = sound.stands; is = refl }) (turned-close sound sound.some sound.stands) order refl order.in_time order.moment
+
+-- the loads of a connection that waits no more
+pub left-is : (loads left : Loads) (n : ℕ) → sent_of left ≡ sent_of loads → loads_pending left ≡ map (without_waiting n) (loads_pending loads) → under_way left ≡ when_left false n (under_way loads)
+left-is loads left n sent pending = ap (λ k. record { sent = k; pending = loads_pending left }) sent ∙ ap (λ ps. record { sent = sent_of loads; pending = ps }) pending
+
+-- how many connections there are
+pub count-open : (cs : List Connection) → length (map (λ (c : Connection). c.closing) cs) ≡ length cs
+count-open cs = length-map cs (λ (c : Connection). c.closing)

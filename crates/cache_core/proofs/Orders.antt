@@ -1,0 +1,189 @@
+-- A namespace in order, before and behind an event, and how an event is refused.
+use Rattle.std.proofs.Common.{◌≡◌, ℕ, zero, suc, ◌<◌, ◌≤◌, ◌^◌, Bool, true, false, not, List, [], ◌∷◌, ◌++◌, length, map, Option, Some, None, if◌then◌else◌, refl, sym, ap, ◌∙◌, arith, nat_lt, nat_le, subst, inl}
+use Rattle.std.specs.Prelude.{is_some, is_none, ◌⊎◌, MatchOption}
+use Rattle.std.specs.List.{slice_get}
+use Rattle.std.specs.Option.{option_map, option_map_or, option_or}
+use Rattle.std.proofs.lemmas.Bool.{and_from, le-leb, lt-ltb}
+use Rattle.std.proofs.lemmas.List.{append-nil, length-map}
+use Rattle.audit_model.specs.Belongs.{refusal_of, refusal_of_conn, refusal_where}
+use Rattle.audit_model.specs.Situation as model
+use Rattle.audit_model.specs.Situation.{HeldValue, PendingLoad, Situation, is_holding, is_holding_in}
+use Rattle.audit_model.specs.declared.command.Closing.{Closing}
+use Rattle.audit_model.specs.declared.config.Config.{Config}
+use Rattle.audit_model.specs.declared.input.LoadId.{LoadId}
+use Rattle.audit_model.specs.declared.event.Event.TheVariants as event
+use Rattle.audit_model.specs.declared.input.ServiceError.{ServiceError}
+use Rattle.audit_model.specs.declared.input.ServiceError.TheVariants as error
+use Rattle.audit_model.specs.declared.transcript.Note.{Note}
+use Rattle.audit_model.specs.declared.transcript.Record.{Record}
+use Rattle.audit_waiting_laws.specs.Tidy.{Tidy}
+use Rattle.audit_waiting_laws.proofs.Records.{records as records-tidy}
+use Rattle.cache_leads.specs.Waiters.{WaitForLoads}
+use Rattle.cache_leads.proofs.Waits.{records-wait}
+use Rattle.cache_lines.specs.Gathered.{gathered, IsFresh, stage}
+use Rattle.cache_lines.specs.declared.base.Base.{Base}
+use Rattle.cache_loads.specs.Pending.{loads_pending, namespace_of_loads, outgoing_loads, sent_of}
+use Rattle.cache_loads.specs.Standings.{holds_line}
+use Rattle.cache_store.specs.Handing.{TakesFirstNote}
+use Rattle.cache_store.specs.Promises.{Frame}
+use Rattle.cache_store.specs.Values.{GivesNote, Values}
+use Rattle.cache_tape.specs.Taped.{IsAtRest, Taped}
+use Rattle.cache_core.specs.Fed.{BaseStays, CanTurn, LooksAsBefore, ReplacedAt, WantsMemory, seen_at}
+use Rattle.cache_core.specs.Parts.{standing_as}
+use Rattle.cache_core.specs.Places.{closing_at, known_of_all, refusal_at, text_at}
+use Rattle.cache_core.specs.Shown.{open_from, shown}
+use Rattle.cache_core.specs.State.{IsInOrder, StandsFor, State, known_of, output_in, situation_with, state_of}
+use Rattle.cache_core.specs.Turned.{RefusesBy, Turned, feeding, notes_in, replies_to, with_record}
+use Rattle.cache_core.specs.declared.connection.Connection.{Connection}
+use Rattle.cache_core.proofs.Spots.{closing-is, listed-same, seen-same, seen-was, text-is}
+use Rattle.cache_core.proofs.Table.{listed_as}
+use Rattle.cache_core.proofs.Turning.{found-is, found-open, holding-shown, known-open, leb-above}
+
+still-kept : (entry : Record) (t : Option Taped) → is_some (option_map (with_record entry) t) ≡ is_some t
+still-kept entry None = refl
+still-kept entry (Some t) = refl
+
+rests-kept : (entry : Record) (t : Option Taped) → IsAtRest t → IsAtRest (option_map (with_record entry) t)
+rests-kept entry None rests = tt
+rests-kept entry (Some t) rests = record { closed = rests.closed; steps = rests.steps; spare = rests.spare; undrafted = rests.undrafted }
+
+-- the same of any values held
+tidy-with : {S T : Type 0} (view : S → Values) (n : State S T) (a b : List HeldValue) → Tidy [] (situation_with view n a) → Tidy [] (situation_with view n b)
+tidy-with view n a b t = record { once = t.once; keys = t.keys }
+
+reads-with : {S T : Type 0} (config : Config) (view : S → Values) (n : State S T) (a b : List HeldValue) → WaitForLoads config (situation_with view n a) → WaitForLoads config (situation_with view n b)
+reads-with config view n a b w = w
+
+-- behind an event
+pub order-turned : {S T : Type 0} (view : S → Values) (tape : T → Option Taped) (was is : State S T) (s : Situation) (entry : Record) → StandsFor view was s → Turned view tape was is s entry → IsInOrder view tape was
+    → (view is.store).frame.config ≡ (view was.store).frame.config → (view is.store).frame.latest ≤ is.latest → is.latest < 2 ^ 63 → IsInOrder view tape is
+order-turned view tape was is s entry st t order config_is in_time moment =
+    let keeps : is_some (tape is.tape) ≡ true → is_some (tape was.tape) ≡ true = λ e. sym (still-kept entry (tape was.tape)) ∙ sym (ap is_some t.kept) ∙ e in
+    let config = (view was.store).frame.config in
+    record {
+      in_time = in_time;
+      moment = moment;
+      rests = subst IsAtRest (sym t.kept) (rests-kept entry (tape was.tape) order.rests);
+      untaken = λ e. let h = keeps e in t.notes ∙ ap (λ b. (view was.store).untaken ++ (if b then [] else notes_in entry)) h ∙ append-nil (view was.store).untaken ∙ order.untaken h;
+      outputs = λ e n. let h = keeps e in t.outputs n ∙ ap (λ b. output_in was n ++ (if b then [] else replies_to n entry.steps)) h ∙ append-nil (output_in was n) ∙ order.outputs h n;
+      tidy = tidy-with view is t.stands.held []
+          (subst (λ x. Tidy [] x) t.stands.is (records-tidy config s t.next entry t.follows (subst (λ x. Tidy [] x) (sym st.is) (tidy-with view was [] st.held order.tidy))));
+      reads = subst (λ (c : Config). WaitForLoads c (situation_with view is [])) (sym config_is)
+          (reads-with config view is t.stands.held []
+          (subst (WaitForLoads config) t.stands.is (records-wait config s t.next entry t.follows (subst (WaitForLoads config) (sym st.is) (reads-with config view was [] st.held order.reads)))));
+    }
+
+-- no note is left behind none
+none-left : (old new : List Note) (taken : Option Note) → TakesFirstNote old new taken → old ≡ [] → new ≡ []
+none-left old new None t e = t.1
+none-left old new (Some note) t e = let no : [] ≡ note ∷ new = sym e ∙ t in cc
+
+-- behind a note that was taken
+pub order-noticed : {S T : Type 0} (view : S → Values) (tape : T → Option Taped) (n : State S T) (store : S) (taken : Option Note) → TakesFirstNote (view n.store).untaken (view store).untaken taken → GivesNote (view n.store) (view store)
+    → IsInOrder view tape n → IsInOrder view tape (record n { store = store })
+order-noticed view tape n store taken takes gives order = record {
+  in_time = subst (λ (f : Frame). f.latest ≤ n.latest) (sym gives.frame) order.in_time;
+  moment = order.moment;
+  rests = order.rests;
+  untaken = λ e. none-left (view n.store).untaken (view store).untaken taken takes (order.untaken e);
+  outputs = order.outputs;
+  tidy = record { once = order.tidy.once; keys = order.tidy.keys };
+  reads = subst (λ (f : Frame). WaitForLoads f.config (situation_with view n [])) (sym gives.frame) order.reads;
+}
+
+-- a connection stands there
+pub there : (cs : List Connection) (i : ℕ) → i < length cs → (c : Connection) × (slice_get cs i ≡ Some c)
+there [] i lt = absurd (omega (arith, lt))
+there (c ∷ cs) zero lt = (c, refl)
+there (c ∷ cs) (suc i) lt = there cs i (omega (arith, lt))
+
+-- a turn may begin
+pub can-turn : {S T : Type 0} (view : S → Values) (tape : T → Option Taped) (base : Base S T) (latest now i : ℕ) (cs : List Connection) → IsInOrder view tape (state_of base latest cs) → latest ≤ now → now < 2 ^ 63 → i < length cs
+    → CanTurn now (seen_at view tape base cs i)
+can-turn view tape base latest now i cs order later low lt = record {
+  in_time = (in-time order.in_time, low);
+  clear = clear (tape base.tape) refl;
+  rests = order.rests;
+}
+  where
+    in-time : (view base.store).frame.latest ≤ latest → (view base.store).frame.latest ≤ now
+    in-time h = omega (arith, h, later)
+
+    clear : (t : Option Taped) → tape base.tape ≡ t → IsFresh (gathered (stage (view base.store) (text_at cs i) t))
+    clear None e = tt
+    clear (Some t) e =
+        let h : is_some (tape base.tape) ≡ true = ap is_some e in
+        let c = there cs i lt in
+        (text-is cs i c.0 c.1 ∙ sym (seen-was (λ (k : Connection). k.output.text.items) [] cs i c.0 c.1) ∙ order.outputs h (suc i), order.untaken h)
+
+-- ---- nothing has changed
+
+pub state-same : {S T : Type 0} (base new_base : Base S T) (latest i : ℕ) (cs ds : List Connection) → BaseStays base new_base → (p : ReplacedAt cs ds i) → LooksAsBefore p.was p.is → state_of new_base latest ds ≡ state_of base latest cs
+state-same {S} {T} base new_base latest i cs ds b p same =
+    let shows : (k : ℕ) → shown k p.is ≡ shown k p.was =
+    λ k. ap (λ st. standing_as k st p.is.waited p.is.unread.bytes) same.standing ∙ ap (λ n. standing_as k p.was.standing n p.is.unread.bytes) same.waited ∙ ap (standing_as k p.was.standing p.was.waited) same.bytes in
+    let listed : open_from 1 ds ≡ open_from 1 cs = ap (open_from 1) p.set ∙ listed-same 1 i p.was p.is cs p.at same.closing shows in
+    let closings : map (λ (c : Connection). c.closing) ds ≡ map (λ (c : Connection). c.closing) cs = ap (map (λ (c : Connection). c.closing)) p.set ∙ seen-same (λ (c : Connection). c.closing) cs i p.was p.is p.at same.closing in
+    let texts : map (λ (c : Connection). c.output.text.items) ds ≡ map (λ (c : Connection). c.output.text.items) cs = ap (map (λ (c : Connection). c.output.text.items)) p.set ∙ seen-same (λ (c : Connection). c.output.text.items) cs i p.was p.is p.at same.text in
+    let l = b.loads_are in
+    let made : S → T → List model.Connection → List (Option Closing) → List (List ℕ) → ℕ → List PendingLoad → List (LoadId × List ℕ) → ℕ → State S T = λ store tape ks whys outs sent pending outgoing namespace.
+    record { store = store; tape = tape; latest = latest; connections = ks; closings = whys; outputs = outs; sent = sent; pending = pending; outgoing = outgoing; namespace = namespace } in
+    ap (λ x. made x new_base.tape (open_from 1 ds) (map (λ (c : Connection). c.closing) ds) (map (λ (c : Connection). c.output.text.items) ds) (sent_of new_base.loads) (loads_pending new_base.loads) (outgoing_loads new_base.loads) (namespace_of_loads new_base.loads)) b.store_is
+    ∙ ap (λ x. made base.store x (open_from 1 ds) (map (λ (c : Connection). c.closing) ds) (map (λ (c : Connection). c.output.text.items) ds) (sent_of new_base.loads) (loads_pending new_base.loads) (outgoing_loads new_base.loads) (namespace_of_loads new_base.loads)) b.tape_is
+    ∙ ap (λ x. made base.store base.tape x (map (λ (c : Connection). c.closing) ds) (map (λ (c : Connection). c.output.text.items) ds) (sent_of new_base.loads) (loads_pending new_base.loads) (outgoing_loads new_base.loads) (namespace_of_loads new_base.loads)) listed
+    ∙ ap (λ x. made base.store base.tape (open_from 1 cs) x (map (λ (c : Connection). c.output.text.items) ds) (sent_of new_base.loads) (loads_pending new_base.loads) (outgoing_loads new_base.loads) (namespace_of_loads new_base.loads)) closings
+    ∙ ap (λ x. made base.store base.tape (open_from 1 cs) (map (λ (c : Connection). c.closing) cs) x (sent_of new_base.loads) (loads_pending new_base.loads) (outgoing_loads new_base.loads) (namespace_of_loads new_base.loads)) texts
+    ∙ ap (λ x. made base.store base.tape (open_from 1 cs) (map (λ (c : Connection). c.closing) cs) (map (λ (c : Connection). c.output.text.items) cs) x (loads_pending new_base.loads) (outgoing_loads new_base.loads) (namespace_of_loads new_base.loads)) l.sent
+    ∙ ap (λ x. made base.store base.tape (open_from 1 cs) (map (λ (c : Connection). c.closing) cs) (map (λ (c : Connection). c.output.text.items) cs) (sent_of base.loads) x (outgoing_loads new_base.loads) (namespace_of_loads new_base.loads)) l.pending
+    ∙ ap (λ x. made base.store base.tape (open_from 1 cs) (map (λ (c : Connection). c.closing) cs) (map (λ (c : Connection). c.output.text.items) cs) (sent_of base.loads) (loads_pending base.loads) x (namespace_of_loads new_base.loads)) l.outgoing
+    ∙ ap (λ x. made base.store base.tape (open_from 1 cs) (map (λ (c : Connection). c.closing) cs) (map (λ (c : Connection). c.output.text.items) cs) (sent_of base.loads) (loads_pending base.loads) (outgoing_loads base.loads) x) l.namespace
+
+-- ---- refusals
+
+-- a closed connection is refused as such
+pub refused-closed : (m i : ℕ) (cs : List Connection) → m ≡ suc i → i < length cs → is_none (closing_at cs i) ≡ false → refusal_at cs m ≡ Some error.Closed
+refused-closed m i cs e lt closed =
+    let c = there cs i lt in
+    let gone : is_none c.0.closing ≡ false = ap is_none (sym (closing-is cs i c.0 c.1)) ∙ closed in
+    let count = length-map cs (λ (x : Connection). x.closing) in
+    let opened : (known_of_all cs).was_opened m ≡ true = and_from (nat_lt 0 m) (nat_le m (length (map (λ (x : Connection). x.closing) cs))) (lt-ltb 0 m (omega (arith, e))) (le-leb m (length (map (λ (x : Connection). x.closing) cs)) (omega (arith, e, lt, count))) in
+    ap (λ a. option_or (refusal_where (not a) error.NoConnection) (refusal_where (not ((known_of_all cs).is_open m)) error.Closed)) opened
+    ∙ ap (λ o. refusal_where (not (is_some o)) error.Closed) (found-is m i c.0 cs e c.1 ∙ ap (λ b. listed_as b (shown m c.0)) gone)
+
+module _ {S T : Type 0} (view : S → Values) (base : Base S T) (latest m i moment : ℕ) (cs : List Connection) (piece : List ℕ) (e : m ≡ suc i) (lt : i < length cs) (is_open : closing_at cs i ≡ None) where
+  abbrev n : State S T
+  n = state_of base latest cs
+
+  open-there : (there cs i lt).0.closing ≡ None
+  open-there = sym (closing-is cs i (there cs i lt).0 (there cs i lt).1) ∙ is_open
+
+  -- an open connection is known
+  pub known-none : refusal_of_conn (known_of view n) m ≡ None
+  known-none =
+      let c = there cs i lt in
+      let k = known-open m i c.0 (situation_with view n []) cs refl refl e c.1 open-there in
+      ap (λ a. option_or (refusal_where (not a) error.NoConnection) (refusal_where (not ((known_of view n).is_open m)) error.Closed)) k.0
+      ∙ ap (λ a. refusal_where (not a) error.Closed) k.1
+
+  -- a moment that is too late
+  pub refuses-late : (held : Bool) → 2 ^ 63 ≤ moment → RefusesBy view n (feeding m piece moment) held error.Moment
+  refuses-late held high =
+      let late : refusal_of (view base.store).frame.config (known_of view n) (feeding m piece moment) ≡ Some error.Moment =
+      ap (λ o. option_or o (refusal_where (nat_le (2 ^ 63) moment) error.Moment)) known-none ∙ ap (λ a. refusal_where a error.Moment) (le-leb (2 ^ 63) moment high) in
+      subst (λ r. MatchOption r ((error.Moment ≡ error.OutOfMemory) ⊎ ((error.Moment ≡ error.HeldAgain) × (held ≡ true))) (λ refused. error.Moment ≡ refused)) (sym late) refl
+
+  -- want of memory
+  pub refuses-memory : (refused : ServiceError) → moment < 2 ^ 63 → ((c : Connection) → slice_get cs i ≡ Some c → WantsMemory (holds_line c.standing) refused)
+      → RefusesBy view n (feeding m piece moment) (is_holding_in (situation_with view n []) m) refused
+  refuses-memory refused low wants =
+      let c = there cs i lt in
+      let held : is_holding_in (situation_with view n []) m ≡ holds_line c.0.standing =
+      ap (λ o. option_map_or (λ (k : model.Connection). is_holding k.standing) o false) (found-open m i c.0 cs e c.1 open-there) ∙ holding-shown m c.0 in
+      let none : refusal_of (view base.store).frame.config (known_of view n) (feeding m piece moment) ≡ None =
+      ap (λ o. option_or o (refusal_where (nat_le (2 ^ 63) moment) error.Moment)) known-none ∙ ap (λ a. refusal_where a error.Moment) (leb-above (2 ^ 63) moment low) in
+      subst (λ r. MatchOption r (WantsMemory (is_holding_in (situation_with view n []) m) refused) (λ x. refused ≡ x)) (sym none)
+      (subst (λ h. WantsMemory h refused) (sym held) (wants c.0 c.1))
+
+  -- the same of a closing
+  pub closes-memory : RefusesBy view n (event.Close m) false error.OutOfMemory
+  closes-memory = subst (λ r. MatchOption r (WantsMemory false error.OutOfMemory) (λ x. error.OutOfMemory ≡ x)) (sym known-none) (inl refl)

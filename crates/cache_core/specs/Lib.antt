@@ -1,0 +1,9 @@
+pub mod Again
+pub mod Fed
+pub mod Fits
+pub mod Parts
+pub mod Places
+pub mod Settled
+pub mod Shown
+pub mod State
+pub mod Turned

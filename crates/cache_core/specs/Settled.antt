@@ -1,0 +1,97 @@
+-- A record in the middle of its steps.
+use Rattle.std.specs.Prelude.{◌≡◌, ℕ, ◌≤◌, ◌++◌, true, false, List, [], length, map, Option, Some, None, MatchOption, is_some, if◌then◌else◌}
+use Rattle.std.specs.List.{flat_map}
+use Rattle.std.specs.Option.{option_map}
+use Rattle.audit_model.specs.Bytewise.{is_empty}
+use Rattle.audit_model.specs.Situation.{HeldValue, Situation}
+use Rattle.audit_model.specs.Steps.{Task}
+use Rattle.audit_model.specs.declared.command.Closing.{Closing}
+use Rattle.audit_model.specs.declared.config.Config.{Config}
+use Rattle.audit_model.specs.declared.transcript.Step.{Step}
+use Rattle.cache_commands.specs.Right.{KeepsFrame}
+use Rattle.cache_leads.specs.Leads.{TasksLead}
+use Rattle.cache_lines.specs.Drawing.{identifiers_in}
+use Rattle.cache_lines.specs.Ended.{ends_silent}
+use Rattle.cache_lines.specs.Gathered.{adds, written}
+use Rattle.cache_lines.specs.Lines.{ends_quit}
+use Rattle.cache_lines.specs.Making.{Making, making_of}
+use Rattle.cache_lines.specs.Waiting.{UnderWay, under_way}
+use Rattle.cache_lines.specs.declared.base.Base.{Base}
+use Rattle.cache_loads.specs.declared.standing.Standing.{Standing}
+use Rattle.cache_loads.specs.declared.standing.Standing.TheVariants as now_is
+use Rattle.cache_store.specs.Values.{IsMoment, Values}
+use Rattle.cache_tape.specs.Taped.{Taped}
+use Rattle.cache_core.specs.Again.{EndsCalm}
+use Rattle.cache_core.specs.Fed.{closing_by}
+use Rattle.cache_core.specs.Shown.{open_from}
+use Rattle.cache_core.specs.State.{at_number}
+use Rattle.cache_core.specs.Turned.{own_steps, replies_to}
+use Rattle.cache_core.specs.declared.connection.Connection.{Connection}
+
+-- ---- what a connection is at
+
+-- it was not opened; or is closed; or runs lines; or rests before one that is held back, or waits
+pub data Course : Type 0 where
+  Absent : Course
+  Closed : (why : Closing) → Course
+  Running : Course
+  Resting : Course
+
+abbrev pub course_of : Option Closing → Standing → Course
+course_of (Some why) standing = Closed why
+course_of None now_is.Ready = Running
+course_of None now_is.Held = Resting
+course_of None now_is.Waiting = Resting
+
+-- that of the connection of a number
+abbrev pub course_at : List Connection → ℕ → Course
+course_at connections number = at_number Absent (map (λ c. course_of c.closing c.standing) connections) number
+
+-- why it closes by these steps of its own
+abbrev pub closing_of_steps : Config → List Step → Closing
+closing_of_steps config own = closing_by false (ends_quit config own) (ends_silent own)
+
+-- It goes from one to the other by these steps of its own: it closes for the reason that they give; and where it runs lines, the last of them
+-- was neither a `QUIT` nor of a `LOAD` that waits.
+abbrev pub Moves : Config → List Step → Course → Course → Type 0
+Moves config own Absent new = new ≡ Absent
+Moves config own (Closed why) new = (new ≡ Closed why) × (own ≡ [])
+Moves config own Running Absent = ⊥
+Moves config own Running (Closed why) = why ≡ closing_of_steps config own
+Moves config own Running Running = EndsCalm config own
+Moves config own Running Resting = Unit {0}
+Moves config own Resting Absent = ⊥
+Moves config own Resting (Closed why) = (why ≡ closing_of_steps config own) × (is_empty own ≡ false)
+Moves config own Resting Running = EndsCalm config own × (is_empty own ≡ false)
+Moves config own Resting Resting = Unit {0}
+
+-- ---- a piece of a record
+
+-- the situation at that moment, by what lines run over, and the connections
+abbrev pub middle_of : Values → ℕ → UnderWay → List Connection → List HeldValue → Situation
+middle_of v now l cs held =
+    record { latest = now; opened = length (map (λ (c : Connection). c.closing) cs); sent = l.sent; connections = open_from 1 cs; pending = l.pending; held = held; dropped = v.frame.dropped }
+
+-- Where these values were held, steps for these tasks ran, whatever is due behind them. Where a record is made they stand in it; else their
+-- replies and notes stand behind those that were not taken. Each connection went on by its own steps.
+pub record Piece {S T : Type 0} (view : S → Values) (tape : T → Option Taped) (making : Making) (now : ℕ) (was is : Base S T) (old new : List Connection) (tasks : List Task) (held : List HeldValue) : Type 0 where
+  pub steps : List Step
+  pub left : List HeldValue
+  pub stands : (view is.store).Stands left
+  pub leads : (more : List Task) → TasksLead making.config making (middle_of (view was.store) now (under_way was.loads) old held) (tasks ++ more) steps (middle_of (view is.store) now (under_way is.loads) new left) more (identifiers_in (view was.store)) (identifiers_in (view is.store))
+  pub outputs : (n : ℕ) → at_number [] (map (λ c. c.output.text.items) new) n ≡ at_number [] (map (λ c. c.output.text.items) old) n ++ (if is_some (tape was.tape) then [] else replies_to n steps)
+  pub kept : option_map written (tape is.tape) ≡ option_map (adds steps) (option_map written (tape was.tape))
+  pub notes : (view is.store).untaken ≡ (view was.store).untaken ++ (if is_some (tape was.tape) then [] else flat_map (λ step. step.notices) steps)
+  pub moves : (n : ℕ) → Moves making.config (own_steps n steps) (course_at old n) (course_at new n)
+
+-- what goes through a record: at that moment, with nothing beside a record, and so many lines of room
+pub record IsAmid {S T : Type 0} (view : S → Values) (tape : T → Option Taped) (now : ℕ) (base : Base S T) (connections : List Connection) (lines : ℕ) : Type 0 where
+  pub in_time : IsMoment (view base.store) now
+  pub untaken : is_some (tape base.tape) ≡ true → (view base.store).untaken ≡ []
+  pub outputs : is_some (tape base.tape) ≡ true → (n : ℕ) → at_number [] (map (λ c. c.output.text.items) connections) n ≡ []
+  pub room : MatchOption (tape base.tape) (Unit {0}) (λ t. lines ≤ t.spare)
+
+-- a part of a record: from whatever values were held
+pub record Parts {S T : Type 0} (view : S → Values) (tape : T → Option Taped) (now : ℕ) (was is : Base S T) (old new : List Connection) (tasks : List Task) : Type 0 where
+  pub ran : (held : List HeldValue) → (view was.store).Stands held → Piece view tape (making_of (view was.store).frame) now was is old new tasks held
+  pub frame : KeepsFrame (view was.store).frame (view is.store).frame now

@@ -1,0 +1,98 @@
+-- What a namespace is to whoever calls it.
+use Rattle.std.specs.Prelude.{◌≡◌, ℕ, zero, suc, ◌-◌, ◌<◌, ◌≤◌, ◌^◌, Bool, true, nat_lt, nat_le, ◌&&◌, List, [], length, map, Option, None, is_some, unwrap_or}
+use Rattle.std.specs.List.{slice_get}
+use Rattle.audit_model.specs.Belongs.{Known}
+use Rattle.audit_model.specs.Follows.{known_in}
+use Rattle.audit_model.specs.Situation as model
+use Rattle.audit_model.specs.Situation.{HeldValue, PendingLoad, Situation}
+use Rattle.audit_model.specs.declared.command.Closing.{Closing}
+use Rattle.audit_model.specs.declared.input.LoadId.{LoadId}
+use Rattle.audit_waiting_laws.specs.Tidy.{Tidy}
+use Rattle.cache_leads.specs.Waiters.{WaitForLoads}
+use Rattle.cache_store.specs.Values.{Values}
+use Rattle.cache_tape.specs.Taped.{IsAtRest, Taped}
+use Rattle.cache_lines.specs.declared.base.Base.{Base}
+use Rattle.cache_loads.specs.Pending.{loads_pending, namespace_of_loads, outgoing_loads, sent_of}
+use Rattle.cache_core.specs.Shown.{open_from}
+use Rattle.cache_core.specs.declared.connection.Connection.{Connection}
+
+-- A namespace: its store, and the tape of its records; the latest moment; the open connections; of each connection that was opened why it
+-- closed, if it did, and its replies that were not taken; how many loads were sent, and those under way; those that went out and were not
+-- taken; and its own number.
+pub record State (S T : Type 0) : Type 0 where
+  pub store : S
+  pub tape : T
+  pub latest : ℕ
+  pub connections : List model.Connection
+  pub closings : List (Option Closing)
+  pub outputs : List (List ℕ)
+  pub sent : ℕ
+  pub pending : List PendingLoad
+  pub outgoing : List (LoadId × List ℕ)
+  pub namespace : ℕ
+
+-- what stands in a list under that number, counted from 1
+abbrev pub at_number : {A : Type 0} → A → List A → ℕ → A
+at_number other xs zero = other
+at_number other xs (suc place) = unwrap_or (slice_get xs place) other
+
+module _ {S T : Type 0} where
+  -- why the connection of that number has closed, if it has
+  abbrev pub closing_in : State S T → ℕ → Option Closing
+  closing_in n number = at_number None n.closings number
+
+  -- its replies that were not taken
+  abbrev pub output_in : State S T → ℕ → List ℕ
+  output_in n number = at_number [] n.outputs number
+
+  -- the connection was opened
+  abbrev pub was_opened : State S T → ℕ → Bool
+  was_opened n number = nat_lt 0 number && nat_le number (length n.closings)
+
+  -- how many of its loads were taken
+  abbrev pub loads_taken_of : State S T → ℕ
+  loads_taken_of n = n.sent - length n.outgoing
+
+  -- the situation, where these values are held
+  abbrev pub situation_with : (S → Values) → State S T → List HeldValue → Situation
+  situation_with view n held =
+      record { latest = n.latest; opened = length n.closings; sent = n.sent; connections = n.connections; pending = n.pending; held = held; dropped = (view n.store).frame.dropped }
+
+  -- it stands for that situation
+  pub record StandsFor (view : S → Values) (n : State S T) (s : Situation) : Type 0 where
+    pub held : List HeldValue
+    pub stands : (view n.store).Stands held
+    pub is : s ≡ situation_with view n held
+
+  -- what a refusal goes by
+  abbrev pub known_of : (S → Values) → State S T → Known
+  known_of view n = known_in (situation_with view n [])
+
+  -- ---- of what it is made
+
+  -- a namespace of these parts
+  abbrev pub state_of : Base S T → ℕ → List Connection → State S T
+  state_of base latest connections = record {
+    store = base.store;
+    tape = base.tape;
+    latest = latest;
+    connections = open_from 1 connections;
+    closings = map (λ c. c.closing) connections;
+    outputs = map (λ c. c.output.text.items) connections;
+    sent = sent_of base.loads;
+    pending = loads_pending base.loads;
+    outgoing = outgoing_loads base.loads;
+    namespace = namespace_of_loads base.loads;
+  }
+
+  -- No moment of the store lies behind the latest one, which is below 2^63; no record is under way; and where records are kept, replies and
+  -- notes stand in them alone.
+  pub record IsInOrder (view : S → Values) (tape : T → Option Taped) (n : State S T) : Type 0 where
+    pub in_time : (view n.store).frame.latest ≤ n.latest
+    pub moment : n.latest < 2 ^ 63
+    pub rests : IsAtRest (tape n.tape)
+    pub untaken : is_some (tape n.tape) ≡ true → (view n.store).untaken ≡ []
+    pub outputs : is_some (tape n.tape) ≡ true → (number : ℕ) → output_in n number ≡ []
+    -- those that wait for a load do wait, each once; and what waits are `LOAD`s
+    pub tidy : Tidy [] (situation_with view n [])
+    pub reads : WaitForLoads (view n.store).frame.config (situation_with view n [])

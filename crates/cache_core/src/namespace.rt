@@ -1,0 +1,228 @@
+//! One namespace: its connections over its store.
+ghost use Rattle.std.specs.Prelude.{◌≡◌, ◌+◌, ◌-◌, ◌<◌, ◌^◌, ◌↔◌, [], None, Some, false, length, slice_set, IsErr, IsTrue, IfOk, IfErr, OnOk, OnErr};
+ghost use Rattle.audit_model.specs.Belongs.{refusal_of};
+ghost use Rattle.audit_model.specs.Situation.{Situation, is_holding_in};
+ghost use Rattle.audit_model.specs.declared.event.Event.TheVariants as event;
+ghost use Rattle.cache_core.specs.State.{IsInOrder, StandsFor, closing_in, known_of, loads_taken_of, output_in, situation_with, was_opened};
+ghost use Rattle.cache_core.specs.Turned.{RefusesBy, Turns, feeding, is_waiting_in};
+ghost use Rattle.cache_loads.specs.Keys.{are_in_turn, have_their_keys};
+ghost use Rattle.cache_store.specs.Handing.{TakesFirstNote};
+ghost use Rattle.cache_store.specs.Values.{GivesNote};
+ghost use Rattle.cache_tape.specs.Taped.{IsAtRest};
+
+use crate::connection::{Connection, new_connection};
+use crate::places::{
+    close_at, closing_of, find_open, find_opened, leave_closed, push_within, take_at,
+    waits_at_place,
+};
+use crate::recording::{begin_kept, feed_at};
+use audit_model::{Bytes, Closing, Event, Instant, LoadId, Note, Seq, ServiceError};
+use cache_commands::Keyed;
+use cache_lines::Base;
+use cache_loads::Loads;
+use cache_store::Store;
+use cache_tape::Tape;
+use std::alloc::{AllocError, Global};
+use std::marker::Model;
+
+/// The latest moment that may be handed in.
+const MAX_MOMENT: u64 = (1 << 63) - 1;
+
+/// A namespace: its store, and its connections in the order in which they were opened.
+#[derive(Drop)]
+pub struct Namespace<S: Store, T: Tape> {
+    alloc: Global,
+    base: Base<S, T>,
+    latest: u64,
+    connections: Vec<Connection>,
+}
+
+impl<S: Store, T: Tape> Model for Namespace<S, T> {
+    ghost use Rattle.cache_core.specs.State.{IsInOrder, State, state_of};
+
+    ghost Value = { State S T };
+
+    ghost view = { λ n. state_of n.base n.latest n.connections.items };
+
+    ghost invariant = { λ n. IsInOrder S.view T.view (state_of n.base n.latest n.connections.items) };
+}
+
+impl<S: Store, T: Tape> Namespace<S, T> {
+    /// A namespace without connections, over a store whose latest moment that is.
+    pub fn new(
+        alloc: Global,
+        namespace: u64,
+        store: S,
+        tape: T,
+        latest: u64,
+    ) -> Result<Namespace<S, T>, AllocError>
+        requires latest { (S.view store).frame.latest ≡ latest }
+        requires moment { latest < 2 ^ 63 }
+        requires rests { IsAtRest (T.view tape) }
+        requires untaken { (S.view store).untaken ≡ [] }
+        ensures { IfOk result (λ made. made ≡ record { store = store; tape = tape; latest = latest; connections = []; closings = []; outputs = []; sent = 0; pending = []; outgoing = []; namespace = namespace }) }
+    {
+        let store = Keyed::new(alloc, store)?;
+        Ok(Namespace {
+            alloc,
+            base: Base {
+                store,
+                loads: Loads::new(alloc, namespace),
+                tape,
+            },
+            latest,
+            connections: Vec::new(alloc),
+        })
+    }
+
+    /// Opens a connection, and answers its number. An `Err` changes nothing.
+    pub fn open(&mut self) -> Result<u64, AllocError>
+        ensures turned { IfOk result (λ number. (number ≡ length self.old.closings + 1) × Turns S.view T.view self.old self.new (event.Open number) false) }
+        ensures unchanged { OnErr result (self.new ≡ self.old) }
+    {
+        self.base.store.sound();
+        self.connections.try_reserve(1)?;
+        begin_kept(&mut self.base.tape, 0)?;
+        push_within(&mut self.connections, new_connection(self.alloc));
+        let number = self.connections.len() as u64;
+        self.base
+            .tape
+            .finish(Event::Open { conn: number }, None, Seq::new(self.alloc));
+        Ok(number)
+    }
+
+    /// Takes a piece of a connection's bytes, and answers whether its last command is held back. An `Err` changes nothing.
+    pub fn feed(&mut self, number: u64, piece: &[u8], moment: Instant) -> Result<bool, ServiceError>
+        ensures turned { IfOk result (λ is_held. Turns S.view T.view self.old self.new (feeding number piece.now moment.nanos) is_held) }
+        ensures refused { IfErr result (RefusesBy S.view self.old (feeding number piece.now moment.nanos) (is_holding_in (situation_with S.view self.old []) number)) }
+        ensures unchanged { OnErr result (self.new ≡ self.old) }
+    {
+        self.base.store.sound();
+        let index = match find_open(&self.connections, number) {
+            Ok(index) => index,
+            Err(error) => return Err(error),
+        };
+        if moment.nanos > MAX_MOMENT {
+            return Err(ServiceError::Moment);
+        }
+        let now = moment.nanos.max(self.latest);
+        match feed_at(
+            &mut self.base,
+            now,
+            &mut self.connections,
+            index,
+            piece,
+            moment,
+        ) {
+            Ok(is_held) => {
+                self.base.store.sound();
+                leave_closed(&mut self.base.loads, number, &self.connections, index);
+                self.latest = now;
+                Ok(is_held)
+            }
+            Err(error) => Err(error),
+        }
+    }
+
+    /// Closes a connection, and drops what came and was not used. It takes no memory but the record's, and an `Err` changes nothing.
+    pub fn close(&mut self, number: u64) -> Result<(), ServiceError>
+        ensures turned { OnOk result (Turns S.view T.view self.old self.new (event.Close number) false) }
+        ensures refused { IfErr result (RefusesBy S.view self.old (event.Close number) false) }
+        ensures spare { T.view self.old.tape ≡ None → IfErr result (λ e. refusal_of (S.view self.old.store).frame.config (known_of S.view self.old) (event.Close number) ≡ Some e) }
+        ensures unchanged { OnErr result (self.new ≡ self.old) }
+    {
+        self.base.store.sound();
+        let index = match find_open(&self.connections, number) {
+            Ok(index) => index,
+            Err(error) => return Err(error),
+        };
+        let Ok(()) = begin_kept(&mut self.base.tape, 0) else {
+            return Err(ServiceError::OutOfMemory);
+        };
+        close_at(&mut self.connections, index);
+        self.base.loads.leave(number);
+        self.base
+            .tape
+            .finish(Event::Close { conn: number }, None, Seq::new(self.alloc));
+        Ok(())
+    }
+
+    /// The reply bytes of a connection since the last taking, moved out. Takes no memory.
+    pub fn take_output(&mut self, number: u64) -> Result<Vec<u8>, ServiceError>
+        ensures taken { IfOk result (λ text. (text.items ≡ output_in self.old number) × (self.new ≡ record self.old { outputs = slice_set self.old.outputs (number - 1) [] })) }
+        ensures refused { IsErr result ↔ (was_opened self.old number ≡ false) }
+        ensures unchanged { IfErr result (λ e. (e ≡ ServiceError.NoConnection) × (self.new ≡ self.old)) }
+    {
+        let index = match find_opened(&self.connections, number) {
+            Ok(index) => index,
+            Err(error) => return Err(error),
+        };
+        Ok(take_at(self.alloc, &mut self.connections, index))
+    }
+
+    /// The loads that went out and were not taken, moved out, behind those that were taken before. Takes no memory.
+    pub fn take_loads(&mut self) -> Vec<(LoadId, Bytes)>
+        ensures taken { (result.items ≡ self.old.outgoing) × (self.new ≡ record self.old { outgoing = [] }) }
+        ensures in_turn { IsTrue (are_in_turn self.old.namespace (loads_taken_of self.old) result.items) }
+        ensures keys { IsTrue (have_their_keys self.old.pending result.items) }
+    {
+        self.base.loads.take(self.alloc)
+    }
+
+    /// The note that was told first. Takes no memory.
+    pub fn next_notice(&mut self) -> Option<Note>
+        ensures taken { TakesFirstNote (S.view self.old.store).untaken (S.view self.new.store).untaken result }
+        ensures gives { GivesNote (S.view self.old.store) (S.view self.new.store) }
+        ensures rest { self.new ≡ record self.old { store = self.new.store } }
+    {
+        self.base.store.next_notice()
+    }
+
+    /// Why a connection is closed, if it is.
+    pub fn closed(&self, number: u64) -> Result<Option<Closing>, ServiceError>
+        ensures closing { IfOk result (λ closing. closing ≡ closing_in self.now number) }
+        ensures refused { IsErr result ↔ (was_opened self.now number ≡ false) }
+        ensures error { IfErr result (λ e. e ≡ ServiceError.NoConnection) }
+    {
+        let index = match find_opened(&self.connections, number) {
+            Ok(index) => index,
+            Err(error) => return Err(error),
+        };
+        Ok(closing_of(&self.connections, index))
+    }
+
+    /// Whether a `LOAD` of a connection waits.
+    pub fn waiting(&self, number: u64) -> Result<bool, ServiceError>
+        ensures waits { IfOk result (λ waits. waits ≡ is_waiting_in (situation_with S.view self.now []) number) }
+        ensures refused { IsErr result ↔ (was_opened self.now number ≡ false) }
+        ensures error { IfErr result (λ e. e ≡ ServiceError.NoConnection) }
+    {
+        let index = match find_opened(&self.connections, number) {
+            Ok(index) => index,
+            Err(error) => return Err(error),
+        };
+        Ok(waits_at_place(&self.connections, index))
+    }
+
+    /// The tape of its records.
+    pub fn tape(&self) -> &T
+        ensures { result.now ≡ self.now.tape }
+    {
+        &self.base.tape
+    }
+
+    /// The store.
+    pub fn store(&self) -> &S
+        ensures { result.now ≡ self.now.store }
+    {
+        self.base.store.store()
+    }
+
+    /// What is true of every namespace: it stands for a situation, and is in order. It does nothing.
+    pub fn sound(&self)
+        ensures stands { (s : Situation) × StandsFor S.view self.now s }
+        ensures order { IsInOrder S.view T.view self.now }
+    {
+        self.base.store.sound();
+    }
+}
