@@ -23,7 +23,7 @@ use Rattle.cache_tape.specs.Taped.{Taped}
 use Rattle.cache_core.specs.Settled.{Absent, Course, Moves, Piece, course_at, course_of, middle_of}
 use Rattle.cache_core.specs.State.{at_number}
 use Rattle.cache_core.specs.Turned.{own_steps, replies_to}
-use Rattle.cache_core.specs.declared.connection.Connection.{Connection}
+use Rattle.cache_connection.specs.declared.connection.Connection.{Connection}
 use Rattle.cache_core.proofs.Courses.{moves-none, moves-on, own-both}
 use Rattle.cache_core.proofs.Own.{own-all, own-none}
 use Rattle.cache_core.proofs.Spots.{seen-at, seen-other, seen-was}
@@ -74,6 +74,11 @@ module _ {S T : Type 0} (view : S → Values) (tape : T → Option Taped) (makin
             (subst (λ k. (view is.store).untaken ≡ (view mid.store).untaken ++ (if k then [] else flat_map (λ (step : Step). step.notices) q.steps)) some q.notes) (flat-both (λ (step : Step). step.notices) p.steps q.steps);
         moves = λ n. subst (λ ss. Moves making.config ss (course_at old n) (course_at new n)) (sym (own-both n p.steps q.steps)) (moves-on making.config (own_steps n p.steps) (own_steps n q.steps) (course_at old n) (course_at between n) (course_at new n) (p.moves n) (q.moves n));
       }
+
+  -- its steps are those of both
+  pub piece-on-steps : (p : Piece view tape making now was mid old between tasks held) (q : Piece view tape making now mid is between new more p.left) → (piece-on p q).steps ≡ p.steps ++ q.steps
+  unfolding piece-on
+  piece-on-steps p q = refl
 
 -- ---- a part in which one connection had steps
 

@@ -28,11 +28,11 @@ use Rattle.cache_loads.specs.declared.standing.Standing.TheVariants as now
 use Rattle.cache_store.specs.Values.{IsSoundStore, Values}
 use Rattle.cache_tape.specs.Taped.{IsAtRest, Taped, finishes, started}
 use Rattle.cache_core.specs.Fed.{ReplacedAt}
-use Rattle.cache_core.specs.Parts.{standing_as}
-use Rattle.cache_core.specs.Shown.{open_from, shown}
+use Rattle.cache_connection.specs.Parts.{standing_as}
+use Rattle.cache_connection.specs.Shown.{open_from, shown}
 use Rattle.cache_core.specs.State.{IsInOrder, State, at_number, situation_with, state_of}
 use Rattle.cache_core.specs.Turned.{Turned, Turns, closing_behind, reason_of, with_record}
-use Rattle.cache_core.specs.declared.connection.Connection.{Connection}
+use Rattle.cache_connection.specs.declared.connection.Connection.{Connection}
 use Rattle.cache_core.proofs.Orders.{order-turned}
 use Rattle.cache_core.proofs.Spots.{seen-same}
 use Rattle.cache_core.proofs.Table.{dropped-at, opened-last}
@@ -52,7 +52,7 @@ kept-bare happened (Some t) middle final rests begun ended =
     ∙ ap (λ n. Some (record { records = t.records ++ record_of happened ∷ []; begun = t.begun; steps = t.steps; spare = n; drafted = None })) (sym rests.spare)
     ∙ ap (λ d. Some (record { records = t.records ++ record_of happened ∷ []; begun = t.begun; steps = t.steps; spare = t.spare; drafted = d })) (sym rests.undrafted)
 
-none-more : {A : Type 0} (b : Bool) (xs : List A) → xs ≡ xs ++ (if b then [] else [])
+pub none-more : {A : Type 0} (b : Bool) (xs : List A) → xs ≡ xs ++ (if b then [] else [])
 none-more true xs = sym (append-nil xs)
 none-more false xs = sym (append-nil xs)
 

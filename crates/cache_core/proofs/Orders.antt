@@ -28,13 +28,14 @@ use Rattle.cache_store.specs.Handing.{TakesFirstNote}
 use Rattle.cache_store.specs.Promises.{Frame}
 use Rattle.cache_store.specs.Values.{GivesNote, Values}
 use Rattle.cache_tape.specs.Taped.{IsAtRest, Taped}
-use Rattle.cache_core.specs.Fed.{BaseStays, CanTurn, LooksAsBefore, ReplacedAt, WantsMemory, seen_at}
-use Rattle.cache_core.specs.Parts.{standing_as}
+use Rattle.cache_connection.specs.Fed.{LooksAsBefore}
+use Rattle.cache_core.specs.Fed.{BaseStays, CanTurn, ReplacedAt, WantsMemory, seen_at}
+use Rattle.cache_connection.specs.Parts.{standing_as}
 use Rattle.cache_core.specs.Places.{closing_at, known_of_all, refusal_at, text_at}
-use Rattle.cache_core.specs.Shown.{open_from, shown}
+use Rattle.cache_connection.specs.Shown.{open_from, shown}
 use Rattle.cache_core.specs.State.{IsInOrder, StandsFor, State, known_of, output_in, situation_with, state_of}
 use Rattle.cache_core.specs.Turned.{RefusesBy, Turned, feeding, notes_in, replies_to, with_record}
-use Rattle.cache_core.specs.declared.connection.Connection.{Connection}
+use Rattle.cache_connection.specs.declared.connection.Connection.{Connection}
 use Rattle.cache_core.proofs.Spots.{closing-is, listed-same, seen-same, seen-was, text-is}
 use Rattle.cache_core.proofs.Table.{listed_as}
 use Rattle.cache_core.proofs.Turning.{found-is, found-open, holding-shown, known-open, leb-above}

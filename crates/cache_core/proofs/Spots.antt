@@ -7,9 +7,9 @@ use Rattle.std.proofs.lemmas.List.{get_or-set_same, length-set}
 use Rattle.std.proofs.lemmas.Option.{slice_get-get_or, slice_get_within, same_Some}
 use Rattle.cache_core.specs.Fed.{ReplacedAt}
 use Rattle.cache_core.specs.Places.{closing_at, text_at}
-use Rattle.cache_core.specs.Shown.{open_from, shown}
+use Rattle.cache_connection.specs.Shown.{open_from, shown}
 use Rattle.cache_core.specs.State.{at_number}
-use Rattle.cache_core.specs.declared.connection.Connection.{Connection}
+use Rattle.cache_connection.specs.declared.connection.Connection.{Connection}
 
 pub at-place : {X : Type 0} (xs : List X) (i : ℕ) (x : X) → i < length xs → x ≡ get_or xs i x → slice_get xs i ≡ Some x
 at-place xs i x lt is = slice_get-get_or xs i x lt ∙ ap Some (sym is)

@@ -14,12 +14,12 @@ use Rattle.cache_loads.specs.Standings.{waits_for_load}
 use Rattle.cache_store.specs.Values.{Values}
 use Rattle.cache_tape.specs.Taped.{Taped}
 use Rattle.cache_core.specs.Fed.{ReplacedAt}
-use Rattle.cache_core.specs.Parts.{standing_as}
+use Rattle.cache_connection.specs.Parts.{standing_as}
 use Rattle.cache_core.specs.Places.{IsTakenFrom, closing_at, waits_at}
-use Rattle.cache_core.specs.Shown.{open_from, shown}
+use Rattle.cache_connection.specs.Shown.{open_from, shown}
 use Rattle.cache_core.specs.State.{IsInOrder, at_number, situation_with, state_of}
 use Rattle.cache_core.specs.Turned.{is_waiting_in}
-use Rattle.cache_core.specs.declared.connection.Connection.{Connection}
+use Rattle.cache_connection.specs.declared.connection.Connection.{Connection}
 use Rattle.cache_core.proofs.Orders.{there}
 use Rattle.cache_core.proofs.Spots.{closing-is, listed-same, seen-at, seen-other, seen-same, seen-was}
 use Rattle.cache_core.proofs.Table.{listed_as}

@@ -20,14 +20,14 @@ use Rattle.cache_lines.specs.Whole.{is_long_line}
 use Rattle.cache_loads.specs.Standings.{holds_line, waits_for_load}
 use Rattle.cache_loads.specs.declared.standing.Standing.{Standing}
 use Rattle.cache_loads.specs.declared.standing.Standing.TheVariants as now
-use Rattle.cache_core.specs.Fits.{ClosesFor, Fits}
-use Rattle.cache_core.specs.Parts.{standing_as}
-use Rattle.cache_core.specs.Shown.{open_from, put_in, shown}
+use Rattle.cache_connection.specs.Fits.{ClosesFor, Fits}
+use Rattle.cache_connection.specs.Parts.{standing_as}
+use Rattle.cache_connection.specs.Shown.{open_from, put_in, shown}
 use Rattle.cache_core.specs.State.{at_number}
 use Rattle.cache_core.specs.Turned.{closing_behind, reason_of, replies_to}
-use Rattle.cache_core.specs.declared.connection.Connection.{Connection}
+use Rattle.cache_connection.specs.declared.connection.Connection.{Connection}
 use Rattle.cache_core.proofs.Own.{own-all, own-none}
-use Rattle.cache_core.proofs.Putting.{not-above}
+use Rattle.cache_connection.proofs.Putting.{not-above}
 use Rattle.cache_core.proofs.Spots.{at-replaced, seen-at, seen-other, seen-was}
 use Rattle.cache_core.proofs.Table.{dropped-at, found-at, listed_as, swapped-at}
 
@@ -76,7 +76,7 @@ pub none-is : (o : Option Closing) → is_none o ≡ true → o ≡ None
 none-is None e = refl
 none-is (Some by) e = let no : false ≡ true = e in cc
 
-other-number : (n k : ℕ) → k ≢ n → (n == k) ≡ false
+pub other-number : (n k : ℕ) → k ≢ n → (n == k) ≡ false
 other-number n k ne = go (n == k) refl
   where
     go : (b : Bool) → (n == k) ≡ b → b ≡ false

@@ -1,9 +1,7 @@
-pub mod Again
 pub mod Fed
-pub mod Fits
-pub mod Parts
 pub mod Places
+pub mod Rooms
 pub mod Settled
-pub mod Shown
+pub mod Settling
 pub mod State
 pub mod Turned

@@ -7,8 +7,8 @@ use Rattle.audit_model.specs.Follows.{known_in}
 use Rattle.audit_model.specs.declared.command.Closing.{Closing}
 use Rattle.audit_model.specs.declared.input.ServiceError.{ServiceError}
 use Rattle.cache_loads.specs.Standings.{waits_for_load}
-use Rattle.cache_core.specs.Shown.{open_from}
-use Rattle.cache_core.specs.declared.connection.Connection.{Connection}
+use Rattle.cache_connection.specs.Shown.{open_from}
+use Rattle.cache_connection.specs.declared.connection.Connection.{Connection}
 
 -- why the connection at a place is closed, if it is
 abbrev pub closing_at : List Connection → ℕ → Option Closing

@@ -21,12 +21,12 @@ use Rattle.cache_loads.specs.declared.standing.Standing.{Standing}
 use Rattle.cache_loads.specs.declared.standing.Standing.TheVariants as now_is
 use Rattle.cache_store.specs.Values.{IsMoment, Values}
 use Rattle.cache_tape.specs.Taped.{Taped}
-use Rattle.cache_core.specs.Again.{EndsCalm}
-use Rattle.cache_core.specs.Fed.{closing_by}
-use Rattle.cache_core.specs.Shown.{open_from}
+use Rattle.cache_connection.specs.Again.{EndsCalm}
+use Rattle.cache_connection.specs.Fed.{closing_by}
+use Rattle.cache_connection.specs.Shown.{open_from}
 use Rattle.cache_core.specs.State.{at_number}
 use Rattle.cache_core.specs.Turned.{own_steps, replies_to}
-use Rattle.cache_core.specs.declared.connection.Connection.{Connection}
+use Rattle.cache_connection.specs.declared.connection.Connection.{Connection}
 
 -- ---- what a connection is at
 

@@ -13,8 +13,8 @@ use Rattle.cache_store.specs.Values.{Values}
 use Rattle.cache_tape.specs.Taped.{IsAtRest, Taped}
 use Rattle.cache_lines.specs.declared.base.Base.{Base}
 use Rattle.cache_loads.specs.Pending.{loads_pending, namespace_of_loads, outgoing_loads, sent_of}
-use Rattle.cache_core.specs.Shown.{open_from}
-use Rattle.cache_core.specs.declared.connection.Connection.{Connection}
+use Rattle.cache_connection.specs.Shown.{open_from}
+use Rattle.cache_connection.specs.declared.connection.Connection.{Connection}
 
 -- A namespace: its store, and the tape of its records; the latest moment; the open connections; of each connection that was opened why it
 -- closed, if it did, and its replies that were not taken; how many loads were sent, and those under way; those that went out and were not

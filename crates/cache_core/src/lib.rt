@@ -1,13 +1,13 @@
 //! One namespace.
 #![tactic(auto)]
 
-mod again;
-mod connection;
-mod feeding;
+mod answering;
+mod giving_up;
 mod namespace;
 mod places;
 mod recording;
-mod standing;
+mod refusing;
+mod reserving;
+mod settling;
 
-pub use connection::Connection;
 pub use namespace::Namespace;

@@ -3,6 +3,7 @@ ghost use Rattle.std.specs.Prelude.{◌≡◌, ◌+◌, ◌-◌, ◌<◌, ◌^�
 ghost use Rattle.audit_model.specs.Belongs.{refusal_of};
 ghost use Rattle.audit_model.specs.Situation.{Situation, is_holding_in};
 ghost use Rattle.audit_model.specs.declared.event.Event.TheVariants as event;
+ghost use Rattle.cache_core.specs.Settling.{Happens, answering, giving_up};
 ghost use Rattle.cache_core.specs.State.{IsInOrder, StandsFor, closing_in, known_of, loads_taken_of, output_in, situation_with, was_opened};
 ghost use Rattle.cache_core.specs.Turned.{RefusesBy, Turns, feeding, is_waiting_in};
 ghost use Rattle.cache_loads.specs.Keys.{are_in_turn, have_their_keys};
@@ -10,14 +11,17 @@ ghost use Rattle.cache_store.specs.Handing.{TakesFirstNote};
 ghost use Rattle.cache_store.specs.Values.{GivesNote};
 ghost use Rattle.cache_tape.specs.Taped.{IsAtRest};
 
-use crate::connection::{Connection, new_connection};
+use crate::answering::{Stored, begin_answer, hand_out};
+use crate::giving_up::{begin_give_up, settle_give_up};
 use crate::places::{
     close_at, closing_of, find_open, find_opened, leave_closed, push_within, take_at,
     waits_at_place,
 };
 use crate::recording::{begin_kept, feed_at};
-use audit_model::{Bytes, Closing, Event, Instant, LoadId, Note, Seq, ServiceError};
+use crate::refusing::{refuse_answer, refuse_load};
+use audit_model::{Bytes, Closing, Event, Instant, LoadId, Note, Outcome, Seq, ServiceError};
 use cache_commands::Keyed;
+use cache_connection::{Connection, new_connection};
 use cache_lines::Base;
 use cache_loads::Loads;
 use cache_store::Store;
@@ -38,6 +42,7 @@ pub struct Namespace<S: Store, T: Tape> {
 }
 
 impl<S: Store, T: Tape> Model for Namespace<S, T> {
+    ghost use Rattle.cache_core.specs.Settling.{Happens, answering, giving_up};
     ghost use Rattle.cache_core.specs.State.{IsInOrder, State, state_of};
 
     ghost Value = { State S T };
@@ -144,6 +149,90 @@ impl<S: Store, T: Tape> Namespace<S, T> {
         self.base
             .tape
             .finish(Event::Close { conn: number }, None, Seq::new(self.alloc));
+        Ok(())
+    }
+
+    /// Answers a load under way: its value is stored, those that wait are handed the outcome in order, and then their lines run in the same
+    /// order. An `Err` hands the outcome back, and changes nothing.
+    pub fn answer(
+        &mut self,
+        load: u64,
+        outcome: Outcome,
+        moment: Instant,
+    ) -> Result<(), (ServiceError, Outcome)>
+        ensures turned { OnOk result (Happens S.view T.view self.old self.new (answering load outcome moment.nanos)) }
+        ensures refused { IfErr result (λ e. RefusesBy S.view self.old (answering load outcome moment.nanos) false e.0) }
+        ensures back { IfErr result (λ e. e.1 ≡ outcome) }
+        ensures unchanged { OnErr result (self.new ≡ self.old) }
+    {
+        self.base.store.sound();
+        match refuse_answer(
+            self.base.store.store().config(),
+            &self.base.loads,
+            load,
+            &outcome,
+            moment.nanos,
+        ) {
+            Some(error) => return Err((error, outcome)),
+            None => {}
+        }
+        let now = moment.nanos.max(self.latest);
+        match begin_answer(
+            self.alloc,
+            &mut self.base,
+            now,
+            &mut self.connections,
+            load,
+            &outcome,
+        ) {
+            Ok(Stored { accepted, notes }) => {
+                hand_out(&mut self.base, now, &mut self.connections, load, &outcome);
+                self.base.tape.finish(
+                    Event::Answer {
+                        load,
+                        outcome,
+                        moment,
+                    },
+                    accepted,
+                    Seq::from_vec(notes),
+                );
+                self.base.store.sound();
+                self.latest = now;
+                Ok(())
+            }
+            Err(_) => Err((ServiceError::OutOfMemory, outcome)),
+        }
+    }
+
+    /// Gives a load under way up: each `LOAD` that waits for it runs again as a whole command, in order, followed by its connection's lines;
+    /// one that finds no memory is held back, and at its 200th give-up it is answered so. It takes no memory that it cannot do without but
+    /// the record's, and an `Err` changes nothing.
+    pub fn give_up(&mut self, load: u64, moment: Instant) -> Result<(), ServiceError>
+        ensures turned { OnOk result (Happens S.view T.view self.old self.new (giving_up load moment.nanos)) }
+        ensures refused { IfErr result (RefusesBy S.view self.old (giving_up load moment.nanos) false) }
+        ensures spare { T.view self.old.tape ≡ None → IfErr result (λ e. refusal_of (S.view self.old.store).frame.config (known_of S.view self.old) (giving_up load moment.nanos) ≡ Some e) }
+        ensures unchanged { OnErr result (self.new ≡ self.old) }
+    {
+        self.base.store.sound();
+        match refuse_load(
+            self.base.store.store().config(),
+            &self.base.loads,
+            load,
+            moment.nanos,
+        ) {
+            Some(error) => return Err(error),
+            None => {}
+        }
+        let Ok(()) = begin_give_up(&mut self.base, load) else {
+            return Err(ServiceError::OutOfMemory);
+        };
+        let now = moment.nanos.max(self.latest);
+        settle_give_up(&mut self.base, now, &mut self.connections, load);
+        self.base
+            .tape
+            .finish(Event::GiveUp { load, moment }, None, Seq::new(self.alloc));
+        self.base.store.sound();
+        self.latest = now;
         Ok(())
     }
 

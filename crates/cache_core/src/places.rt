@@ -6,8 +6,8 @@ ghost use Rattle.cache_lines.specs.Outputs.{IsRoomy};
 ghost use Rattle.cache_lines.specs.Waiting.{under_way, when_left};
 ghost use Rattle.cache_loads.specs.Pending.{SameTaken};
 
-use crate::connection::Connection;
 use audit_model::{Closing, ServiceError};
+use cache_connection::Connection;
 use cache_lines::Output;
 use cache_loads::{Loads, Standing, is_waiting};
 use std::alloc::Global;

@@ -2,16 +2,16 @@
 ghost use Rattle.std.specs.Prelude.{◌≡◌, ◌+◌, ◌<◌, ◌≤◌, None, Some, true, is_some, length, IfOk, IfErr, OnOk, OnErr};
 ghost use Rattle.std.specs.List.{slice_get};
 ghost use Rattle.std.specs.Option.{option_map};
-ghost use Rattle.cache_core.specs.Fed.{BaseStays, CanTurn, FedTurn, FeedsAt, LooksAsBefore, ReplacedAt, WantsMemory, seen_at, seen_of};
+ghost use Rattle.cache_connection.specs.Fed.{LooksAsBefore, seen_of};
+ghost use Rattle.cache_core.specs.Fed.{BaseStays, CanTurn, FedTurn, FeedsAt, ReplacedAt, WantsMemory, seen_at};
 ghost use Rattle.cache_core.specs.Places.{closing_at};
-ghost use Rattle.cache_core.specs.declared.connection.Connection.{Connection as Open};
+ghost use Rattle.cache_connection.specs.declared.connection.Connection.{Connection as Open};
 ghost use Rattle.cache_loads.specs.Pending.{SameTaken};
 ghost use Rattle.cache_loads.specs.Standings.{holds_line};
 ghost use Rattle.cache_tape.specs.Taped.{IsAtRest, started};
 
-use crate::connection::Connection;
-use crate::feeding::feed_connection;
 use audit_model::{Bytes, Event, Instant, Seq, ServiceError};
+use cache_connection::{Connection, feed_connection};
 use cache_lines::Base;
 use cache_store::Store;
 use cache_tape::Tape;

@@ -1,5 +1,11 @@
-//! Tests of a namespace over a plain store.
+//! Tests of one namespace.
 #![tactic(auto)]
 
+#[cfg(test)]
+mod retrying;
+#[cfg(test)]
+mod rows;
+#[cfg(test)]
+mod served;
 #[cfg(test)]
 mod tests;

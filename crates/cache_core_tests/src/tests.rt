@@ -3,8 +3,9 @@ ghost use Rattle.cache_tape.specs.Taped.{IsAtRest};
 
 use audit_model::{Closing, Config, EvictionPolicy, Instant, ServiceError, Weight};
 use cache_core::Namespace;
+use cache_entries::KeyedHasher;
+use cache_front_store::FrontStore;
 use cache_tape::{Bare, Kept, Tape};
-use plain_store::{FixedHasher, PlainStore};
 use rand_core::SeedableRng;
 use rand_xoshiro::SplitMix64;
 use std::alloc::Global;
@@ -40,8 +41,9 @@ struct Course {
 fn became<T: Tape>(alloc: Global, tape: T) -> Result<Course, ServiceError>
     requires { IsAtRest (T.view tape) }
 {
-    let Ok(store) = PlainStore::new(alloc, PLAIN, 5, SplitMix64::seed_from_u64(1), FixedHasher)
-    else {
+    let generator = SplitMix64::seed_from_u64(1);
+    let hasher = KeyedHasher::new(b"sixteen bytes ...");
+    let Ok(store) = FrontStore::new(alloc, PLAIN, 5, generator, hasher) else {
         return Err(ServiceError::OutOfMemory);
     };
     let Ok(mut space) = Namespace::new(alloc, 0, store, tape, 5) else {

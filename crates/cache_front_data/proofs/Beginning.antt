@@ -17,7 +17,7 @@ use Rattle.engine_reference.specs.Calls.{IsNew}
 use Rattle.engine_reference.specs.declared.data.Settings.{Settings}
 use Rattle.front_reference.specs.Fronts.{part_of, share_of}
 use Rattle.front_reference.specs.Keeping.{Common}
-use Rattle.front_places.specs.Making.{IsMadeWith, with_share}
+use Rattle.front_state.specs.Making.{IsMadeWith, with_share}
 use Rattle.cache_front_data.specs.Making.{IsJustMade, whole_settings}
 
 -- the upper bits of a number of 64 bits say one of so many parts

@@ -20,7 +20,7 @@ use Rattle.engine_reference.specs.declared.data.Notice.{Notice}
 use Rattle.engine_reference.specs.declared.data.Settings.{Settings}
 use Rattle.front_reference.specs.Fronts.{CallsAll, CallsPart, part_by_hash, part_of}
 use Rattle.front_reference.specs.Wholes.{DrawsInVain, RunsPart}
-use Rattle.front_places.specs.Calls.{IsCauseOf, Ways, visible_of}
+use Rattle.front_state.specs.Calls.{IsCauseOf, Ways, visible_of}
 use Rattle.front_reference.specs.declared.errors.CacheError.{CacheError}
 use Rattle.front_reference.specs.declared.errors.CacheError.TheVariants as errors
 use Rattle.front_state.specs.Covering.{CoversAll, IsCauseToCover}

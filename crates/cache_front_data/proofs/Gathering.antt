@@ -2,7 +2,7 @@
 use Rattle.std.proofs.Common.{◌≡◌, refl, ap, ◌∙◌, sym, ℕ, zero, suc, ◌+◌, ◌<◌, ◌≤◌, arith, add-one, List, [], ◌∷◌, ◌++◌, length, take, Option, None, slice_get}
 use Rattle.std.proofs.lemmas.List.{append-nil, append_assoc}
 use Rattle.engine_reference.specs.Scanning.{held_keys}
-use Rattle.front_places.specs.Calls.{keys_of}
+use Rattle.front_state.specs.Calls.{keys_of}
 use Rattle.cache_parts.specs.Parts.{Part}
 use Rattle.cache_front_data.specs.Listing.{held_by_all}
 

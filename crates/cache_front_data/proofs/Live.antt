@@ -25,7 +25,7 @@ use Rattle.cache_parts.specs.Parts.{Part, held_of, items_in, items_of, service_a
 use Rattle.cache_parts_store.specs.View.{IsWhole, StoreOfParts, view}
 use Rattle.cache_parts_store.proofs.Listing.{live_keys}
 use Rattle.cache_parts_store.proofs.Standing.{parted}
-use Rattle.front_places.specs.Calls.{visible_of}
+use Rattle.front_state.specs.Calls.{visible_of}
 use Rattle.cache_front_data.specs.Data.{FrontData, parted_by}
 use Rattle.cache_front_data.specs.Listing.{held_by_all, is_seen, seen_by_all}
 

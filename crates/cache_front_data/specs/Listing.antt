@@ -6,7 +6,7 @@ use Rattle.audit_model.specs.declared.config.Weight.{Weight}
 use Rattle.cache_parts.specs.Parts.{Part, Stored, service_answers}
 use Rattle.engine_reference.specs.Scanning.{held_keys}
 use Rattle.front_reference.specs.Fronts.{Front, part_by_hash}
-use Rattle.front_places.specs.Calls.{visible_of}
+use Rattle.front_state.specs.Calls.{visible_of}
 
 -- the keys of all parts, those of dead and covered values among them
 abbrev pub held_by_all : {S : Type 0} → List (Part S) → List (List ℕ)

@@ -8,7 +8,7 @@ use crate::{Front, Notices};
 use audit_model::{Key, Note, NoteKey, RemovalCause, Seq};
 use cache_entries::StoredValue;
 use front_keys::Shared;
-use moka_engine::Notice;
+use front_state::Notice;
 use std::hash::BuildHasher;
 
 /// Takes what a front told, and puts it behind the notices that wait, for which there is room. Answers how many it were.
@@ -39,13 +39,13 @@ pub fn note_of(notice: Notice<Shared<Key>, StoredValue>) -> Note
 }
 
 /// The cause, as the service names it.
-fn cause_of(cause: moka_engine::RemovalCause) -> RemovalCause
+fn cause_of(cause: front_state::RemovalCause) -> RemovalCause
     ensures { result ≡ cause_of cause }
 {
     match cause {
-        moka_engine::RemovalCause::Expired => RemovalCause::Expired,
-        moka_engine::RemovalCause::Explicit => RemovalCause::Explicit,
-        moka_engine::RemovalCause::Replaced => RemovalCause::Replaced,
-        moka_engine::RemovalCause::Size => RemovalCause::Size,
+        front_state::RemovalCause::Expired => RemovalCause::Expired,
+        front_state::RemovalCause::Explicit => RemovalCause::Explicit,
+        front_state::RemovalCause::Replaced => RemovalCause::Replaced,
+        front_state::RemovalCause::Size => RemovalCause::Size,
     }
 }

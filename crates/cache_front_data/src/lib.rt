@@ -11,10 +11,9 @@ use cache_entries::StoredValue;
 pub use calling::{clear, cover, insert, invalidate, prepare};
 pub use draining::{drain, note_of};
 use front_keys::Shared;
-use front_state::LentState;
+pub use front_state::{LentState, Notice};
 pub use listing::write_keys;
 pub use making::{bits_of, settings_of};
-use moka_engine::Notice;
 use std::collections::VecDeque;
 
 /// The front, whose keys this hashes.

@@ -5,7 +5,7 @@ ghost use Rattle.cache_parts.specs.Parts.{IsBrief, nanos, policy_of};
 ghost use Rattle.cache_front_data.specs.Making.{whole_settings};
 
 use audit_model::Config;
-use moka_engine::{EvictionPolicy, Settings};
+use front_state::{EvictionPolicy, Settings};
 
 /// How many bits say a key's part: there are 2^bits parts, the next power of two.
 pub fn bits_of(config: &Config) -> u32

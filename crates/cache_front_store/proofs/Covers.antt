@@ -7,13 +7,13 @@ use Rattle.cache_store.specs.Promises.{covering}
 use Rattle.cache_store.specs.Values.{Does, IsMoment, IsSpent, LacksIdentifiers}
 use Rattle.cache_store.specs.declared.error.StoreError.{StoreError}
 use Rattle.cache_store.specs.declared.error.StoreError.TheVariants as refusals
-use Rattle.cache_parts_store.specs.View.{view}
-use Rattle.cache_front_laws.specs.Laws.{Lent}
-use Rattle.cache_front_laws.specs.State.{IsFit}
+use Rattle.cache_front_data.specs.View.{view}
+use Rattle.cache_front_data.specs.Laws.{Lent}
+use Rattle.cache_front_data.specs.State.{IsFit}
 use Rattle.engine_reference.specs.Calls.{cleared_by}
 use Rattle.front_reference.specs.Fronts.{CallsAll}
 use Rattle.front_reference.specs.Wholes.{DrawsInVain}
-use Rattle.front_state.specs.Covering.{CoversAll}
+use Rattle.cache_front_data.specs.Covering.{CoversAll}
 use Rattle.cache_front_data.specs.Data.{FrontData, LackTickets, parted_by}
 use Rattle.cache_front_data.proofs.Calls.{clear, drop, lack, lacks_steps, lacks_tickets}
 

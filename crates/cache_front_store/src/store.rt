@@ -7,13 +7,12 @@ ghost use Rattle.cache_front_data.specs.Making.{IsJustMade};
 use audit_model::{Config, Key, Note, Weight};
 use cache_entries::{StoredValue, WordBuilder};
 use cache_front_data::{
-    bits_of, clear, cover, drain, insert, invalidate, note_of, prepare, settings_of, write_keys,
+    LentState, Notice, bits_of, clear, cover, drain, insert, invalidate, note_of, prepare,
+    settings_of, write_keys,
 };
 use cache_store::{Counts, Store, StoreError};
 use front_keys::Shared;
 use front_reference::At;
-use front_state::LentState;
-use moka_engine::Notice;
 use policy_base::Instant;
 use rand_core::Rng;
 use std::alloc::{AllocError, Global};
@@ -44,7 +43,7 @@ impl<R: Rng + Clone + Drop, S: BuildHasher + Drop> Model for FrontStore<R, S> {
     ghost use Rattle.std.specs.VecDeque.{deque_capacity};
     ghost use Rattle.cache_entries.specs.declared.hasher.WordBuilder.{WordBuilder};
     ghost use Rattle.cache_front_data.specs.Data.{StoreData, word_of};
-    ghost use Rattle.cache_front_laws.specs.State.{IsFit, store_of};
+    ghost use Rattle.cache_front_data.specs.State.{IsFit, store_of};
 
     ghost Value = { StoreData R (WordBuilder S) };
 

@@ -5,10 +5,11 @@ ghost use Rattle.cache_tape.specs.Taped.{HasSpare};
 use audit_lines::Buffer;
 use audit_model::{Config, EvictionPolicy, Weight};
 use cache_commands::Keyed;
+use cache_entries::KeyedHasher;
+use cache_front_store::FrontStore;
 use cache_lines::{Base, End, Output, take_piece};
 use cache_loads::Loads;
 use cache_tape::{Bare, Kept, Tape};
-use plain_store::{FixedHasher, PlainStore};
 use rand_core::SeedableRng;
 use rand_xoshiro::SplitMix64;
 use std::alloc::{AllocError, Global};
@@ -33,7 +34,9 @@ const REPLIES: &[u8] = b"OK\nVAL one\nOK\nNONE\n";
 fn fed<T: Tape>(alloc: Global, tape: T) -> Result<(End, Vec<u8>, Buffer), AllocError>
     requires { HasSpare (T.view tape) }
 {
-    let store = PlainStore::new(alloc, PLAIN, 5, SplitMix64::seed_from_u64(1), FixedHasher)?;
+    let generator = SplitMix64::seed_from_u64(1);
+    let hasher = KeyedHasher::new(b"sixteen bytes ...");
+    let store = FrontStore::new(alloc, PLAIN, 5, generator, hasher)?;
     let mut base = Base {
         store: Keyed::new(alloc, store)?,
         loads: Loads::new(alloc, 0),

@@ -17,17 +17,18 @@ use Rattle.audit_model.specs.declared.transcript.Transcript.{Transcript}
 use Rattle.audit_receipts.specs.declared.output.Output.{Output}
 use Rattle.cache_live.specs.Lived.{HasLived, Lived}
 use Rattle.cache_live.specs.Taken.{TakesInput}
-use Rattle.cache_live.proofs.Performing.{config-kept, goes-on}
+use Rattle.cache_live.proofs.Performing.{config-kept, goes-on, making-kept}
 use Rattle.cache_namespace.proofs.Places.{at-replaced}
 use Rattle.cache_shared.proofs.Counting.{count-empty, count-more}
 use Rattle.cache_shared.specs.Events.{IsReached, record_count}
 use Rattle.cache_spaces.proofs.Journaling.{got}
 use Rattle.cache_spaces.proofs.Noting.{same-or-not}
-use Rattle.cache_spaces.specs.Moves.{At, hashed_part}
+use Rattle.cache_namespace.specs.Making.{Making}
+use Rattle.cache_spaces.specs.Moves.{At}
 use Rattle.cache_spaces.specs.Recorded.{namespace_of}
 use Rattle.cache_spaces.specs.Serves.{IsUnknown, SameSpace, TakesLoads, TakesNotice, TakesOutput}
 use Rattle.cache_spaces.specs.Services.{AreNew, Refuses}
-use Rattle.cache_spaces.specs.Spaces.{StandsFor, config_of}
+use Rattle.cache_spaces.specs.Spaces.{StandsFor, config_of, making_in, part_in}
 use Rattle.cache_spaces.specs.declared.space.Space.{Space}
 
 -- ---- places
@@ -117,17 +118,17 @@ lived-more i output old new n w a =
     let config = config-kept a.was a.is a.fact.happened a.fact.is_held a.fact.takes in
     let last = g.leads.next in
     let u : Transcript = record { made = t.0.made; records = t.0.records ++ g.entry ∷ [] } in
-    let more : LeadsBy (config_of a.was) (hashed_part (config_of a.was)) u last =
-    leads_by-more (config_of a.was) (hashed_part (config_of a.was)) t.0.made t.0.records g.entry h.led.last last h.parted g.leads.follows g.parted in
+    let more : LeadsBy (config_of a.was) (part_in a.was) u last =
+    leads_by-more (config_of a.was) (part_in a.was) t.0.made t.0.records g.entry h.led.last last h.parted g.leads.follows g.parted in
     lived-set (TakesInput i output) old new k n (n + 1) w a t.0 u t.1
     (record {
       led = record { last = last; stands = g.leads.stands; leads = subst (λ c. LeadsTo c u last) (sym config) more.leads };
-      parted = subst (λ c. LeadsBy c (hashed_part c) u last) (sym config) more;
+      parted = subst (λ (m : Making). LeadsBy (config_of a.is) m.part_of u last) (sym (making-kept a.was a.is a.fact.happened a.fact.is_held a.fact.takes)) (subst (λ c. LeadsBy c (part_in a.was) u last) (sym config) more);
     })
     (count-more w.journals (slice_set w.journals k u) k t.0 u t.1 refl (length-append t.0.records (g.entry ∷ [])) ∙ ap (λ c. c + 1) w.records)
 
 -- nothing that is told of it changed
-pub lived-still : (F : Space → Space → Type 0) (old new : List Space) (k n : ℕ) → ((x y : Space) → F x y → ((s : Situation) → StandsFor x s → StandsFor y s) × (config_of y ≡ config_of x)) → At old new k F → Lived old n → Lived new n
+pub lived-still : (F : Space → Space → Type 0) (old new : List Space) (k n : ℕ) → ((x y : Space) → F x y → ((s : Situation) → StandsFor x s → StandsFor y s) × (config_of y ≡ config_of x) × (making_in y ≡ making_in x)) → At old new k F → Lived old n → Lived new n
 lived-still F old new k n same a w =
     let t = journal-at F old new k n w a in
     let h = w.each k a.was t.0 a.at t.1 in
@@ -135,30 +136,30 @@ lived-still F old new k n same a w =
     lived-set F old new k n n w a t.0 t.0 t.1
     (record {
       led = record { last = h.led.last; stands = e.0 h.led.last h.led.stands; leads = subst (λ c. LeadsTo c t.0 h.led.last) (sym e.1) h.led.leads };
-      parted = subst (λ c. LeadsBy c (hashed_part c) t.0 h.led.last) (sym e.1) h.parted;
+      parted = subst (λ (m : Making). LeadsBy (config_of a.is) m.part_of t.0 h.led.last) (sym e.2) (subst (λ c. LeadsBy c (part_in a.was) t.0 h.led.last) (sym e.1) h.parted);
     })
     (ap record_count (set-same w.journals k t.0 t.1) ∙ w.records)
 
 pub lived-refused : (Cause : Space → Type 0) (old new : List Space) (k n : ℕ) (e : ServiceError) → Refuses old new k e Cause → Lived old n → Lived new n
 lived-refused Cause old new k n e (inl none) w = subst (λ x. Lived x n) (sym none.2) w
-lived-refused Cause old new k n e (inr a) w = lived-still (λ was is. SameSpace was is × Cause was) old new k n (λ x y p. (p.0.stands, p.0.config)) a w
+lived-refused Cause old new k n e (inr a) w = lived-still (λ was is. SameSpace was is × Cause was) old new k n (λ x y p. (p.0.stands, p.0.config, p.0.made)) a w
 
 -- replies were taken, or refused
 pub lived-text : (k number : ℕ) (old new : List Space) (n : ℕ) (r : Result (Vec ℕ Global) ServiceError)
     → IfOk r (λ text. At old new k (λ was is. TakesOutput was is number text.items)) → IfErr r (λ e. Refuses old new k e (λ was. IsUnknown was number e)) → Lived old n → Lived new n
-lived-text k number old new n (Ok text) taken refused w = lived-still (λ was is. TakesOutput was is number text.items) old new k n (λ x y t. (t.stands, t.config)) taken w
+lived-text k number old new n (Ok text) taken refused w = lived-still (λ was is. TakesOutput was is number text.items) old new k n (λ x y t. (t.stands, t.config, t.made)) taken w
 lived-text k number old new n (Err e) taken refused w = lived-refused (λ was. IsUnknown was number e) old new k n e refused w
 
 -- a note was taken, or refused
 pub lived-note : (k : ℕ) (old new : List Space) (n : ℕ) (r : Result (Option Note) ServiceError)
     → IfOk r (λ note. At old new k (λ was is. TakesNotice was is note)) → IfErr r (λ e. Refuses old new k e (λ was. ⊥)) → Lived old n → Lived new n
-lived-note k old new n (Ok note) taken refused w = lived-still (λ was is. TakesNotice was is note) old new k n (λ x y t. (t.stands, t.config)) taken w
+lived-note k old new n (Ok note) taken refused w = lived-still (λ was is. TakesNotice was is note) old new k n (λ x y t. (t.stands, t.config, t.made)) taken w
 lived-note k old new n (Err e) taken refused w = lived-refused (λ was. ⊥) old new k n e refused w
 
 -- loads were taken, or refused
 pub lived-loads : (k : ℕ) (old new : List Space) (n : ℕ) (r : Result (Vec (LoadId × List ℕ) Global) ServiceError)
     → IfOk r (λ loads. At old new k (λ was is. TakesLoads was is loads.items)) → IfErr r (λ e. Refuses old new k e (λ was. ⊥)) → Lived old n → Lived new n
-lived-loads k old new n (Ok loads) taken refused w = lived-still (λ was is. TakesLoads was is loads.items) old new k n (λ x y t. (t.stands, t.config)) taken w
+lived-loads k old new n (Ok loads) taken refused w = lived-still (λ was is. TakesLoads was is loads.items) old new k n (λ x y t. (t.stands, t.config, t.made)) taken w
 lived-loads k old new n (Err e) taken refused w = lived-refused (λ was. ⊥) old new k n e refused w
 
 -- ---- journals that obey
@@ -170,7 +171,7 @@ reached spaces n w = record {
     count = w.count;
     each = λ k space journal s j.
         let h = w.each k space journal s j in
-        let o = obeys-led (config_of space) (hashed_part (config_of space)) journal h.led.last h.parted in
+        let o = obeys-led (config_of space) (part_in space) journal h.led.last h.parted in
         record { obeys = o.0; admitted = o.1; leads = h.led };
   };
   count = w.records;

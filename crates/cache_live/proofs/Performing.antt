@@ -29,7 +29,7 @@ use Rattle.cache_spaces.specs.Moves.{At, are_parted_in}
 use Rattle.cache_spaces.proofs.Noting.{own-number, refused-as, refused-settling}
 use Rattle.cache_spaces.specs.Recorded.{RefusedInput, namespace_of}
 use Rattle.cache_spaces.specs.Serves.{RefusedAnswer, Serves, Settled, Settles, ServesEvent, known_of}
-use Rattle.cache_spaces.specs.Spaces.{StandsFor, config_of, connections_of, recency_of}
+use Rattle.cache_spaces.specs.Spaces.{StandsFor, config_of, connections_of, making_in, part_in, recency_of}
 use Rattle.cache_spaces.specs.Services.{Refuses}
 use Rattle.cache_spaces.specs.declared.space.Space.{Space}
 
@@ -52,7 +52,7 @@ pub record GoesOn (was is : Space) (s : Situation) (happened : Event) (is_held :
   pub event : entry.event ≡ happened
   pub comes : (namespace : ℕ) → comes_to namespace happened is_held ≡ output_of namespace entry
   pub leads : RecordLeads was is s entry
-  pub parted : IsTrue (are_parted_in (config_of was) s entry)
+  pub parted : IsTrue (are_parted_in (part_in was) (config_of was) s entry)
 
 by-taking : (was is : Space) (number : ℕ) (s : Situation) (happened : Event) (is_held : Bool) → Serves was is number s happened is_held → GoesOn was is s happened is_held
 by-taking was is number s happened is_held sv = record {
@@ -93,6 +93,13 @@ config-kept was is (event.Close conn) is_held t = t.config
 config-kept was is (event.Feed conn piece moment) is_held t = t.config
 config-kept was is (event.Answer load outcome moment) is_held t = t.config
 config-kept was is (event.GiveUp load moment) is_held t = t.config
+
+pub making-kept : (was is : Space) (happened : Event) (is_held : Bool) → TakesEvent was is happened is_held → making_in is ≡ making_in was
+making-kept was is (event.Open conn) is_held t = t.made
+making-kept was is (event.Close conn) is_held t = t.made
+making-kept was is (event.Feed conn piece moment) is_held t = t.made
+making-kept was is (event.Answer load outcome moment) is_held t = t.made
+making-kept was is (event.GiveUp load moment) is_held t = t.made
 
 pub happens : (i : Input) (output : Output) (was is : Space) → TakesInput i output was is → Happens i output was is
 happens i output was is t = record {

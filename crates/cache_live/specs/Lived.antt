@@ -5,14 +5,13 @@ use Rattle.audit_laws.specs.Leading.{LeadsBy}
 use Rattle.audit_model.specs.declared.transcript.Transcript.{Transcript}
 use Rattle.cache_shared.specs.Events.{record_count}
 use Rattle.cache_spaces.specs.Journals.{LeadsSo}
-use Rattle.cache_spaces.specs.Moves.{hashed_part}
-use Rattle.cache_spaces.specs.Spaces.{config_of}
+use Rattle.cache_spaces.specs.Spaces.{config_of, part_in}
 use Rattle.cache_spaces.specs.declared.space.Space.{Space}
 
 -- the journal leads to where the namespace stands
 pub record HasLived (space : Space) (journal : Transcript) : Type 0 where
   pub led : LeadsSo space journal
-  pub parted : LeadsBy (config_of space) (hashed_part (config_of space)) journal led.last
+  pub parted : LeadsBy (config_of space) (part_in space) journal led.last
 
 -- some journals of so many records lead here
 pub record Lived (spaces : List Space) (events : ℕ) : Type 0 where

@@ -85,6 +85,8 @@ const OWN_DEADLINES_END_VALUES: &[Row<'static>] = &[
     Row::Says(0, b"SET a 1 x\n", b"OK\n"),
     Row::Says(999_423, b"GET a\n", b"VAL x\n"),
     Row::Says(999_424, b"GET a\n", b"NONE\n"),
+    Row::Says(999_424, b"SYNC\n", b"SYNC 1 1\n"),
+    Row::TellsNone,
     Row::Says(1_073_741_824, b"SYNC\n", b"SYNC 0 0\n"),
     Row::Tells(RemovalCause::Expired, b"a", b"x"),
     Row::TellsNone,

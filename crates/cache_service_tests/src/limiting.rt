@@ -1,6 +1,6 @@
 //! What a service with a capacity answers and tells.
 use crate::script::{PLAIN, Row, first_wrong, none_wrong};
-use audit_model::{Config, RemovalCause, Weight};
+use audit_model::{Config, EvictionPolicy, RemovalCause, Weight};
 
 const TWO: Config = Config {
     capacity: Some(2),
@@ -73,5 +73,60 @@ fn nothing_is_kept_at_capacity_0(rt: HostRuntime) {
     none_wrong(
         &rt,
         first_wrong(rt.alloc(), none, NOTHING_IS_KEPT_AT_CAPACITY_0),
+    );
+}
+
+// a third key comes in place of the oldest only once it was asked for more often
+const A_KEY_ASKED_FOR_MORE_OFTEN_COMES_IN: &[Row<'static>] = &[
+    Row::Says(
+        0,
+        b"SET a - 1\nSYNC\nSET b - 2\nSYNC\nSET c - 3\nSYNC\nGET c\n",
+        b"OK\nSYNC 1 1\nOK\nSYNC 2 2\nOK\nSYNC 2 2\nNONE\n",
+    ),
+    Row::Says(
+        0,
+        b"SET c - 3\nSYNC\nGET a\nGET c\n",
+        b"OK\nSYNC 2 2\nNONE\nVAL 3\n",
+    ),
+    Row::Tells(RemovalCause::Size, b"c", b"3"),
+    Row::Tells(RemovalCause::Size, b"a", b"1"),
+    Row::TellsNone,
+];
+
+#[test]
+fn a_key_asked_for_more_often_comes_in(rt: HostRuntime) {
+    let two = Config {
+        policy: EvictionPolicy::TinyLfu,
+        ..TWO
+    };
+    none_wrong(
+        &rt,
+        first_wrong(rt.alloc(), two, A_KEY_ASKED_FOR_MORE_OFTEN_COMES_IN),
+    );
+}
+
+// b is judged before a shrinks
+const WRITES_ARE_JUDGED_IN_ORDER: &[Row<'static>] = &[
+    Row::Says(
+        0,
+        b"SET a - aaaaaaaaaa\nSYNC\nSET b - bbbbb\nSET a - c\nSYNC\n",
+        b"OK\nSYNC 1 10\nOK\nOK\nSYNC 1 1\n",
+    ),
+    Row::Tells(RemovalCause::Replaced, b"a", b"aaaaaaaaaa"),
+    Row::Tells(RemovalCause::Size, b"b", b"bbbbb"),
+    Row::TellsNone,
+];
+
+#[test]
+fn writes_are_judged_in_order(rt: HostRuntime) {
+    let twelve = Config {
+        capacity: Some(12),
+        policy: EvictionPolicy::TinyLfu,
+        weight: Weight::Bytes,
+        ..PLAIN
+    };
+    none_wrong(
+        &rt,
+        first_wrong(rt.alloc(), twelve, WRITES_ARE_JUDGED_IN_ORDER),
     );
 }

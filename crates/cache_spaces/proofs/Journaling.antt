@@ -23,12 +23,13 @@ use Rattle.audit_model.specs.declared.transcript.Transcript.{Transcript}
 use Rattle.cache_namespace.proofs.Places.{at-replaced}
 use Rattle.cache_namespace.specs.Taken.{text_at}
 use Rattle.cache_spaces.specs.Journals.{LeadsSo}
-use Rattle.cache_spaces.specs.Moves.{At, are_parted_in, are_timely_in, hashed_part}
+use Rattle.cache_namespace.specs.Making.{Making}
+use Rattle.cache_spaces.specs.Moves.{At, are_parted_in, are_timely_in}
 use Rattle.cache_spaces.specs.Played.{ArePlayed, HasPlayed, HavePlayed, Plays, WerePlayed}
 use Rattle.cache_spaces.specs.Recorded.{AreQuiet, AreEmpty, RecordsInput, RecordsAt, RefusedInput, namespace_of}
 use Rattle.cache_spaces.specs.Serves.{SameSpace}
 use Rattle.cache_spaces.specs.Services.{AreNew, Refuses}
-use Rattle.cache_spaces.specs.Spaces.{StandsFor, config_of, made_of, notices_of, untaken_output, recency_of}
+use Rattle.cache_spaces.specs.Spaces.{HasItsParts, StandsFor, config_of, made_of, making_in, notices_of, part_in, untaken_output, recency_of}
 use Rattle.cache_spaces.specs.Throughout.{HasExactKeys, HaveKeysFrom, are_bounded_from, are_timely_from, is_bounded_throughout, is_timely_throughout, order_at_end}
 use Rattle.cache_spaces.specs.declared.space.Space.{Space}
 use Rattle.cache_spaces.proofs.Noting.{same-or-not}
@@ -91,7 +92,8 @@ played-none configs generator moment transcripts spaces new count empty = record
         served = n.served;
         last = empty_situation moment.nanos;
         stands = n.stands;
-        parted = subst (λ x. LeadsBy config (hashed_part config) x (empty_situation moment.nanos)) (sym e) (record { leads = refl; parted = refl });
+        within = n.within;
+        parted = subst (λ x. LeadsBy config (part_in space) x (empty_situation moment.nanos)) (sym e) (record { leads = refl; parted = refl });
         belongs = (ap (λ (x : Transcript). x.records) e, refl);
         made_is = n.made_is;
         agrees = λ places plain.
@@ -127,6 +129,7 @@ left-alone config k moment inputs i transcript space h = record {
   served = h.served;
   last = h.last;
   stands = h.stands;
+  within = h.within;
   parted = h.parted;
   belongs = belongs_on.left_out config k inputs i transcript.records (empty_situation moment.nanos) h.last h.belongs;
   made_is = h.made_is;
@@ -142,7 +145,7 @@ pub record Alike (was is : Space) : Type 0 where
   pub stands : (s : Situation) → StandsFor was s → StandsFor is s
   pub recency : KeepsRecency (recency_of was) (recency_of is)
   pub config : config_of is ≡ config_of was
-  pub made : made_of is ≡ made_of was
+  pub made : making_in is ≡ making_in was
   pub outputs : (number : ℕ) → untaken_output is number ≡ untaken_output was number
   pub notices : notices_of is ≡ notices_of was
 
@@ -157,9 +160,10 @@ same-kept config k moment inputs transcript was is same h = record {
   served = h.served;
   last = h.last;
   stands = same.stands h.last h.stands;
-  parted = h.parted;
+  within = subst (λ (m : Making). HasItsParts config m.part_of) (sym same.made) h.within;
+  parted = subst (λ (m : Making). LeadsBy config m.part_of transcript h.last) (sym same.made) h.parted;
   belongs = h.belongs;
-  made_is = same.made ∙ h.made_is;
+  made_is = ap (λ (m : Making). m.made) same.made ∙ h.made_is;
   agrees = λ places plain. agrees-kept (recency_of was) (recency_of is) places (order_at_end config (suc places) (Settled []) transcript.records) same.recency (h.agrees places plain);
   exact = h.exact;
   timely = h.timely;
@@ -183,11 +187,13 @@ taken-here config k moment inputs i t u was is here h made r =
       served = h.served;
       last = l.next;
       stands = l.stands;
-      parted = subst (λ x. LeadsBy config (hashed_part config) x l.next) (sym (same-transcript (record { made = t.made; records = t.records ++ entry ∷ [] }) u made r.records.added))
-          (leads_by-more config (hashed_part config) t.made t.records entry h.last l.next h.parted follows (subst (λ x. IsTrue (are_parted_in x h.last entry)) h.configured l.parted));
+      within = subst (λ (m : Making). HasItsParts config m.part_of) (sym r.records.made) h.within;
+      parted = subst (λ (m : Making). LeadsBy config m.part_of u l.next) (sym r.records.made)
+          (subst (λ x. LeadsBy config (part_in was) x l.next) (sym (same-transcript (record { made = t.made; records = t.records ++ entry ∷ [] }) u made r.records.added))
+          (leads_by-more config (part_in was) t.made t.records entry h.last l.next h.parted follows (subst (λ x. IsTrue (are_parted_in (part_in was) x h.last entry)) h.configured l.parted)));
       belongs = subst (λ rs. BelongsIn config k (empty_situation moment.nanos) (inputs ++ i ∷ []) rs l.next) (sym r.records.added)
           (belongs_on.taken config k inputs i t.records entry (empty_situation moment.nanos) h.last l.next h.belongs e follows);
-      made_is = r.records.made ∙ h.made_is;
+      made_is = ap (λ (m : Making). m.made) r.records.made ∙ h.made_is;
       agrees = λ places plain.
           subst (λ rs. AgreesWith (recency_of is) places (order_at_end config (suc places) (Settled []) rs)) (sym r.records.added)
           (subst (AgreesWith (recency_of is) places) (sym (order-at-end-more config (suc places) (Settled []) t.records entry))
@@ -265,13 +271,15 @@ abbrev pub played-one : (config : Config) (k : ℕ) (moment : Instant) (inputs :
     → HasPlayed config k moment inputs transcript space → Plays config k moment inputs transcript
 played-one config k moment inputs transcript space h =
     let b = belongs_step_by_step.belongs config k transcript.made inputs transcript.records h.last (subst (λ (m : Instant). BelongsIn config k (empty_situation m.nanos) inputs transcript.records h.last) (sym h.made) h.belongs) in
-    let o = obeys-led config (hashed_part config) transcript h.last h.parted in
+    let o = obeys-led config (part_in space) transcript h.last h.parted in
     let exact : (places : ℕ) → IsPlainLru config places → HasExactKeys config places transcript = λ places plain. subst (λ (m : Instant). HaveKeysFrom config (suc places) (Settled []) (empty_situation m.nanos) transcript.records) (sym h.made) (h.exact places plain) in
     record {
       made = h.made;
       belongs = b.1;
       last = h.last;
       leads = b.0;
+      part_of = part_in space;
+      within = h.within;
       parted = h.parted;
       obeys = o.0;
       admitted = o.1;

@@ -1,6 +1,7 @@
 pub mod Moving
 pub mod Putting
 pub mod Noting
+mod Beginning
 pub mod Chaining
 pub mod Listing
 pub mod Journaling

@@ -22,7 +22,7 @@ use Rattle.cache_namespace.specs.declared.connection.Connection.{Connection}
 use Rattle.cache_namespace.specs.declared.kept.Kept.{Kept}
 use Rattle.cache_spaces.specs.Moves.{MovesOn, are_parted_in, are_timely_in}
 use Rattle.cache_spaces.specs.Recorded.{IsQuiet, LeadsOnIn, Records, RecordsInput, Refused, RefusedInput, namespace_of}
-use Rattle.cache_spaces.specs.Spaces.{StandsFor, config_of, connections_of, workings_of, made_of, notices_of, untaken_output, recency_of, gathered_in}
+use Rattle.cache_spaces.specs.Spaces.{StandsFor, config_of, connections_of, workings_of, made_of, making_in, notices_of, part_in, untaken_output, recency_of, gathered_in}
 use Rattle.cache_spaces.specs.declared.space.Space.{Space}
 
 -- two numbers are the same or not
@@ -44,8 +44,8 @@ unwrapped g steps e = go g.kept e
 
 -- an event without steps
 pub recorded-still : (was is : Space) (happened : Event) (before after : List Record)
-    → IsQuiet was → ((n : ℕ) → untaken_output is n ≡ untaken_output was n) → notices_of is ≡ notices_of was → config_of is ≡ config_of was → made_of is ≡ made_of was
-    → ((s : Situation) (g : Gathered) → StandsFor was s → MovesOn (config_of was) (made_of was) s happened false false (StandsFor is) (workings_of was) (workings_of is) g g)
+    → IsQuiet was → ((n : ℕ) → untaken_output is n ≡ untaken_output was n) → notices_of is ≡ notices_of was → config_of is ≡ config_of was → making_in is ≡ making_in was
+    → ((s : Situation) (g : Gathered) → StandsFor was s → MovesOn (config_of was) (making_in was) s happened false false (StandsFor is) (workings_of was) (workings_of is) g g)
     → after ≡ before ++ record_of happened [] ∷ [] → Records happened before after was is
 recorded-still was is happened before after quiet outputs notices config made moves added = record {
   entry = record_of happened [];
@@ -59,7 +59,7 @@ recorded-still was is happened before after quiet outputs notices config made mo
         next = m.next;
         stands = m.stands;
         follows = subst (λ x. Follows (config_of was) s (record_of happened x) m.next) none m.follows;
-        parted = subst (λ x. IsTrue (are_parted_in (config_of was) s (record_of happened x))) none m.parted;
+        parted = subst (λ x. IsTrue (are_parted_in (part_in was) (config_of was) s (record_of happened x))) none m.parted;
         timely = subst (λ x. IsTrue (are_timely_in (config_of was) (made_of was) s (record_of happened x))) none m.timely;
         bounded = m.bounded;
         ordered = subst (λ x. OrdersSteps (config_of was) (recency_of was) (recency_of is) (after_event happened s) (tasks_in s happened) (places.steps_of (record_of happened x))) none m.ordered;
@@ -75,8 +75,8 @@ fresh-when g steps e f = subst (λ o. IsFresh (record { text = g.text; kept = o;
 -- a feed, with the steps that were kept
 pub recorded-fed : (was is : Space) (conn : ℕ) (happened : Event) (is_held quit : Bool) (before after : List Record) (old new : Option Kept)
     → IsQuiet was → kept_steps old ≡ Some [] → IsFresh (gathered_in is conn new)
-    → ((place : ℕ) → place ≢ conn - 1 → slice_get (connections_of is) place ≡ slice_get (connections_of was) place) → config_of is ≡ config_of was → made_of is ≡ made_of was
-    → ((s : Situation) → StandsFor was s → MovesOn (config_of was) (made_of was) s happened is_held quit (StandsFor is) (workings_of was) (workings_of is) (gathered_in was conn old) (gathered_in is conn new))
+    → ((place : ℕ) → place ≢ conn - 1 → slice_get (connections_of is) place ≡ slice_get (connections_of was) place) → config_of is ≡ config_of was → making_in is ≡ making_in was
+    → ((s : Situation) → StandsFor was s → MovesOn (config_of was) (making_in was) s happened is_held quit (StandsFor is) (workings_of was) (workings_of is) (gathered_in was conn old) (gathered_in is conn new))
     → after ≡ before ++ record_of happened (unwrap_or (kept_steps new) []) ∷ [] → Records happened before after was is
 recorded-fed was is conn happened is_held quit before after old new quiet started fresh others config made moves added = record {
   entry = record_of happened (unwrap_or (kept_steps new) []);
@@ -91,7 +91,7 @@ recorded-fed was is conn happened is_held quit before after old new quiet starte
         next = m.next;
         stands = m.stands;
         follows = subst (λ x. Follows (config_of was) s (record_of happened x) m.next) (sym (ap (λ o. unwrap_or o []) kept)) m.follows;
-        parted = subst (λ x. IsTrue (are_parted_in (config_of was) s (record_of happened x))) (sym (ap (λ o. unwrap_or o []) kept)) m.parted;
+        parted = subst (λ x. IsTrue (are_parted_in (part_in was) (config_of was) s (record_of happened x))) (sym (ap (λ o. unwrap_or o []) kept)) m.parted;
         timely = subst (λ x. IsTrue (are_timely_in (config_of was) (made_of was) s (record_of happened x))) (sym (ap (λ o. unwrap_or o []) kept)) m.timely;
         bounded = m.bounded;
         ordered = subst (λ x. OrdersSteps (config_of was) (recency_of was) (recency_of is) (after_event happened s) (tasks_in s happened) (places.steps_of (record_of happened x))) (sym (ap (λ o. unwrap_or o []) kept)) m.ordered;
@@ -106,7 +106,7 @@ recorded-fed was is conn happened is_held quit before after old new quiet starte
     output-at n (inr ne) none = ap (λ o. option_map_or (λ (c : Connection). c.output.items) o []) (others (n - 1) ne) ∙ quiet.outputs n
 
 -- a load that was settled, with the record that was handed out
-pub recorded-settled : (was is : Space) (happened : Event) (before after : List Record) (entry : Record) → entry.event ≡ happened → ((s : Situation) → StandsFor was s → LeadsOnIn was is s entry) → config_of is ≡ config_of was → made_of is ≡ made_of was
+pub recorded-settled : (was is : Space) (happened : Event) (before after : List Record) (entry : Record) → entry.event ≡ happened → ((s : Situation) → StandsFor was s → LeadsOnIn was is s entry) → config_of is ≡ config_of was → making_in is ≡ making_in was
     → after ≡ before ++ entry ∷ [] → Records happened before after was is
 recorded-settled was is happened before after entry event leads config made added = record { entry = entry; event = event; added = added; leads = leads; config = config; made = made }
 

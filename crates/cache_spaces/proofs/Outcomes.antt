@@ -36,16 +36,14 @@ use Rattle.cache_commands.proofs.Ordering.{agrees-kept}
 use Rattle.cache_commands.specs.Order.{AgreesWith}
 use Rattle.cache_store.specs.Recency.{KeepsRecency}
 use Rattle.cache_store.specs.Running.{is_bounded}
-use Rattle.cache_spaces.specs.Moves.{are_parted_in, are_timely_in, hashed_part}
-use Rattle.plain_store.specs.Drawing.{is_registered}
-use Rattle.plain_store.specs.Hashing.{hashed}
-use Rattle.plain_store.specs.Parting.{part_by}
-use Rattle.plain_store.specs.Standing as plain
+use Rattle.cache_spaces.specs.Moves.{are_parted_in, are_timely_in}
+use Rattle.cache_namespace.specs.Making.{making_of}
+use Rattle.cache_spaces.specs.Stores.{shown_of}
 use Rattle.rand_core.specs.Steps.{stream_of, steps_u64_high}
 use Rattle.rand_xoshiro.specs.Xoshiro256.{plus_plus}
 use Rattle.cache_spaces.specs.Recorded.{IsQuiet, LeadsOnIn}
 use Rattle.cache_spaces.specs.Serves.{Settles, known_of}
-use Rattle.cache_spaces.specs.Spaces.{Holds, StandsFor, closing_of, config_of, connections_of, identifiers_of, loads_of, made_of, notices_of, untaken_output, recency_of}
+use Rattle.cache_spaces.specs.Spaces.{Holds, StandsFor, closing_of, config_of, connections_of, identifiers_of, loads_of, made_of, making_in, notices_of, part_in, untaken_output, recency_of}
 use Rattle.cache_spaces.specs.declared.space.Space.{Space}
 
 -- nothing is known of the order of use behind steps of a settled load
@@ -84,30 +82,28 @@ pub record SettlesBy (was is : Space) (entry : Record) (s : Situation) : Type 0 
   pub next : Situation
   pub stands : StandsFor is next
   pub follows : Follows (config_of was) s entry next
-  pub parted : IsTrue (are_parted_in (config_of was) s entry)
+  pub parted : IsTrue (are_parted_in (part_in was) (config_of was) s entry)
   pub timely : IsTrue (are_timely_in (config_of was) (made_of was) s entry)
   pub bounded : IsTrue (is_bounded (config_of was) next.held)
   pub draws : StepsDraw (config_of was) entry.steps (identifiers_of was) (identifiers_of is)
   pub ordered : OrdersSteps (config_of was) (recency_of was) (recency_of is) (after_event entry.event s) (tasks_in s entry.event) (steps_of entry)
 
-pub settles-by : (was is : Space) (making : Making) (entry : Record) (now : ℕ) (values left : List HeldValue) (s : Situation)
-    → making.part_of ≡ hashed_part (config_of was) → making.made ≡ made_of was → is.inner.latest ≡ now → s ≡ with_values was values → Holds is left
-    → settling.SettlingLeads (config_of was) making (with_values was values) entry (situation now (loads_of is) (connections_of is) is.inner.store.dropped left) (identifiers_of was) (identifiers_of is)
+pub settles-by : (was is : Space) (entry : Record) (now : ℕ) (values left : List HeldValue) (s : Situation)
+    → is.inner.latest ≡ now → s ≡ with_values was values → Holds is left
+    → settling.SettlingLeads (config_of was) (making_in was) (with_values was values) entry (situation now (loads_of is) (connections_of is) is.inner.store.dropped left) (identifiers_of was) (identifiers_of is)
     → IsTrue (is_bounded (config_of was) left)
     → OrdersSteps (config_of was) (recency_of was) (recency_of is) (after_event entry.event (with_values was values)) (tasks_in (with_values was values) entry.event) (steps_of entry)
     → SettlesBy was is entry s
-settles-by was is making entry now values left s parts made late same holds x bounded ordered = record {
+settles-by was is entry now values left s late same holds x bounded ordered = record {
   next = with_values is left;
   stands = record { values = left; held = holds; same = refl };
   follows =
       subst (λ u. Follows (config_of was) u entry (with_values is left)) (sym same)
       (subst (λ n. Follows (config_of was) (with_values was values) entry (situation n (loads_of is) (connections_of is) is.inner.store.dropped left)) (sym late) x.follows);
   parted =
-      subst (λ u. IsTrue (are_parted_in (config_of was) u entry)) (sym same)
-      (subst (λ part_of. IsTrue (list_all (is_parted part_of) (accepted_in (config_of was) (with_values was values) entry))) parts x.parted);
+      subst (λ u. IsTrue (are_parted_in (part_in was) (config_of was) u entry)) (sym same) x.parted;
   timely =
-      subst (λ u. IsTrue (are_timely_in (config_of was) (made_of was) u entry)) (sym same)
-      (subst (λ m. IsTrue (are_timely_in (config_of was) m (with_values was values) entry)) made x.timely);
+      subst (λ u. IsTrue (are_timely_in (config_of was) (made_of was) u entry)) (sym same) x.timely;
   bounded = bounded;
   draws = x.draws;
   ordered = subst (λ u. OrdersSteps (config_of was) (recency_of was) (recency_of is) (after_event entry.event u) (tasks_in u entry.event) (steps_of entry)) (sym same) ordered;
@@ -174,10 +170,10 @@ unwaited config making latest l cs dropped values load moment drawn admitted non
 -- a load is dropped for which nobody waits
 pub drops-load : (was is : Space) (load moment : ℕ) → refusal_of (config_of was) (known_of was) (giving_up load moment) ≡ None → waiting_on load (loads_of was) ≡ []
     → is.inner ≡ record was.inner { latest = max moment was.inner.latest; loads = is.inner.loads } → loads_of is ≡ but_for load (loads_of was)
-    → ((values : List HeldValue) → Holds was values → IsTrue (is_bounded (config_of was) values)) → part_by was.inner.store.parts (hashed 0) ≡ hashed_part (config_of was)
+    → ((values : List HeldValue) → Holds was values → IsTrue (is_bounded (config_of was) values))
     → (s : Situation) → StandsFor was s → SettlesBy was is (record_given_up load moment []) s
-drops-load was is load moment admitted none same left bounded parts s stands =
-    let making : Making = record { part_of = part_by was.inner.store.parts (hashed 0); made = made_of was } in
+drops-load was is load moment admitted none same left bounded s stands =
+    let making = making_in was in
     let config = config_of was in
     let here = with_values was stands.values in
     let entry = record_given_up load moment [] in
@@ -186,14 +182,14 @@ drops-load was is load moment admitted none same left bounded parts s stands =
     let x = unwaited config making was.inner.latest (loads_of was) (connections_of was) was.inner.store.dropped stands.values load moment drawn admitted none in
     let store = ap (λ n. n.store) same in
     let connections = ap (λ n. n.connections.items) same in
-    settles-by was is making entry now stands.values stands.values s parts refl (ap (λ n. n.latest) same) stands.same
-    (subst (λ st. plain.Stands st.config st.table stands.values) (sym store) stands.held)
-    (subst (λ st. settling.SettlingLeads config making here entry (situation now (loads_of is) (connections_of is) st.dropped stands.values) drawn (identifiers (stream_of (steps_u64_high plus_plus) st.generator) (is_registered st.register))) (sym store)
+    settles-by was is entry now stands.values stands.values s (ap (λ n. n.latest) same) stands.same
+    (subst (λ st. (shown_of st).Stands stands.values) (sym store) stands.held)
+    (subst (λ st. settling.SettlingLeads config making here entry (situation now (loads_of is) (connections_of is) st.dropped stands.values) drawn (identifiers (shown_of st).stream (shown_of st).registered)) (sym store)
     (subst (λ cs. settling.SettlingLeads config making here entry (situation now (loads_of is) cs was.inner.store.dropped stands.values) drawn drawn) (sym connections)
     (subst (λ l. settling.SettlingLeads config making here entry (situation now l (connections_of was) was.inner.store.dropped stands.values) drawn drawn) (sym left) x)))
     (bounded stands.values stands.held)
     (subst (λ conns. OrdersSteps config (recency_of was) (recency_of is) (without_load load moment here) (tasks_to_give_up conns) []) (sym none)
-    (orders-kept config (recency_of was) (recency_of is) (without_load load moment here) [] (subst (λ st. KeepsRecency (recency_of was) (plain.AreInOrder st.config st.table)) (sym store) (λ b keys r. r))))
+    (orders-kept config (recency_of was) (recency_of is) (without_load load moment here) [] (subst (λ st. KeepsRecency (recency_of was) ((shown_of st).Used)) (sym store) (λ b keys r. r))))
 
 -- no step tells a connection
 pub writes-none : (old new : List Connection) → new ≡ old → WritesTo true [] old new

@@ -1,6 +1,7 @@
 pub mod Knowing
 pub mod Served
 pub mod Spaces
+pub mod Stores
 pub mod Moves
 pub mod Serves
 pub mod Services

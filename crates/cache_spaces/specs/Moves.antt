@@ -3,7 +3,6 @@ use Rattle.std.specs.Prelude.{◌≡◌, ℕ, Bool, List, Some, IsTrue, slice_se
 use Rattle.std.specs.List.{list_all, slice_get}
 use Rattle.audit_laws.specs.Leading.{is_parted}
 use Rattle.audit_laws.specs.Placing.{accepted_in}
-use Rattle.audit_model.specs.History.{part_count}
 use Rattle.audit_model.specs.Follows.{Follows, after_event, tasks_in}
 use Rattle.audit_model.specs.Places.{steps_of}
 use Rattle.audit_model.specs.Situation.{Situation}
@@ -18,30 +17,25 @@ use Rattle.cache_namespace.specs.Ordered.{OrdersSteps}
 use Rattle.cache_namespace.specs.Ran.{ends_held}
 use Rattle.cache_namespace.specs.Taken.{record_of}
 use Rattle.cache_store.specs.Running.{is_bounded}
-use Rattle.plain_store.specs.Hashing.{hashed}
-use Rattle.plain_store.specs.Parting.{part_by}
+use Rattle.cache_namespace.specs.Making.{Making}
 
 -- each `SYNC` of the record leaves no value that is covered or long dead
 abbrev pub are_timely_in : Config → ℕ → Situation → Record → Bool
 are_timely_in config made s entry = are_timely config made (after_event entry.event s) (tasks_in s entry.event) (steps_of entry)
 
--- the part of a key in a namespace of that configuration: by one hasher, which no call changes
-abbrev pub hashed_part : Config → List ℕ → ℕ
-hashed_part config = part_by (part_count config) (hashed 0)
-
 -- each value that the record accepts stands in its key's part
-abbrev pub are_parted_in : Config → Situation → Record → Bool
-are_parted_in config s entry = list_all (is_parted (hashed_part config)) (accepted_in config s entry)
+abbrev pub are_parted_in : (List ℕ → ℕ) → Config → Situation → Record → Bool
+are_parted_in part_of config s entry = list_all (is_parted part_of) (accepted_in config s entry)
 
 -- The event's record follows, with these steps, of which the last one may be held or a `QUIT`; each value that they accept stands in its key's part;
 -- each `SYNC` left timely values; each part is within its bound; identifiers were drawn as the steps say; their replies, steps and notes were gathered.
-pub record MovesOn (config : Config) (made : ℕ) (s : Situation) (happened : Event) (is_held quit : Bool) (Stands : Situation → Type 0) (drawn drawing : Workings) (old new : Gathered) : Type 0 where
+pub record MovesOn (config : Config) (making : Making) (s : Situation) (happened : Event) (is_held quit : Bool) (Stands : Situation → Type 0) (drawn drawing : Workings) (old new : Gathered) : Type 0 where
   pub steps : List Step
   pub next : Situation
   pub stands : Stands next
   pub follows : Follows config s (record_of happened steps) next
-  pub parted : IsTrue (are_parted_in config s (record_of happened steps))
-  pub timely : IsTrue (are_timely_in config made s (record_of happened steps))
+  pub parted : IsTrue (are_parted_in making.part_of config s (record_of happened steps))
+  pub timely : IsTrue (are_timely_in config making.made s (record_of happened steps))
   pub bounded : IsTrue (is_bounded config next.held)
   pub ends : ends_held steps ≡ is_held
   pub quits : ends_quit config steps ≡ quit

@@ -2,7 +2,6 @@
 use Rattle.std.specs.Prelude.{◌≡◌, ℕ, suc, List, [], length, Some, IsTrue}
 use Rattle.std.specs.List.{slice_get}
 use Rattle.audit_laws.specs.Leading.{LeadsBy, LeadsTo}
-use Rattle.cache_spaces.specs.Moves.{hashed_part}
 use Rattle.audit_model.specs.Belongs.{Belongs, IsAdmitted}
 use Rattle.audit_model.specs.BelongsIn.{BelongsIn}
 use Rattle.audit_model.specs.Obeys.{Obeys}
@@ -16,7 +15,7 @@ use Rattle.cache_store.specs.Recency.{IsPlainLru}
 use Rattle.cache_spaces.specs.Served.{is_served}
 use Rattle.cache_spaces.specs.Recent.{KeepsList}
 use Rattle.cache_spaces.specs.Recorded.{IsQuiet}
-use Rattle.cache_spaces.specs.Spaces.{StandsFor, config_of, made_of, recency_of}
+use Rattle.cache_spaces.specs.Spaces.{HasItsParts, StandsFor, config_of, made_of, part_in, recency_of}
 use Rattle.cache_spaces.specs.Throughout.{HasExactKeys, HaveKeysFrom, are_bounded_from, are_timely_from, is_bounded_throughout, is_timely_throughout, order_at_end}
 use Rattle.cache_spaces.specs.declared.space.Space.{Space}
 
@@ -28,8 +27,10 @@ pub record Plays (config : Config) (namespace : ℕ) (moment : Instant) (inputs 
   pub belongs : Belongs config namespace transcript inputs
   pub last : Situation
   pub leads : LeadsTo config transcript last
-  -- each value stands in its key's part, by one hasher
-  pub parted : LeadsBy config (hashed_part config) transcript last
+  -- each value stands in its key's part, by one hasher; there is such a part
+  pub part_of : List ℕ → ℕ
+  pub within : HasItsParts config part_of
+  pub parted : LeadsBy config part_of transcript last
   pub obeys : Obeys config transcript
   pub admitted : IsAdmitted config transcript
   pub timely : IsTrue (is_timely_throughout config transcript)
@@ -50,7 +51,8 @@ pub record HasPlayed (config : Config) (namespace : ℕ) (moment : Instant) (inp
   pub served : IsTrue (is_served config)
   pub last : Situation
   pub stands : StandsFor space last
-  pub parted : LeadsBy config (hashed_part config) transcript last
+  pub within : HasItsParts config (part_in space)
+  pub parted : LeadsBy config (part_in space) transcript last
   pub belongs : BelongsIn config namespace (empty_situation moment.nanos) inputs transcript.records last
   pub made_is : made_of space ≡ moment.nanos
   pub timely : IsTrue (are_timely_from config moment.nanos transcript.records)

@@ -17,7 +17,7 @@ use Rattle.cache_spaces.specs.Moves.{At, are_parted_in, are_timely_in}
 use Rattle.cache_namespace.specs.Ordered.{OrdersSteps}
 use Rattle.cache_store.specs.Running.{is_bounded}
 use Rattle.cache_spaces.specs.Serves.{SameSpace, known_of}
-use Rattle.cache_spaces.specs.Spaces.{StandsFor, config_of, connections_of, made_of, notices_of, untaken_output, recency_of}
+use Rattle.cache_spaces.specs.Spaces.{StandsFor, config_of, connections_of, made_of, making_in, notices_of, part_in, untaken_output, recency_of}
 use Rattle.cache_spaces.specs.declared.space.Space.{Space}
 
 -- no reply and no note waits to be taken: the records hold them
@@ -31,7 +31,7 @@ pub record LeadsOnIn (was is : Space) (s : Situation) (entry : Record) : Type 0 
   pub next : Situation
   pub stands : StandsFor is next
   pub follows : Follows (config_of was) s entry next
-  pub parted : IsTrue (are_parted_in (config_of was) s entry)
+  pub parted : IsTrue (are_parted_in (part_in was) (config_of was) s entry)
   pub timely : IsTrue (are_timely_in (config_of was) (made_of was) s entry)
   pub bounded : IsTrue (is_bounded (config_of was) next.held)
   -- under LRU over one part of weight one without times: the order of use is what these steps make of it, and so are the keys held
@@ -45,7 +45,7 @@ pub record Records (happened : Event) (before after : List Record) (was is : Spa
   pub added : after ≡ before ++ entry ∷ []
   pub leads : (s : Situation) → StandsFor was s → LeadsOnIn was is s entry
   pub config : config_of is ≡ config_of was
-  pub made : made_of is ≡ made_of was
+  pub made : making_in is ≡ making_in was
 
 -- the namespace that an input names
 abbrev pub namespace_of : Input → ℕ

@@ -28,7 +28,7 @@ use Rattle.cache_settling.specs.Told.{ClosesByLines, own_steps, replies_to}
 use Rattle.cache_store.specs.Recency.{KeepsRecency}
 use Rattle.cache_store.specs.Running.{is_bounded}
 use Rattle.cache_spaces.specs.Moves.{are_parted_in, are_timely_in}
-use Rattle.cache_spaces.specs.Spaces.{StandsFor, TakesNoLoads, config_of, connections_of, identifiers_of, made_of, notices_of, outgoing_of, untaken_output, closing_of, loads_of, place_of, recency_of, taken_of}
+use Rattle.cache_spaces.specs.Spaces.{StandsFor, TakesNoLoads, config_of, connections_of, identifiers_of, made_of, making_in, notices_of, part_in, outgoing_of, untaken_output, closing_of, loads_of, place_of, recency_of, taken_of}
 use Rattle.cache_spaces.specs.declared.space.Space.{Space}
 
 -- The event's record follows; its replies stand behind the output of that connection, and its notes behind the notices. Each value that
@@ -39,7 +39,7 @@ pub record Serves (was is : Space) (number : ℕ) (s : Situation) (happened : Ev
   pub next : Situation
   pub stands : StandsFor is next
   pub follows : Follows (config_of was) s (record_of happened steps) next
-  pub parted : IsTrue (are_parted_in (config_of was) s (record_of happened steps))
+  pub parted : IsTrue (are_parted_in (part_in was) (config_of was) s (record_of happened steps))
   pub timely : IsTrue (are_timely_in (config_of was) (made_of was) s (record_of happened steps))
   pub bounded : IsTrue (is_bounded (config_of was) next.held)
   pub ends : ends_held steps ≡ is_held
@@ -68,7 +68,7 @@ pub record ServesEvent (was is : Space) (number : ℕ) (happened : Event) (is_he
   pub serves : (s : Situation) → StandsFor was s → Serves was is number s happened is_held
   pub others : (place : ℕ) → place ≢ number - 1 → slice_get (connections_of is) place ≡ slice_get (connections_of was) place
   pub config : config_of is ≡ config_of was
-  pub made : made_of is ≡ made_of was
+  pub made : making_in is ≡ making_in was
   pub left : LeavesConnection happened (closing_of was number) (closing_of is number) (untaken_output is number)
   pub count : length (connections_of is) ≡ count_after happened (length (connections_of was))
   pub goes : TakesNoLoads was is
@@ -87,7 +87,7 @@ pub record Settles (was is : Space) (s : Situation) (happened : Event) : Type 0 
   pub next : Situation
   pub stands : StandsFor is next
   pub follows : Follows (config_of was) s entry next
-  pub parted : IsTrue (are_parted_in (config_of was) s entry)
+  pub parted : IsTrue (are_parted_in (part_in was) (config_of was) s entry)
   pub timely : IsTrue (are_timely_in (config_of was) (made_of was) s entry)
   pub bounded : IsTrue (is_bounded (config_of was) next.held)
   pub draws : StepsDraw (config_of was) entry.steps (identifiers_of was) (identifiers_of is)
@@ -103,7 +103,7 @@ pub record Settles (was is : Space) (s : Situation) (happened : Event) : Type 0 
 pub record Settled (was is : Space) (happened : Event) : Type 0 where
   pub settles : (s : Situation) → StandsFor was s → Settles was is s happened
   pub config : config_of is ≡ config_of was
-  pub made : made_of is ≡ made_of was
+  pub made : making_in is ≡ making_in was
   pub count : length (connections_of is) ≡ length (connections_of was)
   pub goes : TakesNoLoads was is
 
@@ -116,7 +116,7 @@ pub record SameSpace (was is : Space) : Type 0 where
   pub stands : (s : Situation) → StandsFor was s → StandsFor is s
   pub recency : KeepsRecency (recency_of was) (recency_of is)
   pub config : config_of is ≡ config_of was
-  pub made : made_of is ≡ made_of was
+  pub made : making_in is ≡ making_in was
   pub outputs : (number : ℕ) → untaken_output is number ≡ untaken_output was number
   pub closings : (number : ℕ) → closing_of is number ≡ closing_of was number
   pub notices : notices_of is ≡ notices_of was
@@ -133,7 +133,7 @@ pub record TakesOutput (was is : Space) (number : ℕ) (text : List ℕ) : Type 
   pub others : (place : ℕ) → place ≢ number - 1 → slice_get (connections_of is) place ≡ slice_get (connections_of was) place
   pub closings : (n : ℕ) → closing_of is n ≡ closing_of was n
   pub config : config_of is ≡ config_of was
-  pub made : made_of is ≡ made_of was
+  pub made : making_in is ≡ making_in was
   pub notices : notices_of is ≡ notices_of was
   pub count : length (connections_of is) ≡ length (connections_of was)
   pub goes : TakesNoLoads was is
@@ -146,7 +146,7 @@ pub record TakesNotice (was is : Space) (note : Option Note) : Type 0 where
   pub none : IsNone note → notices_of was ≡ []
   pub connections : connections_of is ≡ connections_of was
   pub config : config_of is ≡ config_of was
-  pub made : made_of is ≡ made_of was
+  pub made : making_in is ≡ making_in was
   pub goes : TakesNoLoads was is
 
 -- The loads that went out are moved out, and nothing else changes: they are the namespace's loads in turn, from the first that was not taken
@@ -158,7 +158,7 @@ pub record TakesLoads (was is : Space) (loads : List (LoadId × List ℕ)) : Typ
   pub none : outgoing_of is ≡ []
   pub connections : connections_of is ≡ connections_of was
   pub config : config_of is ≡ config_of was
-  pub made : made_of is ≡ made_of was
+  pub made : making_in is ≡ making_in was
   pub notices : notices_of is ≡ notices_of was
   pub in_turn : IsTrue (are_in_turn (place_of was) (taken_of was) loads)
   pub count : (s : Situation) → StandsFor was s → taken_of was + length loads ≡ s.sent

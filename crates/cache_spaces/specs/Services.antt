@@ -13,7 +13,7 @@ use Rattle.rand_xoshiro.specs.Xoshiro256.{of_seed, plus_plus}
 use Rattle.audit_model.specs.Situation.{empty_situation}
 use Rattle.audit_model.specs.declared.config.Config.{Config}
 use Rattle.cache_spaces.specs.Served.{is_served}
-use Rattle.cache_spaces.specs.Spaces.{StandsFor, config_of, connections_of, generator_of, made_of, notices_of, recency_of, place_of, taken_of}
+use Rattle.cache_spaces.specs.Spaces.{HasItsParts, StandsFor, config_of, connections_of, generator_of, made_of, notices_of, part_in, recency_of, place_of, taken_of}
 use Rattle.cache_spaces.specs.declared.service.Service.{Service}
 use Rattle.cache_spaces.specs.declared.space.Space.{Space}
 
@@ -30,6 +30,7 @@ pub record IsNewNamespace (space : Space) (namespace : ℕ) (config : Config) (g
   pub stands : StandsFor space (empty_situation made)
   pub configured : config_of space ≡ config
   pub made_is : made_of space ≡ made
+  pub within : HasItsParts config (part_in space)
   pub recency : recency_of space true []
   pub served : IsTrue (is_served config)
   pub connections : connections_of space ≡ []

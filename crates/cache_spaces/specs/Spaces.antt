@@ -1,5 +1,6 @@
 -- What is seen of one namespace of a service.
-use Rattle.std.specs.Prelude.{◌≡◌, ℕ, ◌-◌, Bool, List, Option}
+use Rattle.std.specs.Prelude.{◌≡◌, ℕ, ◌-◌, ◌<◌, Bool, List, Option}
+use Rattle.audit_model.specs.History.{part_count}
 use Rattle.audit_model.specs.Situation.{Situation, HeldValue}
 use Rattle.audit_model.specs.declared.command.Closing.{Closing}
 use Rattle.audit_model.specs.declared.config.Config.{Config}
@@ -14,10 +15,10 @@ use Rattle.cache_namespace.specs.Waiting.{UnderWay, under_way}
 use Rattle.cache_namespace.specs.declared.connection.Connection.{Connection}
 use Rattle.cache_namespace.specs.declared.kept.Kept.{Kept}
 use Rattle.cache_namespace.specs.Drawing.{Identifiers, Workings, identifiers, workings}
-use Rattle.plain_store.specs.Drawing.{is_registered}
-use Rattle.plain_store.specs.Standing as plain
+use Rattle.cache_namespace.specs.Making.{Making, making_of}
 use Rattle.rand_core.specs.Steps.{stream_of, steps_u64_high}
 use Rattle.rand_xoshiro.specs.Xoshiro256.{plus_plus}
+use Rattle.cache_spaces.specs.Stores.{shown_of}
 use Rattle.cache_spaces.specs.declared.space.Space.{Space}
 
 abbrev pub config_of : Space → Config
@@ -30,6 +31,17 @@ generator_of space = space.inner.store.generator
 -- the moment of its making
 abbrev pub made_of : Space → ℕ
 made_of space = space.inner.store.made
+
+-- in which part each of its keys is: no call changes it, nor the moment of its making
+abbrev pub making_in : Space → Making
+making_in space = making_of (shown_of space.inner.store).frame
+
+abbrev pub part_in : Space → List ℕ → ℕ
+part_in space = (making_in space).part_of
+
+-- each key's part is one that there is
+abbrev pub HasItsParts : Config → (List ℕ → ℕ) → Type 0
+HasItsParts config part_of = (key : List ℕ) → part_of key < part_count config
 
 -- the connections, in the order in which they were opened
 abbrev pub connections_of : Space → List Connection
@@ -57,7 +69,7 @@ TakesNoLoads was is = table.SameTaken was.inner.loads is.inner.loads
 
 -- the notes that were told and not taken
 abbrev pub notices_of : Space → List Note
-notices_of space = space.inner.store.notes
+notices_of space = (shown_of space.inner.store).untaken
 
 -- the reply bytes of a connection that were not taken
 abbrev pub untaken_output : Space → ℕ → List ℕ
@@ -72,11 +84,11 @@ gathered_in space number kept = gathered (untaken_output space number) kept (not
 
 -- what its generator will give for identifiers, and which are registered
 abbrev pub identifiers_of : Space → Identifiers
-identifiers_of space = identifiers (stream_of (steps_u64_high plus_plus) (generator_of space)) (is_registered space.inner.store.register)
+identifiers_of space = identifiers (stream_of (steps_u64_high plus_plus) (generator_of space)) (shown_of space.inner.store).registered
 
 -- the keys that it holds, the last used first: after a `SYNC`, or at most one call later
 abbrev pub recency_of : Space → Bool → List (List ℕ) → Type 0
-recency_of space = plain.AreInOrder space.inner.store.config space.inner.store.table
+recency_of space = (shown_of space.inner.store).Used
 
 -- what its store has beside its values
 abbrev pub workings_of : Space → Workings
@@ -84,7 +96,7 @@ workings_of space = workings (identifiers_of space).stream (identifiers_of space
 
 -- its store holds these values
 abbrev pub Holds : Space → List HeldValue → Type 0
-Holds space = plain.Stands space.inner.store.config space.inner.store.table
+Holds space = (shown_of space.inner.store).Stands
 
 -- values that may be held, loads under way and connections, that stand for that situation
 pub record StandsWith (Held : List HeldValue → Type 0) (dropped : Bool) (latest : ℕ) (loads : UnderWay) (connections : List Connection) (s : Situation) : Type 0 where

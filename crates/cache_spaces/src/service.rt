@@ -67,7 +67,8 @@ impl Service {
     ghost use Rattle.cache_spaces.specs.Spaces.{config_of, connections_of, notices_of, untaken_output, closing_of, StandsFor};
 
     /// A service of one namespace for each configuration, in their order, made at that moment, without connections and values. Each
-    /// namespace has a generator of its own, a fork of the one given, from which the identifiers of its `DROPIF`s are drawn.
+    /// namespace has a generator of its own, a fork of the one given, from which the identifiers of its `DROPIF`s are drawn, and far behind
+    /// them the secret by which its keys are hashed. So where keys come from strangers, hand in a generator that they cannot foresee.
     ///
     /// Refused with `Moment` above 2^63 - 1 nanoseconds, then with `Config` where there are not 1 to 16 configurations or one is out of
     /// range, then with `OutOfMemory`.

@@ -1,9 +1,6 @@
 //! One namespace of a service.
 ghost use Rattle.std.specs.Prelude.{◌-◌, ◌≡◌, ◌≢◌, ◌≤◌, ◌<◌, ◌^◌, ◌+◌, ◌++◌, ◌∷◌, [], None, Some, ℕ, Bool, true, false, IfOk, IfErr, OnOk, OnErr, IsErr, IfNone, IfSome, IsTrue, length, ◌↔◌};
-ghost use Rattle.audit_model.specs.History.{part_count};
-ghost use Rattle.plain_store.specs.Hashing.{hashed};
-ghost use Rattle.plain_store.specs.Parting.{part_by};
-ghost use Rattle.plain_store.specs.Standing.{frame_of, Stands as AreHeld};
+ghost use Rattle.cache_spaces.specs.Stores.{shown_of};
 ghost use Rattle.cache_spaces.specs.Knowing.{KnowsWaiting};
 ghost use Rattle.cache_spaces.specs.Served.{is_served};
 ghost use Rattle.cache_namespace.specs.Taken.{KnowsStore};
@@ -12,27 +9,34 @@ ghost use Rattle.cache_namespace.specs.Waiting.{under_way};
 use crate::settling::{given_up, is_waited_for};
 use audit_model::{Bytes, Closing, Config, LoadId, Note, Outcome, Record, ServiceError};
 use cache_commands::Keyed;
+use cache_entries::KeyedHasher;
+use cache_front_store::FrontStore;
 use cache_loads::Loads;
 use cache_namespace::{Kept, Namespace};
 use cache_settling::{answer_in, answer_kept, give_up_in, give_up_kept, refuse_load};
-use plain_store::{FixedHasher, PlainStore};
+use cache_store::Store;
+use rand_core::Rng;
 use rand_xoshiro::Xoshiro256PlusPlus;
 use std::alloc::{AllocError, Global};
 
-/// How many parts a store has.
-fn parts_of(store: &Keyed<PlainStore<Xoshiro256PlusPlus, FixedHasher>>) -> u64
-    ensures counted { result ≡ part_count store.now.config }
-    ensures parts { result ≡ store.now.parts }
-{
-    store.store().parts()
+/// How many bytes a hasher's secret has.
+const SECRET: usize = 16;
+
+/// A hasher that strangers cannot foresee: its secret stands far behind the numbers that the generator gives itself.
+fn keyed_by(generator: &Xoshiro256PlusPlus) -> Result<KeyedHasher, AllocError> {
+    let mut far = generator.clone()?;
+    far.long_jump();
+    let mut secret = [0; SECRET];
+    far.fill_bytes(&mut secret);
+    Ok(KeyedHasher::new(&secret))
 }
 
 /// A namespace: its connections over its values.
 #[derive(Drop)]
 pub struct Space {
-    inner: Namespace<PlainStore<Xoshiro256PlusPlus, FixedHasher>>,
-    ghost sound: { KnowsStore inner.config (frame_of inner.store.config (part_by inner.store.parts (hashed 0)) inner.store.made inner.store.dropped inner.store.latest) inner.latest },
-    ghost waiting: { ∥ KnowsWaiting inner.config (AreHeld inner.store.config inner.store.table) (under_way inner.loads) inner.connections.items ∥₁ },
+    inner: Namespace<FrontStore<Xoshiro256PlusPlus, KeyedHasher>>,
+    ghost sound: { KnowsStore inner.config (shown_of inner.store).frame inner.latest },
+    ghost waiting: { ∥ KnowsWaiting inner.config (shown_of inner.store).Stands (under_way inner.loads) inner.connections.items ∥₁ },
 }
 
 impl Space {
@@ -51,7 +55,8 @@ impl Space {
     ghost use Rattle.cache_settling.specs.Laws.{record_given_up};
     ghost use Rattle.cache_spaces.specs.Recorded.{IsQuiet, LeadsOnIn};
     ghost use Rattle.cache_spaces.specs.Serves.{Serves, Settled, ServesEvent, RefusedAnswer, SameSpace, known_of};
-    ghost use Rattle.cache_spaces.specs.Spaces.{StandsFor, TakesNoLoads, config_of, connections_of, generator_of, loads_of, notices_of, outgoing_of, untaken_output, closing_of, gathered_in, made_of, place_of, recency_of, taken_of, workings_of};
+    ghost use Rattle.cache_spaces.specs.Services.{IsNewNamespace};
+    ghost use Rattle.cache_spaces.specs.Spaces.{StandsFor, TakesNoLoads, config_of, connections_of, generator_of, loads_of, notices_of, outgoing_of, untaken_output, closing_of, gathered_in, made_of, making_in, place_of, recency_of, taken_of, workings_of};
 
     /// A namespace without connections, loads and values, with a generator of its own; its place in the service.
     pub fn new(
@@ -63,17 +68,11 @@ impl Space {
     ) -> Result<Space, AllocError>
         requires config { IsTrue (is_served config) }
         requires moment { made < 2 ^ 63 }
-        ensures stands { IfOk result (λ space. StandsFor space (empty_situation made)) }
-        ensures config { IfOk result (λ space. config_of space ≡ config) }
-        ensures notices { IfOk result (λ space. notices_of space ≡ []) }
-        ensures connections { IfOk result (λ space. connections_of space ≡ []) }
-        ensures generator { IfOk result (λ space. generator_of space ≡ generator) }
-        ensures made { IfOk result (λ space. made_of space ≡ made) }
-        ensures recency { IfOk result (λ space. recency_of space true []) }
-        ensures place { IfOk result (λ space. place_of space ≡ namespace) }
-        ensures untaken { IfOk result (λ space. taken_of space ≡ 0) }
+        ensures { IfOk result (λ space. IsNewNamespace space namespace config generator made) }
     {
-        let values = PlainStore::new(alloc, config, made, generator, FixedHasher)?;
+        let hasher = keyed_by(&generator)?;
+        let values = FrontStore::new(alloc, config, made, generator, hasher)?;
+        values.sound();
         let store = Keyed::new(alloc, values)?;
         let inner = Namespace {
             store,
@@ -96,10 +95,10 @@ impl Space {
     ) -> Result<bool, ServiceError>
         requires fresh { IsFresh (gathered_in self.old number kept.old) }
         requires ready { IsReadyToHold kept.old }
-        ensures moves { IfOk result (λ is_held. (s : Situation) → StandsFor self.old s → MovesOn (config_of self.old) (made_of self.old) s (feed_event number piece.now moment) is_held (is_quit (closing_of self.new number)) (StandsFor self.new) (workings_of self.old) (workings_of self.new) (gathered_in self.old number kept.old) (gathered_in self.new number kept.new)) }
+        ensures moves { IfOk result (λ is_held. (s : Situation) → StandsFor self.old s → MovesOn (config_of self.old) (making_in self.old) s (feed_event number piece.now moment) is_held (is_quit (closing_of self.new number)) (StandsFor self.new) (workings_of self.old) (workings_of self.new) (gathered_in self.old number kept.old) (gathered_in self.new number kept.new)) }
         ensures others { OnOk result ((place : ℕ) → place ≢ number - 1 → slice_get (connections_of self.new) place ≡ slice_get (connections_of self.old) place) }
         ensures config { config_of self.new ≡ config_of self.old }
-        ensures made { made_of self.new ≡ made_of self.old }
+        ensures made { making_in self.new ≡ making_in self.old }
         ensures fresh { IsFresh (gathered_in self.new number kept.new) }
         ensures refused { IfErr result (RefusedFor (config_of self.old) (connections_of self.old) (feed_event number piece.now moment) (holds_at (connections_of self.old) number)) }
         ensures unmoved { OnErr result (KeepsRecency (recency_of self.old) (recency_of self.new)) }
@@ -112,7 +111,6 @@ impl Space {
         ensures count { length (connections_of self.new) ≡ length (connections_of self.old) }
         ensures goes { TakesNoLoads self.old self.new }
     {
-        let _parts = parts_of(&self.inner.store);
         match self.inner.feed(alloc, number, piece, moment, kept) {
             Ok(is_held) => Ok(is_held),
             Err(error) => Err(error),
@@ -123,12 +121,11 @@ impl Space {
     pub fn open(&mut self, alloc: Global) -> Result<u64, AllocError>
         ensures number { IfOk result (λ number. number ≡ length (connections_of self.old) + 1) }
         ensures takes { IfOk result (λ number. ServesEvent self.old self.new number (event.Open number) false) }
-        ensures moves { IfOk result (λ number. (s : Situation) (was : Gathered) → StandsFor self.old s → MovesOn (config_of self.old) (made_of self.old) s (event.Open number) false false (StandsFor self.new) (workings_of self.old) (workings_of self.new) was was) }
+        ensures moves { IfOk result (λ number. (s : Situation) (was : Gathered) → StandsFor self.old s → MovesOn (config_of self.old) (making_in self.old) s (event.Open number) false false (StandsFor self.new) (workings_of self.old) (workings_of self.new) was was) }
         ensures outputs { OnOk result ((n : ℕ) → untaken_output self.new n ≡ untaken_output self.old n) }
         ensures notices { notices_of self.new ≡ notices_of self.old }
         ensures same { OnErr result (SameSpace self.old self.new) }
     {
-        let _parts = parts_of(&self.inner.store);
         match self.inner.open(alloc) {
             Ok(number) => Ok(number),
             Err(error) => Err(error),
@@ -138,7 +135,7 @@ impl Space {
     /// Closes a connection.
     pub fn close(&mut self, number: u64) -> Result<(), ServiceError>
         ensures takes { OnOk result (ServesEvent self.old self.new number (event.Close number) false) }
-        ensures moves { OnOk result ((s : Situation) (was : Gathered) → StandsFor self.old s → MovesOn (config_of self.old) (made_of self.old) s (event.Close number) false false (StandsFor self.new) (workings_of self.old) (workings_of self.new) was was) }
+        ensures moves { OnOk result ((s : Situation) (was : Gathered) → StandsFor self.old s → MovesOn (config_of self.old) (making_in self.old) s (event.Close number) false false (StandsFor self.new) (workings_of self.old) (workings_of self.new) was was) }
         ensures closed { OnOk result (closing_of self.new number ≡ Some Closing.Asked) }
         ensures outputs { OnOk result ((n : ℕ) → untaken_output self.new n ≡ untaken_output self.old n) }
         ensures open { OnOk result (closing_of self.old number ≡ None) }
@@ -146,7 +143,6 @@ impl Space {
         ensures refused { IfErr result (λ e. refusal_of (config_of self.old) (known (connections_of self.old)) (event.Close number) ≡ Some e) }
         ensures err { OnErr result (self.new ≡ self.old) }
     {
-        let _parts = parts_of(&self.inner.store);
         match self.inner.close(number) {
             Ok(()) => Ok(()),
             Err(error) => Err(error),
@@ -163,7 +159,7 @@ impl Space {
         ensures stands { (s : Situation) → StandsFor self.old s → StandsFor self.new s }
         ensures recency { KeepsRecency (recency_of self.old) (recency_of self.new) }
         ensures config { config_of self.new ≡ config_of self.old }
-        ensures made { made_of self.new ≡ made_of self.old }
+        ensures made { making_in self.new ≡ making_in self.old }
         ensures notices { notices_of self.new ≡ notices_of self.old }
         ensures refused { IsErr result ↔ ((known (connections_of self.old)).was_opened number ≡ false) }
         ensures error { IfErr result (λ e. e ≡ ServiceError.NoConnection) }
@@ -209,7 +205,7 @@ impl Space {
         ensures recency { KeepsRecency (recency_of self.old) (recency_of self.new) }
         ensures connections { connections_of self.new ≡ connections_of self.old }
         ensures config { config_of self.new ≡ config_of self.old }
-        ensures made { made_of self.new ≡ made_of self.old }
+        ensures made { making_in self.new ≡ making_in self.old }
         ensures notices { notices_of self.new ≡ notices_of self.old }
         ensures in_turn { IsTrue (are_in_turn (place_of self.old) (taken_of self.old) result.items) }
         ensures count { (s : Situation) → StandsFor self.old s → taken_of self.old + length result.items ≡ s.sent }
@@ -229,7 +225,7 @@ impl Space {
         ensures recency { KeepsRecency (recency_of self.old) (recency_of self.new) }
         ensures connections { connections_of self.new ≡ connections_of self.old }
         ensures config { config_of self.new ≡ config_of self.old }
-        ensures made { made_of self.new ≡ made_of self.old }
+        ensures made { making_in self.new ≡ making_in self.old }
         ensures goes { TakesNoLoads self.old self.new }
     {
         self.inner.store.next_notice()
@@ -267,7 +263,6 @@ impl Space {
         ensures back { IfErr result (λ e. e.1 ≡ outcome) }
         ensures same { OnErr result (SameSpace self.old self.new) }
     {
-        let _parts = parts_of(&self.inner.store);
         match answer_in(&mut self.inner, alloc, load, outcome, moment) {
             Ok(_) => {
                 self.inner.store.sound();
@@ -283,7 +278,6 @@ impl Space {
         ensures refused { IfErr result (λ e. refusal_of (config_of self.old) (known_of self.old) (giving_up load moment) ≡ Some e) }
         ensures err { OnErr result (self.new ≡ self.old) }
     {
-        let _parts = parts_of(&self.inner.store);
         if !is_waited_for(&self.inner.loads, load) {
             return self.drop_load(load, moment);
         }
@@ -302,11 +296,10 @@ impl Space {
         ensures settled { OnOk result (Settled self.old self.new (giving_up load moment)) }
         ensures kept { OnOk result (IsQuiet self.old → (s : Situation) → StandsFor self.old s → LeadsOnIn self.old self.new s (record_given_up load moment [])) }
         ensures config { config_of self.new ≡ config_of self.old }
-        ensures made { made_of self.new ≡ made_of self.old }
+        ensures made { making_in self.new ≡ making_in self.old }
         ensures refused { IfErr result (λ e. refusal_of (config_of self.old) (known_of self.old) (giving_up load moment) ≡ Some e) }
         ensures err { OnErr result (self.new ≡ self.old) }
     {
-        let _parts = parts_of(&self.inner.store);
         self.inner.store.sound();
         match refuse_load(&self.inner.config, &self.inner.loads, load, moment) {
             Some(error) => return Err(error),
@@ -329,11 +322,10 @@ impl Space {
         ensures leads { IfOk result (λ entry. (s : Situation) → StandsFor self.old s → LeadsOnIn self.old self.new s entry) }
         ensures happened { IfOk result (λ entry. entry.event ≡ answering load outcome moment) }
         ensures config { config_of self.new ≡ config_of self.old }
-        ensures made { OnOk result (made_of self.new ≡ made_of self.old) }
+        ensures made { OnOk result (making_in self.new ≡ making_in self.old) }
         ensures refused { IfErr result (λ e. RefusedAnswer self.old (answering load outcome moment) e.0) }
         ensures same { OnErr result (SameSpace self.old self.new) }
     {
-        let _parts = parts_of(&self.inner.store);
         match answer_kept(&mut self.inner, alloc, load, outcome, moment) {
             Ok(entry) => {
                 self.inner.store.sound();
@@ -354,11 +346,10 @@ impl Space {
         ensures leads { IfOk result (λ entry. (s : Situation) → StandsFor self.old s → LeadsOnIn self.old self.new s entry) }
         ensures happened { IfOk result (λ entry. entry.event ≡ giving_up load moment) }
         ensures config { config_of self.new ≡ config_of self.old }
-        ensures made { OnOk result (made_of self.new ≡ made_of self.old) }
+        ensures made { OnOk result (making_in self.new ≡ making_in self.old) }
         ensures refused { IfErr result (λ e. RefusedAnswer self.old (giving_up load moment) e) }
         ensures err { OnErr result (self.new ≡ self.old) }
     {
-        let _parts = parts_of(&self.inner.store);
         if !is_waited_for(&self.inner.loads, load) {
             return match self.drop_load(load, moment) {
                 Ok(()) => Ok(given_up(alloc, load, moment)),

@@ -14,6 +14,7 @@ use std::alloc::Global;
 use std::io::Write;
 use std::marker::Brand;
 use std::net::TcpListener;
+use std::random::RandomSource;
 use std::sync::ledger::Blank;
 use std::sync::{Arc, Condvar, Mutex, Wait};
 use std::thread::{JoinHandle, Threads};
@@ -236,15 +237,29 @@ fn gather_configs(alloc: Global, spaces: &[HostedNamespace]) -> Option<Vec<Confi
     Some(configs)
 }
 
+/// A generator that no stranger can foresee: its seed comes from the machine's random source.
+fn seeded(rt: &impl RandomSource) -> Result<Xoshiro256PlusPlus, Fault>
+    ensures { IfErr result (λ e. e ≡ Fault.CannotListen) }
+{
+    let mut seed = [0; 32];
+    match rt.fill_bytes(&mut seed) {
+        Ok(()) => Ok(Xoshiro256PlusPlus::from_seed(seed)),
+        Err(_) => Err(Fault::CannotListen),
+    }
+}
+
 /// The service of these namespaces, made at moment 0.
-fn make_core(alloc: Global, spaces: &[HostedNamespace]) -> Result<LiveService, Fault>
+fn make_core(
+    alloc: Global,
+    spaces: &[HostedNamespace],
+    generator: Xoshiro256PlusPlus,
+) -> Result<LiveService, Fault>
     ensures none { IfOk result (λ core. core.events ≡ 0) }
     ensures err { IfErr result (λ e. e ≡ Fault.OutOfMemory) }
 {
     let Some(configs) = gather_configs(alloc, spaces) else {
         return Err(Fault::OutOfMemory);
     };
-    let generator = Xoshiro256PlusPlus::seed_from_u64(0);
     match LiveService::new(alloc, &configs, generator, Instant { nanos: 0 }) {
         Ok(core) => Ok(core),
         Err(_) => Err(Fault::OutOfMemory),
@@ -263,10 +278,14 @@ pub fn serve_spaces<W, R>(
 ) -> Result<(), Fault>
 where
     W: Write + Drop + Send + 'static,
-    R: time::Clock + Threads + Wait + Copy + Send + Sync + 'static,
+    R: time::Clock + RandomSource + Threads + Wait + Copy + Send + Sync + 'static,
     ensures { IfErr result (λ e. (e ≡ Fault.CannotListen) ⊎ (e ≡ Fault.OutOfMemory)) }
 {
-    let core = match make_core(alloc, &spaces) {
+    let generator = match seeded(&rt) {
+        Ok(generator) => generator,
+        Err(fault) => return Err(fault),
+    };
+    let core = match make_core(alloc, &spaces, generator) {
         Ok(core) => core,
         Err(fault) => return Err(fault),
     };

@@ -15,6 +15,7 @@ use std::alloc::Global;
 use std::convert::AsStr;
 use std::io::{Read, Write};
 use std::net::{Net, TcpListener, TcpStream};
+use std::random::RandomSource;
 use std::rt::Files;
 use std::sync::{Arc, Mutex, Wait};
 use std::thread::Threads;
@@ -44,6 +45,7 @@ where
         + Files
         + AllocGlobal
         + time::Clock
+        + RandomSource
         + Threads
         + Wait
         + Copy
@@ -78,6 +80,7 @@ where
         + Files
         + AllocGlobal
         + time::Clock
+        + RandomSource
         + Threads
         + Wait
         + Copy
@@ -113,6 +116,7 @@ where
     W: Write + Drop + Send + 'static,
     R: Net<Listener = TcpListener, Stream = TcpStream>
         + time::Clock
+        + RandomSource
         + Threads
         + Wait
         + Copy

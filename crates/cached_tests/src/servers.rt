@@ -4,6 +4,7 @@ use crate::stages::{Cast, Served, stage};
 use cached_script::Fault;
 use std::alloc::{AllocError, Global};
 use std::net::{Net, TcpListener, TcpStream};
+use std::random::RandomSource;
 use std::sync::Wait;
 use std::test::Fail;
 use std::thread::Threads;
@@ -80,6 +81,7 @@ fn comes_so<R>(rt: R, alloc: Global, row: &Row<'_>, ports: (u16, u16)) -> Result
 where
     R: Net<Listener = TcpListener, Stream = TcpStream>
         + Clock
+        + RandomSource
         + Threads
         + Wait
         + Copy
@@ -106,6 +108,7 @@ fn serves<R>(rt: R, alloc: Global, row: &Row<'_>) -> bool
 where
     R: Net<Listener = TcpListener, Stream = TcpStream>
         + Clock
+        + RandomSource
         + Threads
         + Wait
         + Copy
@@ -154,6 +157,7 @@ fn first_wrong<R>(rt: R, alloc: Global) -> Option<usize>
 where
     R: Net<Listener = TcpListener, Stream = TcpStream>
         + Clock
+        + RandomSource
         + Threads
         + Wait
         + Copy
@@ -215,6 +219,7 @@ fn fails_so<R>(
 where
     R: Net<Listener = TcpListener, Stream = TcpStream>
         + Clock
+        + RandomSource
         + Threads
         + Wait
         + Copy
@@ -240,6 +245,7 @@ fn ends_at_a_port<R>(rt: R, alloc: Global, first: u16) -> bool
 where
     R: Net<Listener = TcpListener, Stream = TcpStream>
         + Clock
+        + RandomSource
         + Threads
         + Wait
         + Copy
@@ -267,6 +273,7 @@ fn goes_on<R>(rt: R, alloc: Global, spaces: &[Space], ports: (u16, u16)) -> Resu
 where
     R: Net<Listener = TcpListener, Stream = TcpStream>
         + Clock
+        + RandomSource
         + Threads
         + Wait
         + Copy
@@ -295,6 +302,7 @@ fn fails_and_goes_on<R>(rt: R, alloc: Global, ports: (u16, u16)) -> bool
 where
     R: Net<Listener = TcpListener, Stream = TcpStream>
         + Clock
+        + RandomSource
         + Threads
         + Wait
         + Copy

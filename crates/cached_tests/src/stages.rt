@@ -5,6 +5,7 @@ use cached_script::Fault;
 use cached_server::serve_text;
 use std::alloc::{AllocError, Global};
 use std::net::{Net, TcpListener, TcpStream};
+use std::random::RandomSource;
 use std::sync::Wait;
 use std::thread;
 use std::thread::Threads;
@@ -103,6 +104,7 @@ fn serve_cast<R>(rt: R, alloc: Global, config: &str, cast: Cast, sink: Sink<R>) 
 where
     R: Net<Listener = TcpListener, Stream = TcpStream>
         + Clock
+        + RandomSource
         + Threads
         + Wait
         + Copy
@@ -129,6 +131,7 @@ pub fn stage<R>(
 where
     R: Net<Listener = TcpListener, Stream = TcpStream>
         + Clock
+        + RandomSource
         + Threads
         + Wait
         + Copy

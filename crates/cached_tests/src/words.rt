@@ -4,6 +4,7 @@ use cache_devices::Watched;
 use cached_server::cached;
 use std::alloc::{AllocError, Global};
 use std::net::{Net, TcpListener, TcpStream};
+use std::random::RandomSource;
 use std::rt::Files;
 use std::sync::Wait;
 use std::test::Fail;
@@ -25,6 +26,7 @@ where
         + Files
         + AllocGlobal
         + Clock
+        + RandomSource
         + Threads
         + Wait
         + Copy
@@ -71,6 +73,7 @@ where
         + Files
         + AllocGlobal
         + Clock
+        + RandomSource
         + Threads
         + Wait
         + Copy
@@ -108,6 +111,7 @@ where
         + Files
         + AllocGlobal
         + Clock
+        + RandomSource
         + Threads
         + Wait
         + Copy
@@ -128,6 +132,7 @@ where
         + Files
         + AllocGlobal
         + Clock
+        + RandomSource
         + Threads
         + Wait
         + Copy

@@ -5,7 +5,7 @@ use Rattle.std.specs.List.{fold}
 use Rattle.engine_rules.specs.Hashing.{hash_of_key}
 use Rattle.std.specs.Cmp.{IsEquivalence}
 use Rattle.std.proofs.lemmas.Bool.{eqb-true, eq-eqb, cases_Bool, and_parts, and_from}
-use Rattle.engine_keys.specs.Spots.{Spots, spot_at, IsUnder, ComesUnder, OnlyGainsSpace}
+use Rattle.engine_keys.specs.Spots.{Spots, IsUnder, ComesUnder, OnlyGainsSpace}
 use Rattle.engine_reference.specs.Records.{held_at}
 use Rattle.engine_cells.specs.declared.cell.Cell.{Cell}
 use Rattle.engine_cells.specs.Cells.{cell_at, records_by_number}
@@ -210,10 +210,9 @@ module _ {K V : Type 0} (eq : K → K → Bool) where
   -- more room changes nothing
   pub spotted-roomier : (cells : List (Option (Cell K V))) (spots after : Spots) → OnlyGainsSpace spots after → AreSpotted eq cells spots → AreSpotted eq cells after
   spotted-roomier cells spots after gains h =
-      let entries : after.entries ≡ spots.entries = ap (λ s. s.entries) gains.same in
       record {
-        spotted = λ i c at held. let u = h.spotted i c at held in (u.0, ap (λ es. spot_at es c.item.hash u.0) entries ∙ u.1);
-        only = λ hash i u. h.only hash i (u.0, ap (λ es. spot_at es hash u.0) (sym entries) ∙ u.1);
+        spotted = λ i c at held. gains.others c.item.hash i (h.spotted i c at held);
+        only = λ hash i u. h.only hash i (gains.only hash i u);
         single = h.single;
       }
 

@@ -1,2 +1,4 @@
-pub mod Pigeons
-pub mod Turns
+pub mod Around
+pub mod Tables
+pub mod Moving
+pub mod Putting

@@ -9,11 +9,13 @@ use Rattle.std.proofs.Props.{props}
 use Rattle.policy_sketch.specs.Counts.{Sketch}
 use Rattle.engine_rules.specs.declared.causes.RemovalCause.{RemovalCause}
 use Rattle.engine_reference.specs.declared.data.Record.{Record}
+use Rattle.engine_reference.specs.declared.data.Settings.{Settings}
 use Rattle.engine_reference.specs.Admission.{is_above, wants_table}
 use Rattle.engine_reference.specs.Records.{record_at, without_record, admitted_number, admitted_weight, weight_at, admitted_in, with_admitted}
 use Rattle.engine_reference.specs.Runs.{Step, Steps, leaves, evicts, RunsToEnd, IsDone, IsApplied, IsSwept, lacks_table, is_due_for, left, with_left, first_of}
 use Rattle.engine_reference.specs.Soundness.{Each, IsSound, IsAccounted}
 use Rattle.engine_reference.specs.State.{State, Answers}
+use Rattle.engine_reference.specs.Times.{tick_of}
 use Rattle.engine_reference.specs.Visible.{is_covered_by}
 use Rattle.engine_reference.proofs.SoundSteps.{left-is_sound, counted}
 use Rattle.engine_sweeping.specs.Fronts.{MayLeave, dies, cleared, excess, IsClean}
@@ -121,12 +123,12 @@ module _ {K V P S R : Type 0} where
       (counted r (subst (λ us. IsAccounted us [] r) sent (subst (λ ws. IsAccounted s.unsent ws r) applied.writes accounted))).held
 
   -- clean fronts are all that the law asks, by the state's own write list
-  clean-swept : (now : ℕ) (old last : State K V P S R) → IsSound last → last.unsent ≡ [] → IsApplied last → IsClean now last → IsSwept now old last
-  clean-swept now old last sound sent applied clean = record {
+  clean-swept : (now : ℕ) (old last : State K V P S R) → IsSound last → last.unsent ≡ [] → IsApplied last → KeepsRest old last → IsClean now last → IsSwept now old last
+  clean-swept now old last sound sent applied rest clean = record {
     live = λ r first. let p = first-admitted last.records last.order r first in clean.written.live r first (all-held last sound sent applied p.0 r p.1);
     clear = λ r first. let p = first-admitted last.records last.order r first in clean.written.clear r first (all-held last sound sent applied p.0 r p.1);
     idle = λ r first. let p = first-admitted last.records last.access r first in clean.used r first (all-held last sound sent applied p.0 r p.1);
-    own = λ _ r there. clean.timer r there (all-held last sound sent applied r.number r there);
+    own = λ later r there. clean.timer (ap (λ (t : Settings). nat_lt (tick_of t last.ran) (tick_of t now)) rest.settings ∙ ap (λ ran. nat_lt (tick_of old.settings ran) (tick_of old.settings now)) rest.ran ∙ later) r there (all-held last sound sent applied r.number r there);
   }
 
   -- a stretch that leaves the fronts clean, and then the counts, are a run to its end
@@ -141,9 +143,9 @@ module _ {K V P S R : Type 0} where
       table = λ asked. rest.table (table asked);
     });
     swept = λ sent. subst (λ (s : State K V P S R). IsSwept now old s) (sym after) (record {
-      live = λ r first. ∥∥₁_elim sound (Prim.hlevel props) (λ k. (clean-swept now old last (rest.sound k) (rest.unsent ∙ sent) applied clean).live r first);
-      clear = λ r first. ∥∥₁_elim sound (Prim.hlevel props) (λ k. (clean-swept now old last (rest.sound k) (rest.unsent ∙ sent) applied clean).clear r first);
-      idle = λ r first. ∥∥₁_elim sound (Prim.hlevel props) (λ k. (clean-swept now old last (rest.sound k) (rest.unsent ∙ sent) applied clean).idle r first);
-      own = λ later r there. ∥∥₁_elim sound (Prim.hlevel props) (λ k. (clean-swept now old last (rest.sound k) (rest.unsent ∙ sent) applied clean).own later r there);
+      live = λ r first. ∥∥₁_elim sound (Prim.hlevel props) (λ k. (clean-swept now old last (rest.sound k) (rest.unsent ∙ sent) applied rest clean).live r first);
+      clear = λ r first. ∥∥₁_elim sound (Prim.hlevel props) (λ k. (clean-swept now old last (rest.sound k) (rest.unsent ∙ sent) applied rest clean).clear r first);
+      idle = λ r first. ∥∥₁_elim sound (Prim.hlevel props) (λ k. (clean-swept now old last (rest.sound k) (rest.unsent ∙ sent) applied rest clean).idle r first);
+      own = λ later r there. ∥∥₁_elim sound (Prim.hlevel props) (λ k. (clean-swept now old last (rest.sound k) (rest.unsent ∙ sent) applied rest clean).own later r there);
     });
   }

@@ -1,5 +1,5 @@
 -- What a run sees at the fronts of its lists.
-use Rattle.std.specs.Prelude.{◌≡◌, ℕ, nat_lt, true, false, not, ◌&&◌, if◌then◌else◌, [], Option, Some, None}
+use Rattle.std.specs.Prelude.{◌≡◌, ℕ, Bool, nat_lt, true, false, not, ◌&&◌, if◌then◌else◌, [], Option, Some, None}
 use Rattle.engine_rules.specs.declared.causes.RemovalCause.{RemovalCause}
 use Rattle.engine_rules.specs.declared.causes.RemovalCause.TheVariants as cause
 use Rattle.engine_reference.specs.declared.data.Record.{Record}
@@ -7,7 +7,7 @@ use Rattle.engine_reference.specs.Admission.{is_above}
 use Rattle.engine_reference.specs.Records.{record_at, admitted_weight, settled_in, admitted_in}
 use Rattle.engine_reference.specs.Runs.{next_to_evict, first_of}
 use Rattle.engine_reference.specs.State.{State}
-use Rattle.engine_reference.specs.Times.{end_of, is_reached, has_come}
+use Rattle.engine_reference.specs.Times.{end_of, is_reached, has_come, tick_of}
 
 module _ {K V : Type 0} where
   -- why a record has to leave by its last write: it is past its live time, or of a step before the clear
@@ -37,9 +37,13 @@ module _ {K V P S R : Type 0} where
   abbrev pub IsUsedClean : ℕ → State K V P S R → Type 0
   IsUsedClean now s = (r : Record K V) → first_of (admitted_in s.records s.access) ≡ Some r → r.is_held ≡ true → is_reached (end_of r.entry.used s.settings.idle) now ≡ false
 
-  -- no held record's own expiration was reached
+  -- own expirations are looked at once a tick: in a later one than the last run's
+  abbrev pub is_later_tick : State K V P S R → ℕ → Bool
+  is_later_tick s now = nat_lt (tick_of s.settings s.ran) (tick_of s.settings now)
+
+  -- in a later tick than the last run's no held record's own expiration was reached
   abbrev pub IsTimerClean : ℕ → State K V P S R → Type 0
-  IsTimerClean now s = (r : Record K V) → record_at s.records r.number ≡ Some r → r.is_held ≡ true → is_reached r.entry.expires now ≡ false
+  IsTimerClean now s = is_later_tick s now ≡ true → (r : Record K V) → record_at s.records r.number ≡ Some r → r.is_held ≡ true → is_reached r.entry.expires now ≡ false
 
   -- where the weight is above the capacity nothing is settled
   abbrev pub IsLight : State K V P S R → Type 0

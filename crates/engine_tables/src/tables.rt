@@ -266,7 +266,7 @@ impl<K: Eq + Hash, V, S: BuildHasher, R: Rules<K, V>> Tables<K, V, S, R> {
         ensures others { (i : ℕ) → i ≢ result → numbered_at self.new.numbers i ≡ numbered_at self.old.numbers i }
         ensures state { self.new.state ≡ with_put_for added (record self.old.state { records = self.old.state.records ++ added ∷ []; next_number = self.old.state.next_number + 1 }) }
     {
-        let _many = self.cells.len();
+        let _many = self.cells.capacity();
         self.tally = self.tally.with(&added);
         let write = put_of(&added, self.tally.held);
         let hash = added.hash;

@@ -32,6 +32,28 @@ const CASES: &[Case<'static>] = &[
         ],
         ..CASE
     },
+    // A run notices an end of a value's own once its tick is over.
+    Case {
+        own: Some(SECOND),
+        rows: &[
+            Row::Puts(1, 10, 1),
+            Row::Runs,
+            Row::At(SECOND),
+            Row::Contains(1, false),
+            Row::Runs,
+            Row::Number(1),
+            Row::TellsNone,
+            Row::At((1 << 30) - 1),
+            Row::Runs,
+            Row::Number(1),
+            Row::At(1 << 30),
+            Row::Runs,
+            Row::Number(0),
+            Row::Tells(RemovalCause::Expired, 1, 10),
+            Row::TellsNone,
+        ],
+        ..CASE
+    },
     // Above the capacity the value leaves that was used longest ago.
     Case {
         settings: Settings {

@@ -1,5 +1,5 @@
 -- Calls of selectors.
-use Rattle.std.specs.Prelude.{◌≡◌, Bool, true, false, Option, Some, None, Result, Ok, Err, ⊤}
+use Rattle.std.specs.Prelude.{◌≡◌, ◌⊎◌, Bool, true, false, Option, Some, None, Result, Ok, Err, ⊤}
 use Rattle.front_reference.specs.declared.data.Computed.{Computed}
 use Rattle.front_reference.specs.declared.data.Made.{Made}
 use Rattle.front_reference.specs.declared.data.Made.TheVariants.{Value, Nothing, Fault}
@@ -7,6 +7,8 @@ use Rattle.front_reference.specs.declared.data.Op.{Op}
 use Rattle.front_reference.specs.declared.data.Op.TheVariants.{Put}
 use Rattle.front_reference.specs.declared.data.TurnKind.{TurnKind}
 use Rattle.front_reference.specs.declared.data.TurnKind.TheVariants.{Optionally, With}
+use Rattle.front_reference.specs.declared.errors.CacheError.{CacheError}
+use Rattle.front_reference.specs.declared.errors.CacheError.TheVariants.{OutOfMemory}
 use Rattle.front_access.specs.declared.entry.CompResult.{CompResult}
 use Rattle.front_access.specs.declared.entry.Entry.{Entry}
 use Rattle.front_access.specs.declared.selector.EntrySelector.{EntrySelector}
@@ -22,6 +24,10 @@ Selects sees coalesced kind s new Ignores Makes answer is_fresh = IsCoalesced se
 abbrev pub SelectsValue : {C W K V F : Type 0} → (C → W → K → Option V → Type 0) → (C → W → Option TurnKind → K → Bool → Made V F → Bool → C → Type 0)
     → EntrySelector K C W → C → (V → Bool → Type 0) → (V → Type 0) → Entry K V → Type 0
 SelectsValue sees coalesced s new Ignores Makes e = Selects sees coalesced (Some With) s new Ignores (IsValueOf Makes) (Value e.value) e.is_fresh
+
+-- a call of a selector is refused: there was no memory for its key, or its cache refuses it
+abbrev pub IsRefusedBy : (Refuses : CacheError → Type 0) → CacheError → Type 0
+IsRefusedBy Refuses e = (e ≡ OutOfMemory) ⊎ Refuses e
 
 module _ {K V F : Type 0} where
   -- the entry of what was answered, where it is a value

@@ -1,11 +1,12 @@
 //! What gives access to a cache.
-ghost use Rattle.std.specs.Prelude.{◌≡◌, Bool, Option, Some, Ok, IfOk, OnErr};
+ghost use Rattle.std.specs.Prelude.{◌≡◌, Bool, Option, Some, Ok, IfOk, IfErr, OnErr};
 ghost use Rattle.std.specs.Fn.{FnOnceReturnsAt};
 ghost use Rattle.front_reference.specs.declared.data.Computed.{Computed};
 ghost use Rattle.front_reference.specs.declared.data.Made.{Made};
 ghost use Rattle.front_reference.specs.declared.data.Op.{Op};
 ghost use Rattle.front_reference.specs.declared.data.TurnKind.{TurnKind};
 ghost use Rattle.front_reference.specs.declared.data.TurnKind.TheVariants as turns;
+ghost use Rattle.front_reference.specs.declared.errors.CacheError.{CacheError};
 ghost use Rattle.front_access.specs.Answering.{IsCoalesced, IsComputed, Suits};
 
 use front_keys::Shared;
@@ -34,6 +35,12 @@ pub trait Access<K, V: Clone> {
     // what an operation does to a key: what it is said to have done, and the cache after it
     ghost computed: { Self → Self.When → K → Op V → Computed V → Self → Type 0 };
 
+    // why a coalesced call of a kind, or of none, is refused for a key
+    ghost refuses_coalesced: { Self → Option TurnKind → K → CacheError → Type 0 };
+
+    // why a compute call is refused for a key
+    ghost refuses_computed: { Self → K → CacheError → Type 0 };
+
     /// The visible value of a key of which `replace_if` does not say yes, and false; or what `make` makes, and whether it was made here. A value that was made is kept.
     /// Without a kind nobody else's call is waited for. `make` may be refused for memory, and then so is the call.
     fn coalesce<
@@ -53,7 +60,8 @@ pub trait Access<K, V: Clone> {
         requires suitable { (made : Made V Self.Fault) → M.post make (Ok made) → Suits kind made }
         ensures gives { IfOk result (λ a. IsCoalesced sees coalesced kind when key self.old self.new (FnOnceReturnsAt P.FnOnce replace_if) (λ made. M.post make (Ok made)) a.0 a.1) }
         ensures suits { IfOk result (λ a. Suits kind a.0) }
-        ensures err { OnErr result (self.new ≡ self.old) };
+        ensures err { OnErr result (self.new ≡ self.old) }
+        ensures cause { IfErr result (refuses_coalesced self.old kind key) };
 
     /// Lets `decide` say by the visible value what is to be done with a key, does it, and answers what was done; or the error of `decide`, and then nothing is written.
     fn compute<E: Drop, D: FnOnce(Option<V>) -> Result<Op<V>, E> + Drop>(
@@ -66,5 +74,6 @@ pub trait Access<K, V: Clone> {
         requires free { may_call self.old when (Some turns.Compute) key }
         requires callable { D.IsAlwaysCallable decide }
         ensures decides { IfOk result (λ answer. IsComputed sees computed when key self.old self.new (λ seen decided. D.post decide seen decided) answer) }
-        ensures err { OnErr result (self.new ≡ self.old) };
+        ensures err { OnErr result (self.new ≡ self.old) }
+        ensures cause { IfErr result (refuses_computed self.old key) };
 }

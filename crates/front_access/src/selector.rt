@@ -1,5 +1,5 @@
 //! Selectors.
-ghost use Rattle.std.specs.Prelude.{◌≡◌, ◌⊎◌, false, Option, Some, None, Ok, Err, IfOk, OnErr, ⊤};
+ghost use Rattle.std.specs.Prelude.{◌≡◌, ◌⊎◌, false, Option, Some, None, Ok, Err, IfOk, IfErr, OnErr, ⊤};
 ghost use Rattle.std.specs.Arc.{arc_value};
 ghost use Rattle.std.specs.Fn.{FnOnceReturnsAt};
 ghost use Rattle.front_reference.specs.declared.data.Made.{Made};
@@ -10,7 +10,7 @@ ghost use Rattle.front_reference.specs.declared.data.Op.TheVariants as op;
 ghost use Rattle.front_reference.specs.declared.data.TurnKind.TheVariants as turns;
 ghost use Rattle.front_access.specs.Answering.{Suits, passes_none, IsValueOf, IsOptionOf, IsResultOf};
 ghost use Rattle.front_access.specs.Entries.{entry_with, seen_entry, result_shown};
-ghost use Rattle.front_access.specs.Selecting.{Selects, SelectsValue, ComputesEntry, GivesOption, GivesResult, IsResultShown, DecidesAlways, PutsEntry, option_shown, with_fault};
+ghost use Rattle.front_access.specs.Selecting.{Selects, SelectsValue, ComputesEntry, GivesOption, GivesResult, IsRefusedBy, IsResultShown, DecidesAlways, PutsEntry, option_shown, with_fault};
 
 use crate::access::Access;
 use crate::entry::{CompResult, Entry};
@@ -72,9 +72,9 @@ impl<'a, K, A, W: Copy> EntrySelector<'a, K, A, W> {
         requires callable { P.IsAlwaysCallable replace_if × M.IsAlwaysCallable make }
         requires suitable { (made : Made V F) → M.post make (Ok made) → Suits kind made }
         ensures gives { IfOk result (λ a. Selects A.sees A.coalesced kind self.entry self.exit.0.now (FnOnceReturnsAt P.FnOnce replace_if) (λ made. M.post make (Ok made)) a.1 a.2) }
-        ensures suits { IfOk result (λ a. Suits kind a.1) }
-        ensures key { IfOk result (λ a. a.0 ≡ self.entry.key) }
+        ensures suits { IfOk result (λ a. (a.0 ≡ self.entry.key) × Suits kind a.1) }
         ensures err { OnErr result (self.exit.0.now ≡ self.entry.owner.now) }
+        ensures cause { IfErr result (IsRefusedBy (A.refuses_coalesced self.entry.owner.now kind self.entry.key)) }
     {
         let EntrySelector {
             owner,
@@ -106,6 +106,7 @@ impl<'a, K, A, W: Copy> EntrySelector<'a, K, A, W> {
         ensures entry { IfOk result (SelectsValue A.sees A.coalesced self.entry self.exit.0.now passes_none (M.post make)) }
         ensures shown { IfOk result (λ e. e ≡ entry_with self.entry.key e.value e.is_fresh false) }
         ensures err { OnErr result (self.exit.0.now ≡ self.entry.owner.now) }
+        ensures cause { IfErr result (IsRefusedBy (A.refuses_coalesced self.entry.owner.now (Some turns.With) self.entry.key)) }
     {
         let (key, made, is_fresh) = self.coalesce(
             Some(TurnKind::With),
@@ -134,6 +135,7 @@ impl<'a, K, A, W: Copy> EntrySelector<'a, K, A, W> {
         ensures entry { IfOk result (SelectsValue A.sees A.coalesced self.entry self.exit.0.now (FnOnceReturnsAt P.FnOnce replace_if) (M.post make)) }
         ensures shown { IfOk result (λ e. e ≡ entry_with self.entry.key e.value e.is_fresh false) }
         ensures err { OnErr result (self.exit.0.now ≡ self.entry.owner.now) }
+        ensures cause { IfErr result (IsRefusedBy (A.refuses_coalesced self.entry.owner.now (Some turns.With) self.entry.key)) }
     {
         let (key, made, is_fresh) = self.coalesce(
             Some(TurnKind::With),
@@ -156,6 +158,7 @@ impl<'a, K, A, W: Copy> EntrySelector<'a, K, A, W> {
         ensures entry { IfOk result (λ e. Selects A.sees A.coalesced None self.entry self.exit.0.now passes_none (IsValueOf (λ v. v ≡ value)) (outcome.Value e.value) e.is_fresh) }
         ensures shown { IfOk result (λ e. e ≡ entry_with self.entry.key e.value e.is_fresh false) }
         ensures err { OnErr result (self.exit.0.now ≡ self.entry.owner.now) }
+        ensures cause { IfErr result (IsRefusedBy (A.refuses_coalesced self.entry.owner.now None self.entry.key)) }
     {
         let (key, made, is_fresh) = self.coalesce(
             None,
@@ -178,6 +181,7 @@ impl<'a, K, A, W: Copy> EntrySelector<'a, K, A, W> {
         ensures entry { IfOk result (λ e. Selects A.sees A.coalesced None self.entry self.exit.0.now passes_none (IsValueOf V.is_default) (outcome.Value e.value) e.is_fresh) }
         ensures shown { IfOk result (λ e. e ≡ entry_with self.entry.key e.value e.is_fresh false) }
         ensures err { OnErr result (self.exit.0.now ≡ self.entry.owner.now) }
+        ensures cause { IfErr result (IsRefusedBy (A.refuses_coalesced self.entry.owner.now None self.entry.key)) }
     {
         let (key, made, is_fresh) = self.coalesce(
             None,
@@ -206,6 +210,7 @@ impl<'a, K, A, W: Copy> EntrySelector<'a, K, A, W> {
         requires callable { M.IsAlwaysCallable make }
         ensures entry { IfOk result (GivesOption self.entry.key (Selects A.sees A.coalesced (Some turns.Optionally) self.entry self.exit.0.now passes_none (IsOptionOf (M.post make)))) }
         ensures err { OnErr result (self.exit.0.now ≡ self.entry.owner.now) }
+        ensures cause { IfErr result (IsRefusedBy (A.refuses_coalesced self.entry.owner.now (Some turns.Optionally) self.entry.key)) }
     {
         let (key, made, is_fresh) = self.coalesce(
             Some(TurnKind::Optionally),
@@ -242,6 +247,7 @@ impl<'a, K, A, W: Copy> EntrySelector<'a, K, A, W> {
         requires callable { M.IsAlwaysCallable make }
         ensures entry { IfOk result (λ r. GivesResult self.entry.key (Selects A.sees A.coalesced (Some turns.Try) self.entry self.exit.0.now passes_none (IsResultOf (M.post make))) (with_fault arc_value r)) }
         ensures err { OnErr result (self.exit.0.now ≡ self.entry.owner.now) }
+        ensures cause { IfErr result (IsRefusedBy (A.refuses_coalesced self.entry.owner.now (Some turns.Try) self.entry.key)) }
     {
         let EntrySelector {
             owner,
@@ -289,6 +295,7 @@ impl<'a, K, A, W: Copy> EntrySelector<'a, K, A, W> {
         requires callable { D.IsAlwaysCallable decide }
         ensures does { IfOk result (ComputesEntry A.sees A.computed self.entry self.exit.0.now (λ seen decided. D.post decide (seen_entry self.entry.key seen) decided)) }
         ensures err { OnErr result (self.exit.0.now ≡ self.entry.owner.now) }
+        ensures cause { IfErr result (IsRefusedBy (A.refuses_computed self.entry.owner.now self.entry.key)) }
     {
         let EntrySelector {
             owner,
@@ -329,6 +336,7 @@ impl<'a, K, A, W: Copy> EntrySelector<'a, K, A, W> {
         requires callable { D.IsAlwaysCallable decide }
         ensures does { IfOk result (λ r. ComputesEntry {E = ⊤} A.sees A.computed self.entry self.exit.0.now (DecidesAlways (λ seen does. D.post decide (seen_entry self.entry.key seen) does)) (Ok r)) }
         ensures err { OnErr result (self.exit.0.now ≡ self.entry.owner.now) }
+        ensures cause { IfErr result (IsRefusedBy (A.refuses_computed self.entry.owner.now self.entry.key)) }
     {
         let answer = self.and_try_compute_with(
             |seen: Option<Entry<K, V>>| -> Result<Op<V>, ()>
@@ -361,6 +369,7 @@ impl<'a, K, A, W: Copy> EntrySelector<'a, K, A, W> {
         requires callable { M.IsAlwaysCallable make }
         ensures puts { IfOk result (PutsEntry A.sees A.computed self.entry self.exit.0.now (λ seen value. M.post make (seen_entry self.entry.key seen) value)) }
         ensures err { OnErr result (self.exit.0.now ≡ self.entry.owner.now) }
+        ensures cause { IfErr result (IsRefusedBy (A.refuses_computed self.entry.owner.now self.entry.key)) }
     {
         let done = self.and_compute_with(
             |seen: Option<Entry<K, V>>| -> Op<V>

@@ -8,6 +8,7 @@ mod removals;
 
 pub use coalesced::{coalesce, look};
 pub use computed::compute;
+pub use moka_engine::{BaseCache, EvictionPolicy, Notice, RemovalCause, Settings};
 pub use part::{
     contains_key, get, insert, insert_or_back, insert_reserved, reserve_insert, run_pending_tasks,
 };

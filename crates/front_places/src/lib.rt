@@ -8,6 +8,7 @@ mod scans;
 mod turns;
 mod wholes;
 
+pub use front_parts::{BaseCache, EvictionPolicy, Notice, RemovalCause, Settings};
 pub use hashing::{hash_key, place_of};
 pub use making::{for_part, new_parts};
 pub use places::{

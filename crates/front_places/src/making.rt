@@ -6,7 +6,7 @@ ghost use Rattle.front_places.specs.Making.{AreNew, with_share};
 
 use engine_reference::Settings;
 use engine_rules::Rules;
-use moka_engine::BaseCache;
+use front_parts::BaseCache;
 use policy_base::HousekeeperConfig;
 use std::alloc::{AllocError, Global};
 use std::hash::{BuildHasher, Hash};

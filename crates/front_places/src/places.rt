@@ -11,10 +11,10 @@ ghost use Rattle.front_places.specs.Calls.{CoalescesAt, ComputesAt, IsAskedFirst
 use engine_rules::{Names, Rules};
 use front_keys::IntoKey;
 use front_parts::{
-    coalesce, compute, contains_key, get, insert, insert_or_back, invalidate, look, remove,
+    BaseCache, coalesce, compute, contains_key, get, insert, insert_or_back, invalidate, look,
+    remove,
 };
 use front_reference::{At, CacheError, Computed, Made, Op};
-use moka_engine::BaseCache;
 use policy_base::Instant;
 use std::alloc::AllocError;
 use std::hash::{BuildHasher, Hash, Hasher};

@@ -3,7 +3,7 @@ ghost use Rattle.std.specs.Prelude.{◌≡◌, ◌≤◌, IfOk, MatchOption, len
 ghost use Rattle.front_places.specs.Calls.{IsOpenAt, keys_of, visible_of, ways_by};
 
 use engine_rules::{Names, Rules};
-use moka_engine::BaseCache;
+use front_parts::BaseCache;
 use policy_base::Instant;
 use std::alloc::AllocError;
 use std::hash::{BuildHasher, Hash, Hasher};

@@ -7,8 +7,7 @@ ghost use Rattle.front_reference.specs.Fronts.{CallsEach};
 ghost use Rattle.front_reference.specs.Wholes.{RunsPart, visible_number};
 
 use engine_rules::Rules;
-use front_parts::run_pending_tasks;
-use moka_engine::BaseCache;
+use front_parts::{BaseCache, run_pending_tasks};
 use policy_base::Instant;
 use std::hash::{BuildHasher, Hash};
 

@@ -11,11 +11,10 @@ use engine_reference::Settings;
 use engine_rules::{Names, Rules};
 use front_keys::{IntoKey, LentKey, OwnedKey, Shared};
 use front_places::{
-    clear_all, coalesce_at, compute_at, contains_key_at, get_at, hash_key, insert_at,
+    BaseCache, clear_all, coalesce_at, compute_at, contains_key_at, get_at, hash_key, insert_at,
     invalidate_at, place_of, remove_at, run_all,
 };
 use front_reference::{At, CacheError, Computed, Made, Op, OpenTurn};
-use moka_engine::BaseCache;
 use policy_base::Instant;
 use std::alloc::{AllocError, Global};
 use std::hash::{BuildHasher, Hash, Hasher};

@@ -2,7 +2,8 @@
 ghost use Rattle.std.specs.Prelude.{◌≡◌, Ok, IfOk, IfErr, OnErr};
 ghost use Rattle.front_access.specs.Answering.{Suits};
 ghost use Rattle.front_reference.specs.declared.data.Made.{Made};
-ghost use Rattle.moka_sync.specs.Turning.{DoesAsDecided, GivesFresh};
+ghost use Rattle.moka_sync.specs.Turning.{DoesAsDecided, GivesFresh, IsMakingRefusal};
+ghost use Rattle.sync_slots.specs.Refusals.{IsEndRefusal};
 ghost use Rattle.std.specs.Fn.{FnOnceReturnsAt};
 
 use crate::cache::Cache;
@@ -88,6 +89,7 @@ impl<
         requires suitable { (made : Made V R.Fault) → M.post make (Ok made) → Suits kind made }
         ensures gives { IfOk result (λ a. GivesFresh (FnOnceReturnsAt P.FnOnce replace_if) (M.post make) a.0 a.1) }
         ensures suits { IfOk result (λ a. Suits kind a.0) }
+        ensures cause { IfErr result (IsMakingRefusal kind) }
     {
         match kind {
             Some(kind) => self
@@ -105,7 +107,8 @@ impl<
     ) -> Result<Result<Computed<V>, X>, CacheError>
         requires exact { (x y : V) → V.is_clone x y → y ≡ x }
         requires callable { D.IsAlwaysCallable decide }
-        ensures { IfOk result (DoesAsDecided (λ seen decided. D.post decide seen decided)) }
+        ensures does { IfOk result (DoesAsDecided (λ seen decided. D.post decide seen decided)) }
+        ensures cause { IfErr result IsEndRefusal }
     {
         self.cache.compute(&self.rt, &key, decide)
     }
@@ -164,6 +167,9 @@ impl<
     E: Env + Drop,
     H: Wait,
 > Access<K, V> for Attached<K, V, S, R, E, H> {
+    ghost use Rattle.moka_sync.specs.Turning.{IsMakingRefusal};
+    ghost use Rattle.sync_slots.specs.Refusals.{IsEndRefusal};
+
     type When = ();
 
     type Fault = R::Fault;
@@ -175,6 +181,10 @@ impl<
     ghost coalesced = { λ _ _ _ _ _ _ _ _. Unit {0} };
 
     ghost computed = { λ _ _ _ _ _ _. Unit {0} };
+
+    ghost refuses_coalesced = { λ _ kind _. IsMakingRefusal kind };
+
+    ghost refuses_computed = { λ _ _. IsEndRefusal };
 
     fn coalesce<
         P: FnOnce(&V) -> bool + Drop,
@@ -193,6 +203,7 @@ impl<
         ensures gives { IfOk result (λ a. GivesFresh (FnOnceReturnsAt P.FnOnce replace_if) (M.post make) a.0 a.1) }
         ensures suits { IfOk result (λ a. Suits kind a.0) }
         ensures err { OnErr result (self.new ≡ self.old) }
+        ensures cause { IfErr result (IsMakingRefusal kind) }
     {
         let _when = when;
         self.coalesce_at(key, kind, replace_if, make)
@@ -208,6 +219,7 @@ impl<
         requires callable { D.IsAlwaysCallable decide }
         ensures decides { IfOk result (DoesAsDecided (λ seen decided. D.post decide seen decided)) }
         ensures err { OnErr result (self.new ≡ self.old) }
+        ensures cause { IfErr result IsEndRefusal }
     {
         let _when = when;
         self.compute_at(key, decide)

@@ -1,11 +1,12 @@
 //! Selectors of a cache that is lent.
-ghost use Rattle.std.specs.Prelude.{◌≡◌, Some, Ok, IfOk, OnErr};
+ghost use Rattle.std.specs.Prelude.{◌≡◌, Some, Ok, IfOk, IfErr, OnErr};
 ghost use Rattle.std.specs.Fn.{FnOnceReturnsAt};
+ghost use Rattle.engine_reference.specs.Calls.{removal_rooms};
 ghost use Rattle.front_access.specs.Answering.{Suits};
 ghost use Rattle.front_reference.specs.declared.data.Made.{Made};
 ghost use Rattle.front_reference.specs.declared.data.TurnKind.TheVariants as turns;
 ghost use Rattle.front_state.specs.Accessing.{DecidesIn, GivesIn, MayCall};
-ghost use Rattle.front_places.specs.Calls.{ways_by};
+ghost use Rattle.front_places.specs.Calls.{IsCauseIn, ways_by};
 
 use crate::state::LentState;
 use engine_rules::Rules;
@@ -17,8 +18,9 @@ use std::hash::{BuildHasher, Hash, Hasher};
 
 impl<K: Eq + Hash + Drop, V: Clone + Drop, S: BuildHasher, R: Rules<K, V>, C> Access<K, V>
     for LentState<K, V, S, R, C> {
+    ghost use Rattle.engine_reference.specs.Calls.{removal_rooms};
     ghost use Rattle.front_state.specs.Accessing.{CoalescedIn, ComputedIn, MayCall, SeesIn};
-    ghost use Rattle.front_places.specs.Calls.{ways_by};
+    ghost use Rattle.front_places.specs.Calls.{IsCauseIn, ways_by};
 
     type When = At;
 
@@ -31,6 +33,10 @@ impl<K: Eq + Hash + Drop, V: Clone + Drop, S: BuildHasher, R: Rules<K, V>, C> Ac
     ghost coalesced = { CoalescedIn (ways_by R.Rules K.eq K.hash_input S.BuildHasher S.Hasher.Hasher) };
 
     ghost computed = { ComputedIn (ways_by R.Rules K.eq K.hash_input S.BuildHasher S.Hasher.Hasher) };
+
+    ghost refuses_coalesced = { λ cache _. IsCauseIn (ways_by R.Rules K.eq K.hash_input S.BuildHasher S.Hasher.Hasher) (λ _. 1) cache };
+
+    ghost refuses_computed = { IsCauseIn (ways_by R.Rules K.eq K.hash_input S.BuildHasher S.Hasher.Hasher) removal_rooms };
 
     fn coalesce<
         P: FnOnce(&V) -> bool + Drop,
@@ -50,6 +56,7 @@ impl<K: Eq + Hash + Drop, V: Clone + Drop, S: BuildHasher, R: Rules<K, V>, C> Ac
         ensures gives { IfOk result (GivesIn (ways_by R.Rules K.eq K.hash_input S.BuildHasher S.Hasher.Hasher) kind when key (FnOnceReturnsAt P.FnOnce replace_if) (M.post make) self.old self.new) }
         ensures suits { IfOk result (λ a. Suits kind a.0) }
         ensures err { OnErr result (self.new ≡ self.old) }
+        ensures cause { IfErr result (IsCauseIn (ways_by R.Rules K.eq K.hash_input S.BuildHasher S.Hasher.Hasher) (λ _. 1) self.old key) }
     {
         let hash = self.hash(&*key);
         LentState::coalesce(self, key, hash, when, replace_if, make)
@@ -66,6 +73,7 @@ impl<K: Eq + Hash + Drop, V: Clone + Drop, S: BuildHasher, R: Rules<K, V>, C> Ac
         requires callable { D.IsAlwaysCallable decide }
         ensures decides { IfOk result (DecidesIn (ways_by R.Rules K.eq K.hash_input S.BuildHasher S.Hasher.Hasher) when key (D.post decide) self.old self.new) }
         ensures err { OnErr result (self.new ≡ self.old) }
+        ensures cause { IfErr result (IsCauseIn (ways_by R.Rules K.eq K.hash_input S.BuildHasher S.Hasher.Hasher) removal_rooms self.old key) }
     {
         let hash = self.hash(&*key);
         LentState::compute(self, key, hash, when, decide)

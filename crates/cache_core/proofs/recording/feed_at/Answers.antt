@@ -7,7 +7,7 @@ use Rattle.cache_lines.specs.Waiting.{under_way}
 use Rattle.cache_loads.specs.Standings.{holds_line}
 use Rattle.cache_core.specs.Fed.{FedTurn, WantsMemory}
 use Rattle.cache_core.specs.Places.{text_at}
-use Rattle.cache_core.specs.declared.connection.Connection.{Connection}
+use Rattle.cache_connection.specs.declared.connection.Connection.{Connection}
 use Rattle.cache_core.proofs.Spots.{at-place, at-replaced, text-is}
 use Rattle.cache_core.proofs.recording.feed_at.Goals as goal
 

@@ -19,15 +19,16 @@ loop-config-preserved c = record {
   new = new-more c.loop-config.spaces.items _ c.args.configs.now c.args.generator c.args.made c.loop-config.config-index c.in_ok-new.field-0 _ c.loop-config-test.true c.loop-config.invariant.number c.loop-config.invariant.new
       (record {
         stands = c.in_ok-new.ensures.stands;
-        configured = c.in_ok-new.ensures.config;
-        made_is = c.in_ok-new.ensures.made;
+        configured = c.in_ok-new.ensures.configured;
+        made_is = c.in_ok-new.ensures.made_is;
+        within = c.in_ok-new.ensures.within;
         recency = c.in_ok-new.ensures.recency;
-        served = all-at is_served c.args.configs.now c.loop-config.config-index _ c.loop-config-test.true c.requires.configs;
+        served = c.in_ok-new.ensures.served;
         connections = c.in_ok-new.ensures.connections;
         notices = c.in_ok-new.ensures.notices;
-        placed = c.in_ok-new.ensures.place ∙ c.len-namespace.ensures ∙ many c.loop-config.spaces ∙ c.loop-config.invariant.number;
+        forked = c.in_ok-new.ensures.forked ∙ c.fork.ensures.seeded ∙ ap (λ s. of_seed (fill_bytes 32 s).0) c.loop-config.invariant.forked;
+        placed = c.in_ok-new.ensures.placed ∙ c.len-namespace.ensures ∙ many c.loop-config.spaces ∙ c.loop-config.invariant.number;
         untaken = c.in_ok-new.ensures.untaken;
-        forked = c.in_ok-new.ensures.generator ∙ c.fork.ensures.seeded ∙ ap (λ s. of_seed (fill_bytes 32 s).0) c.loop-config.invariant.forked;
       })
       c.in_ok-push.ensures.items;
   number = ap length c.in_ok-push.ensures.items ∙ length-append c.loop-config.spaces.items _ ∙ ap (λ n. n + 1) c.loop-config.invariant.number;

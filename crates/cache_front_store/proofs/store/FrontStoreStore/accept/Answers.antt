@@ -5,7 +5,7 @@ use Rattle.cache_entries.specs.declared.hasher.WordBuilder.{WordBuilder}
 use Rattle.cache_front_data.specs.Data.{FrontData, word_of}
 use Rattle.cache_front_data.proofs.Calls.{accept, lacks_tickets, few_told, fits, shown}
 use Rattle.cache_parts.specs.Parts.{note_from}
-use Rattle.cache_parts_store.specs.View.{waiting}
+use Rattle.cache_front_data.specs.View.{waiting}
 use Rattle.cache_front_store.proofs.Growing.{room_after}
 use Rattle.cache_front_store.proofs.store.FrontStoreStore.accept.Goals as goal
 

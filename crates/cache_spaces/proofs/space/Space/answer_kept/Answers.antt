@@ -7,12 +7,11 @@ use Rattle.cache_namespace.specs.Taken.{closing_at, text_at}
 use Rattle.cache_namespace.specs.Waiting.{under_way}
 use Rattle.cache_store.specs.Promises.{Frame}
 use Rattle.cache_store.specs.Running.{is_bounded}
-use Rattle.plain_store.specs.Hashing.{hashed}
-use Rattle.plain_store.specs.Parting.{part_by}
-use Rattle.plain_store.specs.Standing as plain
+use Rattle.cache_namespace.specs.Making.{making_of}
+use Rattle.cache_spaces.specs.Stores.{shown_of}
 use Rattle.cache_spaces.specs.Spaces.{recency_of}
 use Rattle.cache_spaces.proofs.Knowing.{by-result, known-on, known-same}
-use Rattle.cache_spaces.proofs.Moving.{same-parts, stands-on}
+use Rattle.cache_spaces.proofs.Moving.{stands-on}
 use Rattle.cache_spaces.proofs.Outcomes.{leads-with, orders-answered, settles-by, untold, with_values}
 use Rattle.cache_spaces.proofs.space.Space.answer_kept.Goals as goal
 
@@ -32,9 +31,9 @@ invariant_of-self-clause-waiting c =
     let config = c.answer_kept.ensures.config in
     ∥∥₁_map c.args.self.now.waiting (λ k.
     by-result c.answer_kept.result _ _ _ _ _ c.answer_kept.ensures.ran c.answer_kept.ensures.unchanged c.answer_kept.ensures.same c.answer_kept.ensures.loads
-    (λ entry ran. known-on old.config new.config (plain.Stands old.store.config old.store.table) (plain.Stands new.store.config new.store.table) old.store.dropped new.store.dropped old.latest (max c.args.moment old.latest) (under_way old.loads) (under_way new.loads) old.connections.items new.connections.items config k
+    (λ entry ran. known-on old.config new.config ((shown_of old.store).Stands) ((shown_of new.store).Stands) old.store.dropped new.store.dropped old.latest (max c.args.moment old.latest) (under_way old.loads) (under_way new.loads) old.connections.items new.connections.items config k
     (λ values held. let x = ran values held in record { entry = entry; left = x.held; stands = x.stands; follows = x.settles.follows }))
-    (λ unchanged same loads. known-same old.config new.config (plain.Stands old.store.config old.store.table) (plain.Stands new.store.config new.store.table) (under_way old.loads) (under_way new.loads) old.connections.items new.connections.items config k unchanged.stands
+    (λ unchanged same loads. known-same old.config new.config ((shown_of old.store).Stands) ((shown_of new.store).Stands) (under_way old.loads) (under_way new.loads) old.connections.items new.connections.items config k unchanged.stands
     (ap (λ l. situation 0 (under_way l) new.connections.items false []) loads ∙ ap (λ cs. situation 0 (under_way old.loads) cs.items false []) same)))
 
 pub returns-in-Ok-clause-leads : goal.returns-in-Ok-clause-leads
@@ -44,14 +43,13 @@ returns-in-Ok-clause-leads c = λ s stands.
     let new = c.answer_kept.new.namespace in
     let x = c.in-Ok.ensures.ran stands.values stands.held in
     leads-with was _ c.in-Ok.entry s
-    (settles-by was _ (record { part_of = part_by old.store.parts (hashed 0); made = old.store.made }) c.in-Ok.entry (max c.args.moment old.latest) stands.values x.held s
-    (same-parts old.store.parts old.store.config old.config (sym c.parts_of-parts.ensures.parts ∙ c.parts_of-parts.ensures.counted) was.sound.config) refl c.in-Ok.ensures.latest stands.same x.stands x.settles
+    (settles-by was _ c.in-Ok.entry (max c.args.moment old.latest) stands.values x.held s c.in-Ok.ensures.latest stands.same x.stands x.settles
     (subst (λ config. IsTrue (is_bounded config x.held)) (c.answer_kept.ensures.sound.config ∙ c.answer_kept.ensures.config) (c.sound.ensures.bounded x.held x.stands))
-    (orders-answered old.config _ (recency_of was) (plain.AreInOrder new.store.config new.store.table) (with_values was stands.values) _ c.args.load c.args.moment c.args.outcome c.in-Ok.entry _ _ c.in-Ok.ensures.happened x.settles))
+    (orders-answered old.config _ (recency_of was) ((shown_of new.store).Used) (with_values was stands.values) _ c.args.load c.args.moment c.args.outcome c.in-Ok.entry _ _ c.in-Ok.ensures.happened x.settles))
     (record { outputs = λ number. c.answer_kept.ensures.untold (number - 1); notices = c.answer_kept.ensures.untaken })
 
 pub returns-in-Ok-clause-made : goal.returns-in-Ok-clause-made
-returns-in-Ok-clause-made c = ap (λ (f : Frame). f.made) c.in-Ok.ensures.made.rest
+returns-in-Ok-clause-made c = ap making_of c.in-Ok.ensures.made.rest
 
 pub returns-in-Err-clause-same : goal.returns-in-Err-clause-same
 returns-in-Err-clause-same c =
@@ -63,14 +61,14 @@ returns-in-Err-clause-same c =
     let same = ap (λ cs. cs.items) e.same in
     record {
       stands = λ s stands.
-          stands-on (plain.Stands old.store.config old.store.table) (plain.Stands new.store.config new.store.table) old.store.dropped new.store.dropped old.latest new.latest (under_way old.loads) (under_way new.loads) old.connections.items new.connections.items s stands e.unchanged.stands
+          stands-on ((shown_of old.store).Stands) ((shown_of new.store).Stands) old.store.dropped new.store.dropped old.latest new.latest (under_way old.loads) (under_way new.loads) old.connections.items new.connections.items s stands e.unchanged.stands
           (λ values.
           ap (λ n. situation n (under_way new.loads) new.connections.items new.store.dropped values) e.timeless ∙ ap (λ l. situation old.latest (under_way l) new.connections.items new.store.dropped values) e.loads
           ∙ ap (λ cs. situation old.latest (under_way old.loads) cs new.store.dropped values) same
           ∙ ap (λ d. situation old.latest (under_way old.loads) old.connections.items d values) (ap (λ (f : Frame). f.dropped) frame));
       recency = e.unmoved;
       config = c.answer_kept.ensures.config;
-      made = ap (λ (f : Frame). f.made) frame;
+      made = ap making_of frame;
       outputs = λ number. ap (λ cs. text_at cs (number - 1)) same;
       closings = λ number. ap (λ cs. closing_at cs (number - 1)) same;
       notices = e.unchanged.untaken;

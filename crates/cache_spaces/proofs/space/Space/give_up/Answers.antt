@@ -7,12 +7,10 @@ use Rattle.cache_namespace.specs.Waiting.{under_way}
 use Rattle.cache_settling.specs.Laws.{record_given_up}
 use Rattle.cache_store.specs.Promises.{Frame}
 use Rattle.cache_store.specs.Running.{is_bounded}
-use Rattle.plain_store.specs.Hashing.{hashed}
-use Rattle.plain_store.specs.Parting.{part_by}
-use Rattle.plain_store.specs.Standing as plain
+use Rattle.cache_namespace.specs.Making.{making_of}
+use Rattle.cache_spaces.specs.Stores.{shown_of}
 use Rattle.cache_spaces.specs.Spaces.{recency_of}
 use Rattle.cache_spaces.proofs.Knowing.{by-done, known-on, known-same}
-use Rattle.cache_spaces.proofs.Moving.{same-parts}
 use Rattle.cache_spaces.proofs.Outcomes.{orders-given-up, settles-by, settles-with, with_values}
 use Rattle.cache_spaces.proofs.space.Space.give_up.Goals as goal
 
@@ -29,10 +27,10 @@ invariant_of-self-clause-waiting c =
     let config = c.give_up_in.ensures.config in
     ∥∥₁_map c.args.self.now.waiting (λ k.
     by-done c.give_up_in.result _ _ _ _ _ c.give_up_in.ensures.ran c.give_up_in.ensures.err c.give_up_in.ensures.err c.give_up_in.ensures.err
-    (λ ran. known-on old.config new.config (plain.Stands old.store.config old.store.table) (plain.Stands new.store.config new.store.table) old.store.dropped new.store.dropped old.latest (max c.args.moment old.latest) (under_way old.loads) (under_way new.loads) old.connections.items new.connections.items config k
+    (λ ran. known-on old.config new.config ((shown_of old.store).Stands) ((shown_of new.store).Stands) old.store.dropped new.store.dropped old.latest (max c.args.moment old.latest) (under_way old.loads) (under_way new.loads) old.connections.items new.connections.items config k
     (λ values held. let x = ran values held in record { entry = record_given_up c.args.load c.args.moment x.steps; left = x.held; stands = x.stands; follows = x.settles.follows }))
-    (λ same same_too same_again. known-same old.config new.config (plain.Stands old.store.config old.store.table) (plain.Stands new.store.config new.store.table) (under_way old.loads) (under_way new.loads) old.connections.items new.connections.items config k
-    (λ values held. subst (λ n. plain.Stands n.store.config n.store.table values) (sym same) held)
+    (λ same same_too same_again. known-same old.config new.config ((shown_of old.store).Stands) ((shown_of new.store).Stands) (under_way old.loads) (under_way new.loads) old.connections.items new.connections.items config k
+    (λ values held. subst (λ n. (shown_of n.store).Stands values) (sym same) held)
     (ap (λ n. situation 0 (under_way n.loads) n.connections.items false []) same)))
 
 pub returns-in-Ok-clause-settled : goal.returns-in-Ok-clause-settled
@@ -45,13 +43,12 @@ returns-in-Ok-clause-settled c =
           let x = c.in-Ok.ensures.ran stands.values stands.held in
           let entry = record_given_up c.args.load c.args.moment x.steps in
           settles-with was _ entry s
-          (settles-by was _ (record { part_of = part_by old.store.parts (hashed 0); made = old.store.made }) entry (max c.args.moment old.latest) stands.values x.held s
-          (same-parts old.store.parts old.store.config old.config (sym c.parts_of-parts.ensures.parts ∙ c.parts_of-parts.ensures.counted) was.sound.config) refl c.in-Ok.ensures.latest stands.same x.stands x.settles
+          (settles-by was _ entry (max c.args.moment old.latest) stands.values x.held s c.in-Ok.ensures.latest stands.same x.stands x.settles
           (subst (λ config. IsTrue (is_bounded config x.held)) (c.give_up_in.ensures.sound.config ∙ c.give_up_in.ensures.config) (c.sound.ensures.bounded x.held x.stands))
-          (orders-given-up old.config _ (recency_of was) (plain.AreInOrder new.store.config new.store.table) (with_values was stands.values) _ c.args.load c.args.moment entry _ _ (c.if-not-is_waited_for.ensures.some refl) refl x.settles))
+          (orders-given-up old.config _ (recency_of was) ((shown_of new.store).Used) (with_values was stands.values) _ c.args.load c.args.moment entry _ _ (c.if-not-is_waited_for.ensures.some refl) refl x.settles))
           x.texts x.notes;
       config = c.give_up_in.ensures.config;
-      made = ap (λ (f : Frame). f.made) c.in-Ok.ensures.made.rest;
+      made = ap making_of c.in-Ok.ensures.made.rest;
       count = c.give_up_in.ensures.count;
       goes = c.give_up_in.ensures.goes;
     }

@@ -6,12 +6,10 @@ use Rattle.cache_namespace.specs.Shown.{situation}
 use Rattle.cache_namespace.specs.Waiting.{under_way}
 use Rattle.cache_store.specs.Promises.{Frame}
 use Rattle.cache_store.specs.Running.{is_bounded}
-use Rattle.plain_store.specs.Hashing.{hashed}
-use Rattle.plain_store.specs.Parting.{part_by}
-use Rattle.plain_store.specs.Standing as plain
+use Rattle.cache_namespace.specs.Making.{making_of}
+use Rattle.cache_spaces.specs.Stores.{shown_of}
 use Rattle.cache_spaces.specs.Spaces.{recency_of}
 use Rattle.cache_spaces.proofs.Knowing.{by-result, known-on, known-same}
-use Rattle.cache_spaces.proofs.Moving.{same-parts}
 use Rattle.cache_spaces.proofs.Outcomes.{leads-with, orders-given-up, settles-by, untold, with_values}
 use Rattle.cache_spaces.proofs.space.Space.give_up_kept.Goals as goal
 
@@ -34,10 +32,10 @@ invariant_of-self-clause-waiting c =
     let config = c.give_up_kept.ensures.config in
     ∥∥₁_map c.args.self.now.waiting (λ k.
     by-result c.give_up_kept.result _ _ _ _ _ c.give_up_kept.ensures.ran c.give_up_kept.ensures.err c.give_up_kept.ensures.err c.give_up_kept.ensures.err
-    (λ entry ran. known-on old.config new.config (plain.Stands old.store.config old.store.table) (plain.Stands new.store.config new.store.table) old.store.dropped new.store.dropped old.latest (max c.args.moment old.latest) (under_way old.loads) (under_way new.loads) old.connections.items new.connections.items config k
+    (λ entry ran. known-on old.config new.config ((shown_of old.store).Stands) ((shown_of new.store).Stands) old.store.dropped new.store.dropped old.latest (max c.args.moment old.latest) (under_way old.loads) (under_way new.loads) old.connections.items new.connections.items config k
     (λ values held. let x = ran values held in record { entry = entry; left = x.held; stands = x.stands; follows = x.settles.follows }))
-    (λ same same_too same_again. known-same old.config new.config (plain.Stands old.store.config old.store.table) (plain.Stands new.store.config new.store.table) (under_way old.loads) (under_way new.loads) old.connections.items new.connections.items config k
-    (λ values held. subst (λ n. plain.Stands n.store.config n.store.table values) (sym same) held)
+    (λ same same_too same_again. known-same old.config new.config ((shown_of old.store).Stands) ((shown_of new.store).Stands) (under_way old.loads) (under_way new.loads) old.connections.items new.connections.items config k
+    (λ values held. subst (λ n. (shown_of n.store).Stands values) (sym same) held)
     (ap (λ n. situation 0 (under_way n.loads) n.connections.items false []) same)))
 
 pub returns-in-Ok-give_up_kept-clause-leads : goal.returns-in-Ok-give_up_kept-clause-leads
@@ -47,11 +45,10 @@ returns-in-Ok-give_up_kept-clause-leads c = λ s stands.
     let new = c.give_up_kept.new.namespace in
     let x = c.in-Ok-give_up_kept.ensures.ran stands.values stands.held in
     leads-with was _ c.in-Ok-give_up_kept.entry s
-    (settles-by was _ (record { part_of = part_by old.store.parts (hashed 0); made = old.store.made }) c.in-Ok-give_up_kept.entry (max c.args.moment old.latest) stands.values x.held s
-    (same-parts old.store.parts old.store.config old.config (sym c.parts_of-parts.ensures.parts ∙ c.parts_of-parts.ensures.counted) was.sound.config) refl c.in-Ok-give_up_kept.ensures.latest stands.same x.stands x.settles
+    (settles-by was _ c.in-Ok-give_up_kept.entry (max c.args.moment old.latest) stands.values x.held s c.in-Ok-give_up_kept.ensures.latest stands.same x.stands x.settles
     (subst (λ config. IsTrue (is_bounded config x.held)) (c.give_up_kept.ensures.sound.config ∙ c.give_up_kept.ensures.config) (c.sound.ensures.bounded x.held x.stands))
-    (orders-given-up old.config _ (recency_of was) (plain.AreInOrder new.store.config new.store.table) (with_values was stands.values) _ c.args.load c.args.moment c.in-Ok-give_up_kept.entry _ _ (c.if-not-is_waited_for.ensures.some refl) c.in-Ok-give_up_kept.ensures.happened x.settles))
+    (orders-given-up old.config _ (recency_of was) ((shown_of new.store).Used) (with_values was stands.values) _ c.args.load c.args.moment c.in-Ok-give_up_kept.entry _ _ (c.if-not-is_waited_for.ensures.some refl) c.in-Ok-give_up_kept.ensures.happened x.settles))
     (record { outputs = λ number. c.give_up_kept.ensures.untold (number - 1); notices = c.give_up_kept.ensures.untaken })
 
 pub returns-in-Ok-give_up_kept-clause-made : goal.returns-in-Ok-give_up_kept-clause-made
-returns-in-Ok-give_up_kept-clause-made c = ap (λ (f : Frame). f.made) c.in-Ok-give_up_kept.ensures.made.rest
+returns-in-Ok-give_up_kept-clause-made c = ap making_of c.in-Ok-give_up_kept.ensures.made.rest

@@ -2,9 +2,7 @@ use Rattle.std.proofs.Common.{◌≡◌, refl, ap, ◌∙◌, [], false, subst, 
 use Rattle.cache_namespace.specs.Shown.{situation}
 use Rattle.cache_namespace.specs.Waiting.{under_way}
 use Rattle.cache_namespace.specs.Taken.{KnowsStore}
-use Rattle.plain_store.specs.Hashing.{hashed}
-use Rattle.plain_store.specs.Parting.{part_by}
-use Rattle.plain_store.specs.Standing as plain
+use Rattle.cache_spaces.specs.Stores.{shown_of}
 use Rattle.cache_spaces.proofs.Moving.{stands-on}
 use Rattle.std.proofs.Math.Logic.{∥∥₁_map}
 use Rattle.cache_spaces.proofs.Knowing.{known-same}
@@ -14,7 +12,7 @@ pub returns-clause-stands : goal.returns-clause-stands
 returns-clause-stands c = λ s stands.
     let old = c.args.self.now.inner in
     let new = c.take_output.new.self in
-    stands-on (plain.Stands old.store.config old.store.table) (plain.Stands new.store.config new.store.table) old.store.dropped new.store.dropped old.latest new.latest (under_way old.loads) (under_way new.loads) old.connections.items new.connections.items s stands (λ values h. rw c.take_output.ensures.rest h)
+    stands-on ((shown_of old.store).Stands) ((shown_of new.store).Stands) old.store.dropped new.store.dropped old.latest new.latest (under_way old.loads) (under_way new.loads) old.connections.items new.connections.items s stands (λ values h. rw c.take_output.ensures.rest h)
     (λ values.
     let dropped : new.store.dropped ≡ old.store.dropped = rw c.take_output.ensures.rest refl in
     let latest : new.latest ≡ old.latest = rw c.take_output.ensures.rest refl in
@@ -28,10 +26,10 @@ invariant_of-self-clause-waiting c =
     let new = c.take_output.new.self in
     let rest = c.take_output.ensures.rest in
     ∥∥₁_map c.args.self.now.waiting (λ k.
-    known-same old.config new.config (plain.Stands old.store.config old.store.table) (plain.Stands new.store.config new.store.table) (under_way old.loads) (under_way new.loads) old.connections.items new.connections.items (ap (λ n. n.config) rest) k
-    (λ values held. subst (λ st. plain.Stands st.config st.table values) (sym (ap (λ n. n.store) rest)) held)
+    known-same old.config new.config ((shown_of old.store).Stands) ((shown_of new.store).Stands) (under_way old.loads) (under_way new.loads) old.connections.items new.connections.items (ap (λ n. n.config) rest) k
+    (λ values held. subst (λ st. (shown_of st).Stands values) (sym (ap (λ n. n.store) rest)) held)
     (ap (λ l. situation 0 l new.connections.items false []) (ap (λ n. under_way n.loads) rest) ∙ c.take_output.ensures.situation 0 (under_way old.loads) false []))
 
 pub invariant_of-self-clause-sound : goal.invariant_of-self-clause-sound
 invariant_of-self-clause-sound c =
-    subst (λ n. KnowsStore n.config (plain.frame_of n.store.config (part_by n.store.parts (hashed 0)) n.store.made n.store.dropped n.store.latest) n.latest) (sym c.take_output.ensures.rest) c.args.self.now.sound
+    subst (λ n. KnowsStore n.config ((shown_of n.store).frame) n.latest) (sym c.take_output.ensures.rest) c.args.self.now.sound

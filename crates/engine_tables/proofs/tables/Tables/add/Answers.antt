@@ -105,7 +105,7 @@ returns-clause-vacant g c =
 
 pub with-self-inside-requires : goal.with-self-inside-requires
 with-self-inside-requires g c =
-    let fits = tally-fits c.self.inside.cells.slots c.self.inside.tally c.self.invariant.tallied (omega (arith, c.len-many.ensures, c.len-many.type_inv)) in
+    let fits = tally-fits c.self.inside.cells.slots c.self.inside.tally c.self.invariant.tallied (omega (arith, c.capacity-many.ensures.holds_all, c.capacity-many.type_inv)) in
     let number = fits.number in
     record { held = fits.held; weight = fits.weight; number = omega (arith, number) }
 
@@ -114,3 +114,6 @@ put-requires-clause-absent g c u =
     let o = c.self.invariant.spotted.only c.args.added.hash c.insert_reserved-place.result u in
     let e : Some o.cell ≡ None = sym o.there ∙ c.insert_reserved-place.ensures.was_vacant in
     cc
+
+pub put-requires-clause-place : goal.put-requires-clause-place
+put-requires-clause-place g c = omega (arith, c.insert_reserved-place.ensures.key_in_range, c.insert_reserved-place.ensures.capacity, c.capacity-many.ensures.value, c.capacity-many.type_inv)

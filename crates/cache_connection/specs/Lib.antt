@@ -1,0 +1,5 @@
+pub mod Again
+pub mod Fed
+pub mod Fits
+pub mod Parts
+pub mod Shown

@@ -1,0 +1,23 @@
+-- A connection as the definitions have it.
+use Rattle.std.specs.Prelude.{ℕ, suc, ◌++◌, List, [], ◌∷◌, if◌then◌else◌, is_none}
+use Rattle.audit_model.specs.Situation as model
+use Rattle.audit_model.specs.Situation.{HeldValue, Situation}
+use Rattle.cache_connection.specs.Parts.{put_parts, standing_as}
+use Rattle.cache_connection.specs.declared.connection.Connection.{Connection}
+
+-- the connection as the definitions have it
+abbrev pub shown : ℕ → Connection → model.Connection
+shown number c = standing_as number c.standing c.waited c.unread.bytes
+
+-- the open connections, numbered from n
+abbrev pub open_from : ℕ → List Connection → List model.Connection
+open_from n [] = []
+open_from n (c ∷ cs) = if is_none c.closing then shown n c ∷ open_from (suc n) cs else open_from (suc n) cs
+
+-- the situation, but with those values held and that connection as it now is
+abbrev pub put_in : Situation → List HeldValue → ℕ → Connection → Situation
+put_in base values number c = put_parts base values number c.closing c.standing c.waited c.unread.bytes
+
+-- the connection with a piece more
+abbrev pub with_piece : List ℕ → model.Connection → model.Connection
+with_piece piece c = record c { unread = c.unread ++ piece }

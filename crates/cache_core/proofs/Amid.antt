@@ -1,0 +1,160 @@
+-- What goes through a record.
+use Rattle.std.proofs.Common.{◌≡◌, ℕ, suc, ◌+◌, ◌<◌, ◌≤◌, ◌^◌, Bool, true, false, List, [], ◌∷◌, ◌++◌, length, map, Option, Some, None, if◌then◌else◌, refl, sym, ap, ◌∙◌, subst, arith}
+use Rattle.std.specs.Prelude.{is_some, MatchOption}
+use Rattle.std.specs.List.{flat_map, slice_get}
+use Rattle.std.specs.Option.{option_map}
+use Rattle.std.proofs.lemmas.List.{append-nil}
+use Rattle.std.proofs.lemmas.Option.{same_Some}
+use Rattle.audit_model.specs.Bytewise.{is_empty}
+use Rattle.audit_model.specs.Situation.{HeldValue}
+use Rattle.audit_model.specs.Steps.{Task}
+use Rattle.audit_model.specs.declared.config.Config.{Config}
+use Rattle.audit_model.specs.declared.transcript.Step.{Step}
+use Rattle.cache_commands.specs.Right.{KeepsFrame}
+use Rattle.cache_connection.specs.declared.connection.Connection.{Connection}
+use Rattle.cache_leads.specs.Leads.{BeginsUnknown}
+use Rattle.cache_lines.specs.Bases.{CanRun}
+use Rattle.cache_lines.specs.Ended.{spare_of}
+use Rattle.cache_lines.specs.Gathered.{IsFresh, adds, gathered, stage, written}
+use Rattle.cache_lines.specs.Making.{Making, making_of}
+use Rattle.cache_lines.specs.declared.base.Base.{Base}
+use Rattle.cache_store.specs.Promises.{Frame}
+use Rattle.cache_store.specs.Values.{Values}
+use Rattle.cache_tape.specs.Taped.{HasSpare, IsBegun, Taped, started}
+use Rattle.cache_core.specs.Fed.{seen_at}
+use Rattle.cache_core.specs.Places.{text_at}
+use Rattle.cache_core.specs.Settled.{IsAmid, Parts, Piece}
+use Rattle.cache_core.specs.Settling.{PartsUnknown, Reruns}
+use Rattle.cache_core.specs.State.{at_number}
+use Rattle.cache_core.specs.Turned.{replies_to}
+use Rattle.cache_core.proofs.Joined.{piece-on, piece-on-steps, still-kept}
+use Rattle.cache_core.proofs.Orders.{there}
+use Rattle.cache_core.proofs.Spots.{seen-was, text-is}
+use Rattle.cache_core.proofs.Steps.{none-begins, piece-none}
+
+-- room for lines is left
+pub room-left : (k lines : ℕ) (a b : Option Taped) → is_some b ≡ is_some a → spare_of a ≤ spare_of b + k → MatchOption a (Unit {0}) (λ t. k + lines ≤ t.spare) → MatchOption b (Unit {0}) (λ t. lines ≤ t.spare)
+room-left k lines None None same spare room = tt
+room-left k lines None (Some t) same spare room = let no : true ≡ false = same in cc
+room-left k lines (Some t) None same spare room = let no : false ≡ true = same in cc
+room-left k lines (Some t) (Some u) same spare room = let h : t.spare ≤ u.spare + k = spare in omega (arith, h, room)
+
+room-some : (a : Option Taped) → MatchOption a (Unit {0}) (λ t. 1 ≤ t.spare) → HasSpare a
+room-some None room = tt
+room-some (Some t) room = let h : 1 ≤ t.spare = room in let is : 0 < t.spare = omega (arith, h) in is
+
+pub room-least : (a b : ℕ) (t : Option Taped) → b ≤ a → MatchOption t (Unit {0}) (λ x. a ≤ x.spare) → MatchOption t (Unit {0}) (λ x. b ≤ x.spare)
+room-least a b None le room = tt
+room-least a b (Some x) le room = let h : a ≤ x.spare = room in let is : b ≤ x.spare = omega (arith, h, le) in is
+
+-- a record that is under way stays so
+pub written-begun : (steps : List Step) (a b : Option Taped) → option_map written b ≡ option_map (adds steps) (option_map written a) → IsBegun a → IsBegun b
+written-begun steps a None e begun = tt
+written-begun steps None (Some u) e begun = let no : Some (written u) ≡ None = e in cc
+written-begun steps (Some t) (Some u) e begun = let is : written u ≡ adds steps (written t) = same_Some _ _ e in ap (λ (x : Taped). x.begun) is ∙ begun
+
+pub started-begun : (n : ℕ) (a b : Option Taped) → b ≡ option_map (started n) a → IsBegun b
+started-begun n None b e = subst IsBegun (sym e) tt
+started-begun n (Some t) b e = subst IsBegun (sym e) refl
+
+module _ {S T : Type 0} (view : S → Values) (tape : T → Option Taped) (now : ℕ) where
+  -- one connection may run lines
+  pub can-run : (base : Base S T) (cs : List Connection) (i lines : ℕ) → i < length cs → IsAmid view tape now base cs (suc lines) → CanRun now (seen_at view tape base cs i)
+  can-run base cs i lines lt amid = record {
+    in_time = amid.in_time;
+    clear = clear (tape base.tape) refl;
+    spare = room-some (tape base.tape) (room-least (suc lines) 1 (tape base.tape) (omega arith) amid.room);
+  }
+    where
+      clear : (t : Option Taped) → tape base.tape ≡ t → IsFresh (gathered (stage (view base.store) (text_at cs i) t))
+      clear None e = tt
+      clear (Some t) e =
+          let h : is_some (tape base.tape) ≡ true = ap is_some e in
+          let c = there cs i lt in
+          (text-is cs i c.0 c.1 ∙ sym (seen-was (λ (k : Connection). k.output.text.items) [] cs i c.0 c.1) ∙ amid.outputs h (suc i), amid.untaken h)
+
+  pub amid-least : (base : Base S T) (cs : List Connection) (a b : ℕ) → b ≤ a → IsAmid view tape now base cs a → IsAmid view tape now base cs b
+  amid-least base cs a b le amid = record { in_time = amid.in_time; untaken = amid.untaken; outputs = amid.outputs; room = room-least a b (tape base.tape) le amid.room }
+
+  -- behind a part
+  pub amid-behind : (was is : Base S T) (old new : List Connection) (tasks : List Task) (held : List HeldValue) (k lines : ℕ) (making : Making) → Piece view tape making now was is old new tasks held → (view is.store).frame.latest ≤ now
+      → spare_of (tape was.tape) ≤ spare_of (tape is.tape) + k → IsAmid view tape now was old (k + lines) → IsAmid view tape now is new lines
+  amid-behind was is old new tasks held k lines making p latest spare amid =
+      let same = still-kept view tape making now was is is old new new tasks [] held p in
+      record {
+        in_time = (latest, amid.in_time.1);
+        untaken = λ e. let h = sym same ∙ e in p.notes ∙ ap (λ b. (view was.store).untaken ++ (if b then [] else flat_map (λ (step : Step). step.notices) p.steps)) h ∙ append-nil (view was.store).untaken ∙ amid.untaken h;
+        outputs = λ e n.
+            let h = sym same ∙ e in
+            p.outputs n ∙ ap (λ b. at_number [] (map (λ (c : Connection). c.output.text.items) old) n ++ (if b then [] else replies_to n p.steps)) h ∙ append-nil (at_number [] (map (λ (c : Connection). c.output.text.items) old) n) ∙ amid.outputs h n;
+        room = room-left k lines (tape was.tape) (tape is.tape) same spare amid.room;
+      }
+
+  -- ---- part behind part
+
+  frame-on : (a b c : Frame) → KeepsFrame a b now → KeepsFrame b c now → KeepsFrame a c now
+  frame-on a b c x y = record { rest = y.rest ∙ ap (λ (f : Frame). record f { dropped = c.dropped; latest = c.latest }) x.rest; latest = y.latest }
+
+  making-same : (a b : Frame) → KeepsFrame a b now → making_of b ≡ making_of a
+  making-same a b x = ap making_of x.rest
+
+  pub parts-none : (base : Base S T) (cs : List Connection) → (view base.store).frame.latest ≤ now → Parts view tape now base base cs cs []
+  parts-none base cs latest = record { ran = λ held stands. piece-none view tape now base base cs held stands; frame = record { rest = refl; latest = latest } }
+
+  pub parts-on : (was mid is : Base S T) (old between new : List Connection) (tasks more : List Task) → Parts view tape now was mid old between tasks → Parts view tape now mid is between new more → Parts view tape now was is old new (tasks ++ more)
+  parts-on was mid is old between new tasks more a b = record {
+    ran = λ held stands.
+        let p = a.ran held stands in
+        let q = subst (λ (making : Making). Piece view tape making now mid is between new more p.left) (making-same (view was.store).frame (view mid.store).frame a.frame) (b.ran p.left p.stands) in
+        piece-on view tape (making_of (view was.store).frame) now was mid is old between new tasks more held p q;
+    frame = frame-on (view was.store).frame (view mid.store).frame (view is.store).frame a.frame b.frame;
+  }
+
+  begins-first : (config : Config) (xs ys : List Step) → is_empty xs ≡ false → BeginsUnknown config xs → BeginsUnknown config (xs ++ ys)
+  begins-first config [] ys some b = let no : true ≡ false = some in cc
+  begins-first config (x ∷ xs) ys some b = b
+
+  some-first : (xs ys : List Step) → is_empty xs ≡ false → is_empty (xs ++ ys) ≡ false
+  some-first [] ys some = let no : true ≡ false = some in cc
+  some-first (x ∷ xs) ys some = refl
+
+  some-last : (xs ys : List Step) → is_empty ys ≡ false → is_empty (xs ++ ys) ≡ false
+  some-last [] ys some = some
+  some-last (x ∷ xs) ys some = refl
+
+  begins-both : (config : Config) (xs ys : List Step) → BeginsUnknown config xs → BeginsUnknown config ys → BeginsUnknown config (xs ++ ys)
+  begins-both config [] ys a b = b
+  begins-both config (x ∷ xs) ys a b = a
+
+  -- a `LOAD` that ran again, and its lines
+  pub rerun-on : (was mid is : Base S T) (old between new : List Connection) (tasks more : List Task) → Reruns view tape now was mid old between tasks → Parts view tape now mid is between new more → Reruns view tape now was is old new (tasks ++ more)
+  rerun-on was mid is old between new tasks more a b = record {
+    ran = λ held stands.
+        let x = a.ran held stands in
+        let p = x.0 in
+        let q = subst (λ (making : Making). Piece view tape making now mid is between new more p.left) (making-same (view was.store).frame (view mid.store).frame a.frame) (b.ran p.left p.stands) in (
+          piece-on view tape (making_of (view was.store).frame) now was mid is old between new tasks more held p q,
+          subst (BeginsUnknown (view was.store).frame.config) (sym (piece-on-steps view tape (making_of (view was.store).frame) now was mid is old between new tasks more held p q)) (begins-first (view was.store).frame.config p.steps q.steps x.2 x.1),
+          ap is_empty (piece-on-steps view tape (making_of (view was.store).frame) now was mid is old between new tasks more held p q) ∙ some-first p.steps q.steps x.2,
+        );
+    frame = frame-on (view was.store).frame (view mid.store).frame (view is.store).frame a.frame b.frame;
+  }
+
+  pub unknown-none : (base : Base S T) (cs : List Connection) → (view base.store).frame.latest ≤ now → PartsUnknown view tape now base base cs cs []
+  unknown-none base cs latest = record { ran = λ held stands. (piece-none view tape now base base cs held stands, none-begins view tape now base base (view base.store).frame.config cs held stands, λ e. refl); frame = record { rest = refl; latest = latest } }
+
+  -- one more of them
+  pub unknown-on : (was mid is : Base S T) (old between new : List Connection) (tasks more : List Task) → PartsUnknown view tape now was mid old between tasks → Reruns view tape now mid is between new more → PartsUnknown view tape now was is old new (tasks ++ more)
+  unknown-on was mid is old between new tasks more a b = record {
+    ran = λ held stands.
+        let x = a.ran held stands in
+        let p = x.0 in
+        let same = making-same (view was.store).frame (view mid.store).frame a.frame in
+        let y = subst (λ (making : Making). (q : Piece view tape making now mid is between new more p.left) × BeginsUnknown making.config q.steps × (is_empty q.steps ≡ false)) same (b.ran p.left p.stands) in
+        let q = y.0 in (
+          piece-on view tape (making_of (view was.store).frame) now was mid is old between new tasks more held p q,
+          subst (BeginsUnknown (view was.store).frame.config) (sym (piece-on-steps view tape (making_of (view was.store).frame) now was mid is old between new tasks more held p q)) (begins-both (view was.store).frame.config p.steps q.steps x.1 y.1),
+          λ e. let no : false ≡ true = sym (ap is_empty (piece-on-steps view tape (making_of (view was.store).frame) now was mid is old between new tasks more held p q) ∙ some-last p.steps q.steps y.2) ∙ e in cc,
+        );
+    frame = frame-on (view was.store).frame (view mid.store).frame (view is.store).frame a.frame b.frame;
+  }

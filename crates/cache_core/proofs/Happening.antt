@@ -1,0 +1,274 @@
+-- A settled load's record, from its parts.
+use Rattle.std.proofs.Common.{◌≡◌, ◌≢◌, ℕ, zero, suc, ◌+◌, ◌<◌, ◌≤◌, ◌^◌, max, Bool, true, false, not, ◌||◌, ◌==◌, List, [], ◌∷◌, ◌++◌, length, map, cond, Option, Some, None, if◌then◌else◌, refl, sym, ap, ◌∙◌, subst, arith, append_assoc, inl}
+use Rattle.std.specs.Prelude.{is_none, is_some, IsTrue, MatchOption}
+use Rattle.std.specs.List.{filter, find, flat_map}
+use Rattle.std.specs.Option.{option_map}
+use Rattle.std.proofs.lemmas.Bool.{eq-eqb}
+use Rattle.std.proofs.lemmas.List.{append-nil}
+use Rattle.std.proofs.lemmas.Option.{same_Some}
+use Rattle.audit_model.specs.Belongs.{refusal_of}
+use Rattle.audit_model.specs.Bytewise.{is_empty}
+use Rattle.audit_model.specs.Follows.{after_event, tasks_in, without_load}
+use Rattle.audit_model.specs.Places.{steps_of, tasks_to_give_up}
+use Rattle.audit_model.specs.Situation as model
+use Rattle.audit_model.specs.Situation.{HeldValue, Situation, connection_in, waiting_in}
+use Rattle.audit_model.specs.Steps.{Task}
+use Rattle.audit_model.specs.declared.command.Closing.{Closing}
+use Rattle.audit_model.specs.declared.config.Config.{Config}
+use Rattle.audit_model.specs.declared.event.Event.{Event}
+use Rattle.audit_model.specs.declared.input.ServiceError.{ServiceError}
+use Rattle.audit_model.specs.declared.input.ServiceError.TheVariants as error
+use Rattle.audit_model.specs.declared.transcript.Accepted.{Accepted}
+use Rattle.audit_model.specs.declared.transcript.Note.{Note}
+use Rattle.audit_model.specs.declared.transcript.Record.{Record}
+use Rattle.audit_model.specs.declared.transcript.Step.{Step}
+use Rattle.cache_commands.specs.Order.{AgreesWith, Order, Unknown}
+use Rattle.cache_connection.specs.Fed.{closing_by}
+use Rattle.cache_connection.specs.Shown.{open_from, shown}
+use Rattle.cache_connection.specs.declared.connection.Connection.{Connection}
+use Rattle.cache_leads.specs.Laws.{record_given_up}
+use Rattle.cache_leads.specs.Leads.{BeginsUnknown, LeavesUnknown, SettlingLeads, TasksLead}
+use Rattle.cache_leads.proofs.Settling.{give-up}
+use Rattle.cache_lines.specs.Drawing.{identifiers_in}
+use Rattle.cache_lines.specs.Ended.{ends_silent}
+use Rattle.cache_lines.specs.Gathered.{adds, written}
+use Rattle.cache_lines.specs.Lines.{ends_quit}
+use Rattle.cache_lines.specs.Making.{Making, making_of}
+use Rattle.cache_lines.specs.Ordered.{HaveKeys, OrdersSteps, order_behind}
+use Rattle.cache_lines.specs.Waiting.{UnderWay, under_way}
+use Rattle.cache_lines.specs.declared.base.Base.{Base}
+use Rattle.cache_loads.specs.Pending.{SameTaken, loads_pending}
+use Rattle.cache_loads.specs.declared.loads.Loads.{Loads}
+use Rattle.cache_loads.specs.declared.standing.Standing.{Standing}
+use Rattle.cache_loads.specs.declared.standing.Standing.TheVariants as now_is
+use Rattle.cache_store.specs.Promises.{Frame}
+use Rattle.cache_store.specs.Running.{is_bounded}
+use Rattle.cache_store.specs.Values.{IsSoundStore, Values}
+use Rattle.cache_tape.specs.Taped.{IsAtRest, IsBegun, Taped, finishes, started}
+use Rattle.cache_core.specs.Fed.{WantsMemory}
+use Rattle.cache_core.specs.Settled.{Absent, Closed, Course, Moves, Piece, Resting, Running, course_at, course_of, closing_of_steps, middle_of}
+use Rattle.cache_core.specs.Settling.{AllLookAsBefore, BeginsAnswer, Happens, PartsUnknown, answering, but_for, giving_up, known_of_loads, waiting_on}
+use Rattle.cache_core.specs.State.{IsInOrder, State, StandsFor, at_number, known_of, situation_with, state_of}
+use Rattle.cache_core.specs.Turned.{RefusesBy, Turned, closing_behind, notes_in, own_steps, reason_of, replies_to, with_record}
+use Rattle.cache_core.proofs.Orders.{order-turned}
+use Rattle.cache_core.proofs.Table.{none-below}
+use Rattle.cache_core.proofs.Turning.{other-number, sit}
+
+-- ---- why a connection is closed, by what it is at
+
+abbrev closing_at_course : Course → Option Closing
+closing_at_course Absent = None
+closing_at_course (Closed why) = Some why
+closing_at_course Running = None
+closing_at_course Resting = None
+
+abbrev is_open_course : Course → Bool
+is_open_course Absent = false
+is_open_course (Closed why) = false
+is_open_course Running = true
+is_open_course Resting = true
+
+closing-course : (closing : Option Closing) (standing : Standing) → closing ≡ closing_at_course (course_of closing standing)
+closing-course (Some why) standing = refl
+closing-course None now_is.Ready = refl
+closing-course None now_is.Held = refl
+closing-course None now_is.Waiting = refl
+
+open-course : (closing : Option Closing) (standing : Standing) → is_none closing ≡ is_open_course (course_of closing standing)
+open-course (Some why) standing = refl
+open-course None now_is.Ready = refl
+open-course None now_is.Held = refl
+open-course None now_is.Waiting = refl
+
+closing-seen : (cs : List Connection) (n : ℕ) → at_number None (map (λ (c : Connection). c.closing) cs) n ≡ closing_at_course (course_at cs n)
+closing-seen cs zero = refl
+closing-seen [] (suc n) = refl
+closing-seen (c ∷ cs) (suc zero) = closing-course c.closing c.standing
+closing-seen (c ∷ cs) (suc (suc n)) = closing-seen cs (suc n)
+
+-- those from a number on
+course-from : (n k : ℕ) (cs : List Connection) → is_some (find (λ (x : model.Connection). x.number == n + k) (open_from n cs)) ≡ is_open_course (at_number Absent (map (λ (c : Connection). course_of c.closing c.standing) cs) (suc k))
+course-from n k [] = refl
+course-from n zero (c ∷ cs) =
+    let is : n + 0 ≡ n = omega arith in
+    ap (λ m. is_some (find (λ (x : model.Connection). x.number == m) (open_from n (c ∷ cs)))) is ∙ go (none-below n (suc n) cs (omega arith)) (is_none c.closing) refl ∙ open-course c.closing c.standing
+  where
+    go : find (λ (x : model.Connection). x.number == n) (open_from (suc n) cs) ≡ None
+        → (b : Bool) → is_none c.closing ≡ b → is_some (find (λ (x : model.Connection). x.number == n) (if b then shown n c ∷ open_from (suc n) cs else open_from (suc n) cs)) ≡ is_none c.closing
+    go none true e = ap (λ t. is_some (cond t (Some (shown n c)) (find (λ (x : model.Connection). x.number == n) (open_from (suc n) cs)))) (eq-eqb n n refl) ∙ sym e
+    go none false e = ap is_some none ∙ sym e
+course-from n (suc k) (c ∷ cs) =
+    let is : n + suc k ≡ suc n + k = omega arith in
+    ap (λ m. is_some (find (λ (x : model.Connection). x.number == m) (open_from n (c ∷ cs)))) is ∙ go (is_none c.closing) ∙ course-from (suc n) k cs
+  where
+    go : (b : Bool) → is_some (find (λ (x : model.Connection). x.number == suc n + k) (if b then shown n c ∷ open_from (suc n) cs else open_from (suc n) cs)) ≡ is_some (find (λ (x : model.Connection). x.number == suc n + k) (open_from (suc n) cs))
+    go true = ap (λ t. is_some (cond t (Some (shown n c)) (find (λ (x : model.Connection). x.number == suc n + k) (open_from (suc n) cs)))) (other-number n (suc n + k) (λ e. (let no : ⊥ = omega (arith, e) in no)))
+    go false = refl
+
+none-numbered : (n : ℕ) (cs : List Connection) → 0 < n → is_some (find (λ (x : model.Connection). x.number == 0) (open_from n cs)) ≡ false
+none-numbered n cs lt = ap is_some (none-below 0 n cs lt)
+
+open-seen : (cs : List Connection) (n : ℕ) → is_some (find (λ (x : model.Connection). x.number == n) (open_from 1 cs)) ≡ is_open_course (course_at cs n)
+open-seen cs zero = none-numbered 1 cs (omega arith)
+open-seen cs (suc k) = let is : suc k ≡ 1 + k = omega arith in ap (λ m. is_some (find (λ (x : model.Connection). x.number == m) (open_from 1 cs))) is ∙ course-from 1 k cs
+
+abbrev closing_go : Config → List Step → Option Closing → (is_open was_open : Bool) → Option Closing
+closing_go config own (Some why) is_open was_open = Some why
+closing_go config own None is_open was_open = if is_open || not was_open then None else Some (closing_of_steps config own)
+
+-- why it is closed behind its steps
+closed-by : (config : Config) (own : List Step) (k l : Course) → Moves config own k l
+    → closing_at_course l ≡ (closing_go config own (closing_at_course k) (is_open_course l) (is_open_course k))
+closed-by config own Absent l m = subst (λ x. closing_at_course x ≡ closing_go config own None (is_open_course x) false) (sym m) refl
+closed-by config own (Closed why) l m = subst (λ x. closing_at_course x ≡ closing_go config own (Some why) (is_open_course x) false) (sym m.0) refl
+closed-by config own Running Absent m = absurd m
+closed-by config own Running (Closed why) m = ap Some m
+closed-by config own Running Running m = refl
+closed-by config own Running Resting m = refl
+closed-by config own Resting Absent m = absurd m
+closed-by config own Resting (Closed why) m = ap Some m.0
+closed-by config own Resting Running m = refl
+closed-by config own Resting Resting m = refl
+
+pub closings-moved : (config : Config) (s next : Situation) (entry : Record) (cs ds : List Connection) → s.connections ≡ open_from 1 cs → next.connections ≡ open_from 1 ds
+    → ((n : ℕ) → reason_of config s n entry.event entry.steps ≡ closing_of_steps config (own_steps n entry.steps)) → ((n : ℕ) → Moves config (own_steps n entry.steps) (course_at cs n) (course_at ds n))
+    → (n : ℕ) → at_number None (map (λ (c : Connection). c.closing) ds) n ≡ closing_behind config s entry next (at_number None (map (λ (c : Connection). c.closing) cs) n) n
+closings-moved config s next entry cs ds listed relisted reasons moves n =
+    closing-seen ds n
+    ∙ closed-by config (own_steps n entry.steps) (course_at cs n) (course_at ds n) (moves n)
+    ∙ ap (λ b. closing_go config (own_steps n entry.steps) (closing_at_course (course_at cs n)) b (is_open_course (course_at cs n))) (sym (ap (λ ks. is_some (find (λ (x : model.Connection). x.number == n) ks)) relisted ∙ open-seen ds n))
+    ∙ ap (λ b. closing_go config (own_steps n entry.steps) (closing_at_course (course_at cs n)) (is_some (connection_in n next)) b) (sym (ap (λ ks. is_some (find (λ (x : model.Connection). x.number == n) ks)) listed ∙ open-seen cs n))
+    ∙ ap (λ o. closing_go config (own_steps n entry.steps) o (is_some (connection_in n next)) (is_some (connection_in n s))) (sym (closing-seen cs n))
+    ∙ behind (at_number None (map (λ (c : Connection). c.closing) cs) n)
+  where
+    behind : (o : Option Closing) → closing_go config (own_steps n entry.steps) o (is_some (connection_in n next)) (is_some (connection_in n s)) ≡ closing_behind config s entry next o n
+    behind (Some why) = refl
+    behind None = ap (λ why. if is_some (connection_in n next) || not (is_some (connection_in n s)) then None else Some why) (sym (reasons n))
+
+-- ---- the record that was begun, gone through, and ended
+
+pub settled-kept : (happened : Event) (own : Option Accepted) (notices : List Note) (steps : List Step) (n : ℕ) (tape begun middle final : Option Taped) → IsAtRest tape → begun ≡ option_map (started n) tape
+    → option_map written middle ≡ option_map (adds steps) (option_map written begun) → final ≡ option_map (finishes happened own notices) middle
+    → final ≡ option_map (with_record (record { event = happened; own = own; notices = notices; steps = steps })) tape
+settled-kept happened own notices steps n tape begun middle final rests starts adds_to ended = go tape middle rests (adds_to ∙ ap (λ b. option_map (adds steps) (option_map written b)) starts) ended
+  where
+    entry : List Step → Record
+    entry ss = record { event = happened; own = own; notices = notices; steps = ss }
+
+    go : (t m : Option Taped) → IsAtRest t → option_map written m ≡ option_map (adds steps) (option_map written (option_map (started n) t)) → final ≡ option_map (finishes happened own notices) m → final ≡ option_map (with_record (entry steps)) t
+    go None None r e f = f
+    go None (Some m) r e f = let no : Some (written m) ≡ None = e in cc
+    go (Some t) None r e f = let no : None ≡ Some (adds steps (written (started n t))) = e in cc
+    go (Some t) (Some m) r e f =
+        let is : written m ≡ adds steps (written (started n t)) = same_Some _ _ e in
+        f
+        ∙ ap (λ rs. Some (record { records = rs ++ entry m.steps ∷ []; begun = false; steps = []; spare = 0; drafted = None })) (ap (λ (x : Taped). x.records) is)
+        ∙ ap (λ ss. Some (record { records = t.records ++ entry ss ∷ []; begun = false; steps = []; spare = 0; drafted = None })) (ap (λ (x : Taped). x.steps) is)
+        ∙ ap (λ b. Some (record { records = t.records ++ entry steps ∷ []; begun = b; steps = []; spare = 0; drafted = None })) (sym r.closed)
+        ∙ ap (λ ss. Some (record { records = t.records ++ entry steps ∷ []; begun = t.begun; steps = ss; spare = 0; drafted = None })) (sym r.steps)
+        ∙ ap (λ k. Some (record { records = t.records ++ entry steps ∷ []; begun = t.begun; steps = t.steps; spare = k; drafted = None })) (sym r.spare)
+        ∙ ap (λ d. Some (record { records = t.records ++ entry steps ∷ []; begun = t.begun; steps = t.steps; spare = t.spare; drafted = d })) (sym r.undrafted)
+
+-- a record is under way
+pub begun-middle : (steps : List Step) (n : ℕ) (tape begun middle : Option Taped) → begun ≡ option_map (started n) tape → option_map written middle ≡ option_map (adds steps) (option_map written begun) → IsBegun middle
+begun-middle steps n tape begun middle starts adds_to = go tape middle (adds_to ∙ ap (λ b. option_map (adds steps) (option_map written b)) starts)
+  where
+    go : (t m : Option Taped) → option_map written m ≡ option_map (adds steps) (option_map written (option_map (started n) t)) → IsBegun m
+    go t None e = tt
+    go None (Some m) e = let no : Some (written m) ≡ None = e in cc
+    go (Some t) (Some m) e = let is : written m ≡ adds steps (written (started n t)) = same_Some _ _ e in ap (λ (x : Taped). x.begun) is
+
+pub started-some : (n : ℕ) (tape begun : Option Taped) → begun ≡ option_map (started n) tape → is_some begun ≡ is_some tape
+started-some n None begun e = ap is_some e
+started-some n (Some t) begun e = ap is_some e
+
+-- ---- what is known of the order of use
+
+pub orders-lost : (config : Config) (old new : Bool → List (List ℕ) → Type 0) (s : Situation) (tasks : List Task) (steps : List Step) → LeavesUnknown config s tasks steps → is_empty steps ≡ false → OrdersSteps config old new s tasks steps
+orders-lost config old new s tasks [] l some = let no : true ≡ false = some in cc
+orders-lost config old new s tasks (step ∷ steps) l some = λ places order plain agrees.
+    let x = l (suc places) order in (subst (AgreesWith new places) (sym x.0) tt, x.1)
+
+pub orders-none : (config : Config) (old new : Bool → List (List ℕ) → Type 0) (s : Situation) (tasks : List Task) (steps : List Step) → LeavesUnknown config s tasks steps → (is_empty steps ≡ true → new ≡ old) → OrdersSteps config old new s tasks steps
+orders-none config old new s tasks [] l same = λ places order plain agrees. (subst (λ used. AgreesWith used places order) (sym (same refl)) agrees, tt)
+orders-none config old new s tasks (step ∷ steps) l same = orders-lost config old new s tasks (step ∷ steps) l refl
+
+-- ---- a give-up
+
+module _ {S T : Type 0} (view : S → Values) (tape : T → Option Taped) (base new_base : Base S T) (left : Loads) (begun final : T) (latest now load moment room : ℕ) (cs ds : List Connection) (at_now : now ≡ max moment latest)
+    (starts : tape begun ≡ option_map (started room) (tape base.tape)) (left_is : under_way left ≡ but_for load (under_way base.loads))
+    (parts : PartsUnknown view tape now (record { store = base.store; loads = left; tape = begun }) new_base cs ds (tasks_to_give_up (waiting_on load (under_way base.loads))))
+    (ended : tape final ≡ option_map (finishes (giving_up load moment) None []) (tape new_base.tape)) where
+  abbrev config : Config
+  config = (view base.store).frame.config
+
+  abbrev last : State S T
+  last = state_of (record { store = new_base.store; loads = new_base.loads; tape = final }) now ds
+
+  config-stays : (view new_base.store).frame.config ≡ config
+  config-stays = ap (λ (f : Frame). f.config) parts.frame.rest
+
+  pub turned-given : IsAtRest (tape base.tape) → IsSoundStore (view new_base.store) → refusal_of config (known_of_loads (loads_pending base.loads)) (giving_up load moment) ≡ None → (held : List HeldValue) → (view base.store).Stands held
+      → (entry : Record) × (entry.event ≡ giving_up load moment) × Turned view tape (state_of base latest cs) last (situation_with view (state_of base latest cs) held) entry
+  turned-given rests sound admitted held stands =
+      let making = making_of (view base.store).frame in
+      let s = sit latest (under_way base.loads) cs (view base.store).frame.dropped held in
+      let x = parts.ran held stands in
+      let p = x.0 in
+      let steps = p.steps in
+      let tasks = tasks_to_give_up (waiting_on load (under_way base.loads)) in
+      let t = middle_of (view new_base.store) now (under_way new_base.loads) ds p.left in
+      let start = middle_of (view base.store) now (under_way left) cs held in
+      let a = identifiers_in (view base.store) in
+      let c = identifiers_in (view new_base.store) in
+      let begins : start ≡ without_load load moment s =
+      ap (λ n. middle_of (view base.store) n (under_way left) cs held) at_now ∙ ap (λ (l : UnderWay). middle_of (view base.store) (max moment latest) l cs held) left_is in
+      let leads : TasksLead config making (without_load load moment s) tasks steps t [] a c =
+      subst (λ w. TasksLead config making w tasks steps t [] a c) begins (subst (λ ts. TasksLead config making start ts steps t [] a c) (append-nil tasks) (p.leads [])) in
+      let settles = give-up config making s t load moment steps a c admitted leads x.1 in
+      let kept_same = started-some room (tape base.tape) (tape begun) starts in (
+        record_given_up load moment steps,
+        refl,
+        record {
+          next = t;
+          stands = record { held = p.left; stands = p.stands; is = refl };
+          follows = settles.follows;
+          kept = settled-kept (giving_up load moment) None [] steps room (tape base.tape) (tape begun) (tape new_base.tape) (tape final) rests starts p.kept ended;
+          outputs = λ n.
+              subst (λ b. at_number [] (map (λ (k : Connection). k.output.text.items) ds) n ≡ at_number [] (map (λ (k : Connection). k.output.text.items) cs) n ++ (if b then [] else replies_to n steps)) kept_same (p.outputs n);
+          notes = subst (λ b. (view new_base.store).untaken ≡ (view base.store).untaken ++ (if b then [] else flat_map (λ (step : Step). step.notices) steps)) kept_same p.notes;
+          closings = closings-moved config s t (record_given_up load moment steps) cs ds refl refl (λ n. refl) p.moves;
+          parted = settles.parted;
+          timely = settles.timely;
+          bounded = subst (λ (k : Config). IsTrue (is_bounded k p.left)) config-stays (sound.bounded p.left p.stands);
+          draws = settles.draws;
+          ordered = orders-none config (view base.store).Used (view new_base.store).Used (without_load load moment s) tasks steps settles.ordered (λ e. ap (λ st. (view st).Used) (x.2 e));
+        },
+      )
+
+  pub happens-given : IsInOrder view tape (state_of base latest cs) → IsSoundStore (view base.store) → IsSoundStore (view new_base.store) → refusal_of config (known_of_loads (loads_pending base.loads)) (giving_up load moment) ≡ None → now < 2 ^ 63 → SameTaken base.loads new_base.loads
+      → Happens view tape (state_of base latest cs) last (giving_up load moment) × IsInOrder view tape last
+  happens-given order sound sound_behind admitted low goes =
+      let x = turned-given order.rests sound_behind admitted sound.some sound.stands in (
+        record {
+          turned = λ s st. subst (λ y. (entry : Record) × (entry.event ≡ giving_up load moment) × Turned view tape (state_of base latest cs) last y entry) (sym st.is) (turned-given order.rests sound_behind admitted st.held st.stands);
+          stays = record {
+            config = config-stays;
+            part_of = ap (λ (f : Frame). f.part_of) parts.frame.rest;
+            made = ap (λ (f : Frame). f.made) parts.frame.rest;
+            namespace = goes.namespace;
+            taken = goes.taken;
+          };
+        },
+        order-turned view tape (state_of base latest cs) last _ x.0 (record { held = sound.some; stands = sound.stands; is = refl }) x.2 order config-stays parts.frame.latest low,
+      )
+
+-- ---- refusals
+
+-- the definition's own cause
+pub refuses-known : {S T : Type 0} (view : S → Values) (n : State S T) (happened : Event) (e : ServiceError) → refusal_of (view n.store).frame.config (known_of view n) happened ≡ Some e → RefusesBy view n happened false e
+refuses-known view n happened e is = subst (λ r. MatchOption r (WantsMemory false e) (λ refused. e ≡ refused)) (sym is) refl
+
+-- want of memory
+pub refuses-wanting : {S T : Type 0} (view : S → Values) (n : State S T) (happened : Event) → refusal_of (view n.store).frame.config (known_of view n) happened ≡ None → RefusesBy view n happened false error.OutOfMemory
+refuses-wanting view n happened is = subst (λ r. MatchOption r (WantsMemory false error.OutOfMemory) (λ refused. error.OutOfMemory ≡ refused)) (sym is) (inl refl)

@@ -1,0 +1,57 @@
+-- Calls on connections, one after another.
+use Rattle.std.proofs.Common.{◌≡◌, ℕ, suc, ◌+◌, ◌-◌, ◌≤◌, ◌<◌, List, [], ◌∷◌, ◌++◌, length, map, take, drop, get_or, Option, refl, sym, ap, ◌∙◌, subst, arith, append_assoc}
+use Rattle.std.specs.List.{flat_map}
+use Rattle.audit_model.specs.Places.{tasks_to_give_up}
+use Rattle.audit_model.specs.Steps.{RunAgain, RunLines, Task}
+use Rattle.audit_waiting_laws.specs.Tidy.{times_in}
+use Rattle.cache_connection.specs.declared.connection.Connection.{Connection}
+use Rattle.cache_lines.specs.declared.base.Base.{Base}
+use Rattle.cache_store.specs.Values.{Values}
+use Rattle.cache_tape.specs.Taped.{Taped}
+use Rattle.cache_core.specs.Settled.{IsAmid}
+use Rattle.cache_core.specs.Settling.{AreThere}
+use Rattle.cache_core.proofs.Amid.{amid-least}
+use Rattle.cache_core.proofs.Waiters.{front-more, rest-next}
+
+map-both : {A B : Type 0} (f : A → B) (xs ys : List A) → map f (xs ++ ys) ≡ map f xs ++ map f ys
+map-both f [] ys = refl
+map-both f (x ∷ xs) ys = ap (λ zs. f x ∷ zs) (map-both f xs ys)
+
+flat-both : {A B : Type 0} (f : A → List B) (xs ys : List A) → flat_map f (xs ++ ys) ≡ flat_map f xs ++ flat_map f ys
+flat-both f [] ys = refl
+flat-both f (x ∷ xs) ys = ap (λ zs. f x ++ zs) (flat-both f xs ys) ∙ sym (append_assoc (f x) (flat_map f xs) (flat_map f ys))
+
+-- the tasks of one more
+pub mapped-more : (f : ℕ → Task) (ns : List ℕ) (at : ℕ) → at < length ns → map f (take (at + 1) ns) ≡ map f (take at ns) ++ f (get_or ns at 0) ∷ []
+mapped-more f ns at lt = ap (map f) (front-more ns at lt) ∙ map-both f (take at ns) (get_or ns at 0 ∷ [])
+
+pub give-up-more : (ns : List ℕ) (at : ℕ) → at < length ns → tasks_to_give_up (take (at + 1) ns) ≡ tasks_to_give_up (take at ns) ++ RunAgain (get_or ns at 0) ∷ RunLines (get_or ns at 0) ∷ []
+give-up-more ns at lt = ap tasks_to_give_up (front-more ns at lt) ∙ flat-both (λ conn. RunAgain conn ∷ RunLines conn ∷ []) (take at ns) (get_or ns at 0 ∷ [])
+
+-- numbers that are there
+pub there-number : (n : ℕ) → 1 ≤ n → n - 1 + 1 ≡ n
+there-number n le = omega (arith, le)
+
+pub first-there : (cs : List Connection) (n : ℕ) → 1 ≤ n → n ≤ length cs → n - 1 < length cs
+first-there cs n a b = omega (arith, a, b)
+
+pub left-there : (mid new : List Connection) (n : ℕ) (rest : List ℕ) → AreThere mid (n ∷ rest) → length new ≡ length mid → AreThere new rest
+left-there mid new n rest there count m some =
+    let also : 1 ≤ times_in m (n ∷ rest) = omega (arith, some) in
+    let x = there m also in
+    let b = x.1 in (x.0, omega (arith, b, count))
+
+module _ {S T : Type 0} (view : S → Values) (tape : T → Option Taped) (now : ℕ) where
+  -- with no line more
+  pub amid-all : (was is : Base S T) (old new : List Connection) (a b : ℕ) → ((lines : ℕ) → IsAmid view tape now was old (a + lines) → IsAmid view tape now is new (b + lines)) → IsAmid view tape now was old a → IsAmid view tape now is new b
+  amid-all was is old new a b goes amid =
+      let x : a ≡ a + 0 = omega arith in
+      let y : b + 0 ≡ b = omega arith in
+      subst (λ k. IsAmid view tape now is new k) y (goes 0 (subst (λ k. IsAmid view tape now was old k) x amid))
+
+  -- the next one has its line
+  pub amid-next : (base : Base S T) (cs : List Connection) (ns : List ℕ) (at : ℕ) → at < length ns → IsAmid view tape now base cs (length (drop at ns)) → IsAmid view tape now base cs 1
+  amid-next base cs ns at lt amid = let e = ap length (rest-next ns at lt) in amid-least view tape now base cs (length (drop at ns)) 1 (omega (arith, e)) amid
+
+  pub amid-two : (base : Base S T) (cs : List Connection) (ns : List ℕ) (at : ℕ) → at < length ns → IsAmid view tape now base cs (length (drop at ns) + length (drop at ns)) → IsAmid view tape now base cs 2
+  amid-two base cs ns at lt amid = let e = ap length (rest-next ns at lt) in amid-least view tape now base cs (length (drop at ns) + length (drop at ns)) 2 (omega (arith, e)) amid

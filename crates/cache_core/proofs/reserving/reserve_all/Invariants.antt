@@ -1,0 +1,9 @@
+use Rattle.std.proofs.Common.{take}
+use Rattle.cache_core.specs.Settling.{AllLookAsBefore, HaveReplyRoom}
+use Rattle.cache_core.proofs.reserving.reserve_all.Given as goal
+
+abbrev pub invariant-loop-number : goal.invariant-loop-number
+invariant-loop-number l = record {
+  same : AllLookAsBefore l.fn.connections.items l.connections.items;
+  room : HaveReplyRoom l.connections.items l.size (take l.number-index l.waiting);
+}

@@ -1,0 +1,132 @@
+use Rattle.std.proofs.Common.{◌≡◌, ◌+◌, ◌-◌, ◌≤◌, ◌<◌, ◌++◌, ◌∷◌, [], ℕ, List, suc, length, map, take, drop, get_or, refl, sym, ap, ◌∙◌, subst, arith}
+use Rattle.std.proofs.lemmas.List.{drop_all, take_all}
+use Rattle.audit_model.specs.Places.{tasks_to_give_up}
+use Rattle.audit_model.specs.Replies.{outcome_text}
+use Rattle.audit_model.specs.Steps.{Deliver, RunAgain, RunLines, Task}
+use Rattle.audit_model.specs.declared.config.Config.{Config}
+use Rattle.cache_store.specs.Promises.{Frame}
+use Rattle.cache_core.specs.Settled.{IsAmid, Parts}
+use Rattle.cache_core.specs.Settling.{AreThere, AreWaiting, HaveReplyRoom, IsWaitingAt, PartsUnknown, Reruns}
+use Rattle.cache_core.proofs.Amid.{parts-none, parts-on, unknown-none, unknown-on}
+use Rattle.cache_core.proofs.Loops.{amid-all, amid-next, amid-two, first-there, give-up-more, left-there, mapped-more, there-number}
+use Rattle.cache_core.proofs.Waiters.{first-waits, front-more, left-room, left-wait, once-first, rest-next, waits-above, waits-inside, waits-numbered}
+use Rattle.cache_core.proofs.settling.tell_all.Goals as goal
+
+pub loop-number-init : goal.loop-number-init
+loop-number-init g c = record {
+  ran = parts-none g.S.Store.view g.T.Tape.view c.args.now c.args.base.now c.args.connections.now.items c.requires.amid.in_time.0;
+  amid = λ lines amid. amid;
+  waits = c.requires.waits;
+  room = c.requires.room;
+  count = refl;
+  goes = record { taken = refl; namespace = refl };
+}
+
+pub overflow_sub-index : goal.overflow_sub-index
+overflow_sub-index g c =
+    let ns = c.args.waiting.now in
+    let at = c.loop-number.number-index in
+    let n = get_or ns at 0 in
+    let rest = drop (at + 1) ns in
+    let next = rest-next ns at c.loop-number-test.true in
+    let i = c.loop-number.invariant in
+    let config = (g.S.Store.view c.args.base.now.store).frame.config in
+    let mid = c.loop-number.connections.items in
+    let waits = subst (AreWaiting config mid) next i.waits in
+    let first = first-waits config mid n rest waits in
+    waits-above config mid n first
+
+pub tell_at-requires-clause-inside : goal.tell_at-requires-clause-inside
+tell_at-requires-clause-inside g c =
+    let ns = c.args.waiting.now in
+    let at = c.loop-number.number-index in
+    let n = get_or ns at 0 in
+    let rest = drop (at + 1) ns in
+    let next = rest-next ns at c.loop-number-test.true in
+    let i = c.loop-number.invariant in
+    let config = (g.S.Store.view c.args.base.now.store).frame.config in
+    let mid = c.loop-number.connections.items in
+    let waits = subst (AreWaiting config mid) next i.waits in
+    let first = first-waits config mid n rest waits in
+    waits-inside config mid n first
+
+pub tell_at-requires-clause-amid : goal.tell_at-requires-clause-amid
+tell_at-requires-clause-amid g c =
+    let ns = c.args.waiting.now in
+    let at = c.loop-number.number-index in
+    let n = get_or ns at 0 in
+    let rest = drop (at + 1) ns in
+    let next = rest-next ns at c.loop-number-test.true in
+    let i = c.loop-number.invariant in
+    let config = (g.S.Store.view c.args.base.now.store).frame.config in
+    let mid = c.loop-number.connections.items in
+    let waits = subst (AreWaiting config mid) next i.waits in
+    let first = first-waits config mid n rest waits in
+    amid-next g.S.Store.view g.T.Tape.view c.args.now c.loop-number.base mid ns at c.loop-number-test.true (amid-all g.S.Store.view g.T.Tape.view c.args.now c.args.base.now c.loop-number.base c.args.connections.now.items mid (length ns) (length (drop at ns)) i.amid c.requires.amid)
+
+pub tell_at-requires-clause-waits : goal.tell_at-requires-clause-waits
+tell_at-requires-clause-waits g c =
+    let ns = c.args.waiting.now in
+    let at = c.loop-number.number-index in
+    let n = get_or ns at 0 in
+    let rest = drop (at + 1) ns in
+    let next = rest-next ns at c.loop-number-test.true in
+    let i = c.loop-number.invariant in
+    let config = (g.S.Store.view c.args.base.now.store).frame.config in
+    let mid = c.loop-number.connections.items in
+    let waits = subst (AreWaiting config mid) next i.waits in
+    let first = first-waits config mid n rest waits in
+    subst (λ (k : Config). IsWaitingAt k mid (n - 1 + 1)) (sym (ap (λ (f : Frame). f.config) i.ran.frame.rest)) (waits-numbered config mid n first)
+
+pub tell_at-requires-clause-room : goal.tell_at-requires-clause-room
+tell_at-requires-clause-room g c =
+    let ns = c.args.waiting.now in
+    let at = c.loop-number.number-index in
+    let n = get_or ns at 0 in
+    let rest = drop (at + 1) ns in
+    let next = rest-next ns at c.loop-number-test.true in
+    let i = c.loop-number.invariant in
+    let config = (g.S.Store.view c.args.base.now.store).frame.config in
+    let mid = c.loop-number.connections.items in
+    let waits = subst (AreWaiting config mid) next i.waits in
+    let first = first-waits config mid n rest waits in
+    (subst (HaveReplyRoom mid (length (outcome_text c.args.outcome.now))) next i.room) n (once-first n rest)
+
+pub loop-number-preserved : goal.loop-number-preserved
+loop-number-preserved g c =
+    let ns = c.args.waiting.now in
+    let at = c.loop-number.number-index in
+    let n = get_or ns at 0 in
+    let rest = drop (at + 1) ns in
+    let next = rest-next ns at c.loop-number-test.true in
+    let i = c.loop-number.invariant in
+    let config = (g.S.Store.view c.args.base.now.store).frame.config in
+    let mid = c.loop-number.connections.items in
+    let waits = subst (AreWaiting config mid) next i.waits in
+    let first = first-waits config mid n rest waits in
+    let number : n - 1 + 1 ≡ n = there-number n (waits-above config mid n first) in
+    let one = subst (λ (k : ℕ). Parts g.S.Store.view g.T.Tape.view c.args.now c.loop-number.base c.tell_at.new.base mid c.tell_at.new.connections.items (Deliver k c.args.outcome.now ∷ [])) number c.tell_at.ensures.ran in
+    record {
+      ran = subst (λ (ts : List Task). Parts g.S.Store.view g.T.Tape.view c.args.now c.args.base.now c.tell_at.new.base c.args.connections.now.items c.tell_at.new.connections.items ts) (sym (mapped-more (λ conn. Deliver conn c.args.outcome.now) ns at c.loop-number-test.true))
+          (parts-on g.S.Store.view g.T.Tape.view c.args.now c.args.base.now c.loop-number.base c.tell_at.new.base c.args.connections.now.items mid c.tell_at.new.connections.items (map (λ conn. Deliver conn c.args.outcome.now) (take at ns)) (Deliver n c.args.outcome.now ∷ []) i.ran one);
+      amid = λ lines amid.
+          let h = i.amid lines amid in
+          c.tell_at.ensures.amid (length rest + lines) (subst (λ k. IsAmid g.S.Store.view g.T.Tape.view c.args.now c.loop-number.base mid k) (let e = ap length next in omega (arith, e)) h);
+      waits = left-wait config n rest mid c.tell_at.new.connections.items waits c.tell_at.ensures.others;
+      room = left-room config n (length (outcome_text c.args.outcome.now)) rest mid c.tell_at.new.connections.items waits (subst (HaveReplyRoom mid (length (outcome_text c.args.outcome.now))) next i.room) c.tell_at.ensures.others;
+      count = c.tell_at.ensures.others.count ∙ i.count;
+      goes = record { taken = c.tell_at.ensures.goes.taken ∙ i.goes.taken; namespace = c.tell_at.ensures.goes.namespace ∙ i.goes.namespace };
+    }
+
+pub returns-clause-ran : goal.returns-clause-ran
+returns-clause-ran g c =
+    let at = c.loop-number.number-index in
+    let ns = c.args.waiting.now in
+    subst (λ (xs : List ℕ). Parts g.S.Store.view g.T.Tape.view c.args.now c.args.base.now c.loop-number.base c.args.connections.now.items c.loop-number.connections.items (map (λ conn. Deliver conn c.args.outcome.now) xs)) (take_all at ns c.loop-number-test.false) c.loop-number.invariant.ran
+
+pub returns-clause-amid : goal.returns-clause-amid
+returns-clause-amid g c = λ lines amid.
+    let at = c.loop-number.number-index in
+    let ns = c.args.waiting.now in
+    let none = ap length (drop_all at ns c.loop-number-test.false) in
+    subst (λ k. IsAmid g.S.Store.view g.T.Tape.view c.args.now c.loop-number.base c.loop-number.connections.items k) (omega (arith, none)) (c.loop-number.invariant.amid lines amid)

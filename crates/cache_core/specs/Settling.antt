@@ -1,0 +1,178 @@
+-- Answers and give-ups, and the connections that wait for the load.
+use Rattle.std.specs.Prelude.{◌≡◌, ◌≢◌, ℕ, suc, ◌+◌, ◌-◌, ◌≤◌, ◌==◌, not, Bool, true, false, List, [], ◌∷◌, ◌++◌, if◌then◌else◌, is_some, length, Option, Some, None, vec_len, vec_capacity}
+use Rattle.std.specs.List.{filter, slice_get}
+use Rattle.std.specs.Option.{option_map, option_map_or}
+use Rattle.audit_model.specs.Belongs.{Known}
+use Rattle.audit_model.specs.Bytewise.{is_empty}
+use Rattle.audit_model.specs.Follows.{known_in}
+use Rattle.audit_model.specs.Grammar.{reading}
+use Rattle.audit_model.specs.Situation.{HeldValue, PendingLoad, Situation}
+use Rattle.audit_model.specs.Steps.{Task}
+use Rattle.audit_model.specs.declared.command.Closing.{Closing}
+use Rattle.audit_model.specs.declared.config.Config.{Config}
+use Rattle.audit_model.specs.declared.event.Event.{Event}
+use Rattle.audit_model.specs.declared.event.Event.TheVariants as event
+use Rattle.audit_model.specs.declared.event.Outcome.{Outcome}
+use Rattle.audit_model.specs.declared.transcript.Accepted.{Accepted}
+use Rattle.audit_model.specs.declared.transcript.Note.{Note}
+use Rattle.audit_model.specs.declared.transcript.Record.{Record}
+use Rattle.audit_waiting_laws.specs.Tidy.{times_in}
+use Rattle.cache_commands.specs.Answered.{IsStored}
+use Rattle.cache_commands.specs.Right.{KeepsFrame}
+use Rattle.cache_connection.specs.Fed.{FedRan, LooksAsBefore}
+use Rattle.cache_connection.specs.declared.connection.Connection.{Connection}
+use Rattle.cache_leads.specs.Leads.{BeginsUnknown}
+use Rattle.cache_lines.specs.Making.{making_of}
+use Rattle.cache_lines.specs.Waiting.{UnderWay, is_load, under_way}
+use Rattle.cache_lines.specs.Whole.{held_line}
+use Rattle.cache_lines.specs.declared.base.Base.{Base}
+use Rattle.cache_loads.specs.Pending.{load_numbered, loads_pending}
+use Rattle.cache_loads.specs.declared.loads.Loads.{Loads}
+use Rattle.cache_loads.specs.declared.standing.Standing.{Standing}
+use Rattle.cache_loads.specs.declared.standing.Standing.TheVariants as now_is
+use Rattle.cache_store.specs.Values.{GivesNote, IsMoment, Values}
+use Rattle.cache_tape.specs.Taped.{IsAtRest, Taped, started}
+use Rattle.cache_core.specs.Fed.{ReplacedAt, seen_at}
+use Rattle.cache_core.specs.Settled.{Parts, Piece}
+use Rattle.cache_core.specs.State.{State, StandsFor}
+use Rattle.cache_core.specs.Turned.{Stays, Turned}
+
+-- ---- the events
+
+-- a load is answered
+abbrev pub answering : ℕ → Outcome → ℕ → Event
+answering load outcome moment = event.Answer load outcome (record { nanos = moment })
+
+-- a load is given up
+abbrev pub giving_up : ℕ → ℕ → Event
+giving_up load moment = event.GiveUp load (record { nanos = moment })
+
+-- what is known of the loads under way
+abbrev pub known_of_loads : List PendingLoad → Known
+known_of_loads pending = known_in (record { latest = 0; opened = 0; sent = 0; connections = []; pending = pending; held = []; dropped = false })
+
+-- those that wait for that load
+abbrev pub waiting_on : ℕ → UnderWay → List ℕ
+waiting_on number loads = option_map_or (λ load. load.waiting) (load_numbered number loads.pending) []
+
+-- the loads under way, but for that one
+abbrev pub but_for : ℕ → UnderWay → UnderWay
+but_for number loads = record { sent = loads.sent; pending = filter (λ load. not (load.number == number)) loads.pending }
+
+-- the event happened: each situation that the old state stood for goes on by a record of it
+pub record Happens {S T : Type 0} (view : S → Values) (tape : T → Option Taped) (was is : State S T) (happened : Event) : Type 0 where
+  pub turned : (s : Situation) → StandsFor view was s → (entry : Record) × (entry.event ≡ happened) × Turned view tape was is s entry
+  pub stays : Stays view was is
+
+-- ---- connections that wait
+
+-- the connection of that number is there and open, and its first unread line is a `LOAD` that waits
+pub record IsWaitingAt (config : Config) (connections : List Connection) (number : ℕ) : Type 0 where
+  pub index : ℕ
+  pub place : number ≡ suc index
+  pub is : Connection
+  pub at : slice_get connections index ≡ Some is
+  pub waits : is.standing ≡ now_is.Waiting
+  pub is_open : is.closing ≡ None
+  pub load : is_load (reading config (held_line is.unread.bytes)) ≡ true
+
+-- each of them is so, and stands among them once
+pub record AreWaiting (config : Config) (connections : List Connection) (numbers : List ℕ) : Type 0 where
+  pub once : (n : ℕ) → times_in n numbers ≤ 1
+  pub each : (n : ℕ) → 1 ≤ times_in n numbers → IsWaitingAt config connections n
+
+-- each of them was opened
+abbrev pub AreThere : List Connection → List ℕ → Type 0
+AreThere connections numbers = (n : ℕ) → 1 ≤ times_in n numbers → (1 ≤ n) × (n ≤ length connections)
+
+-- the connection at a place, if there is one, has room for so many bytes more of replies
+abbrev pub HasReplyRoomAt : List Connection → ℕ → ℕ → Type 0
+HasReplyRoomAt connections size index = (c : Connection) → slice_get connections index ≡ Some c → vec_len c.output.text + size ≤ vec_capacity c.output.text
+
+-- each of those connections has it
+abbrev pub HaveReplyRoom : List Connection → ℕ → List ℕ → Type 0
+HaveReplyRoom connections size numbers = (n : ℕ) → 1 ≤ times_in n numbers → HasReplyRoomAt connections size (n - 1)
+
+-- each connection is the same to whoever looks at it
+abbrev pub AllLookAsBefore : (old new : List Connection) → Type 0
+AllLookAsBefore [] [] = Unit {0}
+AllLookAsBefore [] (d ∷ ds) = ⊥
+AllLookAsBefore (c ∷ cs) [] = ⊥
+AllLookAsBefore (c ∷ cs) (d ∷ ds) = LooksAsBefore c d × AllLookAsBefore cs ds
+
+-- no connection but the one at that place was touched
+pub record LeavesOthers (old new : List Connection) (index : ℕ) : Type 0 where
+  pub count : length new ≡ length old
+  pub others : (place : ℕ) → place ≢ index → slice_get new place ≡ slice_get old place
+
+-- ---- what one of them does
+
+-- it is open, and runs lines
+abbrev pub runs_with : Option Closing → Standing → Bool
+runs_with (Some why) standing = false
+runs_with None now_is.Ready = true
+runs_with None now_is.Held = false
+runs_with None now_is.Waiting = false
+
+-- there is a connection, and it is open and runs lines
+abbrev pub runs_at : Option Connection → Bool
+runs_at None = false
+runs_at (Some c) = runs_with c.closing c.standing
+
+-- A value was stored under the load's key, and what that told was taken, or was not.
+pub record StoresNoted {S : Type 0} (view : S → Values) (takes : Bool) (now : ℕ) (key : List ℕ) (outcome : Outcome) (accepted : Option Accepted) (notes : List Note) (old new : S) : Type 0 where
+  pub middle : S
+  pub stored : IsStored now key outcome accepted (view old) (view middle)
+  pub drains : GivesNote (view middle) (view new)
+  pub untaken_is : (view new).untaken ≡ (if takes then [] else (view middle).untaken)
+  pub notes_are : takes ≡ true → notes ≡ (view middle).untaken
+
+module _ {S T : Type 0} (view : S → Values) (tape : T → Option Taped) where
+  -- the lines of the connection at a place ran, as in a feed of nothing
+  pub record ResumesAt (now index : ℕ) (old new : Base S T) (were are : List Connection) : Type 0 where
+    pub put : ReplacedAt were are index
+    pub is_held : Bool
+    pub ran : FedRan now (index + 1) put.was [] put.is is_held (seen_at view tape old were index) (seen_at view tape new are index)
+
+  -- a part of a record that has a step, behind whose first nothing is known of the order of use
+  pub record Reruns (now : ℕ) (was is : Base S T) (old new : List Connection) (tasks : List Task) : Type 0 where
+    pub ran : (held : List HeldValue) → (view was.store).Stands held → (p : Piece view tape (making_of (view was.store).frame) now was is old new tasks held) × BeginsUnknown (view was.store).frame.config p.steps × (is_empty p.steps ≡ false)
+    pub frame : KeepsFrame (view was.store).frame (view is.store).frame now
+
+  -- the same of one that may have no step, and then has done nothing
+  pub record PartsUnknown (now : ℕ) (was is : Base S T) (old new : List Connection) (tasks : List Task) : Type 0 where
+    pub ran : (held : List HeldValue) → (view was.store).Stands held → (p : Piece view tape (making_of (view was.store).frame) now was is old new tasks held) × BeginsUnknown (view was.store).frame.config p.steps × (is_empty p.steps ≡ true → is.store ≡ was.store)
+    pub frame : KeepsFrame (view was.store).frame (view is.store).frame now
+
+  -- ---- an answer's own step
+
+  -- a load may be settled at that moment: no record is under way, and where any are kept no note waits beside them
+  pub record CanSettle (now : ℕ) (base : Base S T) : Type 0 where
+    pub in_time : IsMoment (view base.store) now
+    pub rests : IsAtRest (tape base.tape)
+    pub untaken : is_some (tape base.tape) ≡ true → (view base.store).untaken ≡ []
+
+  -- The record of an answer was begun, with so many lines of room, and its value stored under the load's key; where records are kept, what that
+  -- told was taken.
+  pub record BeginsAnswer (now load : ℕ) (outcome : Outcome) (accepted : Option Accepted) (notes : List Note) (room : ℕ) (old new : Base S T) : Type 0 where
+    pub key : List ℕ
+    pub keyed : option_map (λ l. l.key) (load_numbered load (loads_pending old.loads)) ≡ Some key
+    pub middle : S
+    pub stored : IsStored now key outcome accepted (view old.store) (view middle)
+    pub drains : GivesNote (view middle) (view new.store)
+    pub untaken_is : (view new.store).untaken ≡ (if is_some (tape old.tape) then [] else (view middle).untaken)
+    pub notes_are : is_some (tape old.tape) ≡ true → notes ≡ (view middle).untaken
+    pub begun : tape new.tape ≡ option_map (started room) (tape old.tape)
+    pub loads_are : new.loads ≡ old.loads
+
+  -- The load was taken out, and parts of a record followed for those that waited for it.
+  pub record HandsOut (now load : ℕ) (old new : Base S T) (were are : List Connection) (tasks : List ℕ → List Task) : Type 0 where
+    pub left : Loads
+    pub left_is : under_way left ≡ but_for load (under_way old.loads)
+    pub parts : Parts view tape now (record { store = old.store; loads = left; tape = old.tape }) new were are (tasks (waiting_on load (under_way old.loads)))
+
+  -- the same, behind whose first step nothing is known of the order of use
+  pub record RunsAgain (now load : ℕ) (old new : Base S T) (were are : List Connection) (tasks : List ℕ → List Task) : Type 0 where
+    pub left : Loads
+    pub left_is : under_way left ≡ but_for load (under_way old.loads)
+    pub parts : PartsUnknown now (record { store = old.store; loads = left; tape = old.tape }) new were are (tasks (waiting_on load (under_way old.loads)))

@@ -1,0 +1,151 @@
+//! An answer: its value is stored, those that wait are handed its outcome, and then their lines run.
+ghost use Rattle.std.specs.Prelude.{◌≡◌, ◌+◌, ◌≤◌, ◌++◌, [], None, true, is_some, length, map, IfOk, OnOk, OnErr, vec_capacity, if◌then◌else◌};
+ghost use Rattle.audit_model.specs.Belongs.{refusal_of_outcome};
+ghost use Rattle.audit_model.specs.Replies.{outcome_text};
+ghost use Rattle.audit_model.specs.Steps.{Deliver, RunLines};
+ghost use Rattle.cache_core.specs.Fed.{BaseStays};
+ghost use Rattle.cache_core.specs.Rooms.{lines_for};
+ghost use Rattle.cache_core.specs.Settled.{IsAmid};
+ghost use Rattle.cache_core.specs.Settling.{AllLookAsBefore, AreWaiting, BeginsAnswer, CanSettle, HandsOut, HaveReplyRoom, StoresNoted, waiting_on};
+ghost use Rattle.cache_lines.specs.Waiting.{under_way};
+ghost use Rattle.cache_loads.specs.Pending.{SameTaken, load_numbered, loads_pending};
+ghost use Rattle.cache_store.specs.Values.{IsMoment};
+
+use crate::recording::begin_kept;
+use crate::reserving::reserve_all;
+use crate::settling::{resume_all, tell_all};
+use audit_model::{Accepted, Note, Outcome, Seq};
+use cache_commands::Keyed;
+use cache_connection::Connection;
+use cache_lines::{Base, drain, most_notes};
+use cache_store::Store;
+use cache_tape::Tape;
+use std::alloc::{AllocError, Global};
+
+/// What an answer's own step did.
+#[derive(Drop)]
+pub struct Stored {
+    /// The part that took the value, if any.
+    pub accepted: Option<Accepted>,
+    /// What storing it told, where records are kept.
+    pub notes: Vec<Note>,
+}
+
+/// How many bytes the reply has to a waiting `LOAD` that is handed this outcome.
+fn reply_len(outcome: &Outcome) -> usize
+    requires { length (outcome_text outcome.now) ≤ 8202 }
+    ensures { result ≡ length (outcome_text outcome.now) }
+{
+    match outcome {
+        Outcome::Value(bytes, _) => bytes.len() + 5,
+        Outcome::None => 5,
+        Outcome::Fault(text) => text.len() + 10,
+    }
+}
+
+/// Room for the notes of an answer's own step, where records are kept.
+fn notes_where<S: Store>(
+    alloc: Global,
+    store: &Keyed<S>,
+    keeps: bool,
+) -> Result<Vec<Note>, AllocError>
+    ensures empty { IfOk result (λ notes. notes.items ≡ []) }
+    ensures room { IfOk result (λ notes. keeps ≡ true → (S.view store.now).count + 1 ≤ vec_capacity notes) }
+{
+    if !keeps {
+        return Ok(Vec::new(alloc));
+    }
+    Vec::with_capacity(alloc, most_notes(store))
+}
+
+/// Stores an answer's value under its load's key, and says which part took it; what that told is taken where records are kept, for which there
+/// is room. An `Err` changes nothing; a number that is used up counts as want of memory.
+fn store_noted<S: Store>(
+    store: &mut Keyed<S>,
+    keeps: bool,
+    key: &[u8],
+    outcome: &Outcome,
+    now: u64,
+    notes: &mut Vec<Note>,
+) -> Result<Option<Accepted>, AllocError>
+    requires in_time { IsMoment (S.view store.old) now }
+    requires fit { refusal_of_outcome (S.view store.old).frame.config outcome.now ≡ None }
+    requires room { keeps ≡ true → (length (S.view store.old).untaken + (S.view store.old).count + 1 ≤ vec_capacity notes.old) × (notes.old.items ≡ []) }
+    ensures stored { IfOk result (λ accepted. StoresNoted S.view keeps now key.now outcome.now accepted notes.new.items store.old store.new) }
+    ensures unchanged { OnErr result (store.new ≡ store.old) }
+{
+    let Ok(accepted) = store.store_outcome(key, outcome, now) else {
+        return Err(AllocError);
+    };
+    if keeps {
+        drain(store, notes);
+        return Ok(accepted);
+    }
+    Ok(accepted)
+}
+
+/// Makes room for all that an answer cannot do without, stores its value under the load's key, and begins its record.
+pub fn begin_answer<S: Store, T: Tape>(
+    alloc: Global,
+    base: &mut Base<S, T>,
+    now: u64,
+    connections: &mut Vec<Connection>,
+    load: u64,
+    outcome: &Outcome,
+) -> Result<Stored, AllocError>
+    requires can_settle { CanSettle S.view T.view now base.old }
+    requires fit { refusal_of_outcome (S.view base.old.store).frame.config outcome.now ≡ None }
+    requires under { is_some (load_numbered load (loads_pending base.old.loads)) ≡ true }
+    ensures begins { IfOk result (λ stored. BeginsAnswer S.view T.view now load outcome.now stored.accepted stored.notes.items (lines_for load (under_way base.old.loads)) base.old base.new) }
+    ensures same { AllLookAsBefore connections.old.items connections.new.items }
+    ensures room { OnOk result (HaveReplyRoom connections.new.items (length (outcome_text outcome.now)) (waiting_on load (under_way base.old.loads))) }
+    ensures unchanged { OnErr result (BaseStays base.old base.new) }
+{
+    let Some(found) = base.loads.get(load) else {
+        unreachable!();
+    };
+    let waiting = found.waiting.as_slice();
+    reserve_all(connections, waiting, reply_len(outcome))?;
+    let keeps = base.tape.keeps();
+    let mut notes = notes_where(alloc, &base.store, keeps)?;
+    let count = waiting.len();
+    begin_kept(&mut base.tape, count + count)?;
+    match store_noted(
+        &mut base.store,
+        keeps,
+        found.key.as_slice(),
+        outcome,
+        now,
+        &mut notes,
+    ) {
+        Ok(accepted) => Ok(Stored { accepted, notes }),
+        Err(error) => {
+            base.tape.abandon();
+            Err(error)
+        }
+    }
+}
+
+/// Takes the load out, whose answer was stored: its outcome is handed to those that wait for it, in order, and then their lines run in the
+/// same order.
+pub fn hand_out<S: Store, T: Tape>(
+    base: &mut Base<S, T>,
+    now: u64,
+    connections: &mut Vec<Connection>,
+    load: u64,
+    outcome: &Outcome,
+)
+    requires amid { IsAmid S.view T.view now base.old connections.old.items (length (waiting_on load (under_way base.old.loads)) + length (waiting_on load (under_way base.old.loads))) }
+    requires under { is_some (load_numbered load (loads_pending base.old.loads)) ≡ true }
+    requires waits { AreWaiting (S.view base.old.store).frame.config connections.old.items (waiting_on load (under_way base.old.loads)) }
+    requires room { HaveReplyRoom connections.old.items (length (outcome_text outcome.now)) (waiting_on load (under_way base.old.loads)) }
+    ensures out { HandsOut S.view T.view now load base.old base.new connections.old.items connections.new.items (λ numbers. map (λ conn. Deliver conn outcome.now) numbers ++ map RunLines numbers) }
+    ensures goes { SameTaken base.old.loads base.new.loads }
+{
+    let Some(settled) = base.loads.settle(load) else {
+        unreachable!();
+    };
+    let waiting = settled.waiting.as_slice();
+    tell_all(base, now, connections, waiting, outcome);
+    resume_all(base, now, connections, waiting);
+}

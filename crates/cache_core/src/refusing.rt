@@ -1,0 +1,97 @@
+//! Which answers and give-ups are refused.
+ghost use Rattle.std.specs.Prelude.{◌≡◌};
+ghost use Rattle.audit_model.specs.Belongs.{refusal_of, refusal_of_bytes, refusal_of_ms, refusal_of_outcome};
+ghost use Rattle.audit_model.specs.Grammar.{is_value};
+ghost use Rattle.cache_core.specs.Settling.{answering, giving_up, known_of_loads};
+ghost use Rattle.cache_loads.specs.Pending.{loads_pending};
+
+use audit_model::{Config, Outcome, ServiceError};
+use cache_loads::Loads;
+
+/// The latest moment that may be handed in, in nanoseconds.
+const MAX_MOMENT: u64 = (1 << 63) - 1;
+
+/// An outcome has at most this many bytes.
+const MAX_BYTES: usize = 8192;
+
+/// A value lives at most this many milliseconds.
+const MAX_MILLISECONDS: u64 = 999_999_999_999;
+
+/// Whether the bytes may stand as a value: none of them ends a line.
+fn are_value(bytes: &[u8]) -> bool
+    ensures { result ≡ is_value bytes.now }
+{
+    bytes.iter().all(|b| *b != 10 && *b != 13)
+}
+
+/// Why an outcome may not have those bytes.
+fn refuse_bytes(bytes: &[u8]) -> Option<ServiceError>
+    ensures { result ≡ refusal_of_bytes bytes.now }
+{
+    if !are_value(bytes) {
+        return Some(ServiceError::LineEnd);
+    }
+    if bytes.len() > MAX_BYTES {
+        return Some(ServiceError::TooLong);
+    }
+    None
+}
+
+/// Why a value may not live so long.
+fn refuse_milliseconds(config: &Config, milliseconds: Option<u64>) -> Option<ServiceError>
+    ensures { result ≡ refusal_of_ms config.now milliseconds }
+{
+    match milliseconds {
+        Some(milliseconds) => {
+            if !config.own_deadlines || milliseconds > MAX_MILLISECONDS {
+                Some(ServiceError::Deadline)
+            } else {
+                None
+            }
+        }
+        None => None,
+    }
+}
+
+/// Why an outcome is refused.
+fn refuse_outcome(config: &Config, outcome: &Outcome) -> Option<ServiceError>
+    ensures { result ≡ refusal_of_outcome config.now outcome.now }
+{
+    match outcome {
+        Outcome::Value(bytes, milliseconds) => match refuse_bytes(bytes.as_slice()) {
+            Some(error) => Some(error),
+            None => refuse_milliseconds(config, *milliseconds),
+        },
+        Outcome::None => None,
+        Outcome::Fault(text) => refuse_bytes(text.as_slice()),
+    }
+}
+
+/// Why a load is not settled: it is not under way, or the moment is too late.
+pub fn refuse_load(config: &Config, loads: &Loads, load: u64, moment: u64) -> Option<ServiceError>
+    ensures { result ≡ refusal_of config.now (known_of_loads (loads_pending loads.now)) (giving_up load moment) }
+{
+    if loads.get(load).is_none() {
+        return Some(ServiceError::NoLoad);
+    }
+    if moment > MAX_MOMENT {
+        return Some(ServiceError::Moment);
+    }
+    None
+}
+
+/// Why a load is not answered, want of memory aside.
+pub fn refuse_answer(
+    config: &Config,
+    loads: &Loads,
+    load: u64,
+    outcome: &Outcome,
+    moment: u64,
+) -> Option<ServiceError>
+    ensures { result ≡ refusal_of config.now (known_of_loads (loads_pending loads.now)) (answering load outcome.now moment) }
+{
+    match refuse_load(config, loads, load, moment) {
+        Some(error) => Some(error),
+        None => refuse_outcome(config, outcome),
+    }
+}

@@ -1,0 +1,394 @@
+//! What two connections of a namespace that load are asked, row by row, and what has to come of it. What is refused for memory is asked
+//! once more.
+ghost use Rattle.std.specs.Prelude.{◌≡◌, ◌≤◌, ℕ, true, Some};
+ghost use Rattle.cache_parts.specs.Parts.{IsBrief};
+ghost use Rattle.cache_tape.specs.Taped.{IsAtRest};
+
+use audit_model::{
+    Bytes, Closing, Config, EvictionPolicy, Instant, LoadId, Outcome, Seq, ServiceError, Weight,
+};
+use cache_core::Namespace;
+use cache_entries::KeyedHasher;
+use cache_front_store::FrontStore;
+use cache_store::Store;
+use cache_tape::{Bare, Kept, Tape};
+use rand_core::SeedableRng;
+use rand_xoshiro::SplitMix64;
+use std::alloc::{AllocError, Global};
+
+/// Without capacity, times and own deadlines.
+pub const PLAIN: Config = Config {
+    capacity: None,
+    policy: EvictionPolicy::Lru,
+    parts: 1,
+    weight: Weight::One,
+    live_ms: None,
+    idle_ms: None,
+    own_deadlines: false,
+};
+
+pub const START: Instant = Instant { nanos: 0 };
+
+/// A moment that no namespace takes.
+pub const LATE: Instant = Instant { nanos: 1 << 63 };
+
+pub const FIRST: u64 = 1;
+
+pub const SECOND: u64 = 2;
+
+/// An outcome.
+#[derive(Clone, Copy)]
+pub enum Given<'a> {
+    Value(&'a [u8], Option<u64>),
+    /// A value of so many bytes.
+    Long(usize),
+    Nothing,
+    Fault(&'a [u8]),
+}
+
+/// What is asked, and what has to come of it. Where no moment is named it is the start's. Replies are told where no records are kept.
+#[derive(Clone, Copy)]
+pub enum Row<'a> {
+    /// A piece, and what the connection is replied till then.
+    Says(u64, &'a [u8], &'a [u8]),
+    /// A piece of so many bytes without a line's end, of which all is taken.
+    Feeds(u64, usize),
+    Output(u64, &'a [u8]),
+    /// The numbers of the loads of `k` that go out.
+    Sends(&'a [u64]),
+    Waits(u64, bool),
+    Answers(u64, Given<'a>, Instant, Result<(), ServiceError>),
+    GivesUp(u64, Instant, Result<(), ServiceError>),
+    /// The loads from one number to before another go out and are given up, one after the other, and nobody is replied.
+    GivesUpEach(u64, u64),
+    Closes(u64),
+    Closed(u64, Option<Closing>),
+    /// How many notes come out.
+    Notes(usize),
+}
+
+/// A namespace under test, and whether it keeps records.
+#[derive(Drop)]
+struct Space<S: Store, T: Tape> {
+    alloc: Global,
+    inner: Namespace<S, T>,
+    keeps: bool,
+}
+
+fn open<S: Store, T: Tape>(space: &mut Space<S, T>) -> Result<u64, AllocError> {
+    match space.inner.open() {
+        Err(_) => space.inner.open(),
+        opened => opened,
+    }
+}
+
+/// Feeds a piece, again where memory is refused.
+fn feed_piece<S: Store, T: Tape>(
+    space: &mut Space<S, T>,
+    conn: u64,
+    piece: &[u8],
+) -> Result<bool, ServiceError> {
+    match space.inner.feed(conn, piece, START) {
+        Err(ServiceError::OutOfMemory) => space.inner.feed(conn, piece, START),
+        fed => fed,
+    }
+}
+
+/// Feeds a piece, and then nothing, where a command is held back.
+fn feed<S: Store, T: Tape>(
+    space: &mut Space<S, T>,
+    conn: u64,
+    piece: &[u8],
+) -> Result<bool, ServiceError> {
+    match feed_piece(space, conn, piece) {
+        Ok(true) => space.inner.feed(conn, b"", START),
+        fed => fed,
+    }
+}
+
+fn long_text(alloc: Global, length: usize) -> Result<Vec<u8>, AllocError> {
+    match vec![in alloc; b'x'; length] {
+        Err(_) => vec![in alloc; b'x'; length],
+        made => made,
+    }
+}
+
+fn feeds<S: Store, T: Tape>(space: &mut Space<S, T>, conn: u64, length: usize) -> bool {
+    match long_text(space.alloc, length) {
+        Ok(piece) => feed(space, conn, piece.as_slice()) == Ok(false),
+        Err(_) => false,
+    }
+}
+
+/// Whether the replies are those, or none where records are kept.
+fn is_output<S: Store, T: Tape>(space: &mut Space<S, T>, conn: u64, wanted: &[u8]) -> bool {
+    match space.inner.take_output(conn) {
+        Ok(output) => {
+            if space.keeps {
+                output.len() == 0
+            } else {
+                output.as_slice() == wanted
+            }
+        }
+        Err(_) => false,
+    }
+}
+
+/// Feeds a piece, and answers whether the connection is replied so.
+fn says<S: Store, T: Tape>(
+    space: &mut Space<S, T>,
+    conn: u64,
+    piece: &[u8],
+    replies: &[u8],
+) -> bool {
+    feed(space, conn, piece) == Ok(false) && is_output(space, conn, replies)
+}
+
+/// Whether those are loads of `k` with those numbers.
+fn are_loads(loads: &[(LoadId, Bytes)], numbers: &[u64]) -> bool {
+    loads.len() == numbers.len()
+        && loads.iter().zip(numbers).all(|((load, key), number)| load.number == *number
+            && key.as_slice() == b"k".as_slice())
+}
+
+fn sends<S: Store, T: Tape>(space: &mut Space<S, T>, numbers: &[u64]) -> bool {
+    are_loads(space.inner.take_loads().as_slice(), numbers)
+}
+
+fn text(alloc: Global, text: &[u8]) -> Result<Bytes, AllocError> {
+    Ok(Seq::from_vec(Vec::from_slice(alloc, text)?))
+}
+
+fn outcome(alloc: Global, given: Given<'_>) -> Result<Outcome, AllocError> {
+    match given {
+        Given::Value(value, own) => Ok(Outcome::Value(text(alloc, value)?, own)),
+        Given::Long(length) => Ok(Outcome::Value(Seq::from_vec(long_text(alloc, length)?), None)),
+        Given::Nothing => Ok(Outcome::None),
+        Given::Fault(words) => Ok(Outcome::Fault(text(alloc, words)?)),
+    }
+}
+
+/// Whether an outcome that was handed back is the one that was given.
+fn is_given(outcome: &Outcome, given: Given<'_>) -> bool {
+    match (outcome, given) {
+        (Outcome::Value(bytes, time), Given::Value(value, own)) => {
+            bytes.as_slice() == value && *time == own
+        }
+        (Outcome::Value(bytes, None), Given::Long(length)) => bytes.len() == length,
+        (Outcome::None, Given::Nothing) => true,
+        (Outcome::Fault(bytes), Given::Fault(words)) => bytes.as_slice() == words,
+        _ => false,
+    }
+}
+
+/// Whether nobody was replied.
+fn is_untold<S: Store, T: Tape>(space: &mut Space<S, T>) -> bool {
+    is_output(space, FIRST, b"") && is_output(space, SECOND, b"")
+}
+
+/// Answers a load, and again with the outcome that was handed back where memory is refused: then nobody was replied.
+fn answer<S: Store, T: Tape>(
+    space: &mut Space<S, T>,
+    number: u64,
+    outcome: Outcome,
+    moment: Instant,
+) -> Result<(), (ServiceError, Outcome)> {
+    let (error, outcome) = match space.inner.answer(number, outcome, moment) {
+        Ok(()) => return Ok(()),
+        Err(refused) => refused,
+    };
+    if error == ServiceError::OutOfMemory && is_untold(space) {
+        space.inner.answer(number, outcome, moment)
+    } else {
+        Err((error, outcome))
+    }
+}
+
+/// Whether a load is answered or refused so, and what is refused is handed back.
+fn answers<S: Store, T: Tape>(
+    space: &mut Space<S, T>,
+    number: u64,
+    outcome: Outcome,
+    given: Given<'_>,
+    moment: Instant,
+    wanted: Result<(), ServiceError>,
+) -> bool {
+    match answer(space, number, outcome, moment) {
+        Ok(()) => wanted.is_ok(),
+        Err((error, outcome)) => wanted == Err(error) && is_given(&outcome, given),
+    }
+}
+
+/// Makes an outcome, at the second try where memory is refused.
+fn new_outcome(alloc: Global, given: Given<'_>) -> Result<Outcome, AllocError> {
+    match outcome(alloc, given) {
+        Err(_) => outcome(alloc, given),
+        made => made,
+    }
+}
+
+fn is_answered<S: Store, T: Tape>(
+    space: &mut Space<S, T>,
+    number: u64,
+    given: Given<'_>,
+    moment: Instant,
+    wanted: Result<(), ServiceError>,
+) -> bool {
+    match new_outcome(space.alloc, given) {
+        Ok(outcome) => answers(space, number, outcome, given, moment, wanted),
+        Err(_) => false,
+    }
+}
+
+/// Gives a load up, again where memory is refused, as it may be where records are kept: then nobody was replied.
+fn give_up<S: Store, T: Tape>(
+    space: &mut Space<S, T>,
+    number: u64,
+    moment: Instant,
+) -> Result<(), ServiceError> {
+    match space.inner.give_up(number, moment) {
+        Err(ServiceError::OutOfMemory) => {
+            if space.keeps && is_untold(space) {
+                space.inner.give_up(number, moment)
+            } else {
+                Err(ServiceError::OutOfMemory)
+            }
+        }
+        given => given,
+    }
+}
+
+/// Whether a load is the only one that goes out, is given up, and nobody is replied.
+fn gives_up_one<S: Store, T: Tape>(space: &mut Space<S, T>, number: u64) -> bool {
+    sends(space, &[number]) && give_up(space, number, START) == Ok(()) && is_untold(space)
+}
+
+fn gives_up_each<S: Store, T: Tape>(space: &mut Space<S, T>, first: u64, end: u64) -> bool {
+    for number in first..end {
+        if !gives_up_one(space, number) {
+            return false;
+        }
+    }
+    true
+}
+
+/// Whether so many notes come out, or none where records are kept.
+fn are_notes<S: Store, T: Tape>(space: &mut Space<S, T>, count: usize) -> bool {
+    let wanted = if space.keeps { 0 } else { count };
+    for _ in 0..wanted {
+        if space.inner.next_notice().is_none() {
+            return false;
+        }
+    }
+    space.inner.next_notice().is_none()
+}
+
+/// Asks, and answers whether it came out so.
+fn comes_so<S: Store, T: Tape>(space: &mut Space<S, T>, row: Row<'_>) -> bool {
+    match row {
+        Row::Says(conn, piece, replies) => says(space, conn, piece, replies),
+        Row::Feeds(conn, length) => feeds(space, conn, length),
+        Row::Output(conn, wanted) => is_output(space, conn, wanted),
+        Row::Sends(numbers) => sends(space, numbers),
+        Row::Waits(conn, wanted) => space.inner.waiting(conn) == Ok(wanted),
+        Row::Answers(number, given, moment, wanted) => {
+            is_answered(space, number, given, moment, wanted)
+        }
+        Row::GivesUp(number, moment, wanted) => give_up(space, number, moment) == wanted,
+        Row::GivesUpEach(first, end) => gives_up_each(space, first, end),
+        Row::Closes(conn) => space.inner.close(conn).is_ok() || space.inner.close(conn).is_ok(),
+        Row::Closed(conn, wanted) => space.inner.closed(conn) == Ok(wanted),
+        Row::Notes(count) => are_notes(space, count),
+    }
+}
+
+/// Asks one row after another, and answers the place of the first that did not come out so.
+fn first_wrong_of<S: Store, T: Tape>(space: &mut Space<S, T>, rows: &[Row<'_>]) -> Option<usize> {
+    for (place, row) in rows.iter().enumerate() {
+        if !comes_so(space, *row) {
+            return Some(place);
+        }
+    }
+    None
+}
+
+fn open_two<S: Store, T: Tape>(space: &mut Space<S, T>) -> Result<bool, AllocError> {
+    Ok(open(space)? == FIRST && open(space)? == SECOND)
+}
+
+type Values = FrontStore<SplitMix64, KeyedHasher>;
+
+/// Whether a time has at most twelve digits.
+fn is_short(milliseconds: Option<u64>) -> bool
+    ensures { result ≡ true → (ms : ℕ) → milliseconds ≡ Some ms → ms ≤ 999999999999 }
+{
+    match milliseconds {
+        Some(milliseconds) => milliseconds <= 999_999_999_999,
+        None => true,
+    }
+}
+
+/// Whether the times of a configuration are in range.
+fn is_brief(config: &Config) -> bool
+    ensures { result ≡ true → IsBrief config.now }
+{
+    is_short(config.live_ms) && is_short(config.idle_ms)
+}
+
+fn make<T: Tape>(
+    alloc: Global,
+    config: Config,
+    tape: T,
+    keeps: bool,
+) -> Result<Space<Values, T>, AllocError>
+    requires { IsAtRest (T.view tape) }
+{
+    if !is_brief(&config) {
+        return Err(AllocError);
+    }
+    let generator = SplitMix64::seed_from_u64(1);
+    let hasher = KeyedHasher::new(b"sixteen bytes ...");
+    let Ok(store) = FrontStore::new(alloc, config, 0, generator, hasher) else {
+        return Err(AllocError);
+    };
+    let Ok(inner) = Namespace::new(alloc, 0, store, tape, 0) else {
+        return Err(AllocError);
+    };
+    Ok(Space {
+        alloc,
+        inner,
+        keeps,
+    })
+}
+
+/// Whether each row comes out so, of a namespace with two connections.
+fn all_so<S: Store, T: Tape>(space: Result<Space<S, T>, AllocError>, rows: &[Row<'_>]) -> bool {
+    match space {
+        Ok(mut space) => match open_two(&mut space) {
+            Ok(true) => first_wrong_of(&mut space, rows).is_none(),
+            _ => false,
+        },
+        Err(_) => false,
+    }
+}
+
+/// A namespace that keeps no records, at the second try where memory is refused.
+fn bare(alloc: Global, config: Config) -> Result<Space<Values, Bare>, AllocError> {
+    match make(alloc, config, Bare::new(alloc), false) {
+        Err(_) => make(alloc, config, Bare::new(alloc), false),
+        made => made,
+    }
+}
+
+/// One that keeps records.
+fn kept(alloc: Global, config: Config) -> Result<Space<Values, Kept>, AllocError> {
+    match make(alloc, config, Kept::new(alloc), true) {
+        Err(_) => make(alloc, config, Kept::new(alloc), true),
+        made => made,
+    }
+}
+
+/// Whether each row comes out so, by both tapes.
+pub fn both_so(alloc: Global, config: Config, rows: &[Row<'_>]) -> bool {
+    all_so(bare(alloc, config), rows) && all_so(kept(alloc, config), rows)
+}

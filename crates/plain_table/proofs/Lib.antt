@@ -1,3 +1,0 @@
-pub mod Held
-pub mod Listing
-pub mod Lasts
