@@ -1,5 +1,0 @@
-//! Tests of lines over a plain store.
-#![tactic(auto)]
-
-#[cfg(test)]
-mod tests;
