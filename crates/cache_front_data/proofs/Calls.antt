@@ -1,5 +1,5 @@
 -- What the calls of a front come to in the store over it.
-use Rattle.std.proofs.Common.{◌≡◌, refl, ap, ◌∙◌, sym, subst, ℕ, suc, ◌+◌, ◌≤◌, ◌<◌, ◌^◌, arith, Bool, true, false, List, [], ◌∷◌, ◌++◌, length, map, Option, option_map, Some, None, slice_get, if◌then◌else◌, true≢false, Result, Ok, Err, IfOk, OnErr}
+use Rattle.std.proofs.Common.{◌≡◌, ◌≢◌, refl, ap, ◌∙◌, sym, subst, ℕ, suc, ◌+◌, ◌≤◌, ◌<◌, ◌^◌, arith, Bool, true, false, List, [], ◌∷◌, ◌++◌, length, map, Option, option_map, Some, None, slice_get, if◌then◌else◌, true≢false, Result, Ok, Err, IfOk, OnErr}
 use Rattle.std.proofs.lemmas.List.{length-append, length-map}
 use Rattle.rand_core.specs.Stream.{Stream}
 use Rattle.audit_model.specs.Bytewise.{same}
@@ -214,14 +214,6 @@ two_rooms s = go s.tells
 
 module _ {S : Type 0} (f : Lent S) (drawn left : Stream) where
   -- nothing is drawn where a predicate is refused but for identifiers
-  pub stream_stays : (e : CacheError) → (e ≡ errors.IdsInUse → ⊥) → IsCauseToCover f drawn left e → left ≡ drawn
-  stream_stays errors.OutOfMemory other cause = cause
-  stream_stays errors.InvalidationClosuresDisabled other cause = cause.0
-  stream_stays errors.IdsInUse other cause = absurd (other refl)
-  stream_stays errors.UsedUp other cause = cause.0
-  stream_stays errors.UnknownTurn other cause = absurd cause
-  stream_stays errors.Abandoned other cause = absurd cause
-
   pub tickets_for_all : (e : CacheError) → IsCauseToCover f drawn left e → e ≡ errors.UsedUp → LackTickets f.parts
   tickets_for_all e cause is =
       let c = subst (λ x. IsCauseToCover f drawn left x) is cause in
@@ -242,6 +234,6 @@ module _ {S : Type 0} (f : Lent S) (drawn left : Stream) (e : CacheError) (cause
   lacks_some_tickets (Ok b) a is = let no : ⊥ = cc in absurd no
   lacks_some_tickets (Err x) a is = let used : x ≡ refusals.UsedUp = cc in tickets_for_all f drawn left e cause (a.1 used)
 
-  pub stays_as_it_was : (r : Result Bool StoreError) (Q : Type 0) → Q → IsAnswerTo e r → OnErr r (Q × (left ≡ drawn))
-  stays_as_it_was (Ok b) Q q a = tt
-  stays_as_it_was (Err x) Q q a = (q, stream_stays f drawn left e a.0 cause)
+  pub stays_as_it_was : (r : Result Bool StoreError) (Q G : Type 0) → Q → (e ≢ errors.IdsInUse → G) → IsAnswerTo e r → OnErr r (Q × G)
+  stays_as_it_was (Ok b) Q G q undrawn a = tt
+  stays_as_it_was (Err x) Q G q undrawn a = (q, undrawn a.0)

@@ -146,7 +146,7 @@ pub fn cover<S: BuildHasher, R: Rng>(
     ensures covers { IfOk result (λ covers. covers ≡ true → CoversBy prefix.now now (R.stream generator.old) (R.stream generator.new) front.old front.new) }
     ensures lacks { IfOk result (λ covers. covers ≡ false → DrawsInVain front.old.parts (R.stream generator.old) (R.stream generator.new) × (front.new ≡ front.old)) }
     ensures used_up { IsErrOf result StoreError.UsedUp → LackTickets front.old.parts ⊎ (2 ^ 64 ≤ suc front.old.step) }
-    ensures err { OnErr result ((front.new ≡ front.old) × (R.stream generator.new ≡ R.stream generator.old)) }
+    ensures err { OnErr result ((front.new ≡ front.old) × (generator.new ≡ generator.old)) }
 {
     let At { step, .. } = front.last_call();
     let step = next_step(step)?;

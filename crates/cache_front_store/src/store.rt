@@ -25,7 +25,7 @@ use std::marker::Model;
 /// Calls come at the step of the last one, but for those that cover, which come at the next. What the front tells is taken after each call
 /// that tells and waits in one queue, in which a place is kept for each value, so that only an acceptance takes memory for it.
 #[derive(Drop)]
-pub struct FrontStore<R: Rng + Clone + Drop, S: BuildHasher + Drop> {
+pub struct FrontStore<R: Rng + Drop, S: BuildHasher + Drop> {
     alloc: Global,
     config: Config,
     made: u64,
@@ -38,7 +38,7 @@ pub struct FrontStore<R: Rng + Clone + Drop, S: BuildHasher + Drop> {
     generator: R,
 }
 
-impl<R: Rng + Clone + Drop, S: BuildHasher + Drop> Model for FrontStore<R, S> {
+impl<R: Rng + Drop, S: BuildHasher + Drop> Model for FrontStore<R, S> {
     ghost use Rattle.std.specs.Prelude.{◌≡◌};
     ghost use Rattle.std.specs.VecDeque.{deque_capacity};
     ghost use Rattle.cache_entries.specs.declared.hasher.WordBuilder.{WordBuilder};
@@ -49,10 +49,10 @@ impl<R: Rng + Clone + Drop, S: BuildHasher + Drop> Model for FrontStore<R, S> {
 
     ghost view = { λ s. record { config = s.config; made = s.made; dropped = s.dropped; queue = s.notices.items; generator = s.generator; front = s.front } };
 
-    ghost invariant = { λ s. ((x y : R) → R.is_clone x y → y ≡ x) × IsFit (store_of (word_of S.BuildHasher S.Hasher.Hasher) s.config s.made s.dropped s.notices.items (R.stream s.generator) s.front) s.count (deque_capacity s.notices) };
+    ghost invariant = { λ s. IsFit (store_of (word_of S.BuildHasher S.Hasher.Hasher) s.config s.made s.dropped s.notices.items (R.stream s.generator) s.front) s.count (deque_capacity s.notices) };
 }
 
-impl<R: Rng + Clone + Drop, S: BuildHasher + Drop> FrontStore<R, S> {
+impl<R: Rng + Drop, S: BuildHasher + Drop> FrontStore<R, S> {
     /// Nothing is held, and nothing was told. The hasher says in which part a key is; where keys come from strangers it is to be one that they
     /// cannot foresee.
     pub fn new(
@@ -64,7 +64,6 @@ impl<R: Rng + Clone + Drop, S: BuildHasher + Drop> FrontStore<R, S> {
     ) -> Result<FrontStore<R, S>, AllocError>
         requires brief { IsBrief config }
         requires moment { made < 2 ^ 63 }
-        requires exact { (x y : R) → R.is_clone x y → y ≡ x }
         ensures made { IfOk result (λ s. IsJustMade config (word_of S.BuildHasher S.Hasher.Hasher (record { inner = hasher })) made (R.stream generator) (shown_by S.BuildHasher S.Hasher.Hasher R.stream s)) }
         ensures generator { IfOk result (λ s. s.generator ≡ generator) }
     {
@@ -85,7 +84,7 @@ impl<R: Rng + Clone + Drop, S: BuildHasher + Drop> FrontStore<R, S> {
     }
 }
 
-impl<R: Rng + Clone + Drop, S: BuildHasher + Drop> Store for FrontStore<R, S> {
+impl<R: Rng + Drop, S: BuildHasher + Drop> Store for FrontStore<R, S> {
     ghost use Rattle.cache_front_data.specs.Data.{shown_by};
 
     ghost view = { λ s. shown_by S.BuildHasher S.Hasher.Hasher R.stream s };
@@ -157,13 +156,13 @@ impl<R: Rng + Clone + Drop, S: BuildHasher + Drop> Store for FrontStore<R, S> {
     }
 
     fn drop_prefix(&mut self, prefix: &[u8], now: u64) -> Result<bool, StoreError> {
-        // a refused call leaves the generator as it was
-        let mut generator = match self.generator.clone() {
-            Ok(generator) => generator,
-            Err(_) => return Err(StoreError::OutOfMemory),
-        };
-        let covers = cover(self.alloc, &mut self.front, &mut generator, prefix, now)?;
-        self.generator = generator;
+        let covers = cover(
+            self.alloc,
+            &mut self.front,
+            &mut self.generator,
+            prefix,
+            now,
+        )?;
         self.dropped = is_either(self.dropped, covers);
         Ok(covers)
     }

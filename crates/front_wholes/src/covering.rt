@@ -1,5 +1,5 @@
 //! Predicates that are registered in all parts or in none.
-ghost use Rattle.std.specs.Prelude.{◌≡◌, ◌≤◌, ◌<◌, ◌+◌, ℕ, [], Some, OnOk, OnErr, IfOk, IfErr, length};
+ghost use Rattle.std.specs.Prelude.{◌≡◌, ◌≢◌, ◌≤◌, ◌<◌, ◌+◌, ℕ, [], Some, OnOk, OnErr, IfOk, IfErr, length};
 ghost use Rattle.std.specs.Vec.{vec_capacity, vec_len};
 ghost use Rattle.front_reference.specs.Wholes.{DrawAll, DrawsInVain};
 ghost use Rattle.front_wholes.specs.Covering.{AreAll, CoversEach, HaveRoom, IsCoverCause, TakeAll, commits};
@@ -76,6 +76,7 @@ pub fn cover_all<K: Eq + Hash, V, S: BuildHasher, R: Rules<K, V>, G: Rng>(
     ensures covers { IfOk result (λ first. (p : R.Predicate) → AreAll p predicates.items → CoversEach p step (G.stream generator.old) (G.stream generator.new) first parts.old.items parts.new.items) }
     ensures err { OnErr result (parts.new.items ≡ parts.old.items) }
     ensures cause { IfErr result (IsCoverCause parts.old.items (G.stream generator.old) (G.stream generator.new)) }
+    ensures undrawn { IfErr result (λ e. e ≢ errors.IdsInUse → generator.new ≡ generator.old) }
 {
     let count = parts.len();
     let mut ids = Vec::with_capacity(alloc, count)?;

@@ -1,9 +1,10 @@
 //! Calls on all parts of a cache: predicates, notices, the iterator; and the part of a key.
-ghost use Rattle.std.specs.Prelude.{◌≡◌, ◌<◌, ℕ, true, IfOk, IfErr, OnOk, OnErr, length};
+ghost use Rattle.std.specs.Prelude.{◌≡◌, ◌≢◌, ◌<◌, ℕ, true, IfOk, IfErr, OnOk, OnErr, length};
 ghost use Rattle.std.specs.String.{string_bytes};
 ghost use Rattle.front_reference.specs.Fronts.{ComesAfter, part_of};
 ghost use Rattle.front_reference.specs.Wholes.{next_told, without_told};
 ghost use Rattle.front_places.specs.Calls.{IsSteadyBy, hash_in, visible_in, ways_by};
+ghost use Rattle.front_reference.specs.declared.errors.CacheError.TheVariants as errors;
 ghost use Rattle.front_state.specs.Covering.{CoversAll, GivesVisible, IsCauseToCover, keys_in};
 ghost use Rattle.front_wholes.specs.Covering.{id_text};
 
@@ -69,6 +70,7 @@ impl<K: Eq + Hash, V, S: BuildHasher, R: Rules<K, V>, C> LentState<K, V, S, R, C
         ensures covers { IfOk result (λ id. CoversAll predicate at (G.stream generator.old) (G.stream generator.new) id self.old self.new) }
         ensures err { OnErr result (self.new ≡ self.old) }
         ensures cause { IfErr result (IsCauseToCover self.old (G.stream generator.old) (G.stream generator.new)) }
+        ensures undrawn { IfErr result (λ e. e ≢ errors.IdsInUse → generator.new ≡ generator.old) }
     {
         let At { now, step } = at;
         let count = self.parts.len();
@@ -101,6 +103,7 @@ impl<K: Eq + Hash, V, S: BuildHasher, R: Rules<K, V>, C> LentState<K, V, S, R, C
         ensures takes { OnOk result (self.old.common.settings.takes_predicates ≡ true) }
         ensures err { OnErr result (self.new ≡ self.old) }
         ensures cause { IfErr result (IsCauseToCover self.old (G.stream generator.old) (G.stream generator.new)) }
+        ensures undrawn { IfErr result (λ e. e ≢ errors.IdsInUse → generator.new ≡ generator.old) }
     {
         if !self.settings.takes_predicates {
             return Err(CacheError::InvalidationClosuresDisabled);
@@ -127,6 +130,7 @@ impl<K: Eq + Hash, V, S: BuildHasher, R: Rules<K, V>, C> LentState<K, V, S, R, C
         ensures takes { OnOk result (self.old.common.settings.takes_predicates ≡ true) }
         ensures err { OnErr result (self.new ≡ self.old) }
         ensures cause { IfErr result (IsCauseToCover self.old (G.stream generator.old) (G.stream generator.new)) }
+        ensures undrawn { IfErr result (λ e. e ≢ errors.IdsInUse → generator.new ≡ generator.old) }
     {
         if !self.settings.takes_predicates {
             return Err(CacheError::InvalidationClosuresDisabled);

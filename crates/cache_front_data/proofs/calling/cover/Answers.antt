@@ -15,5 +15,5 @@ returns-in-Err g c =
       covers = covers_none f drawn left e cause r _ is;
       lacks = lacks_some f drawn left e cause r _ c.in-Err.ensures.err is;
       used_up = λ used. inl (lacks_some_tickets f drawn left e cause r is used);
-      err = stays_as_it_was f drawn left e cause r _ c.in-Err.ensures.err is;
+      err = stays_as_it_was f drawn left e cause r _ _ c.in-Err.ensures.err c.in-Err.ensures.undrawn is;
     }

@@ -1,4 +1,4 @@
-use Rattle.std.proofs.Common.{◌≡◌, ◌∙◌, ◌<◌, ap, sym, subst, arith, length}
+use Rattle.std.proofs.Common.{◌≡◌, ◌∙◌, ◌<◌, absurd, ap, sym, subst, arith, length}
 use Rattle.std.proofs.lemmas.Option.{slice_get_within}
 use Rattle.std.specs.Prelude.{slice_get}
 use Rattle.engine_reference.specs.Calls.{with_room, without_room}
@@ -102,3 +102,6 @@ returns-in-Err-clause-cause g c =
     let old = c.args.parts.now.items in
     subst (λ e. IsCoverCause old a b e) (sym c.in-Err.ensures.err)
     (vain-unroomed (length old) old a b (subst (λ l. DrawsInVain l a b) (c.as_slice.ensures.value ∙ c.in_ok-reserve_all.ensures.ok) c.in-Err.ensures.in_use))
+
+pub returns-in-Err-clause-undrawn : goal.returns-in-Err-clause-undrawn
+returns-in-Err-clause-undrawn g c = λ other. absurd (other c.in-Err.ensures.err)

@@ -9,11 +9,11 @@ invariant_of-self g c =
     let store = c.self.inside in
     let word = word_of g.S.BuildHasher g.S.Hasher.Hasher in
     let d : FrontData (WordBuilder g.row.S.Denot) = record { config = store.config; made = store.made; dropped = store.dropped; queue = store.notices.items; stream = g.R.Rng.stream store.generator; front = store.front } in
-    (c.self.invariant.0, cleared_fits word d c.clear.new.front store.count (deque_capacity store.notices) c.args.now c.clear.result c.self.invariant.1 (rw (← c.self.view_is) at c.requires) c.clear.ensures.clears c.clear.ensures.err)
+    (cleared_fits word d c.clear.new.front store.count (deque_capacity store.notices) c.args.now c.clear.result c.self.invariant (rw (← c.self.view_is) at c.requires) c.clear.ensures.clears c.clear.ensures.err)
 
 pub returns-clause-does : goal.returns-clause-does
 returns-clause-does g c =
     let store = c.self.inside in
     let word = word_of g.S.BuildHasher g.S.Hasher.Hasher in
     let d : FrontData (WordBuilder g.row.S.Denot) = record { config = store.config; made = store.made; dropped = store.dropped; queue = store.notices.items; stream = g.R.Rng.stream store.generator; front = store.front } in
-    rw (← c.self.view_is) (cleared_does word d c.clear.new.front store.count (deque_capacity store.notices) c.args.now c.clear.result c.self.invariant.1 (rw (← c.self.view_is) at c.requires) c.clear.ensures.clears)
+    rw (← c.self.view_is) (cleared_does word d c.clear.new.front store.count (deque_capacity store.notices) c.args.now c.clear.result c.self.invariant (rw (← c.self.view_is) at c.requires) c.clear.ensures.clears)

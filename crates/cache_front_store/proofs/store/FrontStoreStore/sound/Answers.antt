@@ -8,4 +8,4 @@ returns g c =
     let store = c.self.inside in
     let word = word_of g.S.BuildHasher g.S.Hasher.Hasher in
     let d : FrontData (WordBuilder g.row.S.Denot) = record { config = store.config; made = store.made; dropped = store.dropped; queue = store.notices.items; stream = g.R.Rng.stream store.generator; front = store.front } in
-    rw (← c.self.view_is) (sound_is word d c.self.invariant.1.whole)
+    rw (← c.self.view_is) (sound_is word d c.self.invariant.whole)

@@ -12,7 +12,7 @@ write_keys-requires-clause-distinct g c =
     let store = c.self.inside in
     let word = word_of g.S.BuildHasher g.S.Hasher.Hasher in
     let d : FrontData (WordBuilder g.row.S.Denot) = record { config = store.config; made = store.made; dropped = store.dropped; queue = store.notices.items; stream = g.R.Rng.stream store.generator; front = store.front } in
-    distinct_over word d c.self.invariant.1.whole
+    distinct_over word d c.self.invariant.whole
 
 pub returns-clause-written : goal.returns-clause-written
 returns-clause-written g c =
@@ -20,5 +20,5 @@ returns-clause-written g c =
     let word = word_of g.S.BuildHasher g.S.Hasher.Hasher in
     let d : FrontData (WordBuilder g.row.S.Denot) = record { config = store.config; made = store.made; dropped = store.dropped; queue = store.notices.items; stream = g.R.Rng.stream store.generator; front = store.front } in
     rw (← c.self.view_is) (on_ok_weaker c.write_keys.result
-    (λ written held stands. written ∙ ap (λ (ks : List (List ℕ)). c.args.output.now.items ++ concat (map text_line ks)) (sym (seen_over word d c.self.invariant.1.whole c.args.now held stands)))
+    (λ written held stands. written ∙ ap (λ (ks : List (List ℕ)). c.args.output.now.items ++ concat (map text_line ks)) (sym (seen_over word d c.self.invariant.whole c.args.now held stands)))
     c.write_keys.ensures.written)
