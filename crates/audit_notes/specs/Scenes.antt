@@ -4,12 +4,15 @@ use Rattle.std.specs.Option.{option_map, option_to_list}
 use Rattle.audit_model.specs.Commands.{Deed}
 use Rattle.audit_model.specs.History.{Value}
 use Rattle.audit_model.specs.Situation.{HeldValue, candidate_at}
-use Rattle.audit_model.specs.Values.{without_key}
+use Rattle.audit_model.specs.Notes.{are_true_notes, is_true_note}
+use Rattle.audit_model.specs.Values.{untold, without_key}
 use Rattle.audit_model.specs.View.{Candidate}
 use Rattle.audit_model.specs.declared.config.Config.{Config}
+use Rattle.audit_model.specs.declared.transcript.Note.{Note}
 use Rattle.audit_held.specs.Seeing.{held_of}
 use Rattle.audit_notes.specs.Deeds.{deed_with}
 use Rattle.audit_notes.specs.Weights.{AreOverfilled}
+use Rattle.audit_notes.specs.declared.deed.Deed.{Deed as Done}
 use Rattle.audit_notes.specs.declared.notes.Scene.{Scene}
 use Rattle.audit_notes.specs.declared.notes.Candidate.{Candidate as Told}
 
@@ -46,6 +49,23 @@ candidates_in scene held left = may_be_told scene.config.now scene.moment held (
 -- these were the values held before the step
 abbrev pub IsBefore : Scene → List Candidate → Type 0
 IsBefore scene before = AreOverfilled scene.config.now before (deed_in scene) scene.overfilled.now
+
+-- the value that the step accepts, while no note has told it, as it may be told
+abbrev pub new_candidates_in : Scene → Bool → List Candidate
+new_candidates_in scene left = map (new_candidate_at scene.config.now scene.moment) (rest_of left (newcomer_in scene))
+
+-- whether the note is true, if that is the value of which it is, is the answer
+abbrev pub IsTrueNoteOf : Scene → Note → Option Candidate → Bool → Type 0
+IsTrueNoteOf scene note told answer = (before : List Candidate) → IsBefore scene before → answer ≡ is_true_note scene.config.now before (deed_in scene) note told
+
+-- the notes of a step are true that does that and accepts that value
+abbrev pub are_told_rightly : Config → ℕ → List HeldValue → Done → Option HeldValue → List Note → Bool
+are_told_rightly config now held done newcomer notes =
+    are_true_notes config (map (candidate_at config now) held) (deed_with done (option_map (λ h. h.value) newcomer)) (may_be_told config now held (option_to_list newcomer)) notes
+
+-- the values are left that no note tells
+abbrev pub LeavesUntold : List Note → Option HeldValue → List HeldValue → List HeldValue → Bool → Type 0
+LeavesUntold notes newcomer old new left = new ++ rest_of left newcomer ≡ untold (λ h. h.value.key) notes (old ++ option_to_list newcomer)
 
 -- the key's first value was taken
 pub record TakesFirstValue (scene : Scene) (key : List ℕ) (held : List HeldValue) (left : Bool) (others : List HeldValue) (leaves : Bool) : Type 0 where

@@ -1,8 +1,10 @@
 -- What a part may weigh.
-use Rattle.std.specs.Prelude.{◌≡◌, ◌<◌, ℕ, Bool, List, Some, get_or, false}
+use Rattle.std.specs.Prelude.{◌≡◌, ◌<◌, ℕ, Bool, List, map, Option, Some, get_or, false}
+use Rattle.std.specs.Option.{option_map}
 use Rattle.audit_model.specs.Commands.{Deed}
 use Rattle.audit_model.specs.History.{share}
 use Rattle.audit_model.specs.Notes.{overfills}
+use Rattle.audit_model.specs.Situation.{HeldValue, candidate_at}
 use Rattle.audit_model.specs.View.{Candidate}
 use Rattle.audit_model.specs.declared.config.Config.{Config}
 
@@ -13,3 +15,8 @@ IsShare config limit = (capacity : ℕ) → config.capacity ≡ Some capacity �
 -- these say which parts are over their share just after the step's acceptance
 abbrev pub AreOverfilled : Config → List Candidate → Deed → List Bool → Type 0
 AreOverfilled config held deed marks = (part : ℕ) → part < 256 → get_or marks part false ≡ overfills config held deed part
+
+-- the same of any moment and of each step that accepts that value
+abbrev pub AreOverfilledBy : Config → List HeldValue → Option HeldValue → List Bool → Type 0
+AreOverfilledBy config held newcomer marks =
+    (now : ℕ) (deed : Deed) → deed.value ≡ option_map (λ h. h.value) newcomer → AreOverfilled config (map (candidate_at config now) held) deed marks

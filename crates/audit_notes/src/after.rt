@@ -1,18 +1,16 @@
 //! What a step leaves held.
-ghost use Rattle.std.specs.Prelude.{◌≡◌, ◌||◌, ◌<◌, ◌++◌, ℕ, List, Option, Some, None, true, map, option_map, IfOk, OnOk, IfSome};
+ghost use Rattle.std.specs.Prelude.{◌≡◌, ◌||◌, ◌<◌, ◌++◌, ℕ, Option, Some, None, true, map, option_map, IfOk, OnOk, IfSome};
 ghost use Rattle.std.specs.Option.{option_to_list};
 ghost use Rattle.std.specs.List.{find};
 ghost use Rattle.audit_model.specs.Bytewise.{same};
 ghost use Rattle.audit_model.specs.Changes.{all_held_after, newly_held};
 ghost use Rattle.audit_model.specs.History.{Value};
 ghost use Rattle.audit_model.specs.Notes.{tells_size, are_true_notes};
-ghost use Rattle.audit_model.specs.Situation.{candidate_at};
-ghost use Rattle.audit_model.specs.Values.{untold};
 ghost use Rattle.audit_held.specs.Seeing.{held_of};
 ghost use Rattle.audit_held.specs.Weights.{values_of};
 ghost use Rattle.audit_notes.specs.After.{has_true_notes, sized_part, values_to_tell, is_among, used_in, covered_in, marked_by, passed_on_by, AreSized, IsJustAccepted};
 ghost use Rattle.audit_notes.specs.Deeds.{covering_by, deed_with};
-ghost use Rattle.audit_notes.specs.Scenes.{rest_of, may_be_told};
+ghost use Rattle.audit_notes.specs.Scenes.{rest_of, are_told_rightly, LeavesUntold};
 
 use crate::deed::{Covering, Deed};
 use crate::notes::{Scene, are_true_notes, same_cause};
@@ -87,8 +85,8 @@ fn judge_notes(
     notes: &[Note],
 ) -> Result<(bool, bool), AllocError>
     requires { IfSome (option_map (λ h. h.now) newcomer) (λ h. h.value.part < 256) }
-    ensures right { IfOk result (λ r. let n = option_map (λ h. h.now) newcomer.entry in r.0 ≡ are_true_notes config.now (map (candidate_at config.now now) held.old) (deed_with deed.entry (option_map (λ h. h.value) n)) (may_be_told config.now now held.old (option_to_list n)) notes.now) }
-    ensures all { IfOk result (λ r. r.0 ≡ true → held.new ++ rest_of r.1 (option_map (λ h. h.now) newcomer.entry) ≡ untold (λ h. h.value.key) notes.now (held.old ++ option_to_list (option_map (λ h. h.now) newcomer.entry))) }
+    ensures right { IfOk result (λ r. r.0 ≡ are_told_rightly config.now now held.old deed.entry (option_map (λ h. h.now) newcomer.entry) notes.now) }
+    ensures all { IfOk result (λ r. r.0 ≡ true → LeavesUntold notes.now (option_map (λ h. h.now) newcomer.entry) held.old held.new r.1) }
     ensures absent { IfOk result (λ r. r.0 ≡ true → IfSome (option_map (λ h. h.now) newcomer.entry) (λ n. find (λ h. same n.value.key h.value.key) held.new ≡ None)) }
 {
     let marks = overfilled(alloc, config, held, newcomer)?;

@@ -7,7 +7,7 @@ ghost use Rattle.audit_model.specs.Notes.{same_cause, overfills, is_rewritten, i
 ghost use Rattle.audit_model.specs.Situation.{candidate_at};
 ghost use Rattle.audit_model.specs.Values.{untold, without_key};
 ghost use Rattle.audit_model.specs.View.{Candidate as Eligible};
-ghost use Rattle.audit_notes.specs.Scenes.{candidate_in, new_candidate_at, newcomer_in, deed_in, rest_of, candidates_in, IsBefore, TakesFirstValue};
+ghost use Rattle.audit_notes.specs.Scenes.{candidate_in, newcomer_in, deed_in, rest_of, candidates_in, new_candidates_in, IsBefore, IsTrueNoteOf, TakesFirstValue};
 
 use crate::deed::{Deed, is_this};
 use crate::times::is_dead;
@@ -123,7 +123,7 @@ fn is_true_note(scene: &Scene<'_>, note: &Note, c: Candidate<'_>) -> bool
 /// Whether a note of a key that has no older value left tells the newcomer, with a true cause; the newcomer is left no more then.
 fn is_true_of_new(scene: &Scene<'_>, left: &mut bool, note: &Note) -> bool
     requires { IfSome (newcomer_in scene.now) (λ h. h.value.part < 256) }
-    ensures right { (before : List Eligible) → IsBefore scene.now before → result ≡ is_true_note scene.now.config.now before (deed_in scene.now) note.now (find (λ c. same note.now.key c.value.key) (map (new_candidate_at scene.now.config.now scene.now.moment) (rest_of left.old (newcomer_in scene.now)))) }
+    ensures right { IsTrueNoteOf scene.now note.now (find (λ c. same note.now.key c.value.key) (new_candidates_in scene.now left.old)) result }
     ensures taken { result ≡ true → without_key (λ h. h.value.key) note.now.key (rest_of left.old (newcomer_in scene.now)) ≡ [] }
     ensures left { result ≡ true → left.new ≡ false }
 {
@@ -146,7 +146,7 @@ fn is_true_of_new(scene: &Scene<'_>, left: &mut bool, note: &Note) -> bool
 /// Takes the key's first value that is not told yet, and answers whether the note tells it with a true cause.
 fn is_true_of_first(scene: &Scene<'_>, held: &mut Holding, left: &mut bool, note: &Note) -> bool
     requires { IfSome (newcomer_in scene.now) (λ h. h.value.part < 256) }
-    ensures right { (before : List Eligible) → IsBefore scene.now before → result ≡ is_true_note scene.now.config.now before (deed_in scene.now) note.now (first_of note.now.key (candidates_in scene.now held.old left.old)) }
+    ensures right { IsTrueNoteOf scene.now note.now (first_of note.now.key (candidates_in scene.now held.old left.old)) result }
     ensures taken { result ≡ true → TakesFirstValue scene.now note.now.key held.old left.old held.new left.new }
 {
     match held.take(note.key.as_slice()) {

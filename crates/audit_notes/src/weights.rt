@@ -1,15 +1,13 @@
 //! What parts weigh.
-ghost use Rattle.std.specs.Prelude.{◌≡◌, ℕ, ◌+◌, ◌-◌, ◌*◌, ◌/◌, ◌≤◌, ◌<◌, ◌==◌, nat_lt, Some, IfOk, map, get_or, false};
+ghost use Rattle.std.specs.Prelude.{◌≡◌, ℕ, ◌+◌, ◌-◌, ◌/◌, ◌≤◌, ◌<◌, ◌==◌, nat_lt, Some, IfOk, map, get_or, false};
 ghost use Rattle.std.specs.List.{find};
 ghost use Rattle.std.specs.Option.{option_map, option_map_or};
 ghost use Rattle.audit_model.specs.Bytewise.{same};
-ghost use Rattle.audit_model.specs.Commands.{Deed};
 ghost use Rattle.audit_model.specs.History.{part_count, share};
-ghost use Rattle.audit_model.specs.Notes.{is_over, just_accepted, overfills};
-ghost use Rattle.audit_model.specs.Situation.{candidate_at};
+ghost use Rattle.audit_model.specs.Notes.{is_over, just_accepted};
 ghost use Rattle.audit_held.specs.Seeing.{held_of};
 ghost use Rattle.audit_held.specs.Weights.{weight_if_in, weight_of_part, values_of};
-ghost use Rattle.audit_notes.specs.Weights.{IsShare, AreOverfilled};
+ghost use Rattle.audit_notes.specs.Weights.{IsShare, AreOverfilled, AreOverfilledBy};
 
 use audit_held::{Held, Holding, Seen};
 use audit_model::Config;
@@ -134,7 +132,7 @@ pub fn overfilled(
     held: &Holding,
     newcomer: Option<&Held>,
 ) -> Result<Vec<bool>, AllocError>
-    ensures { IfOk result (λ marks. (now : ℕ) (deed : Deed) → deed.value ≡ option_map (λ h. h.value) (option_map (λ h. h.now) newcomer.entry) → AreOverfilled config.now (map (candidate_at config.now now) held.now) deed marks.items) }
+    ensures { IfOk result (λ marks. AreOverfilledBy config.now held.now (option_map (λ h. h.now) newcomer.entry) marks.items) }
 {
     match newcomer {
         Some(newcomer) => overfilled_with(alloc, config, held, newcomer),

@@ -13,7 +13,10 @@ use Rattle.audit_model.specs.Steps.{Task, is_right}
 use Rattle.audit_model.specs.declared.config.Config.{Config}
 use Rattle.audit_model.specs.declared.transcript.Record.{Record}
 use Rattle.audit_model.specs.declared.transcript.Step.{Step}
+use Rattle.audit_model.specs.declared.event.Event.{Event}
 use Rattle.audit_held.specs.Known.{KeyPart, agrees_with, with_value}
+use Rattle.audit_situation.specs.States.{shown_situation}
+use Rattle.audit_situation.specs.declared.state.State.{State}
 
 -- a situation, and the part of each key of which a value was accepted
 pub record Reached : Type 0 where
@@ -65,3 +68,16 @@ reached_by parts values more (Some t) = if agree_on_parts (values ++ more) then 
 -- an answer's own step
 abbrev pub step_of_answer : Record → Step
 step_of_answer entry = record { conn = 0; line = []; held = false; reply = None; load = None; accepted = entry.own; notices = entry.notices }
+
+-- a record's steps, an answer's own first
+abbrev pub steps_with_own : Record → List Step
+steps_with_own entry = step_of_answer entry ∷ entry.steps
+
+-- the steps lead there from the judge's situation, where the answer is true; where it is false, nowhere
+abbrev pub Audits : Config → State → List KeyPart → List Task → List Step → Bool → State → List KeyPart → Type 0
+Audits config s parts tasks steps b t more = Reaches b (shown_situation t) more (audited_steps config parts (shown_situation s) tasks steps)
+
+-- the same of the steps of an event
+abbrev pub AuditsEvent : Config → State → List KeyPart → Event → List Step → Bool → State → List KeyPart → Type 0
+AuditsEvent config s parts happened steps b t more =
+    Reaches b (shown_situation t) more (audited_steps config parts (after_event happened (shown_situation s)) (tasks_in (shown_situation s) happened) steps)

@@ -1,15 +1,15 @@
 //! Records judged one after another.
 ghost use Rattle.std.specs.Prelude.{◌≡◌, IfOk, IsTrue, true, map, option_map, Some, [], ◌∷◌};
-ghost use Rattle.audit_model.specs.Follows.{after_event, tasks_in, placed_step_in};
+ghost use Rattle.audit_model.specs.Follows.{after_event};
 ghost use Rattle.audit_model.specs.Steps.{Store};
-ghost use Rattle.audit_steps.specs.Judging.{IsJudged};
+ghost use Rattle.audit_steps.specs.Judging.{JudgesStep};
 ghost use Rattle.audit_model.specs.Obeys.{is_numbered};
 ghost use Rattle.audit_model.specs.Situation.{key_in, waiting_in, empty_situation};
 ghost use Rattle.audit_model.specs.declared.event.Event.TheVariants as event;
 ghost use Rattle.audit_model.specs.Belongs.{first_break};
 ghost use Rattle.audit_situation.specs.States.{shown_situation};
 ghost use Rattle.audit_steps.specs.Showing.{task_of, shown_step};
-ghost use Rattle.audit_records.specs.Auditing.{Reaches, audited_steps, audited_event, audited_record, audited_from, step_of_answer};
+ghost use Rattle.audit_records.specs.Auditing.{Reaches, Audits, AuditsEvent, audited_steps, audited_event, audited_record, audited_from, step_of_answer, steps_with_own};
 ghost use Rattle.audit_records.specs.Tidy.{is_tidy};
 
 use crate::admitting::is_taken;
@@ -96,7 +96,7 @@ fn judge_feed(
     steps: &[Step],
 ) -> Result<bool, AllocError>
     requires tidy { IsTrue (is_tidy (shown_situation s.old)) }
-    ensures reaches { IfOk result (λ b. Reaches b (shown_situation s.new) parts.new (audited_steps config.now parts.old (after_event (event.Feed conn piece.now moment) (shown_situation s.old)) (tasks_in (shown_situation s.old) (event.Feed conn piece.now moment)) steps.now)) }
+    ensures reaches { IfOk result (λ b. AuditsEvent config.now s.old parts.old (event.Feed conn piece.now moment) steps.now b s.new parts.new) }
     ensures tidy { IfOk result (λ b. b ≡ true → is_tidy (shown_situation s.new) ≡ true) }
 {
     let duties = duties_to_feed(alloc, conn, is_holding(s, conn))?;
@@ -136,7 +136,7 @@ fn judge_give_up(
     steps: &[Step],
 ) -> Result<bool, AllocError>
     requires tidy { IsTrue (is_tidy (shown_situation s.old)) }
-    ensures reaches { IfOk result (λ b. Reaches b (shown_situation s.new) parts.new (audited_steps config.now parts.old (after_event (event.GiveUp load moment) (shown_situation s.old)) (tasks_in (shown_situation s.old) (event.GiveUp load moment)) steps.now)) }
+    ensures reaches { IfOk result (λ b. AuditsEvent config.now s.old parts.old (event.GiveUp load moment) steps.now b s.new parts.new) }
     ensures tidy { IfOk result (λ b. b ≡ true → is_tidy (shown_situation s.new) ≡ true) }
 {
     let conns = waiting_of(alloc, s, load)?;
@@ -172,7 +172,7 @@ fn judge_answer(
     entry: &Record,
 ) -> Result<bool, AllocError>
     requires tidy { IsTrue (is_tidy (shown_situation s.old)) }
-    ensures reaches { IfOk result (λ b. Reaches b (shown_situation s.new) parts.new (audited_steps config.now parts.old (after_event (event.Answer load outcome.now moment) (shown_situation s.old)) (tasks_in (shown_situation s.old) (event.Answer load outcome.now moment)) (step_of_answer entry.now ∷ entry.now.steps))) }
+    ensures reaches { IfOk result (λ b. AuditsEvent config.now s.old parts.old (event.Answer load outcome.now moment) (steps_with_own entry.now) b s.new parts.new) }
     ensures tidy { IfOk result (λ b. b ≡ true → is_tidy (shown_situation s.new) ≡ true) }
 {
     let conns = waiting_of(alloc, s, load)?;
@@ -203,7 +203,7 @@ fn judge_stored(
     entry: &Record,
 ) -> Result<bool, AllocError>
     requires tidy { IsTrue (is_tidy (shown_situation s.old)) }
-    ensures reaches { IfOk result (λ b. Reaches b (shown_situation s.new) parts.new (audited_steps config.now parts.old (shown_situation s.old) (Store (option_map (λ k. k.now.items) key.entry) outcome.now ∷ map task_of duties.entry.now) (step_of_answer entry.now ∷ entry.now.steps))) }
+    ensures reaches { IfOk result (λ b. Audits config.now s.old parts.old (Store (option_map (λ k. k.now.items) key.entry) outcome.now ∷ map task_of duties.entry.now) (steps_with_own entry.now) b s.new parts.new) }
     ensures tidy { IfOk result (λ b. b ≡ true → is_tidy (shown_situation s.new) ≡ true) }
 {
     if !store(alloc, config, s, parts, key, outcome, entry)? {
@@ -223,7 +223,7 @@ fn store(
     entry: &Record,
 ) -> Result<bool, AllocError>
     requires { IsTrue (is_tidy (shown_situation s.old)) }
-    ensures judged { IfOk result (λ b. let task = Some (Store (option_map (λ k. k.now.items) key.entry) outcome.now) in IsJudged config.now (shown_situation s.old) parts.old task (step_of_answer entry.now) (placed_step_in config.now (shown_situation s.old) task (step_of_answer entry.now)) b (shown_situation s.new) parts.new) }
+    ensures judged { IfOk result (λ b. JudgesStep config.now s.old parts.old (Some (Store (option_map (λ k. k.now.items) key.entry) outcome.now)) (step_of_answer entry.now) b s.new parts.new) }
     ensures tidy { IfOk result (λ b. b ≡ true → is_tidy (shown_situation s.new) ≡ true) }
 {
     let shown = show_own(entry);

@@ -4,6 +4,7 @@ use Rattle.audit_model.specs.Situation.{Standing, Ready, Held, Waiting, Connecti
 use Rattle.audit_model.specs.Stream.{behind_lines}
 use Rattle.audit_situation.specs.declared.link.LinkStanding.{LinkStanding as Stands}
 use Rattle.audit_situation.specs.declared.link.LinkStanding.TheVariants as stands
+use Rattle.audit_situation.specs.declared.link.Moving.{Moving}
 
 -- the same as the definitions have it
 abbrev pub shown_standing : Stands → Standing
@@ -23,6 +24,10 @@ waits_after holds replies waited = if replies then 0 else ((if not replies && no
 abbrev pub moved_on : Bool → Bool → Bool → List ℕ → Connection → Connection
 moved_on reads holds replies line c =
     record { number = c.number; unread = if reads then behind_lines 1 c.unread else c.unread; standing = left_standing holds replies line; waited = waits_after holds replies c.waited }
+
+-- the same by how it is moved
+abbrev pub moved_as : Moving → Connection → Connection
+moved_as moving c = moved_on moving.reads moving.holds moving.replies moving.line.now c
 
 -- the connection when a piece came for it
 abbrev pub fed_with : List ℕ → Connection → Connection

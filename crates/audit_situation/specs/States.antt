@@ -1,10 +1,11 @@
 -- The situation that the judge keeps.
 use Rattle.std.specs.Prelude.{ℕ, Bool, true, false, not, ◌&&◌, ◌==◌, List, [], ◌∷◌, ◌++◌, Option}
 use Rattle.std.specs.List.{list_any}
-use Rattle.std.specs.Option.{option_map_or}
+use Rattle.std.specs.Option.{option_map, option_map_or}
 use Rattle.audit_model.specs.Changes.{join_by}
 use Rattle.audit_model.specs.Situation.{Situation, Connection, connection_in, with_connection}
 use Rattle.audit_situation.specs.Standings.{moved_on}
+use Rattle.audit_situation.specs.declared.state.Moved.{Moved}
 use Rattle.audit_situation.specs.declared.state.State.{State}
 
 -- as the definitions have it
@@ -25,3 +26,8 @@ fed_to conn piece s = option_map_or (λ c. with_connection false (record c { unr
 abbrev pub moved_in : ℕ → Bool → Bool → Bool → List ℕ → Bool → Option (List ℕ) → Option ℕ → Situation → Situation
 moved_in conn reads holds replies line quits key load s =
     option_map_or (λ c. with_connection quits (moved_on reads holds replies line c) (join_by conn (not replies && not holds) key load s)) (connection_in conn s) s
+
+-- the same by what the step is
+abbrev pub moved_by : Moved → Situation → Situation
+moved_by moved s =
+    moved_in moved.conn moved.moving.reads moved.moving.holds moved.moving.replies moved.moving.line.now moved.quits (option_map (λ k. k.now) moved.key) moved.load s

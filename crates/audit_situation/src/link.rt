@@ -3,7 +3,7 @@ ghost use Rattle.std.specs.Prelude.{◌≡◌, ◌<◌, ◌+◌, [], ◌++◌, �
 ghost use Rattle.audit_model.specs.Bytewise.{cut_at};
 ghost use Rattle.audit_model.specs.Stream.{first_line, behind_lines, without_return};
 ghost use Rattle.audit_model.specs.Situation.{Ready, is_ready, is_holding, is_waiting_now, is_overlong};
-ghost use Rattle.audit_situation.specs.Standings.{kept_line, shown_standing, left_standing, waits_after, moved_on, fed_with};
+ghost use Rattle.audit_situation.specs.Standings.{kept_line, shown_standing, left_standing, waits_after, moved_as, fed_with};
 
 use audit_lines::Buffer;
 use audit_model::{Bytes, Seq};
@@ -252,7 +252,7 @@ fn read_where(link: &mut Link, reads: bool)
 
 /// Does to a connection what a step of its own does.
 pub fn move_on(alloc: Global, link: &mut Link, moving: Moving<'_>) -> Result<(), AllocError>
-    ensures moved { OnOk result (link.new ≡ moved_on moving.entry.reads moving.entry.holds moving.entry.replies moving.entry.line.now link.old) }
+    ensures moved { OnOk result (link.new ≡ moved_as moving.entry link.old) }
     ensures number { link.new.number ≡ link.old.number }
 {
     let standing = standing_after(alloc, moving)?;
@@ -286,8 +286,8 @@ pub fn move_link(
     moving: Moving<'_>,
     quits: bool,
 ) -> Result<bool, AllocError>
-    ensures closes { IfOk result (λ b. b ≡ (quits || is_overlong (moved_on moving.entry.reads moving.entry.holds moving.entry.replies moving.entry.line.now link.old))) }
-    ensures moved { OnOk result (link.new ≡ moved_on moving.entry.reads moving.entry.holds moving.entry.replies moving.entry.line.now link.old) }
+    ensures closes { IfOk result (λ b. b ≡ (quits || is_overlong (moved_as moving.entry link.old))) }
+    ensures moved { OnOk result (link.new ≡ moved_as moving.entry link.old) }
     ensures number { link.new.number ≡ link.old.number }
 {
     move_on(alloc, link, moving)?;

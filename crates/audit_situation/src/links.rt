@@ -4,7 +4,7 @@ ghost use Rattle.std.specs.List.{find};
 ghost use Rattle.std.specs.Option.{option_map_or};
 ghost use Rattle.audit_model.specs.Situation.{Connection, is_overlong, without_number};
 ghost use Rattle.audit_situation.specs.Listings.{is_listing, changed_at};
-ghost use Rattle.audit_situation.specs.Standings.{moved_on, fed_with};
+ghost use Rattle.audit_situation.specs.Standings.{moved_as, fed_with};
 
 use crate::link::{Link, Moving, feed_link, move_link};
 use lru::LruCache;
@@ -88,8 +88,8 @@ impl Links {
         moving: Moving<'_>,
         quits: bool,
     ) -> Result<bool, AllocError>
-        ensures closes { IfOk result (λ b. b ≡ option_map_or (λ c. quits || is_overlong (moved_on moving.entry.reads moving.entry.holds moving.entry.replies moving.entry.line.now c)) (find (λ c. c.number == conn) self.old) false) }
-        ensures moved { OnOk result (self.new ≡ map (changed_at (λ c. c.number) conn (moved_on moving.entry.reads moving.entry.holds moving.entry.replies moving.entry.line.now)) self.old) }
+        ensures closes { IfOk result (λ b. b ≡ option_map_or (λ c. quits || is_overlong (moved_as moving.entry c)) (find (λ c. c.number == conn) self.old) false) }
+        ensures moved { OnOk result (self.new ≡ map (changed_at (λ c. c.number) conn (moved_as moving.entry)) self.old) }
     {
         match self.cache.peek_mut(&conn) {
             Some(link) => move_link(alloc, link, moving, quits),

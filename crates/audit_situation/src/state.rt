@@ -1,13 +1,13 @@
 //! The situation between two steps, and what changes it.
-ghost use Rattle.std.specs.Prelude.{◌≡◌, ◌&&◌, ◌++◌, ◌∷◌, [], OnOk, IfOk, IsTrue, ℕ, suc, max, Some, None, map, not, ◌==◌, option_map};
-ghost use Rattle.std.specs.List.{filter, find};
+ghost use Rattle.std.specs.Prelude.{◌≡◌, ◌&&◌, ◌++◌, ◌∷◌, [], OnOk, IfOk, IsTrue, suc, max, Some, None, map, not, ◌==◌, option_map};
+ghost use Rattle.std.specs.List.{find};
 ghost use Rattle.std.specs.Option.{option_map_or};
 ghost use Rattle.audit_model.specs.Bytewise.{same};
 ghost use Rattle.audit_model.specs.Changes.{join_by};
 ghost use Rattle.audit_model.specs.Follows.{without_load};
-ghost use Rattle.audit_model.specs.Situation.{Ready, empty_situation, connection_in, may_run_in, is_holding_in, without_waiting, without_connection, with_connection, with_waiting, load_in, pending_in};
-ghost use Rattle.audit_situation.specs.States.{shown_situation, have_numbers_apart, fed_to, moved_in};
-ghost use Rattle.audit_situation.specs.Standings.{moved_on};
+ghost use Rattle.audit_model.specs.Situation.{Ready, empty_situation, connection_in, may_run_in, is_holding_in, without_connection, with_connection};
+ghost use Rattle.audit_situation.specs.States.{shown_situation, have_numbers_apart, fed_to, moved_by};
+ghost use Rattle.audit_situation.specs.Standings.{moved_as};
 
 use crate::link::{Link, Moving, first_line};
 use crate::links::Links;
@@ -179,7 +179,7 @@ fn waits(moving: Moving<'_>) -> bool
 /// Does to the connection of a step, and to the loads, what the step does.
 pub fn pass(alloc: Global, s: &mut State, moved: Moved<'_>) -> Result<(), AllocError>
     requires { IsTrue (have_numbers_apart s.old.connections) }
-    ensures { OnOk result (shown_situation s.new ≡ moved_in moved.entry.conn moved.entry.moving.reads moved.entry.moving.holds moved.entry.moving.replies moved.entry.moving.line.now moved.entry.quits (option_map (λ k. k.now) moved.entry.key) moved.entry.load (shown_situation s.old)) }
+    ensures { OnOk result (shown_situation s.new ≡ moved_by moved.entry (shown_situation s.old)) }
 {
     if find_link(&s.connections, moved.conn).is_some() {
         let waits = waits(moved.moving);
@@ -198,7 +198,7 @@ fn move_in(
     quits: bool,
 ) -> Result<(), AllocError>
     requires { IsTrue (have_numbers_apart s.old.connections) }
-    ensures { OnOk result (shown_situation s.new ≡ option_map_or (λ c. with_connection quits (moved_on moving.entry.reads moving.entry.holds moving.entry.replies moving.entry.line.now c) (shown_situation s.old)) (connection_in conn (shown_situation s.old)) (shown_situation s.old)) }
+    ensures { OnOk result (shown_situation s.new ≡ option_map_or (λ c. with_connection quits (moved_as moving.entry c) (shown_situation s.old)) (connection_in conn (shown_situation s.old)) (shown_situation s.old)) }
 {
     let closes = s.connections.move_on(alloc, conn, moving, quits)?;
     if closes {

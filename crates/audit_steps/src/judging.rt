@@ -2,20 +2,19 @@
 ghost use Rattle.std.specs.Prelude.{◌≡◌, ◌<◌, ◌&&◌, ◌||◌, not, IfOk, OnOk, IfSome, IsTrue, Option, Some, None, true, option_map};
 ghost use Rattle.std.specs.Option.{option_eq};
 ghost use Rattle.audit_model.specs.Bytewise.{same, is_empty};
-ghost use Rattle.audit_model.specs.Changes.{all_held_after, with_connection_after, after_step};
 ghost use Rattle.audit_model.specs.Commands.{deed_of, drops, is_sync};
-ghost use Rattle.audit_model.specs.Follows.{line_in, placed_step_in};
+ghost use Rattle.audit_model.specs.Follows.{line_in};
 ghost use Rattle.audit_model.specs.Notes.{is_silent, is_within};
-ghost use Rattle.audit_model.specs.Situation.{connection_in, view_in};
-ghost use Rattle.audit_model.specs.Steps.{Task, RunHeld, has_right_notes};
+ghost use Rattle.audit_model.specs.Situation.{connection_in};
+ghost use Rattle.audit_model.specs.Steps.{Task, RunHeld};
 ghost use Rattle.audit_model.specs.View.{View};
 ghost use Rattle.audit_notes.specs.After.{IsJustAccepted};
 ghost use Rattle.audit_held.specs.Weights.{values_of};
-ghost use Rattle.audit_held.specs.Known.{agrees_with, with_value};
+ghost use Rattle.audit_held.specs.Known.{with_value};
 ghost use Rattle.audit_situation.specs.States.{shown_situation, have_numbers_apart};
 ghost use Rattle.audit_actions.specs.Doings.{action_of};
-ghost use Rattle.audit_steps.specs.Doings.{acting};
-ghost use Rattle.audit_steps.specs.Judging.{placed_by, placed_with, is_fit, is_synced, reply_fits, IsJudged};
+ghost use Rattle.audit_steps.specs.Doings.{passed_on};
+ghost use Rattle.audit_steps.specs.Judging.{placed_by, placed_in, is_fit, ends_rightly, agrees_and_ends, with_values_after, after_placed, syncs_so, Judges, JudgesStep};
 ghost use Rattle.audit_steps.specs.Showing.{shown_step, task_of};
 
 use crate::accepting::{accept, admit};
@@ -121,7 +120,7 @@ fn is_synced(
     doing: Doing<'_>,
     reply: Option<&[u8]>,
 ) -> Result<bool, AllocError>
-    ensures { IfOk result (λ b. (seen : View) → b ≡ (not (is_sync (action_of doing.entry)) || (reply_fits config.now seen (action_of doing.entry) (option_map (λ r. r.now) reply.entry) (values_of held.now) && is_within config.now (values_of held.now)))) }
+    ensures { IfOk result (λ b. (seen : View) → b ≡ syncs_so config.now seen (action_of doing.entry) (option_map (λ r. r.now) reply.entry) (values_of held.now)) }
 {
     match doing {
         Doing::Sync => {
@@ -147,8 +146,8 @@ fn do_values(
 ) -> Result<bool, AllocError>
     requires new { IfSome newcomer (IsJustAccepted s.old.latest) }
     requires small { IfSome newcomer (λ h. h.value.part < 256) }
-    ensures right { IfOk result (λ b. (task : Option Task) → let placed = placed_with config.now (shown_situation s.old) task (action_of doing.entry) (shown_step shown.entry) (option_map (λ h. h.value) newcomer) in b ≡ (has_right_notes config.now placed && is_synced config.now placed)) }
-    ensures left { IfOk result (λ b. b ≡ true → let effect = (placed_with config.now (shown_situation s.old) None (action_of doing.entry) (shown_step shown.entry) (option_map (λ h. h.value) newcomer)).effect in shown_situation s.new ≡ record (shown_situation s.old) { held = all_held_after config.now s.old.latest s.old.held (deed_of effect) effect.notes; dropped = s.old.dropped || drops effect }) }
+    ensures right { IfOk result (λ b. (task : Option Task) → b ≡ ends_rightly config.now (placed_in config.now s.old task doing.entry shown.entry newcomer)) }
+    ensures left { IfOk result (λ b. b ≡ true → shown_situation s.new ≡ with_values_after config.now (shown_situation s.old) (placed_in config.now s.old None doing.entry shown.entry newcomer).effect) }
 {
     let deed = deed_of(doing, shown.reply);
     if !do_deed(
@@ -179,7 +178,7 @@ fn pass_step(
     doing: Doing<'_>,
 ) -> Result<(), AllocError>
     requires { IsTrue (have_numbers_apart s.old.connections) }
-    ensures { OnOk result (shown_situation s.new ≡ with_connection_after (option_map task_of duty.entry) (shown_step shown.entry) (acting (action_of doing.entry) (option_map (λ r. r.now) shown.entry.reply) shown.entry.load) (shown_situation s.old)) }
+    ensures { OnOk result (shown_situation s.new ≡ passed_on (option_map task_of duty.entry) (action_of doing.entry) (shown_step shown.entry) (shown_situation s.old)) }
 {
     if is_store(duty) {
         return Ok(());
@@ -213,8 +212,8 @@ fn finish(
     requires apart { IsTrue (have_numbers_apart s.old.connections) }
     requires new { IfSome newcomer (IsJustAccepted s.old.latest) }
     requires small { IfSome newcomer (λ h. h.value.part < 256) }
-    ensures right { IfOk result (λ b. let placed = placed_with config.now (shown_situation s.old) (option_map task_of duty.entry) (action_of doing.entry) (shown_step shown.entry) (option_map (λ h. h.value) newcomer) in b ≡ (has_right_notes config.now placed && is_synced config.now placed)) }
-    ensures left { IfOk result (λ b. b ≡ true → shown_situation s.new ≡ after_step config.now (shown_situation s.old) (option_map task_of duty.entry) (shown_step shown.entry) (placed_with config.now (shown_situation s.old) (option_map task_of duty.entry) (action_of doing.entry) (shown_step shown.entry) (option_map (λ h. h.value) newcomer)).effect) }
+    ensures right { IfOk result (λ b. b ≡ ends_rightly config.now (placed_in config.now s.old (option_map task_of duty.entry) doing.entry shown.entry newcomer)) }
+    ensures left { IfOk result (λ b. b ≡ true → shown_situation s.new ≡ after_placed config.now (shown_situation s.old) (placed_in config.now s.old (option_map task_of duty.entry) doing.entry shown.entry newcomer)) }
 {
     if !do_values(alloc, config, s, shown, doing, newcomer)? {
         return Ok(false);
@@ -237,8 +236,8 @@ fn judge_accepted(
     requires apart { IsTrue (have_numbers_apart s.old.connections) }
     requires new { IfSome newcomer (IsJustAccepted s.old.latest) }
     requires small { IfSome newcomer (λ h. h.value.part < 256) }
-    ensures right { IfOk result (λ b. let placed = placed_with config.now (shown_situation s.old) (option_map task_of duty.entry) (action_of doing.entry) (shown_step shown.entry) (option_map (λ h. h.value) newcomer) in b ≡ (agrees_with parts.old (option_map (λ h. h.value) newcomer) && (has_right_notes config.now placed && is_synced config.now placed))) }
-    ensures left { IfOk result (λ b. b ≡ true → shown_situation s.new ≡ after_step config.now (shown_situation s.old) (option_map task_of duty.entry) (shown_step shown.entry) (placed_with config.now (shown_situation s.old) (option_map task_of duty.entry) (action_of doing.entry) (shown_step shown.entry) (option_map (λ h. h.value) newcomer)).effect) }
+    ensures right { IfOk result (λ b. b ≡ agrees_and_ends config.now parts.old (placed_in config.now s.old (option_map task_of duty.entry) doing.entry shown.entry newcomer)) }
+    ensures left { IfOk result (λ b. b ≡ true → shown_situation s.new ≡ after_placed config.now (shown_situation s.old) (placed_in config.now s.old (option_map task_of duty.entry) doing.entry shown.entry newcomer)) }
     ensures kept { IfOk result (λ b. b ≡ true → parts.new ≡ with_value parts.old (option_map (λ h. h.value) newcomer)) }
 {
     if !admit(parts, newcomer.as_ref())? {
@@ -258,7 +257,7 @@ fn judge_doing(
     doing: Doing<'_>,
 ) -> Result<bool, AllocError>
     requires { IsTrue (have_numbers_apart s.old.connections) }
-    ensures { IfOk result (λ b. IsJudged config.now (shown_situation s.old) parts.old (option_map task_of duty.entry) (shown_step shown.entry) (placed_by config.now (shown_situation s.old) (option_map task_of duty.entry) (action_of doing.entry) (shown_step shown.entry)) b (shown_situation s.new) parts.new) }
+    ensures { IfOk result (λ b. Judges config.now s.old parts.old (placed_by config.now (shown_situation s.old) (option_map task_of duty.entry) (action_of doing.entry) (shown_step shown.entry)) b s.new parts.new) }
 {
     if !is_fit(alloc, config, s, duty, shown, doing)? {
         return Ok(false);
@@ -280,7 +279,7 @@ pub fn judge(
     shown: Shown<'_>,
 ) -> Result<bool, AllocError>
     requires { IsTrue (have_numbers_apart s.old.connections) }
-    ensures { IfOk result (λ b. IsJudged config.now (shown_situation s.old) parts.old (option_map task_of duty.entry) (shown_step shown.entry) (placed_step_in config.now (shown_situation s.old) (option_map task_of duty.entry) (shown_step shown.entry)) b (shown_situation s.new) parts.new) }
+    ensures { IfOk result (λ b. JudgesStep config.now s.old parts.old (option_map task_of duty.entry) (shown_step shown.entry) b s.new parts.new) }
 {
     let waited = waited(s, shown.conn);
     let doing = do_due(config, waited, duty, shown);

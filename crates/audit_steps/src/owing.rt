@@ -1,15 +1,13 @@
 //! Whether a step's reply is the one that it owes.
-ghost use Rattle.std.specs.Prelude.{◌≡◌, ◌||◌, ◌&&◌, IfOk, List, ℕ, Option, false, option_map, Some, codes};
-ghost use Rattle.std.specs.Option.{option_eq};
+ghost use Rattle.std.specs.Prelude.{◌≡◌, IfOk, List, ℕ, Option, false, option_map, Some};
 ghost use Rattle.audit_model.specs.Commands.{is_sync};
 ghost use Rattle.audit_model.specs.History.{Value, Running};
-ghost use Rattle.audit_model.specs.Bytewise.{same, text_line};
 ghost use Rattle.audit_model.specs.declared.command.Command.TheVariants as says;
 ghost use Rattle.audit_model.specs.Replies.{reply_of};
 ghost use Rattle.audit_model.specs.Situation.{view_in};
 ghost use Rattle.audit_situation.specs.States.{shown_situation};
 ghost use Rattle.audit_actions.specs.Doings.{action_of};
-ghost use Rattle.audit_steps.specs.Judging.{reply_fits};
+ghost use Rattle.audit_steps.specs.Judging.{reply_owed, is_owed_or_refusal, replies_so};
 
 use crate::doing::is_sync;
 use crate::keys::keys_listed;
@@ -68,7 +66,7 @@ fn owed(
     s: &State,
     doing: Doing<'_>,
 ) -> Result<Option<Vec<u8>>, AllocError>
-    ensures { IfOk result (λ r. (values : List Value) → is_sync (action_of doing.entry) ≡ false → option_map (λ t. t.items) r ≡ reply_of config.now (view_in config.now (shown_situation s.now)) values (action_of doing.entry)) }
+    ensures { IfOk result (λ r. (values : List Value) → is_sync (action_of doing.entry) ≡ false → option_map (λ t. t.items) r ≡ reply_owed config.now (shown_situation s.now) (action_of doing.entry) values) }
 {
     match doing {
         Doing::Set { .. } => text(alloc, ok_or_off(config)),
@@ -92,7 +90,7 @@ fn owed(
 
 /// Whether a reply is the owed one, or the refusal that may be given.
 fn is_reply(reply: Option<&[u8]>, owed: Option<&[u8]>, refuses: bool) -> bool
-    ensures { result ≡ (option_eq same (option_map (λ r. r.now) reply.entry) (option_map (λ r. r.now) owed.entry) || (refuses && option_eq same (option_map (λ r. r.now) reply.entry) (Some (text_line (codes "ERR id"))))) }
+    ensures { result ≡ is_owed_or_refusal (option_map (λ r. r.now) reply.entry) (option_map (λ r. r.now) owed.entry) refuses }
 {
     is_said(reply, owed) || (refuses && is_said(reply, Some(b"ERR id\n")))
 }
@@ -105,7 +103,7 @@ pub fn replies_rightly(
     doing: Doing<'_>,
     reply: Option<&[u8]>,
 ) -> Result<bool, AllocError>
-    ensures { IfOk result (λ b. (values : List Value) → b ≡ (is_sync (action_of doing.entry) || reply_fits config.now (view_in config.now (shown_situation s.now)) (action_of doing.entry) (option_map (λ r. r.now) reply.entry) values)) }
+    ensures { IfOk result (λ b. (values : List Value) → b ≡ replies_so config.now (shown_situation s.now) (action_of doing.entry) (option_map (λ r. r.now) reply.entry) values) }
 {
     if is_sync(doing) {
         return Ok(true);
