@@ -47,10 +47,8 @@ pub(crate) fn find(row: &Row, slots: &Cells<Instant, u64>, id: NodeId) -> Option
 pub(crate) fn add(row: &mut Row, slots: &mut Cells<Instant, u64>, place: Place)
     requires arranged { IsArranged (taken row.old.places) slots.old }
     requires place { length (taken row.old.places) < row.old.capacity }
-    requires room { HasRoomFor slots.old 1 }
-    requires slot { place.slot ≡ slots.old.vacant_key }
-    requires taken { place.is_taken ≡ true }
-    requires new { LacksSerial place.serial (taken row.old.places) }
+    requires slot { (place.slot ≡ slots.old.vacant_key) × HasRoomFor slots.old 1 }
+    requires new { (place.is_taken ≡ true) × LacksSerial place.serial (taken row.old.places) }
     ensures comes { Comes (taken row.old.places) (taken row.new.places) (timer_at place) }
     ensures arranged { IsArranged (taken row.new.places) slots.new }
     ensures capacity { row.old.capacity ≤ row.new.capacity }
@@ -68,10 +66,8 @@ pub(crate) fn take(row: &mut Row, slots: &mut Cells<Instant, u64>, k: usize) -> 
     ensures goes { Goes k (taken row.old.places) (taken row.new.places) result }
     ensures arranged { IsArranged (taken row.new.places) slots.new }
     ensures alone { LacksSerial result.id.serial (taken row.new.places) }
-    ensures capacity { row.new.capacity ≡ row.old.capacity }
-    ensures place { length (taken row.new.places) < row.new.capacity }
-    ensures slots { slots.new.capacity ≡ slots.old.capacity }
-    ensures vacant { (slots.new.vacant_key ≡ result.id.slot) × HasRoomFor slots.new 1 }
+    ensures capacity { (row.new.capacity ≡ row.old.capacity) × (length (taken row.new.places) < row.new.capacity) }
+    ensures slots { (slots.new.capacity ≡ slots.old.capacity) × (slots.new.vacant_key ≡ result.id.slot) × HasRoomFor slots.new 1 }
 {
     let timer = row.take(k);
     slots.remove(timer.id.slot);

@@ -68,8 +68,7 @@ impl<'a, K> TimerEventsIter<'a, K> {
     pub fn next(&mut self) -> Option<TimerEvent>
         ensures same_wheel { self.new.wheel.ghost_name ≡ self.old.wheel.ghost_name }
         ensures same_entries { self.new.entries.ghost_name ≡ self.old.entries.ghost_name }
-        ensures now { self.new.now ≡ self.old.now }
-        ensures late { self.new.is_late ≡ self.old.is_late }
+        ensures moment { (self.new.now ≡ self.old.now) × (self.new.is_late ≡ self.old.is_late) }
         ensures times { SameTimes self.old.entries.now self.new.entries.now }
         ensures early { OnFalse self.old.is_late ((result ≡ None) × (self.new.wheel.now ≡ self.old.wheel.now) × (self.new.entries.now ≡ self.old.entries.now)) }
 

@@ -53,9 +53,7 @@ fn is_named(place: Place, id: NodeId) -> bool
 fn fit(places: &mut [Place], at: usize, spare: usize, place: Place)
     requires spread { IsSpread places.old }
     requires spare { IsSpare places.old spare }
-    requires at { at ≤ length places.old }
-    requires under { AreUnder (key_in place) (take at places.old) }
-    requires from { AreFrom (key_in place) (drop at places.old) }
+    requires fits { (at ≤ length places.old) × AreUnder (key_in place) (take at places.old) × AreFrom (key_in place) (drop at places.old) }
     requires new { LacksKey (key_in place) (taken places.old) }
     requires taken { place.is_taken ≡ true }
     ensures spread { IsSpread places.new }

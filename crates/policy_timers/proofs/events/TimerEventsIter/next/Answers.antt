@@ -41,11 +41,8 @@ returns-then-not-self-clause-same_wheel g c = refl
 pub returns-then-not-self-clause-same_entries : goal.returns-then-not-self-clause-same_entries
 returns-then-not-self-clause-same_entries g c = refl
 
-pub returns-then-not-self-clause-now : goal.returns-then-not-self-clause-now
-returns-then-not-self-clause-now g c = refl
-
-pub returns-then-not-self-clause-late : goal.returns-then-not-self-clause-late
-returns-then-not-self-clause-late g c = refl
+pub returns-then-not-self-clause-moment : goal.returns-then-not-self-clause-moment
+returns-then-not-self-clause-moment g c = (refl, refl)
 
 pub returns-then-not-self-clause-times : goal.returns-then-not-self-clause-times
 returns-then-not-self-clause-times g c = λ entry. refl
@@ -83,11 +80,8 @@ returns-in-Some-due_of-clause-same_wheel g c = c.loop-timer.invariant.0
 pub returns-in-Some-due_of-clause-same_entries : goal.returns-in-Some-due_of-clause-same_entries
 returns-in-Some-due_of-clause-same_entries g c = c.loop-timer.invariant.1
 
-pub returns-in-Some-due_of-clause-now : goal.returns-in-Some-due_of-clause-now
-returns-in-Some-due_of-clause-now g c = c.loop-timer.invariant.2
-
-pub returns-in-Some-due_of-clause-late : goal.returns-in-Some-due_of-clause-late
-returns-in-Some-due_of-clause-late g c = c.loop-timer.invariant.3
+pub returns-in-Some-due_of-clause-moment : goal.returns-in-Some-due_of-clause-moment
+returns-in-Some-due_of-clause-moment g c = (c.loop-timer.invariant.2, c.loop-timer.invariant.3)
 
 pub returns-in-Some-due_of-clause-early : goal.returns-in-Some-due_of-clause-early
 returns-in-Some-due_of-clause-early g c = rw c.if-not-self.false tt
@@ -101,11 +95,8 @@ returns-clause-same_wheel g c = c.loop-timer.invariant.0
 pub returns-clause-same_entries : goal.returns-clause-same_entries
 returns-clause-same_entries g c = c.loop-timer.invariant.1
 
-pub returns-clause-now : goal.returns-clause-now
-returns-clause-now g c = c.loop-timer.invariant.2
-
-pub returns-clause-late : goal.returns-clause-late
-returns-clause-late g c = c.loop-timer.invariant.3
+pub returns-clause-moment : goal.returns-clause-moment
+returns-clause-moment g c = (c.loop-timer.invariant.2, c.loop-timer.invariant.3)
 
 pub returns-clause-early : goal.returns-clause-early
 returns-clause-early g c = rw c.if-not-self.false tt

@@ -40,6 +40,6 @@ returns-in-Some-clause-keeps g c =
     let before = c.self.invariant.arranged.counted in
     let after = c.take-timer.ensures.arranged.counted in
     let fewer = one_fewer c.in-Some.k (taken c.self.inside.row.places) (taken c.take-timer.new.row.places) c.take-timer.result c.take-timer.ensures.goes in
-    let kept = c.take-timer.ensures.capacity in
-    let slots = c.take-timer.ensures.slots in
+    let kept = c.take-timer.ensures.capacity.0 in
+    let slots = c.take-timer.ensures.slots.0 in
     rw (← c.self.view_is) (record { is_enabled = refl; origin = refl; moment = refl; next_serial = refl; room = omega arith })

@@ -5,7 +5,7 @@ use Rattle.policy_timers.proofs.Arrays.{LacksSerial-next, AreBelow-more}
 use Rattle.policy_timers.proofs.wheel.TimerWheel.place.Goals as goal
 
 pub add-requires-clause-new : goal.add-requires-clause-new
-add-requires-clause-new g c = LacksSerial-next c.self.inside.next_serial (taken c.self.inside.row.places) c.self.invariant.below
+add-requires-clause-new g c = (refl, LacksSerial-next c.self.inside.next_serial (taken c.self.inside.row.places) c.self.invariant.below)
 
 pub invariant_of-self : goal.invariant_of-self
 invariant_of-self g c =
