@@ -293,6 +293,22 @@ impl<S: Store, T: Tape> Namespace<S, T> {
         Ok(waits_at_place(&self.connections, index))
     }
 
+    /// How many loads are under way: sent, and neither answered nor given up, whether they were taken or not.
+    pub fn loads_open(&self) -> u64
+        ensures { result ≡ length self.now.pending }
+    {
+        self.base.loads.count() as u64
+    }
+
+    /// The tape of its records, moved out. Takes no memory.
+    pub fn into_tape(self) -> T
+        ensures { result ≡ self.tape }
+    {
+        let Namespace { base, .. } = self;
+        let Base { tape, .. } = base;
+        tape
+    }
+
     /// The tape of its records.
     pub fn tape(&self) -> &T
         ensures { result.now ≡ self.now.tape }
