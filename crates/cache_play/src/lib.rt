@@ -6,6 +6,7 @@ ghost use Rattle.cache_spaces.specs.Played.{ArePlayed};
 ghost use Rattle.cache_spaces.specs.Services.{are_taken};
 
 use audit_model::{Config, Input, Instant, ServiceError, Transcript};
+use audit_receipts::copy_input;
 use cache_spaces::RecordedService;
 use rand_xoshiro::Xoshiro256PlusPlus;
 use std::alloc::Global;
@@ -32,7 +33,10 @@ pub fn play(
         Err(error) => return Err(error),
     };
     for input in inputs {
-        let _ = recorded.record(input);
+        match copy_input(alloc, input) {
+            Ok(copy) => drop(recorded.step(copy)),
+            Err(_) => {}
+        }
     }
     Ok(recorded.into_journals())
 }
