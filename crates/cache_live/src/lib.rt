@@ -3,6 +3,5 @@
 
 mod live;
 mod shares;
-mod taking;
 
 pub use live::LiveService;

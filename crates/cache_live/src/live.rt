@@ -3,7 +3,6 @@ ghost use Rattle.std.specs.Prelude.{◌≡◌, ◌≤◌, ◌<◌, ◌^◌, ◌+
 ghost use Rattle.cache_live.specs.Lived.{Lived};
 ghost use Rattle.cache_spaces.specs.Services.{are_taken, AreNew, Refuses, spaces_of};
 
-use crate::taking::take_input;
 use audit_model::{Bytes, Closing, Config, Conn, Input, Instant, LoadId, Note, ServiceError};
 use cache_spaces::{Output, Refusal, Service};
 use rand_xoshiro::Xoshiro256PlusPlus;
@@ -71,7 +70,7 @@ impl LiveService {
                 input,
             });
         };
-        let output = match take_input(service, input) {
+        let output = match service.step(input) {
             Ok(output) => output,
             Err(refusal) => return Err(refusal),
         };

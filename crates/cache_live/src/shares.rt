@@ -1,10 +1,10 @@
 //! The core that keeps no journal.
 use crate::live::LiveService;
 use audit_model::{Bytes, Closing, Conn, Input, LoadId, Note, ServiceError, Transcript};
-use cache_shared::{Core, Takings};
+use cache_shared::{Stepping, Takings};
 use cache_spaces::{Output, Refusal};
 
-impl Core for LiveService {
+impl Stepping for LiveService {
     ghost use Rattle.std.specs.Prelude.{[], false};
     ghost use Rattle.cache_live.specs.Live.{events_of, live_service};
 

@@ -1,10 +1,10 @@
 //! The core that keeps its journals, and whose replies are taken.
 use crate::reading::{ReadService, take_replies};
 use audit_model::{Bytes, Closing, Conn, Input, LoadId, Note, ServiceError, Transcript};
-use cache_shared::{Core, Takings};
+use cache_shared::{Stepping, Takings};
 use cache_spaces::{Output, RecordedService, Refusal};
 
-impl Core for ReadService {
+impl Stepping for ReadService {
     ghost use Rattle.cache_shared.specs.Events.{RecordedAs, record_count};
     ghost use Rattle.cache_reading.specs.Read.{journals_in, service_in};
     ghost use Rattle.cache_spaces.specs.Services.{spaces_of};
@@ -24,15 +24,15 @@ impl Core for ReadService {
 
     fn step(&mut self, input: Input) -> Result<Output, Refusal> {
         let ReadService { recorded, .. } = self;
-        <RecordedService as Core>::step(recorded, input)
+        <RecordedService as Stepping>::step(recorded, input)
     }
 
     fn stands(&self) {
-        Core::stands(&self.recorded)
+        Stepping::stands(&self.recorded)
     }
 
     fn journal(&self, namespace: u64) -> Result<&Transcript, ServiceError> {
-        Core::journal(&self.recorded, namespace)
+        Stepping::journal(&self.recorded, namespace)
     }
 }
 

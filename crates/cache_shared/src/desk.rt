@@ -16,7 +16,7 @@ use crate::judging::agree;
 use crate::loads::{TakenLoads, take_loads};
 use crate::replies::{Replies, take_replies};
 use crate::seat::{Seat, Seating, make_lists, namespace_of};
-use crate::service_core::{Core, Takings};
+use crate::service_core::{Stepping, Takings};
 use audit_model::{Closing, Conn, Input, Note, ServiceError};
 use audit_receipts::{Receipt, copy_input};
 use cache_spaces::{Output, Refusal};
@@ -25,7 +25,7 @@ use std::sync::ledger::{Blank, Book, Share};
 
 /// The service under the lock, with the book of all seats' events and the parts that no seat has.
 #[derive(Drop)]
-pub struct Desk<L: Seating, C: Core> {
+pub struct Desk<L: Seating, C: Stepping> {
     pub(crate) core: C,
     book: Book<L>,
     rest: Share<L>,
@@ -40,14 +40,14 @@ pub struct Desk<L: Seating, C: Core> {
 
 /// What `SharedService::finish` gives: the service, and what its seats can show by its journals.
 #[derive(Drop)]
-pub struct Finished<C: Core> {
+pub struct Finished<C: Stepping> {
     /// The service, which took as many inputs as the seats count together.
     pub service: C,
     /// For each seat, in the order in which they were handed in, a list of receipts for each namespace up to the last one that it used.
     pub receipts: Vec<Vec<Vec<Receipt>>>,
 }
 
-impl<L: Seating, C: Core> Desk<L, C> {
+impl<L: Seating, C: Stepping> Desk<L, C> {
     /// A desk without seats, over a service of no events. Its ledger is cut into `parts`, one for each seat.
     pub fn new(core: C, blank: Blank, parts: u64) -> Desk<L, C>
         requires empty { C.events core ≡ 0 }

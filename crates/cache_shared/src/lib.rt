@@ -14,5 +14,5 @@ pub use desk::{Desk, Finished};
 pub use loads::TakenLoads;
 pub use replies::Replies;
 pub use seat::{Seat, Seating};
-pub use service_core::{Core, Takings};
+pub use service_core::{Stepping, Takings};
 pub use shared::SharedService;

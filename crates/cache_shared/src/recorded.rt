@@ -1,9 +1,9 @@
 //! The core that keeps its journals.
-use crate::service_core::Core;
+use crate::service_core::Stepping;
 use audit_model::{Input, ServiceError, Transcript};
 use cache_spaces::{Output, RecordedService, Refusal};
 
-impl Core for RecordedService {
+impl Stepping for RecordedService {
     ghost use Rattle.cache_shared.specs.Events.{record_count};
     ghost use Rattle.cache_shared.specs.Events.{RecordedAs};
     ghost use Rattle.cache_spaces.specs.Journals.{journals_of, service_of};

@@ -20,7 +20,7 @@ use audit_model::{Bytes, Closing, Conn, Input, LoadId, Note, ServiceError, Trans
 use cache_spaces::{Output, Refusal};
 
 /// What stands under the lock of a `SharedService`: a service that takes inputs one by one.
-pub trait Core: Drop {
+pub trait Stepping: Drop {
     /// The service.
     ghost service: { Self → Service };
 
@@ -63,7 +63,7 @@ pub trait Core: Drop {
 }
 
 /// A core whose replies, loads and notes are taken. A taking is no event.
-pub trait Takings: Core {
+pub trait Takings: Stepping {
     /// The reply bytes of a connection that were not taken.
     ghost untaken: { Self → Conn → List ℕ };
 

@@ -15,7 +15,7 @@ use crate::desk::{Desk, Finished};
 use crate::loads::TakenLoads;
 use crate::replies::Replies;
 use crate::seat::{Seat, Seating};
-use crate::service_core::{Core, Takings};
+use crate::service_core::{Stepping, Takings};
 use audit_model::{Closing, Conn, Input, Note, ServiceError};
 use audit_receipts::Receipt;
 use cache_spaces::{Output, RecordedService, Refusal};
@@ -25,7 +25,7 @@ use std::sync::{Arc, Condvar, Mutex, Wait};
 
 /// The lock, and what tells of changes.
 #[derive(Drop)]
-struct Inner<L: Seating, C: Core> {
+struct Inner<L: Seating, C: Stepping> {
     desk: Mutex<Desk<L, C>>,
     changed: Condvar,
 }
@@ -35,13 +35,13 @@ struct Inner<L: Seating, C: Core> {
 /// Whenever the lock is taken, there are journals that obey and lead to where the service stands, of as many records as inputs were
 /// taken. `L` is the ledger of its seats.
 #[derive(Drop)]
-pub struct SharedService<L: Seating, C: Core = RecordedService> {
+pub struct SharedService<L: Seating, C: Stepping = RecordedService> {
     inner: Arc<Option<Inner<L, C>>>,
     alloc: Global,
     ghost full: { IsSome (arc_value inner) },
 }
 
-impl<L: Seating, C: Core> Clone for SharedService<L, C> {
+impl<L: Seating, C: Stepping> Clone for SharedService<L, C> {
     fn clone(&self) -> Result<SharedService<L, C>, AllocError> {
         Ok(SharedService {
             inner: Arc::try_clone(&self.inner)?,
@@ -50,7 +50,7 @@ impl<L: Seating, C: Core> Clone for SharedService<L, C> {
     }
 }
 
-impl<L: Seating, C: Core> SharedService<L, C> {
+impl<L: Seating, C: Stepping> SharedService<L, C> {
     /// A shared form of a service that took no input, over a new ledger of so many parts, one for each seat that there may be. Without
     /// memory service and ledger are handed back.
     pub fn new(
@@ -224,7 +224,7 @@ impl<L: Seating, C: Takings> SharedService<L, C> {
 }
 
 /// Closes the desk, where these are all seats, and their receipts stand.
-fn close_if_all<L: Seating, C: Core>(
+fn close_if_all<L: Seating, C: Stepping>(
     alloc: Global,
     slot: &mut Option<Inner<L, C>>,
     seats: Vec<Seat<L>>,

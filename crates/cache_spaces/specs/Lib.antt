@@ -1,13 +1,10 @@
-pub mod Knowing
 pub mod Served
-pub mod Spaces
 pub mod Stores
-pub mod Moves
-pub mod Serves
+pub mod Spaces
+pub mod Calls
+pub mod Inputs
 pub mod Services
-pub mod Recorded
 pub mod Throughout
 pub mod Recent
 pub mod Played
 pub mod Journals
-pub mod Outputs

@@ -3,7 +3,7 @@ ghost use Rattle.std.specs.Prelude.{◌≡◌, ℕ, ◌≤◌, ◌<◌, ◌^◌,
 ghost use Rattle.std.specs.List.{slice_get};
 ghost use Rattle.cache_spaces.specs.Calls.{At, Refuses, TakesLoads};
 ghost use Rattle.cache_spaces.specs.Inputs.{Performs, RefusedInput, namespace_of};
-ghost use Rattle.cache_spaces.specs.Journals.{IsJournalOf, IsSoOfEach, journal_of, journals_of, kept_by};
+ghost use Rattle.cache_spaces.specs.Journals.{IsJournalOf, IsSoOfEach, journals_of, kept_by};
 ghost use Rattle.cache_spaces.specs.Services.{AreNew, are_taken, blank_tape};
 
 use crate::service::Core;
