@@ -115,12 +115,12 @@ impl<T: Tape> Core<T> {
         ensures refused { IfErr result (λ e. Refuses self.old namespace e (λ was. e ≡ ServiceError.OutOfMemory)) }
         ensures unchanged { OnErr result (self.new ≡ self.old) }
     {
-        match self.spaces.get_mut(namespace as usize) {
-            Some(space) => match space.open() {
-                Ok(number) => Ok(Conn { namespace, number }),
-                Err(_) => Err(ServiceError::OutOfMemory),
-            },
-            None => Err(ServiceError::NoNamespace),
+        let Some(space) = self.spaces.get_mut(namespace as usize) else {
+            return Err(ServiceError::NoNamespace);
+        };
+        match space.open() {
+            Ok(number) => Ok(Conn { namespace, number }),
+            Err(_) => Err(ServiceError::OutOfMemory),
         }
     }
 
@@ -135,10 +135,10 @@ impl<T: Tape> Core<T> {
         ensures spare { IfErr result (λ e. Refuses self.old conn.namespace e (λ was. T.view was.tape ≡ None → refusal_of (config_of was) (known_of was) (event.Close conn.number) ≡ Some e)) }
         ensures unchanged { OnErr result (self.new ≡ self.old) }
     {
-        match self.spaces.get_mut(conn.namespace as usize) {
-            Some(space) => space.close(conn.number),
-            None => Err(ServiceError::NoNamespace),
-        }
+        let Some(space) = self.spaces.get_mut(conn.namespace as usize) else {
+            return Err(ServiceError::NoNamespace);
+        };
+        space.close(conn.number)
     }
 
     /// Takes a piece of a connection's bytes at a moment, and runs its complete lines: a command that is held back runs first. An earlier
@@ -153,13 +153,13 @@ impl<T: Tape> Core<T> {
         ensures refused { IfErr result (λ e. Refuses self.old conn.namespace e (λ was. RefusedFor was (feeding conn.number piece.now moment.nanos) (is_held_in was conn.number) e)) }
         ensures unchanged { OnErr result (self.new ≡ self.old) }
     {
-        match self.spaces.get_mut(conn.namespace as usize) {
-            Some(space) => match space.feed(conn.number, piece, moment) {
-                Ok(true) => Ok(Fed::Held),
-                Ok(false) => Ok(Fed::All),
-                Err(error) => Err(error),
-            },
-            None => Err(ServiceError::NoNamespace),
+        let Some(space) = self.spaces.get_mut(conn.namespace as usize) else {
+            return Err(ServiceError::NoNamespace);
+        };
+        match space.feed(conn.number, piece, moment) {
+            Ok(true) => Ok(Fed::Held),
+            Ok(false) => Ok(Fed::All),
+            Err(error) => Err(error),
         }
     }
 
@@ -179,15 +179,15 @@ impl<T: Tape> Core<T> {
         ensures back { IfErr result (λ e. e.outcome ≡ outcome) }
         ensures unchanged { OnErr result (self.new ≡ self.old) }
     {
-        match self.spaces.get_mut(load.namespace as usize) {
-            Some(space) => match space.answer(load.number, outcome, moment) {
-                Ok(()) => Ok(()),
-                Err((error, outcome)) => Err(AnswerError { error, outcome }),
-            },
-            None => Err(AnswerError {
+        let Some(space) = self.spaces.get_mut(load.namespace as usize) else {
+            return Err(AnswerError {
                 error: ServiceError::NoNamespace,
                 outcome,
-            }),
+            });
+        };
+        match space.answer(load.number, outcome, moment) {
+            Ok(()) => Ok(()),
+            Err((error, outcome)) => Err(AnswerError { error, outcome }),
         }
     }
 
@@ -204,10 +204,10 @@ impl<T: Tape> Core<T> {
         ensures spare { IfErr result (λ e. Refuses self.old load.namespace e (λ was. T.view was.tape ≡ None → refusal_of (config_of was) (known_of was) (giving_up load.number moment.nanos) ≡ Some e)) }
         ensures unchanged { OnErr result (self.new ≡ self.old) }
     {
-        match self.spaces.get_mut(load.namespace as usize) {
-            Some(space) => space.give_up(load.number, moment),
-            None => Err(ServiceError::NoNamespace),
-        }
+        let Some(space) = self.spaces.get_mut(load.namespace as usize) else {
+            return Err(ServiceError::NoNamespace);
+        };
+        space.give_up(load.number, moment)
     }
 
     /// The reply bytes of a connection since the last taking, with their line ends, moved out; also after it closed. Takes no memory.
@@ -217,10 +217,10 @@ impl<T: Tape> Core<T> {
         ensures refused { IfErr result (λ e. Refuses self.old conn.namespace e (λ was. IsUnknown was conn.number e)) }
         ensures unchanged { OnErr result (self.new ≡ self.old) }
     {
-        match self.spaces.get_mut(conn.namespace as usize) {
-            Some(space) => space.take_output(conn.number),
-            None => Err(ServiceError::NoNamespace),
-        }
+        let Some(space) = self.spaces.get_mut(conn.namespace as usize) else {
+            return Err(ServiceError::NoNamespace);
+        };
+        space.take_output(conn.number)
     }
 
     /// The oldest note of a namespace that was told and not taken, of a value that left; none where there is none. It does not come again.
@@ -230,10 +230,10 @@ impl<T: Tape> Core<T> {
         ensures refused { IfErr result (λ e. (e ≡ ServiceError.NoNamespace) × (length self.old ≤ namespace)) }
         ensures unchanged { OnErr result (self.new ≡ self.old) }
     {
-        match self.spaces.get_mut(namespace as usize) {
-            Some(space) => Ok(space.next_notice()),
-            None => Err(ServiceError::NoNamespace),
-        }
+        let Some(space) = self.spaces.get_mut(namespace as usize) else {
+            return Err(ServiceError::NoNamespace);
+        };
+        Ok(space.next_notice())
     }
 
     /// The loads of a namespace that went out and were not taken, with their keys, in the order in which they were sent; moved out, so that
@@ -243,10 +243,10 @@ impl<T: Tape> Core<T> {
         ensures refused { IfErr result (λ e. (e ≡ ServiceError.NoNamespace) × (length self.old ≤ namespace)) }
         ensures unchanged { OnErr result (self.new ≡ self.old) }
     {
-        match self.spaces.get_mut(namespace as usize) {
-            Some(space) => Ok(space.take_loads()),
-            None => Err(ServiceError::NoNamespace),
-        }
+        let Some(space) = self.spaces.get_mut(namespace as usize) else {
+            return Err(ServiceError::NoNamespace);
+        };
+        Ok(space.take_loads())
     }
 
     /// Why a connection is closed; none while it is open. Takes no memory. Refused with `NoNamespace`, then with `NoConnection`.
