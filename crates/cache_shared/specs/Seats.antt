@@ -8,7 +8,7 @@ use Rattle.audit_model.specs.declared.transcript.Transcript.{Transcript}
 use Rattle.audit_receipts.specs.Receipts.{AreOf, StandFrom}
 use Rattle.audit_receipts.specs.declared.output.Output.{Output}
 use Rattle.audit_receipts.specs.declared.receipt.Receipt.{Receipt}
-use Rattle.cache_spaces.specs.Recorded.{namespace_of}
+use Rattle.cache_spaces.specs.Inputs.{namespace_of}
 
 -- the receipts of a namespace, where a seat keeps a list for each of the first namespaces, and the others have none
 abbrev pub receipts_at : List (Vec Receipt Global) → ℕ → List Receipt

@@ -1,16 +1,13 @@
 //! What lies under the lock.
 ghost use Rattle.std.specs.Prelude.{◌≡◌, ℕ, ◌+◌, ◌≤◌, ◌<◌, ◌++◌, ◌∷◌, ◌⊎◌, [], true, false, Some, length, map, sum_by, vec_len, vec_capacity, IfOk, IfErr, IsTrue, OnOk, OnErr};
 ghost use Rattle.std.specs.List.{slice_get};
-ghost use Rattle.audit_model.specs.Situation.{Situation};
 ghost use Rattle.audit_model.specs.declared.transcript.Transcript.{Transcript};
-ghost use Rattle.cache_namespace.specs.Taken.{is_waiting_in};
 ghost use Rattle.cache_shared.specs.Events.{IsLate, IsUsedUp, Performs, IsReached, RefusesStep, is_output_for};
 ghost use Rattle.cache_shared.specs.Looked.{WasOldestNote, HeldAtSomeMoment};
 ghost use Rattle.cache_shared.specs.Seats.{AgreeAll, Gains, SameReceipts, receipt_for};
-ghost use Rattle.cache_spaces.specs.Recorded.{namespace_of};
-ghost use Rattle.cache_spaces.specs.Serves.{IsUnknown};
-ghost use Rattle.cache_spaces.specs.Services.{InSpace, RefusesLook, spaces_of};
-ghost use Rattle.cache_spaces.specs.Spaces.{StandsFor, closing_of};
+ghost use Rattle.cache_spaces.specs.Inputs.{namespace_of};
+ghost use Rattle.cache_spaces.specs.Calls.{InSpace, IsUnknown, Refuses};
+ghost use Rattle.cache_spaces.specs.Spaces.{closing_of, is_waiting_for};
 
 use crate::judging::agree;
 use crate::loads::{TakenLoads, take_loads};
@@ -104,13 +101,12 @@ impl<L: Seating, C: Stepping> Desk<L, C> {
         seat: &mut Seat<L>,
         input: Input,
     ) -> Result<Output, Refusal>
-        ensures taken { IfOk result (λ output. Performs input output (spaces_of (C.service self.old.core)) (spaces_of (C.service self.new.core))) }
-        ensures recorded { IfOk result (λ output. C.Recorded input output self.old.core self.new.core) }
+        ensures taken { IfOk result (λ output. Performs input output (C.spaces self.old.core) (C.spaces self.new.core)) }
         ensures count { OnOk result ((C.events self.new.core ≡ C.events self.old.core + 1) × (seat.new.count ≡ seat.old.count + 1)) }
         ensures receipt { C.KEEPS ≡ true → IfOk result (λ output. (number : ℕ) × ((journal : Transcript) → slice_get (C.journals self.new.core) (namespace_of input) ≡ Some journal → number ≡ length journal.records) × Gains seat.old.receipts.items seat.new.receipts.items (namespace_of input) (receipt_for input output number)) }
         ensures bare { C.KEEPS ≡ false → SameReceipts seat.old.receipts.items seat.new.receipts.items }
-        ensures refused { IfErr result (λ refusal. RefusesStep input refusal.error seat.old.count (C.events self.old.core) (spaces_of (C.service self.old.core)) (spaces_of (C.service self.new.core))) }
-        ensures uncounted { OnErr result ((C.events self.new.core ≡ C.events self.old.core) × (seat.new.count ≡ seat.old.count)) }
+        ensures refused { IfErr result (λ refusal. RefusesStep input refusal.error seat.old.count (C.events self.old.core) (C.spaces self.old.core)) }
+        ensures unchanged { OnErr result ((C.events self.new.core ≡ C.events self.old.core) × (C.spaces self.new.core ≡ C.spaces self.old.core) × (seat.new.count ≡ seat.old.count)) }
         ensures same { OnErr result (SameReceipts seat.old.receipts.items seat.new.receipts.items) }
         ensures back { IfErr result (λ refusal. refusal.input ≡ input) }
         ensures output { IfOk result (λ output. IsTrue (is_output_for input output)) }
@@ -126,12 +122,11 @@ impl<L: Seating, C: Stepping> Desk<L, C> {
 
     /// Takes an input for a seat, without a receipt.
     fn step_bare(&mut self, seat: &mut Seat<L>, input: Input) -> Result<Output, Refusal>
-        ensures taken { IfOk result (λ output. Performs input output (spaces_of (C.service self.old.core)) (spaces_of (C.service self.new.core))) }
-        ensures recorded { IfOk result (λ output. C.Recorded input output self.old.core self.new.core) }
+        ensures taken { IfOk result (λ output. Performs input output (C.spaces self.old.core) (C.spaces self.new.core)) }
         ensures count { OnOk result ((C.events self.new.core ≡ C.events self.old.core + 1) × (seat.new.count ≡ seat.old.count + 1)) }
         ensures bare { seat.new.receipts ≡ seat.old.receipts }
-        ensures refused { IfErr result (λ refusal. RefusesStep input refusal.error seat.old.count (C.events self.old.core) (spaces_of (C.service self.old.core)) (spaces_of (C.service self.new.core))) }
-        ensures uncounted { OnErr result ((C.events self.new.core ≡ C.events self.old.core) × (seat.new.count ≡ seat.old.count)) }
+        ensures refused { IfErr result (λ refusal. RefusesStep input refusal.error seat.old.count (C.events self.old.core) (C.spaces self.old.core)) }
+        ensures unchanged { OnErr result ((C.events self.new.core ≡ C.events self.old.core) × (C.spaces self.new.core ≡ C.spaces self.old.core) × (seat.new.count ≡ seat.old.count)) }
         ensures back { IfErr result (λ refusal. refusal.input ≡ input) }
         ensures output { IfOk result (λ output. IsTrue (is_output_for input output)) }
         ensures used_up { IfErr result (λ refusal. refusal.error ≡ ServiceError.UsedUp → IsUsedUp seat.old.count (C.events self.old.core)) }
@@ -152,12 +147,11 @@ impl<L: Seating, C: Stepping> Desk<L, C> {
         input: Input,
     ) -> Result<Output, Refusal>
         requires keeps { C.KEEPS ≡ true }
-        ensures taken { IfOk result (λ output. Performs input output (spaces_of (C.service self.old.core)) (spaces_of (C.service self.new.core))) }
-        ensures recorded { IfOk result (λ output. C.Recorded input output self.old.core self.new.core) }
+        ensures taken { IfOk result (λ output. Performs input output (C.spaces self.old.core) (C.spaces self.new.core)) }
         ensures count { OnOk result ((C.events self.new.core ≡ C.events self.old.core + 1) × (seat.new.count ≡ seat.old.count + 1)) }
         ensures receipt { IfOk result (λ output. (number : ℕ) × ((journal : Transcript) → slice_get (C.journals self.new.core) (namespace_of input) ≡ Some journal → number ≡ length journal.records) × Gains seat.old.receipts.items seat.new.receipts.items (namespace_of input) (receipt_for input output number)) }
-        ensures refused { IfErr result (λ refusal. RefusesStep input refusal.error seat.old.count (C.events self.old.core) (spaces_of (C.service self.old.core)) (spaces_of (C.service self.new.core))) }
-        ensures uncounted { OnErr result ((C.events self.new.core ≡ C.events self.old.core) × (seat.new.count ≡ seat.old.count)) }
+        ensures refused { IfErr result (λ refusal. RefusesStep input refusal.error seat.old.count (C.events self.old.core) (C.spaces self.old.core)) }
+        ensures unchanged { OnErr result ((C.events self.new.core ≡ C.events self.old.core) × (C.spaces self.new.core ≡ C.spaces self.old.core) × (seat.new.count ≡ seat.old.count)) }
         ensures same { OnErr result (SameReceipts seat.old.receipts.items seat.new.receipts.items) }
         ensures back { IfErr result (λ refusal. refusal.input ≡ input) }
         ensures output { IfOk result (λ output. IsTrue (is_output_for input output)) }
@@ -199,12 +193,11 @@ impl<L: Seating, C: Stepping> Desk<L, C> {
     ) -> Result<Output, Refusal>
         requires { (share.old.parts ≡ 1) × (share.old.amount ≡ count.old) }
         ensures share { (share.new.parts ≡ 1) × (share.new.amount ≡ count.new) }
-        ensures taken { IfOk result (λ output. Performs input output (spaces_of (C.service self.old.core)) (spaces_of (C.service self.new.core))) }
-        ensures recorded { IfOk result (λ output. C.Recorded input output self.old.core self.new.core) }
+        ensures taken { IfOk result (λ output. Performs input output (C.spaces self.old.core) (C.spaces self.new.core)) }
         ensures count { OnOk result ((C.events self.new.core ≡ C.events self.old.core + 1) × (count.new ≡ count.old + 1)) }
         ensures receipt { IfOk result (λ output. (number : ℕ) × ((journal : Transcript) → slice_get (C.journals self.new.core) (namespace_of input) ≡ Some journal → number ≡ length journal.records) × (own.new.items ≡ own.old.items ++ receipt_for input output number ∷ [])) }
-        ensures refused { IfErr result (λ refusal. RefusesStep input refusal.error count.old (C.events self.old.core) (spaces_of (C.service self.old.core)) (spaces_of (C.service self.new.core))) }
-        ensures uncounted { OnErr result ((C.events self.new.core ≡ C.events self.old.core) × (count.new ≡ count.old)) }
+        ensures refused { IfErr result (λ refusal. RefusesStep input refusal.error count.old (C.events self.old.core) (C.spaces self.old.core)) }
+        ensures unchanged { OnErr result ((C.events self.new.core ≡ C.events self.old.core) × (C.spaces self.new.core ≡ C.spaces self.old.core) × (count.new ≡ count.old)) }
         ensures same { OnErr result (own.new.items ≡ own.old.items) }
         ensures back { IfErr result (λ refusal. refusal.input ≡ input) }
         ensures output { IfOk result (λ output. IsTrue (is_output_for input output)) }
@@ -255,11 +248,10 @@ impl<L: Seating, C: Stepping> Desk<L, C> {
     ) -> Result<Output, Refusal>
         requires { (share.old.parts ≡ 1) × (share.old.amount ≡ count.old) }
         ensures share { (share.new.parts ≡ 1) × (share.new.amount ≡ count.new) }
-        ensures taken { IfOk result (λ output. Performs input output (spaces_of (C.service self.old.core)) (spaces_of (C.service self.new.core))) }
-        ensures recorded { IfOk result (λ output. C.Recorded input output self.old.core self.new.core) }
+        ensures taken { IfOk result (λ output. Performs input output (C.spaces self.old.core) (C.spaces self.new.core)) }
         ensures count { OnOk result ((C.events self.new.core ≡ C.events self.old.core + 1) × (count.new ≡ count.old + 1)) }
-        ensures refused { IfErr result (λ refusal. RefusesStep input refusal.error count.old (C.events self.old.core) (spaces_of (C.service self.old.core)) (spaces_of (C.service self.new.core))) }
-        ensures uncounted { OnErr result ((C.events self.new.core ≡ C.events self.old.core) × (count.new ≡ count.old)) }
+        ensures refused { IfErr result (λ refusal. RefusesStep input refusal.error count.old (C.events self.old.core) (C.spaces self.old.core)) }
+        ensures unchanged { OnErr result ((C.events self.new.core ≡ C.events self.old.core) × (C.spaces self.new.core ≡ C.spaces self.old.core) × (count.new ≡ count.old)) }
         ensures back { IfErr result (λ refusal. refusal.input ≡ input) }
         ensures output { IfOk result (λ output. IsTrue (is_output_for input output)) }
         ensures used_up { IfErr result (λ refusal. refusal.error ≡ ServiceError.UsedUp → IsUsedUp count.old (C.events self.old.core)) }
@@ -314,7 +306,7 @@ impl<L: Seating, C: Stepping> Desk<L, C> {
         ensures service { result.service ≡ self.core }
         ensures count { C.events result.service ≡ sum_by (λ seat. seat.count) seats.items }
         ensures receipts { result.receipts.items ≡ map (λ seat. seat.receipts) seats.items }
-        ensures reached { ∥ IsReached (spaces_of (C.service result.service)) (C.events result.service) ∥₁ }
+        ensures reached { ∥ IsReached (C.spaces result.service) (C.events result.service) ∥₁ }
     {
         let Desk {
             core,
@@ -344,7 +336,7 @@ impl<L: Seating, C: Takings> Desk<L, C> {
     /// The reply bytes of a connection since the last taking, moved out.
     pub fn take_output(&mut self, conn: Conn) -> Result<Replies<C>, ServiceError>
         ensures conn { IfOk result (λ replies. replies.conn ≡ conn) }
-        ensures refused { IfErr result (λ e. (e ≡ ServiceError.OutOfMemory) ⊎ HeldAtSomeMoment C.service C.events (λ spaces. RefusesLook spaces conn.namespace e (λ space. IsUnknown space conn.number e))) }
+        ensures refused { IfErr result (λ e. (e ≡ ServiceError.OutOfMemory) ⊎ HeldAtSomeMoment C.spaces C.events (λ spaces. Refuses spaces conn.namespace e (λ space. IsUnknown space conn.number e))) }
         ensures events { C.events self.new.core ≡ C.events self.old.core }
     {
         let Desk { core, .. } = self;
@@ -354,7 +346,7 @@ impl<L: Seating, C: Takings> Desk<L, C> {
     /// The loads of a namespace that went out and were not taken, moved out.
     pub fn take_loads(&mut self, namespace: u64) -> Result<TakenLoads<C>, ServiceError>
         ensures namespace { IfOk result (λ loads. loads.namespace ≡ namespace) }
-        ensures refused { IfErr result (λ e. HeldAtSomeMoment C.service C.events (λ spaces. (e ≡ ServiceError.NoNamespace) × (length spaces ≤ namespace))) }
+        ensures refused { IfErr result (λ e. HeldAtSomeMoment C.spaces C.events (λ spaces. (e ≡ ServiceError.NoNamespace) × (length spaces ≤ namespace))) }
         ensures events { C.events self.new.core ≡ C.events self.old.core }
     {
         let Desk { core, .. } = self;
@@ -363,8 +355,8 @@ impl<L: Seating, C: Takings> Desk<L, C> {
 
     /// The oldest note of a namespace that was told and not taken.
     pub fn next_notice(&mut self, namespace: u64) -> Result<Option<Note>, ServiceError>
-        ensures note { IfOk result (λ note. WasOldestNote C.service C.events C.untold namespace note) }
-        ensures refused { IfErr result (λ e. (e ≡ ServiceError.OutOfMemory) ⊎ HeldAtSomeMoment C.service C.events (λ spaces. (e ≡ ServiceError.NoNamespace) × (length spaces ≤ namespace))) }
+        ensures note { IfOk result (λ note. WasOldestNote C.spaces C.events C.untold namespace note) }
+        ensures refused { IfErr result (λ e. (e ≡ ServiceError.OutOfMemory) ⊎ HeldAtSomeMoment C.spaces C.events (λ spaces. (e ≡ ServiceError.NoNamespace) × (length spaces ≤ namespace))) }
         ensures events { C.events self.new.core ≡ C.events self.old.core }
     {
         let Desk { core, .. } = self;
@@ -374,8 +366,8 @@ impl<L: Seating, C: Takings> Desk<L, C> {
 
     /// Why a connection is closed, if it is.
     pub fn closed(&self, conn: Conn) -> Result<Option<Closing>, ServiceError>
-        ensures closing { IfOk result (λ closing. HeldAtSomeMoment C.service C.events (λ spaces. InSpace spaces conn.namespace (λ space. closing ≡ closing_of space conn.number))) }
-        ensures refused { IfErr result (λ e. HeldAtSomeMoment C.service C.events (λ spaces. RefusesLook spaces conn.namespace e (λ space. IsUnknown space conn.number e))) }
+        ensures closing { IfOk result (λ closing. HeldAtSomeMoment C.spaces C.events (λ spaces. InSpace spaces conn.namespace (λ space. closing ≡ closing_of space conn.number))) }
+        ensures refused { IfErr result (λ e. HeldAtSomeMoment C.spaces C.events (λ spaces. Refuses spaces conn.namespace e (λ space. IsUnknown space conn.number e))) }
     {
         self.core.stands();
         self.core.closed(conn)
@@ -383,8 +375,8 @@ impl<L: Seating, C: Takings> Desk<L, C> {
 
     /// Whether a `LOAD` of a connection waits for its load.
     pub fn waiting(&self, conn: Conn) -> Result<bool, ServiceError>
-        ensures waits { IfOk result (λ waits. HeldAtSomeMoment C.service C.events (λ spaces. InSpace spaces conn.namespace (λ space. (s : Situation) → StandsFor space s → waits ≡ is_waiting_in s conn.number))) }
-        ensures refused { IfErr result (λ e. HeldAtSomeMoment C.service C.events (λ spaces. RefusesLook spaces conn.namespace e (λ space. IsUnknown space conn.number e))) }
+        ensures waits { IfOk result (λ waits. HeldAtSomeMoment C.spaces C.events (λ spaces. InSpace spaces conn.namespace (λ space. waits ≡ is_waiting_for space conn.number))) }
+        ensures refused { IfErr result (λ e. HeldAtSomeMoment C.spaces C.events (λ spaces. Refuses spaces conn.namespace e (λ space. IsUnknown space conn.number e))) }
     {
         self.core.stands();
         self.core.waiting(conn)

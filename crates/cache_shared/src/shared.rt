@@ -1,15 +1,12 @@
 //! The shared form.
 ghost use Rattle.std.specs.Prelude.{◌≡◌, ℕ, ◌+◌, ◌≤◌, ◌⊎◌, [], true, false, length, map, sum_by, vec_len, vec_capacity, IfOk, IfErr, IsSome, IsTrue, OnOk, OnErr};
 ghost use Rattle.std.specs.Arc.{arc_value};
-ghost use Rattle.audit_model.specs.Situation.{Situation};
-ghost use Rattle.cache_namespace.specs.Taken.{is_waiting_in};
 ghost use Rattle.cache_shared.specs.Events.{IsLate, IsReached, WasRefused, WasUsedUp, is_output_for};
 ghost use Rattle.cache_shared.specs.Looked.{WasOldestNote, HeldAtSomeMoment};
 ghost use Rattle.cache_shared.specs.Seats.{AgreeAll, Gains, SameReceipts, receipt_for};
-ghost use Rattle.cache_spaces.specs.Recorded.{namespace_of};
-ghost use Rattle.cache_spaces.specs.Serves.{IsUnknown};
-ghost use Rattle.cache_spaces.specs.Services.{InSpace, RefusesLook, spaces_of};
-ghost use Rattle.cache_spaces.specs.Spaces.{StandsFor, closing_of};
+ghost use Rattle.cache_spaces.specs.Inputs.{namespace_of};
+ghost use Rattle.cache_spaces.specs.Calls.{InSpace, IsUnknown, Refuses};
+ghost use Rattle.cache_spaces.specs.Spaces.{closing_of, is_waiting_for};
 
 use crate::desk::{Desk, Finished};
 use crate::loads::TakenLoads;
@@ -108,7 +105,7 @@ impl<L: Seating, C: Stepping> SharedService<L, C> {
         ensures uncounted { OnErr result (seat.new.count ≡ seat.old.count) }
         ensures same { OnErr result (SameReceipts seat.old.receipts.items seat.new.receipts.items) }
         ensures back { IfErr result (λ refusal. refusal.input ≡ input) }
-        ensures refused { IfErr result (λ refusal. ∥ WasRefused C.service C.events input refusal.error seat.old.count ∥₁) }
+        ensures refused { IfErr result (λ refusal. ∥ WasRefused C.spaces C.events input refusal.error seat.old.count ∥₁) }
         ensures late { IfErr result (λ refusal. refusal.error ≡ ServiceError.Moment → IsLate input) }
         ensures output { IfOk result (λ output. IsTrue (is_output_for input output)) }
         ensures used_up { IfErr result (λ refusal. refusal.error ≡ ServiceError.UsedUp → WasUsedUp C.events seat.old.count) }
@@ -136,7 +133,7 @@ impl<L: Seating, C: Stepping> SharedService<L, C> {
         ensures count { IfOk result (λ finished. C.events finished.service ≡ sum_by (λ seat. seat.count) seats.items) }
         ensures receipts { IfOk result (λ finished. finished.receipts.items ≡ map (λ seat. seat.receipts) seats.items) }
         ensures agree { IfOk result (λ finished. AgreeAll (C.journals finished.service) (λ seat. seat.receipts.items) seats.items) }
-        ensures reached { IfOk result (λ finished. ∥ IsReached (spaces_of (C.service finished.service)) (C.events finished.service) ∥₁) }
+        ensures reached { IfOk result (λ finished. ∥ IsReached (C.spaces finished.service) (C.events finished.service) ∥₁) }
         ensures back { IfErr result (λ both. both.1 ≡ seats) }
     {
         let SharedService { mut inner, alloc } = self;
@@ -161,7 +158,7 @@ impl<L: Seating, C: Takings> SharedService<L, C> {
     /// next taking.
     pub fn take_output(&self, rt: &impl Wait, conn: Conn) -> Result<Replies<C>, ServiceError>
         ensures conn { IfOk result (λ replies. replies.conn ≡ conn) }
-        ensures refused { IfErr result (λ e. (e ≡ ServiceError.OutOfMemory) ⊎ HeldAtSomeMoment C.service C.events (λ spaces. RefusesLook spaces conn.namespace e (λ space. IsUnknown space conn.number e))) }
+        ensures refused { IfErr result (λ e. (e ≡ ServiceError.OutOfMemory) ⊎ HeldAtSomeMoment C.spaces C.events (λ spaces. Refuses spaces conn.namespace e (λ space. IsUnknown space conn.number e))) }
     {
         let mut guard = self.inner().desk.lock(rt);
         let desk = &mut *guard;
@@ -172,7 +169,7 @@ impl<L: Seating, C: Takings> SharedService<L, C> {
     /// hold of the lock. It is no event, and leaves no receipt. Refused with `NoNamespace`.
     pub fn take_loads(&self, rt: &impl Wait, namespace: u64) -> Result<TakenLoads<C>, ServiceError>
         ensures namespace { IfOk result (λ loads. loads.namespace ≡ namespace) }
-        ensures refused { IfErr result (λ e. HeldAtSomeMoment C.service C.events (λ spaces. (e ≡ ServiceError.NoNamespace) × (length spaces ≤ namespace))) }
+        ensures refused { IfErr result (λ e. HeldAtSomeMoment C.spaces C.events (λ spaces. (e ≡ ServiceError.NoNamespace) × (length spaces ≤ namespace))) }
     {
         let mut guard = self.inner().desk.lock(rt);
         let desk = &mut *guard;
@@ -182,8 +179,8 @@ impl<L: Seating, C: Takings> SharedService<L, C> {
     /// The oldest note of a namespace that was told and not taken, or none, in one hold of the lock. It is no event, and leaves no receipt.
     /// Refused with `NoNamespace`, and with `OutOfMemory` where the core copies notes; then it comes with the next taking.
     pub fn next_notice(&self, rt: &impl Wait, namespace: u64) -> Result<Option<Note>, ServiceError>
-        ensures note { IfOk result (λ note. WasOldestNote C.service C.events C.untold namespace note) }
-        ensures refused { IfErr result (λ e. (e ≡ ServiceError.OutOfMemory) ⊎ HeldAtSomeMoment C.service C.events (λ spaces. (e ≡ ServiceError.NoNamespace) × (length spaces ≤ namespace))) }
+        ensures note { IfOk result (λ note. WasOldestNote C.spaces C.events C.untold namespace note) }
+        ensures refused { IfErr result (λ e. (e ≡ ServiceError.OutOfMemory) ⊎ HeldAtSomeMoment C.spaces C.events (λ spaces. (e ≡ ServiceError.NoNamespace) × (length spaces ≤ namespace))) }
     {
         let mut guard = self.inner().desk.lock(rt);
         let desk = &mut *guard;
@@ -192,8 +189,8 @@ impl<L: Seating, C: Takings> SharedService<L, C> {
 
     /// Why a connection is closed, or none while it is open, in one hold of the lock. Refused with `NoNamespace`, then with `NoConnection`.
     pub fn closed(&self, rt: &impl Wait, conn: Conn) -> Result<Option<Closing>, ServiceError>
-        ensures closing { IfOk result (λ closing. HeldAtSomeMoment C.service C.events (λ spaces. InSpace spaces conn.namespace (λ space. closing ≡ closing_of space conn.number))) }
-        ensures refused { IfErr result (λ e. HeldAtSomeMoment C.service C.events (λ spaces. RefusesLook spaces conn.namespace e (λ space. IsUnknown space conn.number e))) }
+        ensures closing { IfOk result (λ closing. HeldAtSomeMoment C.spaces C.events (λ spaces. InSpace spaces conn.namespace (λ space. closing ≡ closing_of space conn.number))) }
+        ensures refused { IfErr result (λ e. HeldAtSomeMoment C.spaces C.events (λ spaces. Refuses spaces conn.namespace e (λ space. IsUnknown space conn.number e))) }
     {
         let guard = self.inner().desk.lock(rt);
         guard.closed(conn)
@@ -201,8 +198,8 @@ impl<L: Seating, C: Takings> SharedService<L, C> {
 
     /// Whether a `LOAD` of a connection waits for its load, in one hold of the lock. Refused with `NoNamespace`, then with `NoConnection`.
     pub fn waiting(&self, rt: &impl Wait, conn: Conn) -> Result<bool, ServiceError>
-        ensures waits { IfOk result (λ waits. HeldAtSomeMoment C.service C.events (λ spaces. InSpace spaces conn.namespace (λ space. (s : Situation) → StandsFor space s → waits ≡ is_waiting_in s conn.number))) }
-        ensures refused { IfErr result (λ e. HeldAtSomeMoment C.service C.events (λ spaces. RefusesLook spaces conn.namespace e (λ space. IsUnknown space conn.number e))) }
+        ensures waits { IfOk result (λ waits. HeldAtSomeMoment C.spaces C.events (λ spaces. InSpace spaces conn.namespace (λ space. waits ≡ is_waiting_for space conn.number))) }
+        ensures refused { IfErr result (λ e. HeldAtSomeMoment C.spaces C.events (λ spaces. Refuses spaces conn.namespace e (λ space. IsUnknown space conn.number e))) }
     {
         let guard = self.inner().desk.lock(rt);
         guard.waiting(conn)
@@ -237,7 +234,7 @@ fn close_if_all<L: Seating, C: Stepping>(
     ensures count { IfOk result (λ finished. C.events finished.service ≡ sum_by (λ seat. seat.count) seats.items) }
     ensures receipts { IfOk result (λ finished. finished.receipts.items ≡ map (λ seat. seat.receipts) seats.items) }
     ensures agree { IfOk result (λ finished. AgreeAll (C.journals finished.service) (λ seat. seat.receipts.items) seats.items) }
-    ensures reached { IfOk result (λ finished. ∥ IsReached (spaces_of (C.service finished.service)) (C.events finished.service) ∥₁) }
+    ensures reached { IfOk result (λ finished. ∥ IsReached (C.spaces finished.service) (C.events finished.service) ∥₁) }
     ensures back { IfErr result (λ back. back ≡ seats) }
     ensures full { OnErr result (IsSome slot.new) }
 {

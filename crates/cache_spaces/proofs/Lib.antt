@@ -5,3 +5,4 @@ pub mod Listing
 pub mod Performing
 pub mod Journaling
 pub mod Newly
+pub mod Showing

@@ -14,6 +14,7 @@ use Rattle.cache_entries.specs.declared.hasher.KeyedHasher.{KeyedHasher}
 use Rattle.cache_entries.specs.declared.hasher.WordBuilder.{WordBuilder}
 use Rattle.cache_front_store.specs.Data.{StoreData}
 use Rattle.cache_spaces.specs.Stores.{shown_of}
+use Rattle.cache_tape.specs.Taped.{Taped}
 
 -- a namespace of a service, over such a tape
 abbrev pub Space : Type 0 → Type 0
@@ -82,6 +83,28 @@ module _ {T : Type 0} where
   -- what is known of its connections and loads
   abbrev pub known_of : Space T → Known
   known_of space = state.known_of shown_of space
+
+-- the same namespace, with what its tape keeps in place of the tape: so it is seen whatever its tape is
+abbrev pub shown : {T : Type 0} → (T → Option Taped) → Space T → Space (Option Taped)
+shown tape space = record {
+  store = space.store;
+  tape = tape space.tape;
+  latest = space.latest;
+  connections = space.connections;
+  closings = space.closings;
+  outputs = space.outputs;
+  sent = space.sent;
+  pending = space.pending;
+  outgoing = space.outgoing;
+  namespace = space.namespace;
+}
+
+abbrev pub Shown : Type 0
+Shown = Space (Option Taped)
+
+-- what is kept in place of a tape
+abbrev pub shown_tape : Option Taped → Option Taped
+shown_tape t = t
 
 -- each key's part is one that there is
 abbrev pub HasItsParts : Config → (List ℕ → ℕ) → Type 0
