@@ -1,7 +1,7 @@
 //! A service that keeps nothing of what it took.
 ghost use Rattle.std.specs.Prelude.{◌≡◌, ◌≤◌, ◌<◌, ◌^◌, ◌+◌, ◌-◌, ◌↔◌, ◌⊎◌, [], None, Some, false, true, ℕ, IfOk, IfErr, OnOk, OnErr, IsErrOf, length};
 ghost use Rattle.cache_live.specs.Lived.{Lived};
-ghost use Rattle.cache_spaces.specs.Services.{are_taken, AreNew, Refuses, spaces_of};
+ghost use Rattle.cache_spaces.specs.Services.{AreNew, are_taken};
 
 use audit_model::{Bytes, Closing, Config, Conn, Input, Instant, LoadId, Note, ServiceError};
 use cache_spaces::{Output, Refusal, Service};
@@ -15,20 +15,14 @@ use std::alloc::Global;
 pub struct LiveService {
     service: Service,
     events: u64,
-    ghost lived: { ∥ Lived (spaces_of service) events ∥₁ },
+    ghost lived: { ∥ Lived service events ∥₁ },
 }
 
 impl LiveService {
-    ghost use Rattle.cache_live.specs.Live.{events_of, live_service};
-    ghost use Rattle.cache_live.specs.Taken.{TakesInput};
-    ghost use Rattle.cache_namespace.specs.Taken.{known};
-    ghost use Rattle.cache_shared.specs.Events.{RefusesEvent};
-    ghost use Rattle.cache_spaces.specs.Moves.{At};
-    ghost use Rattle.cache_spaces.specs.Recorded.{namespace_of};
-    ghost use Rattle.cache_spaces.specs.Serves.{IsUnknown, TakesLoads, TakesNotice, TakesOutput};
-    ghost use Rattle.cache_spaces.specs.Services.{IsSpace, RefusesLook};
-    ghost use Rattle.cache_spaces.specs.Spaces.{closing_of, connections_of};
-    ghost use Rattle.cache_spaces.specs.declared.space.Space.{Space as Seen};
+    ghost use Rattle.cache_live.specs.Live.{RefusesLive, bare_tape, events_of, live_service};
+    ghost use Rattle.cache_spaces.specs.Calls.{At, InSpace, IsOpened, IsUnknown, Refuses, TakesLoads, TakesNotice, TakesOutput};
+    ghost use Rattle.cache_spaces.specs.Inputs.{Performs, namespace_of};
+    ghost use Rattle.cache_spaces.specs.Spaces.{closing_of};
 
     /// A service of one namespace for each configuration, in their order, made at that moment, which has taken no input.
     ///
@@ -40,7 +34,7 @@ impl LiveService {
         generator: Xoshiro256PlusPlus,
         moment: Instant,
     ) -> Result<LiveService, ServiceError>
-        ensures made { IfOk result (λ live. AreNew (spaces_of (live_service live)) configs.now generator moment.nanos) }
+        ensures made { IfOk result (λ live. AreNew bare_tape None (live_service live) configs.now generator moment.nanos) }
         ensures none { IfOk result (λ live. events_of live ≡ 0) }
         ensures moment { IsErrOf result ServiceError.Moment ↔ (2 ^ 63 ≤ moment.nanos) }
         ensures config { IsErrOf result ServiceError.Config ↔ ((moment.nanos < 2 ^ 63) × (are_taken configs.now ≡ false)) }
@@ -57,10 +51,10 @@ impl LiveService {
     /// An input that is refused is handed back, with the cause that `Service` has for it, or with `UsedUp` where 2^64 - 1 inputs were
     /// taken; then nothing has changed.
     pub fn step(&mut self, input: Input) -> Result<Output, Refusal>
-        ensures taken { IfOk result (λ output. At (spaces_of (live_service self.old)) (spaces_of (live_service self.new)) (namespace_of input) (TakesInput input output)) }
+        ensures taken { IfOk result (λ output. At (live_service self.old) (live_service self.new) (namespace_of input) (Performs bare_tape input output)) }
         ensures count { OnOk result (events_of self.new ≡ events_of self.old + 1) }
-        ensures refused { IfErr result (λ refusal. RefusesEvent input refusal.error (events_of self.old) (spaces_of (live_service self.old)) (spaces_of (live_service self.new))) }
-        ensures uncounted { OnErr result (events_of self.new ≡ events_of self.old) }
+        ensures refused { IfErr result (λ refusal. RefusesLive input refusal.error (events_of self.old) (live_service self.old)) }
+        ensures unchanged { OnErr result ((events_of self.new ≡ events_of self.old) × (live_service self.new ≡ live_service self.old)) }
         ensures back { IfErr result (λ refusal. refusal.input ≡ input) }
     {
         let LiveService { service, events } = self;
@@ -81,9 +75,10 @@ impl LiveService {
     /// The reply bytes of a connection since the last taking, with their line ends, moved out; also after it closed. It is no event. Takes
     /// no memory. Refused with `NoNamespace`, then with `NoConnection`.
     pub fn take_output(&mut self, conn: Conn) -> Result<Vec<u8>, ServiceError>
-        ensures taken { IfOk result (λ text. At (spaces_of (live_service self.old)) (spaces_of (live_service self.new)) conn.namespace (λ was is. TakesOutput was is conn.number text.items)) }
-        ensures refused { IfErr result (λ e. Refuses (spaces_of (live_service self.old)) (spaces_of (live_service self.new)) conn.namespace e (λ was. IsUnknown was conn.number e)) }
+        ensures taken { IfOk result (λ text. At (live_service self.old) (live_service self.new) conn.namespace (λ was is. TakesOutput was is conn.number text.items)) }
+        ensures refused { IfErr result (λ e. Refuses (live_service self.old) conn.namespace e (λ was. IsUnknown was conn.number e)) }
         ensures events { events_of self.new ≡ events_of self.old }
+        ensures unchanged { OnErr result (live_service self.new ≡ live_service self.old) }
     {
         match self.service.take_output(conn) {
             Ok(text) => Ok(text),
@@ -94,9 +89,10 @@ impl LiveService {
     /// The loads of a namespace that went out and were not taken, with their keys, in the order in which they were sent; moved out, so that
     /// each comes once. It is no event. Takes no memory. Refused with `NoNamespace`.
     pub fn take_loads(&mut self, namespace: u64) -> Result<Vec<(LoadId, Bytes)>, ServiceError>
-        ensures taken { IfOk result (λ loads. At (spaces_of (live_service self.old)) (spaces_of (live_service self.new)) namespace (λ was is. TakesLoads was is loads.items)) }
-        ensures refused { IfErr result (λ e. Refuses (spaces_of (live_service self.old)) (spaces_of (live_service self.new)) namespace e (λ was. ⊥)) }
+        ensures taken { IfOk result (λ loads. At (live_service self.old) (live_service self.new) namespace (λ was is. TakesLoads was is loads.items)) }
+        ensures refused { IfErr result (λ e. (e ≡ ServiceError.NoNamespace) × (length (live_service self.old) ≤ namespace)) }
         ensures events { events_of self.new ≡ events_of self.old }
+        ensures unchanged { OnErr result (live_service self.new ≡ live_service self.old) }
     {
         match self.service.take_loads(namespace) {
             Ok(loads) => Ok(loads),
@@ -107,9 +103,10 @@ impl LiveService {
     /// The oldest note of a namespace that was told and not taken; none where there is none. It is no event. Takes no memory. Refused with
     /// `NoNamespace`.
     pub fn next_notice(&mut self, namespace: u64) -> Result<Option<Note>, ServiceError>
-        ensures taken { IfOk result (λ note. At (spaces_of (live_service self.old)) (spaces_of (live_service self.new)) namespace (λ was is. TakesNotice was is note)) }
-        ensures refused { IfErr result (λ e. Refuses (spaces_of (live_service self.old)) (spaces_of (live_service self.new)) namespace e (λ was. ⊥)) }
+        ensures taken { IfOk result (λ note. At (live_service self.old) (live_service self.new) namespace (λ was is. TakesNotice was is note)) }
+        ensures refused { IfErr result (λ e. (e ≡ ServiceError.NoNamespace) × (length (live_service self.old) ≤ namespace)) }
         ensures events { events_of self.new ≡ events_of self.old }
+        ensures unchanged { OnErr result (live_service self.new ≡ live_service self.old) }
     {
         match self.service.next_notice(namespace) {
             Ok(note) => Ok(note),
@@ -119,10 +116,8 @@ impl LiveService {
 
     /// Why a connection is closed; none while it is open. Refused with `NoNamespace`, then with `NoConnection`.
     pub fn closed(&self, conn: Conn) -> Result<Option<Closing>, ServiceError>
-        ensures closing { IfOk result (λ closing. (space : Seen) → IsSpace (spaces_of (live_service self.now)) conn.namespace space → closing ≡ closing_of space conn.number) }
-        ensures refused { IfErr result (λ e. RefusesLook (spaces_of (live_service self.now)) conn.namespace e (λ space. IsUnknown space conn.number e)) }
-        ensures known { OnOk result ((space : Seen) → IsSpace (spaces_of (live_service self.now)) conn.namespace space → (known (connections_of space)).was_opened conn.number ≡ true) }
-        ensures found { OnOk result (conn.namespace < length (spaces_of (live_service self.now))) }
+        ensures closing { IfOk result (λ closing. InSpace (live_service self.now) conn.namespace (λ space. IsOpened space conn.number × (closing ≡ closing_of space conn.number))) }
+        ensures refused { IfErr result (λ e. Refuses (live_service self.now) conn.namespace e (λ space. IsUnknown space conn.number e)) }
     {
         self.service.closed(conn)
     }

@@ -6,9 +6,9 @@ use cache_spaces::{Output, Refusal};
 
 impl Stepping for LiveService {
     ghost use Rattle.std.specs.Prelude.{[], false};
-    ghost use Rattle.cache_live.specs.Live.{events_of, live_service};
+    ghost use Rattle.cache_live.specs.Live.{events_of, spaces_in};
 
-    ghost service = { live_service };
+    ghost spaces = { spaces_in };
 
     ghost events = { events_of };
 
@@ -17,8 +17,6 @@ impl Stepping for LiveService {
     ghost KEEPS = { false };
 
     const KEEPS: bool = false;
-
-    ghost Recorded = { λ i output was is. Unit {0} };
 
     fn step(&mut self, input: Input) -> Result<Output, Refusal> {
         LiveService::step(self, input)
@@ -35,7 +33,7 @@ impl Stepping for LiveService {
 }
 
 impl Takings for LiveService {
-    ghost use Rattle.cache_live.specs.Live.{live_service, untaken_of, untold_of};
+    ghost use Rattle.cache_live.specs.Live.{untaken_of, untold_of};
 
     ghost untaken = { untaken_of };
 
