@@ -20,6 +20,7 @@ impl Stepping for RecordedService {
     const KEEPS: bool = true;
 
     fn step(&mut self, input: Input) -> Result<Output, Refusal> {
+        let _ = self.service();
         RecordedService::step(self, input)
     }
 

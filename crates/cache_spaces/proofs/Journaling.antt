@@ -48,7 +48,7 @@ got (x ∷ xs) zero lt = (x, refl)
 got (x ∷ xs) (suc k) lt = got xs k (omega arith)
 
 -- a journal stands on the tape of a namespace
-mapped : {X Y : Type 0} (f : X → Y) (xs : List X) (k : ℕ) (y : Y) → slice_get (map f xs) k ≡ Some y → (x : X) × (slice_get xs k ≡ Some x) × (f x ≡ y)
+pub mapped : {X Y : Type 0} (f : X → Y) (xs : List X) (k : ℕ) (y : Y) → slice_get (map f xs) k ≡ Some y → (x : X) × (slice_get xs k ≡ Some x) × (f x ≡ y)
 mapped f [] k y e = absurd (none-some _ e)
 mapped f (x ∷ xs) zero y e = (x, refl, same_Some (f x) y e)
 mapped f (x ∷ xs) (suc k) y e = mapped f xs k y e
@@ -288,7 +288,7 @@ were-at spaces k space w s =
 abbrev were-plays : (spaces : List (Space Taped)) (k : ℕ) (space : Space Taped) → (w : WerePlayed spaces) → slice_get spaces k ≡ Some space → Plays (config_of space) k w.moment w.inputs (journal_of space)
 were-plays spaces k space w s = played-one (config_of space) k w.moment w.inputs space (were-at spaces k space w s)
 
-were-led : (spaces : List (Space Taped)) (k : ℕ) (space : Space Taped) → WerePlayed spaces → slice_get spaces k ≡ Some space → LeadsSo space (journal_of space)
+pub were-led : (spaces : List (Space Taped)) (k : ℕ) (space : Space Taped) → WerePlayed spaces → slice_get spaces k ≡ Some space → LeadsSo space (journal_of space)
 were-led spaces k space w s =
     let h = were-at spaces k space w s in
     record { last = h.last; stands = h.stands; leads = (were-plays spaces k space w s).leads }

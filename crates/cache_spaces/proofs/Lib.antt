@@ -6,3 +6,4 @@ pub mod Performing
 pub mod Journaling
 pub mod Newly
 pub mod Showing
+mod Taking

@@ -4,6 +4,7 @@ ghost use Rattle.std.specs.List.{slice_get};
 ghost use Rattle.cache_spaces.specs.Calls.{At, Refuses, TakesLoads};
 ghost use Rattle.cache_spaces.specs.Inputs.{Performs, RefusedInput, namespace_of};
 ghost use Rattle.cache_spaces.specs.Journals.{IsJournalOf, IsSoOfEach, journals_of, kept_by};
+ghost use Rattle.cache_spaces.specs.Played.{WerePlayed};
 ghost use Rattle.cache_spaces.specs.Services.{AreNew, are_taken, blank_tape};
 
 use crate::service::Core;
@@ -97,7 +98,9 @@ impl RecordedService {
 
     /// The namespaces under the journals, to be looked at: closings, waiting connections, loads under way. Their output and notes are empty.
     pub fn service(&self) -> &Core<Kept>
-        ensures { result.now ≡ self.now }
+        ensures core { result.now ≡ self.now }
+        // the journals are what some inputs come to
+        ensures played { ∥ WerePlayed self.now ∥₁ }
     {
         &self.core
     }
