@@ -277,6 +277,11 @@ pub were-loads : {A E : Type 0} (n : ℕ) (old new : List (Space Taped)) (r : Re
 were-loads n old new (Ok a) Loads rest taken same w = record { configs = w.configs; moment = w.moment; inputs = w.inputs; played = played-loads w.configs w.moment w.inputs n (Loads a) old new (rest a) w.played taken }
 were-loads n old new (Err e) Loads rest taken same w = subst WerePlayed (sym same) w
 
+-- there are as many namespaces as before
+pub step-length : {A E : Type 0} (n : ℕ) (old new : List (Space Taped)) (r : Result A E) (Fact : A → Space Taped → Space Taped → Type 0) → IfOk r (λ a. At old new n (Fact a)) → OnErr r (new ≡ old) → length new ≡ length old
+step-length n old new (Ok a) Fact taken same = at-length old new n taken
+step-length n old new (Err e) Fact taken same = ap length same
+
 -- what was played in the namespace at a place
 abbrev were-at : (spaces : List (Space Taped)) (k : ℕ) (space : Space Taped) → (w : WerePlayed spaces) → slice_get spaces k ≡ Some space → HasPlayed (config_of space) k w.moment w.inputs space
 were-at spaces k space w s =

@@ -45,6 +45,10 @@ module _ {T : Type 0} (tape : T → Option Taped) (blank : Option Taped) where
   pub new-none : (spaces : List (Space T)) (generator : List ℕ) (made : ℕ) → spaces ≡ [] → AreNew tape blank spaces [] generator made
   new-none spaces generator made none = record { count = ap length none; each = λ k config space at_c at_s. absent at_c }
 
+  -- the same number and generator
+  pub new-so : (space : Space T) (k i : ℕ) (config : Config) (r q : List ℕ) (made : ℕ) → k ≡ i → r ≡ q → IsNewNamespace tape blank space k config r made → IsNewNamespace tape blank space i config q made
+  new-so space k i config r q made e f n = subst (λ j. IsNewNamespace tape blank space j config q made) e (subst (λ x. IsNewNamespace tape blank space k config x made) f n)
+
   -- one namespace more
   pub new-more : (spaces more : List (Space T)) (configs : List Config) (generator : List ℕ) (made i : ℕ) (space : Space T) (d : Config) → i < length configs → length spaces ≡ i
       → AreNew tape blank spaces (take i configs) generator made → IsNewNamespace tape blank space i (get_or configs i d) (fork_after i generator) made → more ≡ spaces ++ space ∷ [] → AreNew tape blank more (take (i + 1) configs) generator made

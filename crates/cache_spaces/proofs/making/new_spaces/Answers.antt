@@ -6,8 +6,8 @@ use Rattle.std.specs.declared.vec.Vec.{Vec}
 use Rattle.rand_core.specs.Stream.{fill_bytes}
 use Rattle.rand_xoshiro.specs.Xoshiro256.{of_seed}
 use Rattle.cache_spaces.specs.Served.{is_served}
-use Rattle.cache_spaces.specs.Services.{AreNew, IsNewNamespace, fork_after}
-use Rattle.cache_spaces.proofs.Newly.{all-at, forked-more, new-more, new-none}
+use Rattle.cache_spaces.specs.Services.{AreNew}
+use Rattle.cache_spaces.proofs.Newly.{all-at, forked-more, new-more, new-none, new-so}
 use Rattle.cache_spaces.proofs.making.new_spaces.Goals as goal
 
 many : {X : Type 0} (v : Vec X Global) → vec_len v ≡ length v.items
@@ -20,8 +20,7 @@ loop-config-preserved g c =
     let forked = c.fork.ensures.seeded ∙ ap (λ s. of_seed (fill_bytes 32 s).0) c.loop-config.invariant.forked in
     record {
       new = new-more g.T.Tape.view (g.T.NewTape.blank c.args.made) c.loop-config.spaces.items _ c.args.configs.now c.args.generator c.args.made.nanos c.loop-config.config-index c.in_ok-new_space.field-0 _ c.loop-config-test.true c.loop-config.invariant.number c.loop-config.invariant.new
-          (subst (λ k. IsNewNamespace g.T.Tape.view (g.T.NewTape.blank c.args.made) c.in_ok-new_space.field-0 k _ (fork_after c.loop-config.config-index c.args.generator) c.args.made.nanos) i
-          (subst (λ r. IsNewNamespace g.T.Tape.view (g.T.NewTape.blank c.args.made) c.in_ok-new_space.field-0 _ _ r c.args.made.nanos) forked n))
+          (new-so g.T.Tape.view (g.T.NewTape.blank c.args.made) _ _ _ _ _ _ _ i forked n)
           c.in_ok-push.ensures.items;
       number = ap length c.in_ok-push.ensures.items ∙ length-append c.loop-config.spaces.items _ ∙ ap (λ n. n + 1) c.loop-config.invariant.number;
       forked = forked-more c.args.generator c.loop-config.generator c.fork.new.self c.loop-config.config-index c.loop-config.invariant.forked c.fork.ensures.rest;

@@ -4,7 +4,7 @@ use Rattle.audit_model.specs.declared.input.Input.TheVariants as input
 use Rattle.audit_receipts.specs.declared.output.Output.TheVariants.{Opened}
 use Rattle.cache_spaces.proofs.Performing.{opens, refused-input, serves-performs}
 use Rattle.cache_spaces.proofs.Putting.{at-map, refuses-map}
-use Rattle.cache_spaces.proofs.stepping.Core.step_open.Goals as goal
+use Rattle.cache_spaces.proofs.service.Core.step_open.Goals as goal
 
 pub returns-in-Ok-clause-performed : goal.returns-in-Ok-clause-performed
 returns-in-Ok-clause-performed g c =

@@ -4,7 +4,7 @@ use Rattle.audit_receipts.specs.declared.output.Output.TheVariants.{Done}
 use Rattle.audit_model.specs.declared.event.Event.TheVariants as event
 use Rattle.cache_spaces.proofs.Performing.{closes, refused-input, serves-performs}
 use Rattle.cache_spaces.proofs.Putting.{at-map, refuses-map}
-use Rattle.cache_spaces.proofs.stepping.Core.step_close.Goals as goal
+use Rattle.cache_spaces.proofs.service.Core.step_close.Goals as goal
 
 pub returns-in-Ok-clause-performed : goal.returns-in-Ok-clause-performed
 returns-in-Ok-clause-performed g c =

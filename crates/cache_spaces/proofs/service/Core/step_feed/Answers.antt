@@ -3,7 +3,7 @@ use Rattle.audit_receipts.specs.declared.output.Output.TheVariants.{All, Held}
 use Rattle.cache_core.specs.Turned.{feeding}
 use Rattle.cache_spaces.proofs.Performing.{comes-all, comes-held, feeds, refused-input, serves-performs}
 use Rattle.cache_spaces.proofs.Putting.{at-map, refuses-map}
-use Rattle.cache_spaces.proofs.stepping.Core.step_feed.Goals as goal
+use Rattle.cache_spaces.proofs.service.Core.step_feed.Goals as goal
 
 pub returns-in-Ok-All-clause-performed : goal.returns-in-Ok-All-clause-performed
 returns-in-Ok-All-clause-performed g c =
@@ -19,8 +19,8 @@ returns-in-Ok-Held-clause-performed g c =
     (λ was is at f. serves-performs g.T.Tape.view (input.Feed a.conn a.piece a.moment) was is (feeding a.conn.number a.piece a.moment.nanos) Held (feeds a.conn a.piece a.moment _) true (comes-held a.conn.namespace a.conn.number a.piece a.moment.nanos) f)
     (rw c.as_slice.ensures at c.in-Ok-Held.ensures.taken)
 
-pub returns-in-Err-clause-refused : goal.returns-in-Err-clause-refused
-returns-in-Err-clause-refused g c =
+pub returns-clause-refused : goal.returns-clause-refused
+returns-clause-refused g c =
     let a = c.args in
     refuses-map a.self.now a.conn.namespace c.in-Err.error (λ was f. refused-input (input.Feed a.conn a.piece a.moment) (feeding a.conn.number a.piece a.moment.nanos) c.in-Err.error was (feeds a.conn a.piece a.moment _) f)
     (rw c.as_slice.ensures at c.in-Err.ensures.refused)
