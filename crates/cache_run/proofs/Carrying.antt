@@ -17,8 +17,9 @@ use Rattle.cache_devices.proofs.Sending.{appends_more, same_appends}
 use Rattle.cache_namespace.specs.Taken.{record_of}
 use Rattle.cache_spaces.specs.Spaces.{notices_of}
 use Rattle.cache_spaces.specs.declared.space.Space.{Space}
+use Rattle.cache_core.specs.Turned.{notes_in}
 use Rattle.cache_run.specs.Carried.{Askings, Broken, Carried, Left, Readings, close_records, nothing_left, open_records, records_of}
-use Rattle.cache_run.specs.Happened.{Asking, Turn, AreInPlace, AreRight, IsInPlace, asked_in, moment_in, turn_notes, record_notes, piece_in, records_in, replies_in}
+use Rattle.cache_run.specs.Happened.{Asking, Turn, AreInPlace, AreRight, IsInPlace, asked_in, moment_in, turn_notes, piece_in, records_in, replies_in}
 use Rattle.cache_run.specs.Delivered.{Delivered, Undelivered}
 use Rattle.cache_run.specs.Worlds.{Outside, World, outside, world}
 use Rattle.cache_run.specs.declared.errors.RunError.{RunError}
@@ -111,7 +112,7 @@ module _ {C L : Type 0} (config : Config) (number : ℕ) (reads : C → ℕ → 
       let xs = x.turns in
       let ys = y.turns in
       let told = flat_map (turn_notes number) in
-      let last = flat_map record_notes drops in
+      let last = flat_map notes_in drops in
       record {
         turns = xs ++ ys;
         right = right-more config xs ys x.right y.right;
@@ -257,7 +258,7 @@ module _ {C L : Type 0} (config : Config) (number : ℕ) (reads : C → ℕ → 
 
   -- loads were given up behind what was carried
   pub carried-drops : (a b : World C L) (y : Space) (u : Situation) (opens closes : Bool) (drops more : List Record) (left : Left)
-      → Carried config number reads loads a b opens closes drops left → after_records config b.situation more ≡ Some u → notices_of y ≡ b.notices ++ flat_map record_notes more
+      → Carried config number reads loads a b opens closes drops left → after_records config b.situation more ≡ Some u → notices_of y ≡ b.notices ++ flat_map notes_in more
       → Carried config number reads loads a (world y u b.outside) opens closes (drops ++ more) left
   carried-drops a b y u opens closes drops more left c follows notices =
       let o = open_records number opens ++ flat_map (records_in number) c.turns in
@@ -269,7 +270,7 @@ module _ {C L : Type 0} (config : Config) (number : ℕ) (reads : C → ℕ → 
         placed = c.placed;
         follows = subst (λ rs. after_records config a.situation rs ≡ Some u) (append_assoc o (z ++ drops) more ∙ ap (λ l. o ++ l) (append_assoc z drops more))
             (records-more config a.situation (records_of number opens c.turns closes drops) b.situation more u c.follows follows);
-        notices = notices ∙ ap (λ l. l ++ flat_map record_notes more) c.notices ∙ append_assoc before (flat_map record_notes drops) (flat_map record_notes more) ∙ ap (λ l. before ++ l) (sym (flat_map-append record_notes drops more));
+        notices = notices ∙ ap (λ l. l ++ flat_map notes_in more) c.notices ∙ append_assoc before (flat_map notes_in drops) (flat_map notes_in more) ∙ ap (λ l. before ++ l) (sym (flat_map-append notes_in drops more));
         read = c.read;
         sent = c.sent;
         wrote = c.wrote;

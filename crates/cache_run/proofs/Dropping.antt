@@ -22,7 +22,8 @@ use Rattle.cache_spaces.specs.Serves as served
 use Rattle.cache_spaces.specs.Serves.{SameSpace, TakesLoads}
 use Rattle.cache_spaces.specs.Spaces.{config_of, notices_of, place_of, taken_of}
 use Rattle.cache_spaces.specs.declared.space.Space.{Space}
-use Rattle.cache_run.specs.Happened.{AreDrops, record_notes}
+use Rattle.cache_core.specs.Turned.{notes_in}
+use Rattle.cache_run.specs.Happened.{AreDrops}
 use Rattle.cache_run.specs.Loading.{AreKnown, OnlyGivesUp, GivesUpLoads, SameButLoads, TakesMore}
 use Rattle.cache_run.proofs.Carrying.{record-one, records-more}
 use Rattle.cache_run.proofs.Connecting.{found-at}
@@ -53,7 +54,7 @@ given-more config s t u a b c x y = record {
   drops = x.drops ++ y.drops;
   dropped = drops-more x.drops y.drops x.dropped y.dropped;
   follows = records-more config s x.drops t y.drops u x.follows y.follows;
-  notices = y.notices ∙ ap (λ l. l ++ flat_map record_notes y.drops) x.notices ∙ append_assoc a (flat_map record_notes x.drops) (flat_map record_notes y.drops) ∙ ap (λ l. a ++ l) (sym (flat_map-append record_notes x.drops y.drops));
+  notices = y.notices ∙ ap (λ l. l ++ flat_map notes_in y.drops) x.notices ∙ append_assoc a (flat_map notes_in x.drops) (flat_map notes_in y.drops) ∙ ap (λ l. a ++ l) (sym (flat_map-append notes_in x.drops y.drops));
 }
 
 -- ---- the keys of loads that were taken
@@ -107,7 +108,7 @@ drops-one number was is load settled = (
             drops = r.entry ∷ [];
             dropped = ((load, r.event), tt);
             follows = record-one (config_of was) s r.entry r.next r.follows;
-            notices = r.notices ∙ ap (λ l. notices_of was ++ l) (sym (append-nil (record_notes r.entry)));
+            notices = r.notices ∙ ap (λ l. notices_of was ++ l) (sym (append-nil (notes_in r.entry)));
           };
           others = λ other ne. others-left number other was is s (giving_up load 0) r law.0 ne;
         };

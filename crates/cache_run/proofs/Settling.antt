@@ -31,10 +31,11 @@ use Rattle.audit_waiting_laws.specs.Alone.{IsTurnOf, StepsOf, WaitsAlone}
 use Rattle.audit_waiting_laws.proofs.Events.{records}
 use Rattle.audit_waiting_laws.proofs.Keys.{answered-key, given-up-key}
 use Rattle.audit_waiting_laws.specs.Keys.{IsKnown}
+use Rattle.cache_core.specs.Turned.{notes_in}
 use Rattle.cache_run.specs.Connected.{Connected, IsEnded, IsFed, HasTakenReplies}
 use Rattle.cache_run.specs.Delivered.{AnsweredLoad}
 use Rattle.cache_run.specs.Goes.{Goes}
-use Rattle.cache_run.specs.Happened.{Asking, Dropped, asking_of, IsGivenUpFor, IsKeyOf, IsSettledBy, Settled, record_notes, record_replies}
+use Rattle.cache_run.specs.Happened.{Asking, Dropped, asking_of, IsGivenUpFor, IsKeyOf, IsSettledBy, Settled, record_replies}
 use Rattle.cache_run.proofs.Carrying.{record-one}
 use Rattle.cache_run.proofs.Going.{at-but-loads, but-loads, goes-more, goes-same, seen-alike}
 use Rattle.cache_run.specs.Loading.{SameButLoads}
@@ -155,7 +156,7 @@ settled-goes number was is happened asking load moment positive none said keyed 
           placed = keyed s r.next r.entry r.follows r.event known;
           right = subst (IsSettledBy (config_of was) asking.answer moment) (sym r.event) said;
           follows = record-one (config_of was) s r.entry r.next r.follows;
-          notices = r.notices ∙ ap (λ l. notices_of was ++ l) (sym (append-nil (record_notes r.entry)));
+          notices = r.notices ∙ ap (λ l. notices_of was ++ l) (sym (append-nil (notes_in r.entry)));
           replies = own-output number was is s happened r positive ∙ ap (λ o. o ++ replies_to number r.entry.steps) none ∙ own-replies number r.entry.steps law.0 ∙ sym (append-nil (record_replies r.entry));
         };
         others = λ other ne. others-left number other was is s happened r law.0 ne;

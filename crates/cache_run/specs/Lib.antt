@@ -1,3 +1,4 @@
+pub mod Bared
 pub mod Worlds
 pub mod Causes
 pub mod Happened

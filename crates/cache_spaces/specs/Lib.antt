@@ -4,6 +4,7 @@ pub mod Spaces
 pub mod Calls
 pub mod Inputs
 pub mod Services
+pub mod Sound
 pub mod Throughout
 pub mod Recent
 pub mod Played

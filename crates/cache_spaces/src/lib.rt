@@ -4,6 +4,7 @@
 mod journals;
 mod making;
 mod service;
+mod sound;
 mod stepping;
 mod tapes;
 
