@@ -15,13 +15,13 @@ use Rattle.audit_model.specs.declared.input.LoadId.{LoadId}
 use Rattle.cache_loads.specs.Keys.{agrees_on, are_in_turn, has_its_key, have_their_keys}
 use Rattle.audit_waiting_laws.specs.Keys.{HasKey}
 use Rattle.cache_namespace.specs.Taken.{closing_at, text_at}
-use Rattle.cache_settling.specs.Answered.{giving_up}
+use Rattle.cache_core.specs.Settling.{giving_up}
 use Rattle.cache_spaces.proofs.Putting.{same-space}
-use Rattle.cache_spaces.specs.Moves.{At}
+use Rattle.cache_spaces.specs.Calls.{At}
 use Rattle.cache_spaces.specs.Serves as served
 use Rattle.cache_spaces.specs.Serves.{SameSpace, TakesLoads}
 use Rattle.cache_spaces.specs.Spaces.{config_of, notices_of, place_of, taken_of}
-use Rattle.cache_spaces.specs.declared.space.Space.{Space}
+use Rattle.cache_run.specs.Bared.{Bared}
 use Rattle.cache_core.specs.Turned.{notes_in}
 use Rattle.cache_run.specs.Happened.{AreDrops}
 use Rattle.cache_run.specs.Loading.{AreKnown, OnlyGivesUp, GivesUpLoads, SameButLoads, TakesMore}
@@ -36,7 +36,7 @@ drops-more [] ys a b = b
 drops-more (x ∷ xs) ys a b = (a.0, drops-more xs ys a.1 b)
 
 -- loads that were taken leave the namespace the same
-pub taken-same : (was is : Space) (loads : List (LoadId × List ℕ)) → TakesLoads was is loads → SameButLoads was is
+pub taken-same : (was is : Bared) (loads : List (LoadId × List ℕ)) → TakesLoads was is loads → SameButLoads was is
 taken-same was is loads t = record {
   stands = t.stands;
   config = t.config;
@@ -79,14 +79,14 @@ known-taken place before (out ∷ outs) s turn few have =
     ((omega (arith, few, is), key-out out s.pending keys.0), known-taken place (suc before) outs s ours.1 (omega (arith, few)) keys.1)
 
 -- nothing was given up
-pub drops-none : (number : ℕ) (was is : Space) → SameButLoads was is → GivesUpLoads number was is
+pub drops-none : (number : ℕ) (was is : Bared) → SameButLoads was is → GivesUpLoads number was is
 drops-none number was is same = (
   goes-same number was is (λ s t. OnlyGivesUp (config_of was) s t (notices_of was) (notices_of is)) same (λ s. given-none (config_of was) s s (notices_of was) (notices_of is) refl same.notices),
   λ closed is_open. closed (sym (same.closings number) ∙ is_open),
 )
 
 -- one after another
-pub drops-again : (number : ℕ) (x y z : Space) → GivesUpLoads number x y → GivesUpLoads number y z → GivesUpLoads number x z
+pub drops-again : (number : ℕ) (x y z : Bared) → GivesUpLoads number x y → GivesUpLoads number y z → GivesUpLoads number x z
 drops-again number x y z a b = (
   goes-more number x y z (λ s t. OnlyGivesUp (config_of x) s t (notices_of x) (notices_of y)) (λ s t. OnlyGivesUp (config_of y) s t (notices_of y) (notices_of z)) (λ s t. OnlyGivesUp (config_of x) s t (notices_of x) (notices_of z)) a.0 b.0
       (λ s t u f g. given-more (config_of x) s t u (notices_of x) (notices_of y) (notices_of z) f (subst (λ k. OnlyGivesUp k t u (notices_of y) (notices_of z)) a.0.config g)),
@@ -94,7 +94,7 @@ drops-again number x y z a b = (
 )
 
 -- one load was given up
-pub drops-one : (number : ℕ) (was is : Space) (load : ℕ) → served.Settled was is (giving_up load 0) → GivesUpLoads number was is
+pub drops-one : (number : ℕ) (was is : Bared) (load : ℕ) → served.Settled was is (giving_up load 0) → GivesUpLoads number was is
 drops-one number was is load settled = (
   record {
     each = λ s stands alone.
@@ -123,25 +123,25 @@ pub known-still : {X : Type 0} (F : X → X → Type 0) (old new : List X) (n : 
 known-still F old new n a = slice_get_within new n a.is (at-is F old new n a)
 
 -- nothing was called
-pub same-at : (spaces : List Space) (n : ℕ) → n < length spaces → At spaces spaces n SameSpace
+pub same-at : (spaces : List Bared) (n : ℕ) → n < length spaces → At spaces spaces n SameSpace
 same-at spaces n known = let found = found-at spaces n known in at-same SameSpace spaces n found.0 found.1 (same-space found.0 found.0 refl)
 
 -- loads were taken
-pub at-taken : (old new : List Space) (n : ℕ) (loads : List (LoadId × List ℕ)) → At old new n (λ was is. TakesLoads was is loads) → At old new n SameButLoads
+pub at-taken : (old new : List Bared) (n : ℕ) (loads : List (LoadId × List ℕ)) → At old new n (λ was is. TakesLoads was is loads) → At old new n SameButLoads
 at-taken old new n loads a = at-map (λ was is. TakesLoads was is loads) SameButLoads old new n a (λ x y t. taken-same x y loads t)
 
 -- and are known
-pub at-more-taken : (old new : List Space) (n : ℕ) (before loads : List (LoadId × List ℕ)) → At old new n (λ was is. TakesLoads was is loads) → At old new n (λ was is. TakesMore was is before loads)
+pub at-more-taken : (old new : List Bared) (n : ℕ) (before loads : List (LoadId × List ℕ)) → At old new n (λ was is. TakesLoads was is loads) → At old new n (λ was is. TakesMore was is before loads)
 at-more-taken old new n before loads a =
     at-map (λ was is. TakesLoads was is loads) (λ was is. TakesMore was is before loads) old new n a
     (λ x y t. record { same = taken-same x y loads t; known = λ s stands known. known-taken (place_of x) (taken_of x) loads s t.in_turn (let count = t.count s stands in omega arith) (t.keys s stands) })
 
 module _ (number n : ℕ) where
-  pub at-drop : (old new : List Space) (load : ℕ) → At old new n (λ was is. served.Settled was is (giving_up load 0)) → At old new n (GivesUpLoads number)
+  pub at-drop : (old new : List Bared) (load : ℕ) → At old new n (λ was is. served.Settled was is (giving_up load 0)) → At old new n (GivesUpLoads number)
   at-drop old new load a = at-map (λ was is. served.Settled was is (giving_up load 0)) (GivesUpLoads number) old new n a (λ x y settled. drops-one number x y load settled)
 
-  pub at-undropped : (old new : List Space) → At old new n SameButLoads → At old new n (GivesUpLoads number)
+  pub at-undropped : (old new : List Bared) → At old new n SameButLoads → At old new n (GivesUpLoads number)
   at-undropped old new a = at-map SameButLoads (GivesUpLoads number) old new n a (λ x y same. drops-none number x y same)
 
-  pub at-drops-more : (first second third : List Space) → At first second n (GivesUpLoads number) → At second third n (GivesUpLoads number) → At first third n (GivesUpLoads number)
+  pub at-drops-more : (first second third : List Bared) → At first second n (GivesUpLoads number) → At second third n (GivesUpLoads number) → At first third n (GivesUpLoads number)
   at-drops-more first second third a b = at-more (GivesUpLoads number) (GivesUpLoads number) (GivesUpLoads number) first second third n a b (λ x y z p q. drops-again number x y z p q)

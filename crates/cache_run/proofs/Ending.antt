@@ -17,10 +17,10 @@ use Rattle.audit_model.specs.declared.transcript.Note.{Note}
 use Rattle.audit_model.specs.declared.transcript.Record.{Record}
 use Rattle.audit_model.specs.declared.transcript.Step.{Step}
 use Rattle.cache_namespace.specs.Taken.{IsOpenOrEnded, record_of, known}
-use Rattle.cache_spaces.specs.Moves.{At}
+use Rattle.cache_spaces.specs.Calls.{At}
 use Rattle.cache_spaces.specs.Serves.{SameSpace, ServesEvent}
 use Rattle.cache_spaces.specs.Spaces.{closing_of, config_of, connections_of, notices_of}
-use Rattle.cache_spaces.specs.declared.space.Space.{Space}
+use Rattle.cache_run.specs.Bared.{Bared}
 use Rattle.audit_model.specs.declared.event.Outcome.{Outcome}
 use Rattle.audit_waiting_laws.specs.Alone.{WaitsAlone}
 use Rattle.audit_waiting_laws.proofs.Events.{quiet}
@@ -58,7 +58,7 @@ closed-alone config s number steps t follows alone = (quiet config s t (record_o
 
 -- ---- the opening
 
-pub at-opened : (old new : List Space) (n number : ℕ) → At old new n (λ was is. ServesEvent was is number (event.Open number) false × (number ≡ length (connections_of was) + 1))
+pub at-opened : (old new : List Bared) (n number : ℕ) → At old new n (λ was is. ServesEvent was is number (event.Open number) false × (number ≡ length (connections_of was) + 1))
     → At old new n (λ was is. (number ≡ next_number was) × Goes number was is (λ s t. Quiet (config_of was) (event.Open number) s t (notices_of was) (notices_of is)))
 at-opened old new n number a =
     at-map (λ was is. ServesEvent was is number (event.Open number) false × (number ≡ length (connections_of was) + 1)) (λ was is. (number ≡ next_number was) × Goes number was is (λ s t. Quiet (config_of was) (event.Open number) s t (notices_of was) (notices_of is))) old new n a
@@ -79,7 +79,7 @@ at-opened old new n number a =
       },
     ))
 
-pub connected-opened : (old new : List Space) (n number : ℕ) → At old new n (λ was is. ServesEvent was is number (event.Open number) false × (number ≡ length (connections_of was) + 1)) → Connected new n number IsReady
+pub connected-opened : (old new : List Bared) (n number : ℕ) → At old new n (λ was is. ServesEvent was is number (event.Open number) false × (number ≡ length (connections_of was) + 1)) → Connected new n number IsReady
 connected-opened old new n number a =
     let next = a.fact.1 in
     let count = a.fact.0.count in
@@ -93,7 +93,7 @@ connected-opened old new n number a =
 
 -- ---- the closing
 
-pub at-closed : (old new : List Space) (n number : ℕ) → Connected old n number IsFed → At old new n (λ was is. ServesEvent was is number (event.Close number) false × (closing_of is number ≡ Some by.Asked))
+pub at-closed : (old new : List Bared) (n number : ℕ) → Connected old n number IsFed → At old new n (λ was is. ServesEvent was is number (event.Close number) false × (closing_of is number ≡ Some by.Asked))
     → At old new n (Closes number)
 at-closed old new n number c a =
     at-with (λ was is. ServesEvent was is number (event.Close number) false × (closing_of is number ≡ Some by.Asked)) (Closes number) old new n c.space c.at a
@@ -115,12 +115,12 @@ at-closed old new n number c a =
       },
     ))
 
-ended-where-refused : (space : Space) (number : ℕ) (e : ServiceError) → 0 < number → number ≤ length (connections_of space) → IsOpenOrEnded (closing_of space number)
+ended-where-refused : (space : Bared) (number : ℕ) (e : ServiceError) → 0 < number → number ≤ length (connections_of space) → IsOpenOrEnded (closing_of space number)
     → refusal_of (config_of space) (known (connections_of space)) (event.Close number) ≡ Some e → IsEnded (closing_of space number)
 ended-where-refused space number e positive bound (inl none) refused = absurd (close-refused space number e positive bound refused none)
 ended-where-refused space number e positive bound (inr ended) refused = ended
 
-pub at-closed-before : (old new : List Space) (n number : ℕ) (e : ServiceError) → Connected old n number IsFed
+pub at-closed-before : (old new : List Bared) (n number : ℕ) (e : ServiceError) → Connected old n number IsFed
     → At old new n (λ was is. SameSpace was is × (refusal_of (config_of was) (known (connections_of was)) (event.Close number) ≡ Some e))
     → At old new n (Closes number)
 at-closed-before old new n number e c a =
@@ -133,7 +133,7 @@ at-closed-before old new n number e c a =
 
 module _ {C L : Type 0} (reads : C → ℕ → C → Type 0) (loads : L → List ℕ → Option Outcome → L → Type 0) (number : ℕ) (before after : Outside C L) where
   -- what was carried stands behind the opening
-  pub at-begun : (first second third : List Space) (n : ℕ)
+  pub at-begun : (first second third : List Bared) (n : ℕ)
       → At first second n (λ was is. (number ≡ next_number was) × Goes number was is (λ s t. Quiet (config_of was) (event.Open number) s t (notices_of was) (notices_of is)))
       → At second third n (λ was is. Goes number was is (λ s t. Carried (config_of was) number reads loads (world was s before) (world is t after) false false [] nothing_left))
       → At first third n (λ was is. (number ≡ next_number was) × Goes number was is (λ s t. Carried (config_of was) number reads loads (world was s before) (world is t after) true false [] nothing_left))
@@ -151,7 +151,7 @@ module _ {C L : Type 0} (reads : C → ℕ → C → Type 0) (loads : L → List
       ))
 
   -- what was broken stands behind the opening
-  pub at-begun-broken : (first second third : List Space) (n : ℕ) (e : RunError)
+  pub at-begun-broken : (first second third : List Bared) (n : ℕ) (e : RunError)
       → At first second n (λ was is. (number ≡ next_number was) × Goes number was is (λ s t. Quiet (config_of was) (event.Open number) s t (notices_of was) (notices_of is)))
       → At second third n (λ was is. Goes number was is (λ s t. Broken (config_of was) number reads loads (world was s before) (world is t after) false false [] e))
       → At first third n (λ was is. (number ≡ next_number was) × Goes number was is (λ s t. Broken (config_of was) number reads loads (world was s before) (world is t after) true false [] e))
@@ -168,7 +168,7 @@ module _ {C L : Type 0} (reads : C → ℕ → C → Type 0) (loads : L → List
             (subst (λ k. Broken k number reads loads (world y t before) (world z u after) false false [] e) p.1.config g)),
       ))
 
-  whole : (x z w : Space) → number ≡ next_number x → Goes number x z (λ s t. Carried (config_of x) number reads loads (world x s before) (world z t after) true false [] nothing_left)
+  whole : (x z w : Bared) → number ≡ next_number x → Goes number x z (λ s t. Carried (config_of x) number reads loads (world x s before) (world z t after) true false [] nothing_left)
       → IsOver after.remaining number z → Closes number z w → AddsNoLoads x w → ServesWhole reads loads x w before after
   whole x z w next g (inl over) (inl closes) settled = record {
     number = number;
@@ -194,7 +194,7 @@ module _ {C L : Type 0} (reads : C → ℕ → C → Type 0) (loads : L → List
   }
 
   -- loads were given up behind the closing
-  dropped : (x w v : Space) (closes : Bool) (e : RunError) → Goes number x w (λ s t. Broken (config_of x) number reads loads (world x s before) (world w t after) true closes [] e) → GivesUpLoads number w v
+  dropped : (x w v : Bared) (closes : Bool) (e : RunError) → Goes number x w (λ s t. Broken (config_of x) number reads loads (world x s before) (world w t after) true closes [] e) → GivesUpLoads number w v
       → Goes number x v (λ s t. (drops : List Record) × Broken (config_of x) number reads loads (world x s before) (world v t after) true closes drops e)
   dropped x w v closes e g d =
       goes-more number x w v (λ s t. Broken (config_of x) number reads loads (world x s before) (world w t after) true closes [] e) (λ s t. OnlyGivesUp (config_of w) s t (notices_of w) (notices_of v))
@@ -209,7 +209,7 @@ module _ {C L : Type 0} (reads : C → ℕ → C → Type 0) (loads : L → List
         },
       ))
 
-  partly : (x z w v : Space) (e : RunError) → number ≡ next_number x → Goes number x z (λ s t. Broken (config_of x) number reads loads (world x s before) (world z t after) true false [] e)
+  partly : (x z w v : Bared) (e : RunError) → number ≡ next_number x → Goes number x z (λ s t. Broken (config_of x) number reads loads (world x s before) (world z t after) true false [] e)
       → Closes number z w → GivesUpLoads number w v → (WaitsAlone number (pending_of x) → AddsNoLoads x v) → ServesPartly reads loads x v before after e
   partly x z w v e next g (inl closes) d settled =
       let why = closed-why (closing_of v number) (d.1 (λ none. none-some by.Asked (sym none ∙ closes.1))) in
@@ -250,7 +250,7 @@ module _ {C L : Type 0} (reads : C → ℕ → C → Type 0) (loads : L → List
         settled = settled;
       }
 
-  pub at-whole : (first second third fourth : List Space) (n : ℕ)
+  pub at-whole : (first second third fourth : List Bared) (n : ℕ)
       → At first second n (λ was is. (number ≡ next_number was) × Goes number was is (λ s t. Quiet (config_of was) (event.Open number) s t (notices_of was) (notices_of is)))
       → At second third n (λ was is. Goes number was is (λ s t. Carried (config_of was) number reads loads (world was s before) (world is t after) false false [] nothing_left))
       → Connected third n number (IsOver after.remaining) → At third fourth n (Closes number)
@@ -262,23 +262,23 @@ module _ {C L : Type 0} (reads : C → ℕ → C → Type 0) (loads : L → List
       (at-with (Closes number) (λ z w. IsOver after.remaining number z × Closes number z w) third fourth n c.space c.at d (λ w closes. (c.left, closes)))
       (λ x z w p q. whole x z w p.0 p.1 q.0 q.1)
 
-  pub at-partly : (first second third fourth fifth : List Space) (n : ℕ) (e : RunError)
+  pub at-partly : (first second third fourth fifth : List Bared) (n : ℕ) (e : RunError)
       → At first second n (λ was is. (number ≡ next_number was) × Goes number was is (λ s t. Quiet (config_of was) (event.Open number) s t (notices_of was) (notices_of is)))
       → At second third n (λ was is. Goes number was is (λ s t. Broken (config_of was) number reads loads (world was s before) (world is t after) false false [] e))
       → At third fourth n (Closes number) → At fourth fifth n (GivesUpLoads number)
       → At first fifth n (λ was is. (WaitsAlone number (pending_of was) → AddsNoLoads was is) → ServesPartly reads loads was is before after e)
   at-partly first second third fourth fifth n e a b c d =
       at-more (λ x z. (number ≡ next_number x) × Goes number x z (λ s t. Broken (config_of x) number reads loads (world x s before) (world z t after) true false [] e))
-      (λ z v. (w : Space) × Closes number z w × GivesUpLoads number w v) (λ x v. (WaitsAlone number (pending_of x) → AddsNoLoads x v) → ServesPartly reads loads x v before after e) first third fifth n
+      (λ z v. (w : Bared) × Closes number z w × GivesUpLoads number w v) (λ x v. (WaitsAlone number (pending_of x) → AddsNoLoads x v) → ServesPartly reads loads x v before after e) first third fifth n
       (at-begun-broken first second third n e a b)
-      (at-more (Closes number) (GivesUpLoads number) (λ z v. (w : Space) × Closes number z w × GivesUpLoads number w v) third fourth fifth n c d (λ z w v p q. (w, p, q)))
+      (at-more (Closes number) (GivesUpLoads number) (λ z v. (w : Bared) × Closes number z w × GivesUpLoads number w v) third fourth fifth n c d (λ z w v p q. (w, p, q)))
       (λ x z v p q. partly x z q.0 v e p.0 p.1 q.1 q.2)
 
 -- however it ended, the connection may only have closed for what it was fed
-pub fed-after : {X E : Type 0} (spaces : List Space) (n number : ℕ) (remaining : Option (List ℕ)) (r : Result X E) → MatchResult r (λ done. Connected spaces n number (IsOver remaining)) (λ e. Connected spaces n number IsFed) → Connected spaces n number IsFed
+pub fed-after : {X E : Type 0} (spaces : List Bared) (n number : ℕ) (remaining : Option (List ℕ)) (r : Result X E) → MatchResult r (λ done. Connected spaces n number (IsOver remaining)) (λ e. Connected spaces n number IsFed) → Connected spaces n number IsFed
 fed-after spaces n number remaining (Ok x) over = connected-map (IsOver remaining) IsFed spaces n number over (λ space is. fed space is)
   where
-    fed : (space : Space) → IsOver remaining number space → IsFed number space
+    fed : (space : Bared) → IsOver remaining number space → IsFed number space
     fed space (inl p) = inl p.0
     fed space (inr p) = inr p
 fed-after spaces n number remaining (Err e) left = left
@@ -286,10 +286,10 @@ fed-after spaces n number remaining (Err e) left = left
 -- ---- what becomes of the loads
 
 -- where no other connection waits, nobody does behind the closing
-abbrev AloneStays : ℕ → Space → Space → Type 0
+abbrev AloneStays : ℕ → Bared → Bared → Type 0
 AloneStays number x w = WaitsAlone number (pending_of x) → IsTrue (has_no_waiting (pending_of w))
 
-alone-closes : (number : ℕ) (x z w : Space) (F : Situation → Situation → Type 0) → 0 < number → Goes number x z F → Closes number z w → AloneStays number x w
+alone-closes : (number : ℕ) (x z w : Bared) (F : Situation → Situation → Type 0) → 0 < number → Goes number x z F → Closes number z w → AloneStays number x w
 alone-closes number x z w F positive g (inl closes) =
     nobody-behind number x w (λ s t. Unit {0}) positive
     (goes-more number x z w F (λ s t. Quiet (config_of z) (event.Close number) s t (notices_of z) (notices_of w)) (λ s t. Unit {0}) g closes.2 (λ s t u f q. tt)) (λ none. none-some by.Asked (sym none ∙ closes.1))
@@ -297,18 +297,18 @@ alone-closes number x z w F positive g (inr closes) =
     nobody-behind number x w (λ s t. Unit {0}) positive
     (goes-more number x z w F (λ s t. Unfed s t (notices_of z) (notices_of w)) (λ s t. Unit {0}) g closes.2 (λ s t u f q. tt)) (λ none. ended-none (closing_of z number) closes.0 (sym closes.1 ∙ none))
 
-module _ (number n : ℕ) (first second third fourth : List Space) where
+module _ (number n : ℕ) (first second third fourth : List Bared) where
   -- each that is under way behind the closing was so before the opening
   at-adds-whole : At first second n KeepsLoads → At second third n AddsNoLoads → At third fourth n KeepsLoads → At first fourth n AddsNoLoads
   at-adds-whole a b c =
       at-adds-more first third fourth n (at-adds-more first second third n (at-map KeepsLoads AddsNoLoads first second n a (λ x y k. k.loads)) b) (at-map KeepsLoads AddsNoLoads third fourth n c (λ x y k. k.loads))
 
-  at-alone : (F : Space → Space → Situation → Situation → Type 0) → At first third n (λ was is. (number ≡ next_number was) × Goes number was is (F was is)) → At third fourth n (Closes number) → At first fourth n (AloneStays number)
+  at-alone : (F : Bared → Bared → Situation → Situation → Type 0) → At first third n (λ was is. (number ≡ next_number was) × Goes number was is (F was is)) → At third fourth n (Closes number) → At first fourth n (AloneStays number)
   at-alone F a b =
       at-more (λ was is. (number ≡ next_number was) × Goes number was is (F was is)) (Closes number) (AloneStays number) first third fourth n a b (λ x z w p q. let is = p.0 in alone-closes number x z w (F x z) (omega (arith, is)) p.1 q)
 
   -- each that is under way behind the give-ups was so before the opening
-  at-adds-partly : (fifth : List Space) (outs : List (LoadId × List ℕ)) → At first second n KeepsLoads → At second third n (λ was is. Accounts was is [] outs) → At third fourth n KeepsLoads → At first fourth n (AloneStays number)
+  at-adds-partly : (fifth : List Bared) (outs : List (LoadId × List ℕ)) → At first second n KeepsLoads → At second third n (λ was is. Accounts was is [] outs) → At third fourth n KeepsLoads → At first fourth n (AloneStays number)
       → At fourth fifth n (DropsAll outs) → At first fifth n (λ was is. WaitsAlone number (pending_of was) → AddsNoLoads was is)
   at-adds-partly fifth outs a b c alone d =
       let opened = at-accounts-later first second n [] (at-map KeepsLoads SendsLater first second n a later-kept) in
@@ -319,17 +319,17 @@ module _ (number n : ℕ) (first second third fourth : List Space) where
       (λ x w v p q alone. kept-behind x w v outs p.1 q (p.0 alone))
 
 -- what follows where that is given
-at-given : (F G : Space → Space → Type 0) (old new : List Space) (n : ℕ) → At old new n G → At old new n (λ was is. G was is → F was is) → At old new n F
+at-given : (F G : Bared → Bared → Type 0) (old new : List Bared) (n : ℕ) → At old new n G → At old new n (λ was is. G was is → F was is) → At old new n F
 at-given F G old new n a b = at-map (λ was is. G was is × (G was is → F was is)) F old new n (at-both G (λ was is. G was is → F was is) old new n a b) (λ x y p. p.1 p.0)
 
 -- where no load was under way before, none is
-whole-none : {C L : Type 0} (reads : C → ℕ → C → Type 0) (loads : L → List ℕ → Option Outcome → L → Type 0) (before after : Outside C L) (old new : List Space) (n : ℕ) → At old new n (λ was is. ServesWhole reads loads was is before after)
+whole-none : {C L : Type 0} (reads : C → ℕ → C → Type 0) (loads : L → List ℕ → Option Outcome → L → Type 0) (before after : Outside C L) (old new : List Bared) (n : ℕ) → At old new n (λ was is. ServesWhole reads loads was is before after)
     → At old new n (λ was is. pending_of was ≡ [] → pending_of is ≡ [])
 whole-none reads loads before after old new n a =
     at-map (λ was is. ServesWhole reads loads was is before after) (λ was is. pending_of was ≡ [] → pending_of is ≡ []) old new n a (λ x y w none. none-behind x y w.settled none)
 
 -- however a run ended
-pub run-none : {T C L : Type 0} (reads : C → ℕ → C → Type 0) (loads : L → List ℕ → Option Outcome → L → Type 0) (before after : Outside C L) (old new : List Space) (n : ℕ) (A : RunError → Type 0) (B D E F : Type 0) (r : Result T RunError)
+pub run-none : {T C L : Type 0} (reads : C → ℕ → C → Type 0) (loads : L → List ℕ → Option Outcome → L → Type 0) (before after : Outside C L) (old new : List Bared) (n : ℕ) (A : RunError → Type 0) (B D E F : Type 0) (r : Result T RunError)
     → OnOk r (At old new n (λ was is. ServesWhole reads loads was is before after))
     → IfErr r (λ e. At old new n (λ was is. (A e × SameSpace was is × B × D × E × F) ⊎ ServesPartly reads loads was is before after e))
     → At old new n (λ was is. pending_of was ≡ [] → pending_of is ≡ [])
@@ -340,7 +340,7 @@ run-none reads loads before after old new n A B D E F (Err e) whole partly =
 
 -- ---- what a run leaves
 
-module _ {C L : Type 0} (reads : C → ℕ → C → Type 0) (loads : L → List ℕ → Option Outcome → L → Type 0) (first second third fourth : List Space) (m n number : ℕ) (before after : Outside C L) where
+module _ {C L : Type 0} (reads : C → ℕ → C → Type 0) (loads : L → List ℕ → Option Outcome → L → Type 0) (first second third fourth : List Bared) (m n number : ℕ) (before after : Outside C L) where
   pub run-whole : m ≡ n
       → At first second n (λ was is. (number ≡ next_number was) × Goes number was is (λ s t. Quiet (config_of was) (event.Open number) s t (notices_of was) (notices_of is)))
       → At second third m (λ was is. Goes number was is (λ s t. Carried (config_of was) number reads loads (world was s before) (world is t after) false false [] nothing_left))
@@ -354,7 +354,7 @@ module _ {C L : Type 0} (reads : C → ℕ → C → Type 0) (loads : L → List
       (subst (λ k. At second third k (λ was is. Goes number was is (λ s t. Carried (config_of was) number reads loads (world was s before) (world is t after) false false [] nothing_left))) e carried)
       (subst (λ k. Connected third k number (IsOver after.remaining)) e over) (subst (λ k. At third fourth k (Closes number)) e closes))
 
-  pub run-partly : (fifth : List Space) (error : RunError) → m ≡ n
+  pub run-partly : (fifth : List Bared) (error : RunError) → m ≡ n
       → At first second n (λ was is. (number ≡ next_number was) × Goes number was is (λ s t. Quiet (config_of was) (event.Open number) s t (notices_of was) (notices_of is)))
       → At second third m (λ was is. Goes number was is (λ s t. Broken (config_of was) number reads loads (world was s before) (world is t after) false false [] error))
       → At third fourth m (Closes number) → At fourth fifth m (GivesUpLoads number)

@@ -20,12 +20,12 @@ use Rattle.cache_namespace.specs.Taken.{closing_at}
 use Rattle.cache_namespace.specs.declared.connection.Connection.{Connection}
 use Rattle.cache_namespace.proofs.Places.{closing-is}
 use Rattle.cache_settling.proofs.Placed.{found-back, open-so}
-use Rattle.cache_settling.specs.Answered.{giving_up}
-use Rattle.cache_spaces.specs.Moves.{At}
+use Rattle.cache_core.specs.Settling.{giving_up}
+use Rattle.cache_spaces.specs.Calls.{At}
 use Rattle.cache_spaces.specs.Serves as served
 use Rattle.cache_spaces.specs.Serves.{SameSpace, TakesLoads, known_of}
 use Rattle.cache_spaces.specs.Spaces.{closing_of, config_of, connections_of, loads_of, place_of, taken_of}
-use Rattle.cache_spaces.specs.declared.space.Space.{Space}
+use Rattle.cache_run.specs.Bared.{Bared}
 use Rattle.audit_waiting_laws.specs.Alone.{WaitsAlone}
 use Rattle.audit_waiting_laws.specs.Closed.{NobodyWaits}
 use Rattle.audit_waiting_laws.specs.Sending.{are_all, is_under_way}
@@ -65,7 +65,7 @@ unfound number cs positive closes = go (find (λ (c : model.Connection). c.numbe
         absurd (closes (ap (closing_at cs) index ∙ closing-is cs f.index f.is f.at ∙ open_now))
 
 -- where no other connection waits, and this one has closed, nobody does
-pub nobody-behind : (number : ℕ) (x w : Space) (F : Situation → Situation → Type 0) → 0 < number → Goes number x w F → closing_of w number ≢ None → WaitsAlone number (pending_of x) → has_no_waiting (pending_of w) ≡ true
+pub nobody-behind : (number : ℕ) (x w : Bared) (F : Situation → Situation → Type 0) → 0 < number → Goes number x w F → closing_of w number ≢ None → WaitsAlone number (pending_of x) → has_no_waiting (pending_of w) ≡ true
 nobody-behind number x w F positive goes closes alone =
     ∥∥₁_elim (situated x) (Prim.hlevel props)
     (λ v.
@@ -82,7 +82,7 @@ is-or-but : (b u : Bool) → u ≡ true → (b || (u && not b)) ≡ true
 is-or-but true u e = refl
 is-or-but false u e = and_from u true e refl
 
-drops-settled : (was is : Space) (load : ℕ) → served.Settled was is (giving_up load 0) → DropsUnwaited (λ n. n == load) was is
+drops-settled : (was is : Bared) (load : ℕ) → served.Settled was is (giving_up load 0) → DropsUnwaited (λ n. n == load) was is
 drops-settled was is load settled none =
     let p : ℕ → Bool = λ n. is_under_way n (pending_of was) && not (n == load) in
     let own : are_all (λ n. n == load || p n) (pending_of was) ≡ true = all-own (λ n. n == load || p n) (pending_of was) (λ n under. is-or-but (n == load) (is_under_way n (pending_of was)) under) in
@@ -100,7 +100,7 @@ drops-settled was is load settled none =
           ap (are_all p) (sym (pending-is is r.next r.stands) ∙ ap (λ (t : Situation). t.pending) law.1) ∙ all-but p load w.0.pending (ap (are_all (λ n. n == load || p n)) (pending-is was w.0 w.1) ∙ own));
     }
 
-drops-unknown : (was is : Space) (load : ℕ) → SameSpace was is → (known_of was).is_under_way load ≡ false → DropsUnwaited (λ n. n == load) was is
+drops-unknown : (was is : Bared) (load : ℕ) → SameSpace was is → (known_of was).is_under_way load ≡ false → DropsUnwaited (λ n. n == load) was is
 drops-unknown was is load same unknown none =
     let u : ℕ → Bool = λ n. is_under_way n (pending_of was) in
     let q : ℕ → Bool = λ n. not (n == load) in
@@ -116,17 +116,17 @@ never-late false late e is refused = refl
 never-late true true e is refused = let high = leb-true (2 ^ 63) 0 is in absurd (omega (arith, high))
 never-late true false e is refused = absurd (none-some e refused)
 
-refused-unknown : (was : Space) (load : ℕ) (e : ServiceError) → refusal_of (config_of was) (known_of was) (giving_up load 0) ≡ Some e → (known_of was).is_under_way load ≡ false
+refused-unknown : (was : Bared) (load : ℕ) (e : ServiceError) → refusal_of (config_of was) (known_of was) (giving_up load 0) ≡ Some e → (known_of was).is_under_way load ≡ false
 refused-unknown was load e refused = never-late ((known_of was).is_under_way load) (nat_le (2 ^ 63) 0) e refl refused
 
 -- ---- several loads are given up
 
-pub drops-still : (x : Space) → DropsUnwaited (λ n. is_left n []) x x
+pub drops-still : (x : Bared) → DropsUnwaited (λ n. is_left n []) x x
 drops-still x none =
     let u : ℕ → Bool = λ n. is_under_way n (pending_of x) in
     record { taken = refl; nobody = none; loads = all-from u u (λ n. u n && true) (pending_of x) (λ n a b. and_from (u n) true a refl) (own-loads (pending_of x)) (own-loads (pending_of x)) }
 
-drops-more : (f g h : ℕ → Bool) (x y z : Space) → ((n : ℕ) → not (f n) ≡ true → not (g n) ≡ true → not (h n) ≡ true) → DropsUnwaited f x y → DropsUnwaited g y z → DropsUnwaited h x z
+drops-more : (f g h : ℕ → Bool) (x y z : Bared) → ((n : ℕ) → not (f n) ≡ true → not (g n) ≡ true → not (h n) ≡ true) → DropsUnwaited f x y → DropsUnwaited g y z → DropsUnwaited h x z
 drops-more f g h x y z both p q none =
     let a = p none in
     let b = q a.nobody in
@@ -153,13 +153,13 @@ not-left outs out n a b =
     go true is = let no : false ≡ true = sym (ap not (eq-eqb n out.0.number (sym (eqb-true out.0.number n is)))) ∙ b in cc
     go false is = refl
 
-drops-next : (outs all : List (LoadId × List ℕ)) (out : LoadId × List ℕ) (load : ℕ) (x y z : Space) → all ≡ outs ++ out ∷ [] → load ≡ out.0.number → DropsUnwaited (λ n. is_left n outs) x y → DropsUnwaited (λ n. n == load) y z → DropsUnwaited (λ n. is_left n all) x z
+drops-next : (outs all : List (LoadId × List ℕ)) (out : LoadId × List ℕ) (load : ℕ) (x y z : Bared) → all ≡ outs ++ out ∷ [] → load ≡ out.0.number → DropsUnwaited (λ n. is_left n outs) x y → DropsUnwaited (λ n. n == load) y z → DropsUnwaited (λ n. is_left n all) x z
 drops-next outs all out load x y z whole is p q =
     drops-more (λ n. is_left n outs) (λ n. n == load) (λ n. is_left n all) x y z
     (λ n a b. ap (λ l. not (is_left n l)) whole ∙ not-left outs out n a (ap (λ m. not (n == m)) (sym is) ∙ b)) p q
 
 -- those that were taken are given up, then the rest are taken and given up
-drops-all : (outs loads : List (LoadId × List ℕ)) (x y z w : Space) → DropsUnwaited (λ n. is_left n outs) x y → TakesLoads y z loads → DropsUnwaited (λ n. is_left n loads) z w → DropsAll outs x w
+drops-all : (outs loads : List (LoadId × List ℕ)) (x y z w : Bared) → DropsUnwaited (λ n. is_left n outs) x y → TakesLoads y z loads → DropsUnwaited (λ n. is_left n loads) z w → DropsAll outs x w
 drops-all outs loads x y z w p t q none =
     let a = p none in
     let u : ℕ → Bool = λ n. is_under_way n (pending_of y) in
@@ -184,7 +184,7 @@ drops-all outs loads x y z w p t q none =
     b.loads b.loads
 
 -- each that is under way was kept
-pub kept-behind : (x w v : Space) (outs : List (LoadId × List ℕ)) → Accounts x w [] outs → DropsAll outs w v → has_no_waiting (pending_of w) ≡ true → AddsNoLoads x v
+pub kept-behind : (x w v : Bared) (outs : List (LoadId × List ℕ)) → Accounts x w [] outs → DropsAll outs w v → has_no_waiting (pending_of w) ≡ true → AddsNoLoads x v
 kept-behind x w v outs a d none =
     let p : ℕ → Bool = λ n. is_under_way n (pending_of x) in
     let q : ℕ → Bool = λ n. p n || (is_left n outs || nat_lt (taken_of w) n) in
@@ -201,7 +201,7 @@ kept-behind x w v outs a d none =
     (d none) (d none)
 
 -- where none was under way, none is
-pub none-behind : (x v : Space) → AddsNoLoads x v → pending_of x ≡ [] → pending_of v ≡ []
+pub none-behind : (x v : Bared) → AddsNoLoads x v → pending_of x ≡ [] → pending_of v ≡ []
 none-behind x v adds none = go (pending_of v) (ap (λ l. are_all (λ n. is_under_way n l) (pending_of v)) (sym none) ∙ adds)
   where
     go : (loads : List PendingLoad) → are_all (λ n. is_under_way n []) loads ≡ true → loads ≡ []
@@ -210,7 +210,7 @@ none-behind x v adds none = go (pending_of v) (ap (λ l. are_all (λ n. is_under
 
 -- ---- among many
 
-module _ (old new : List Space) (n : ℕ) where
+module _ (old new : List Bared) (n : ℕ) where
   pub at-gone : (load : ℕ) → At old new n (λ was is. served.Settled was is (giving_up load 0)) → At old new n (DropsUnwaited (λ m. m == load))
   at-gone load a = at-map (λ was is. served.Settled was is (giving_up load 0)) (DropsUnwaited (λ m. m == load)) old new n a (λ x y settled. drops-settled x y load settled)
 
@@ -219,21 +219,21 @@ module _ (old new : List Space) (n : ℕ) where
       at-map (λ was is. SameSpace was is × (refusal_of (config_of was) (known_of was) (giving_up load 0) ≡ Some e)) (DropsUnwaited (λ m. m == load)) old new n a
       (λ x y p. drops-unknown x y load p.0 (refused-unknown x load e p.1))
 
-pub at-gone-next : (first second third : List Space) (n : ℕ) (outs all : List (LoadId × List ℕ)) (out : LoadId × List ℕ) (load : ℕ) → all ≡ outs ++ out ∷ [] → load ≡ out.0.number
+pub at-gone-next : (first second third : List Bared) (n : ℕ) (outs all : List (LoadId × List ℕ)) (out : LoadId × List ℕ) (load : ℕ) → all ≡ outs ++ out ∷ [] → load ≡ out.0.number
     → At first second n (DropsUnwaited (λ m. is_left m outs)) → At second third n (DropsUnwaited (λ m. m == load)) → At first third n (DropsUnwaited (λ m. is_left m all))
 at-gone-next first second third n outs all out load whole is a b =
     at-more (DropsUnwaited (λ m. is_left m outs)) (DropsUnwaited (λ m. m == load)) (DropsUnwaited (λ m. is_left m all)) first second third n a b (λ x y z p q. drops-next outs all out load x y z whole is p q)
 
-pub at-gone-all : (first second third fourth : List Space) (n : ℕ) (outs loads : List (LoadId × List ℕ))
+pub at-gone-all : (first second third fourth : List Bared) (n : ℕ) (outs loads : List (LoadId × List ℕ))
     → At first second n (DropsUnwaited (λ m. is_left m outs)) → At second third n (λ was is. TakesLoads was is loads) → At third fourth n (DropsUnwaited (λ m. is_left m loads)) → At first fourth n (DropsAll outs)
 at-gone-all first second third fourth n outs loads a b c =
-    at-more (DropsUnwaited (λ m. is_left m outs)) (λ y w. (z : Space) × TakesLoads y z loads × DropsUnwaited (λ m. is_left m loads) z w) (DropsAll outs) first second fourth n a
-    (at-more (λ was is. TakesLoads was is loads) (DropsUnwaited (λ m. is_left m loads)) (λ y w. (z : Space) × TakesLoads y z loads × DropsUnwaited (λ m. is_left m loads) z w) second third fourth n b c (λ y z w p q. (z, p, q)))
+    at-more (DropsUnwaited (λ m. is_left m outs)) (λ y w. (z : Bared) × TakesLoads y z loads × DropsUnwaited (λ m. is_left m loads) z w) (DropsAll outs) first second fourth n a
+    (at-more (λ was is. TakesLoads was is loads) (DropsUnwaited (λ m. is_left m loads)) (λ y w. (z : Bared) × TakesLoads y z loads × DropsUnwaited (λ m. is_left m loads) z w) second third fourth n b c (λ y z w p q. (z, p, q)))
     (λ x y w p q. drops-all outs loads x y q.0 w p q.1 q.2)
 
 -- the same loads
-pub at-gone-same : (old new : List Space) (n : ℕ) (outs all : List (LoadId × List ℕ)) → outs ≡ all → At old new n (DropsUnwaited (λ m. is_left m outs)) → At old new n (DropsUnwaited (λ m. is_left m all))
+pub at-gone-same : (old new : List Bared) (n : ℕ) (outs all : List (LoadId × List ℕ)) → outs ≡ all → At old new n (DropsUnwaited (λ m. is_left m outs)) → At old new n (DropsUnwaited (λ m. is_left m all))
 at-gone-same old new n outs all same a = subst (λ xs. At old new n (DropsUnwaited (λ m. is_left m xs))) same a
 
-pub at-drops-same : (old new : List Space) (n : ℕ) (outs all : List (LoadId × List ℕ)) → outs ≡ all → At old new n (DropsAll outs) → At old new n (DropsAll all)
+pub at-drops-same : (old new : List Bared) (n : ℕ) (outs all : List (LoadId × List ℕ)) → outs ≡ all → At old new n (DropsAll outs) → At old new n (DropsAll all)
 at-drops-same old new n outs all same a = subst (λ xs. At old new n (DropsAll xs)) same a

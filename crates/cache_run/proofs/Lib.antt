@@ -8,7 +8,6 @@ pub mod Knowing
 pub mod Turning
 pub mod Settling
 pub mod Refusing
-pub mod Quiet
 pub mod Accounting
 pub mod Gone
 pub mod Dropping

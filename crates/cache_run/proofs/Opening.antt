@@ -1,5 +1,5 @@
 -- Records keep the connections that were opened, and other connections as they were.
-use Rattle.std.proofs.Common.{◌≡◌, ◌≢◌, ℕ, suc, ◌≤◌, Bool, true, false, not, ◌&&◌, ◌==◌, cond, List, [], ◌∷◌, ◌++◌, Option, Some, None, if◌then◌else◌, refl, sym, ap, ◌∙◌, arith}
+use Rattle.std.proofs.Common.{◌≡◌, ◌≢◌, ℕ, suc, ◌≤◌, max, Bool, true, false, not, ◌&&◌, ◌==◌, cond, List, [], ◌∷◌, ◌++◌, Option, Some, None, if◌then◌else◌, refl, sym, ap, ◌∙◌, subst, arith}
 use Rattle.std.specs.Prelude.{is_none}
 use Rattle.std.specs.List.{find}
 use Rattle.std.specs.Option.{option_map_or}
@@ -81,11 +81,17 @@ plain-record config s t entry happened e is plain =
 
 pub no-steps : (config : Config) (s t : Situation) (steps : List Step) → after_steps config s [] steps ≡ Some t → (steps ≡ []) × (t ≡ s)
 no-steps config s t [] e = (refl, sym (same_Some s t e))
-no-steps config s t (step ∷ steps) e = absurd (chosen _ e)
-  where
-    chosen : (b : Bool) → (if b then None else None) ≡ Some t → ⊥
-    chosen true h = none-some t h
-    chosen false h = none-some t h
+no-steps config s t (step ∷ steps) e = absurd (none-some t e)
+
+-- such a record leads to where its event does
+pub quiet-steps : (config : Config) (s t : Situation) (entry : Record) (happened : Event) → entry.event ≡ happened → ((u : Situation) → tasks_in u happened ≡ []) → IsPlain happened → Follows config s entry t
+    → (entry ≡ record_of happened []) × (t ≡ after_event happened s)
+quiet-steps config s t entry happened is idle plain follows =
+    let alike = plain-record config s t entry happened follows is (subst IsPlain (sym is) plain) in
+    let same : Follows config s (record_of happened entry.steps) t = subst (λ e. Follows config s e t) alike follows in
+    let steps = steps-follow config s t (record_of happened entry.steps) same in
+    let none = no-steps config (after_event happened s) t entry.steps (subst (λ tasks. after_steps config (after_event happened s) tasks entry.steps ≡ Some t) (idle s) steps) in
+    (alike ∙ ap (record_of happened) none.0, none.1)
 
 -- ---- the connections that were opened
 
@@ -130,7 +136,7 @@ fed-opened piece u (Some c) = refl
 event-opened : (s : Situation) (happened : Event) → s.opened ≤ (after_event happened s).opened
 event-opened s (event.Open c) = omega arith
 event-opened s (event.Close c) = omega arith
-event-opened s (event.Feed c piece moment) = let same = fed-opened piece (record s { latest = _ }) (connection_in c s) in omega (arith, same)
+event-opened s (event.Feed c piece moment) = let same = fed-opened piece (record s { latest = max moment.nanos s.latest }) (connection_in c s) in omega (arith, same)
 event-opened s (event.Answer load outcome moment) = omega arith
 event-opened s (event.GiveUp load moment) = omega arith
 

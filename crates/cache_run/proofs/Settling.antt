@@ -16,17 +16,17 @@ use Rattle.audit_model.specs.declared.event.Event.{Event}
 use Rattle.audit_model.specs.declared.event.Outcome.{Outcome}
 use Rattle.audit_model.specs.declared.transcript.Record.{Record}
 use Rattle.audit_model.specs.declared.transcript.Step.{Step}
-use Rattle.cache_namespace.specs.Gathered.{reply_in}
+use Rattle.cache_lines.specs.Gathered.{reply_in}
 use Rattle.cache_namespace.specs.Shown.{situation}
 use Rattle.cache_namespace.specs.Taken.{IsOpenOrEnded}
-use Rattle.cache_settling.specs.Answered.{answering, giving_up}
+use Rattle.cache_core.specs.Settling.{answering, giving_up}
 use Rattle.cache_settling.specs.Told.{own_steps, replies_to}
 use Rattle.cache_spaces.proofs.Putting.{same-space}
-use Rattle.cache_spaces.specs.Moves.{At}
+use Rattle.cache_spaces.specs.Calls.{At}
 use Rattle.cache_spaces.specs.Serves as served
 use Rattle.cache_spaces.specs.Serves.{SameSpace, Settles, TakesOutput, known_of}
 use Rattle.cache_spaces.specs.Spaces.{StandsFor, closing_of, config_of, connections_of, loads_of, notices_of, untaken_output}
-use Rattle.cache_spaces.specs.declared.space.Space.{Space}
+use Rattle.cache_run.specs.Bared.{Bared}
 use Rattle.audit_waiting_laws.specs.Alone.{IsTurnOf, StepsOf, WaitsAlone}
 use Rattle.audit_waiting_laws.proofs.Events.{records}
 use Rattle.audit_waiting_laws.proofs.Keys.{answered-key, given-up-key}
@@ -62,11 +62,11 @@ no-steps number other (step ∷ steps) own ne = go (no-steps number other steps 
 
 -- ---- what a settled load leaves of a connection
 
-own-output : (number : ℕ) (was is : Space) (s : Situation) (happened : Event) (r : Settles was is s happened) → 0 < number → untaken_output is number ≡ untaken_output was number ++ replies_to number r.entry.steps
+own-output : (number : ℕ) (was is : Bared) (s : Situation) (happened : Event) (r : Settles was is s happened) → 0 < number → untaken_output is number ≡ untaken_output was number ++ replies_to number r.entry.steps
 own-output zero was is s happened r positive = absurd (omega (arith, positive))
 own-output (suc n) was is s happened r positive = r.outputs n
 
-other-left : (number place : ℕ) (was is : Space) (s : Situation) (happened : Event) (r : Settles was is s happened) → StepsOf number r.entry.steps → suc place - 1 ≢ number - 1
+other-left : (number place : ℕ) (was is : Bared) (s : Situation) (happened : Event) (r : Settles was is s happened) → StepsOf number r.entry.steps → suc place - 1 ≢ number - 1
     → (untaken_output is (suc place) ≡ untaken_output was (suc place)) × (closing_of is (suc place) ≡ closing_of was (suc place))
 other-left number place was is s happened r own ne =
     let apart : suc place ≢ number = λ e. ne (ap (λ n. n - 1) e) in
@@ -75,13 +75,13 @@ other-left number place was is s happened r own ne =
       r.idle place no_step,
     )
 
-pub others-left : (number other : ℕ) (was is : Space) (s : Situation) (happened : Event) (r : Settles was is s happened) → StepsOf number r.entry.steps → other - 1 ≢ number - 1
+pub others-left : (number other : ℕ) (was is : Bared) (s : Situation) (happened : Event) (r : Settles was is s happened) → StepsOf number r.entry.steps → other - 1 ≢ number - 1
     → (untaken_output is other ≡ untaken_output was other) × (closing_of is other ≡ closing_of was other)
 others-left number zero was is s happened r own ne = other-left number 0 was is s happened r own ne
 others-left number (suc place) was is s happened r own ne = other-left number place was is s happened r own ne
 
 -- a closed connection stays so
-stays-closed : (n : ℕ) (was is : Space) (s : Situation) (happened : Event) → Settles was is s happened → closing_of was (suc n) ≢ None → closing_of is (suc n) ≢ None
+stays-closed : (n : ℕ) (was is : Bared) (s : Situation) (happened : Event) → Settles was is s happened → closing_of was (suc n) ≢ None → closing_of is (suc n) ≢ None
 stays-closed n was is s happened r closed is_open = ⊎_elim (λ same. closed (sym same ∙ is_open)) (λ p. closed p.0) (r.closings n)
 
 is-left : (c : Option Closing) → c ≢ Some by.Asked → IsOpenOrEnded c
@@ -101,24 +101,24 @@ not-asked c (inl none) e = let h : None ≡ Some by.Asked = sym none ∙ e in cc
 not-asked c (inr ended) e = not-asked-ended c ended e
 
 -- a namespace stands for some situation
-pub situated : (x : Space) → ∥ ((s : Situation) × StandsFor x s) ∥₁
+pub situated : (x : Bared) → ∥ ((s : Situation) × StandsFor x s) ∥₁
 situated x = ∥∥₁_map x.waiting (λ k. (situation x.inner.latest (loads_of x) (connections_of x) x.inner.store.dropped k.values, record { values = k.values; held = k.held; same = refl }))
 
 -- an open connection may have closed for what it was fed
-left-at : (n : ℕ) (was is : Space) (happened : Event) → served.Settled was is happened → IsOpenOrEnded (closing_of was (suc n)) → IsOpenOrEnded (closing_of is (suc n))
+left-at : (n : ℕ) (was is : Bared) (happened : Event) → served.Settled was is happened → IsOpenOrEnded (closing_of was (suc n)) → IsOpenOrEnded (closing_of is (suc n))
 left-at n was is happened settled left =
     is-left (closing_of is (suc n)) (λ asked.
     ∥∥₁_elim (situated was) (Prim.hlevel props) (λ w.
     ⊎_elim (λ same. not-asked (closing_of was (suc n)) left (sym same ∙ asked)) (λ p. not-asked-ended (closing_of is (suc n)) p.1 asked) ((settled.settles w.0 w.1).closings n)))
 
-settled-left : (number : ℕ) (was is : Space) (happened : Event) → 0 < number → served.Settled was is happened → IsOpenOrEnded (closing_of was number) → IsOpenOrEnded (closing_of is number)
+settled-left : (number : ℕ) (was is : Bared) (happened : Event) → 0 < number → served.Settled was is happened → IsOpenOrEnded (closing_of was number) → IsOpenOrEnded (closing_of is number)
 settled-left zero was is happened positive settled left = absurd (omega (arith, positive))
 settled-left (suc n) was is happened positive settled left = left-at n was is happened settled left
 
-closed-at : (n : ℕ) (was is : Space) (happened : Event) → served.Settled was is happened → closing_of was (suc n) ≢ None → closing_of is (suc n) ≢ None
+closed-at : (n : ℕ) (was is : Bared) (happened : Event) → served.Settled was is happened → closing_of was (suc n) ≢ None → closing_of is (suc n) ≢ None
 closed-at n was is happened settled closed is_open = ∥∥₁_elim (situated was) (Prim.hlevel props) (λ w. stays-closed n was is w.0 happened (settled.settles w.0 w.1) closed is_open)
 
-pub settled-closed : (number : ℕ) (was is : Space) (happened : Event) → served.Settled was is happened → closing_of was number ≢ None → closing_of is number ≢ None
+pub settled-closed : (number : ℕ) (was is : Bared) (happened : Event) → served.Settled was is happened → closing_of was number ≢ None → closing_of is number ≢ None
 settled-closed zero was is happened settled closed = closed-at 0 was is happened settled closed
 settled-closed (suc n) was is happened settled closed = closed-at n was is happened settled closed
 
@@ -132,12 +132,12 @@ settling config asking moment happened (inl p) = λ number. subst (IsTurnOf numb
 settling config asking moment happened (inr p) = λ number. subst (IsTurnOf number) (sym p.1) tt
 
 -- steps of that connection alone, and no other waits
-pub settled-alone : (number : ℕ) (was is : Space) (s : Situation) (happened : Event) (r : Settles was is s happened) → IsSettling happened → WaitsAlone number s.pending
+pub settled-alone : (number : ℕ) (was is : Bared) (s : Situation) (happened : Event) (r : Settles was is s happened) → IsSettling happened → WaitsAlone number s.pending
     → StepsOf number r.entry.steps × WaitsAlone number r.next.pending
 settled-alone number was is s happened r turns alone = records (config_of was) s r.next r.entry number r.follows (subst (IsTurnOf number) (sym r.event) (turns number)) alone
 
 -- a load was settled by what the loader said
-pub settled-goes : (number : ℕ) (was is : Space) (happened : Event) (asking : Asking) (load moment : ℕ) → 0 < number → untaken_output was number ≡ [] → IsSettledBy (config_of was) asking.answer moment happened
+pub settled-goes : (number : ℕ) (was is : Bared) (happened : Event) (asking : Asking) (load moment : ℕ) → 0 < number → untaken_output was number ≡ [] → IsSettledBy (config_of was) asking.answer moment happened
     → ((s t : Situation) (entry : Record) → Follows (config_of was) s entry t → entry.event ≡ happened → IsKnown load asking.key s → IsKeyOf s entry.event asking.key) → served.Settled was is happened
     → Goes number was is (λ s t. AnsweredLoad (config_of was) number load moment asking s t (notices_of was) (notices_of is) (untaken_output is number))
 settled-goes number was is happened asking load moment positive none said keyed settled = record {
@@ -169,11 +169,11 @@ some-none None e = refl
 some-none (Some x) e = cc
 
 -- no load of that number is under way in any situation that the namespace stands for
-unknown-there : (was : Space) (s : Situation) (load : ℕ) → StandsFor was s → (known_of was).is_under_way load ≡ false → key_in load s ≡ None
+unknown-there : (was : Bared) (s : Situation) (load : ℕ) → StandsFor was s → (known_of was).is_under_way load ≡ false → key_in load s ≡ None
 unknown-there was s load stands unknown = ap (λ (t : Situation). key_in load t) stands.same ∙ some-none (key_in load (situation 0 (loads_of was) (connections_of was) false [])) unknown
 
 -- a load was not under way, and what the loader said was dropped
-pub dropped-goes : (number : ℕ) (was is : Space) (asking : Asking) (moment load : ℕ) → untaken_output was number ≡ [] → SameSpace was is → (known_of was).is_under_way load ≡ false
+pub dropped-goes : (number : ℕ) (was is : Bared) (asking : Asking) (moment load : ℕ) → untaken_output was number ≡ [] → SameSpace was is → (known_of was).is_under_way load ≡ false
     → Goes number was is (λ s t. AnsweredLoad (config_of was) number load moment asking s t (notices_of was) (notices_of is) (untaken_output is number))
 dropped-goes number was is asking moment load none same unknown = record {
   each = λ s stands alone. record {
@@ -196,7 +196,7 @@ dropped-goes number was is asking moment load none same unknown = record {
   config = same.config;
 }
 
-module _ (old new : List Space) (n number : ℕ) (c : Connected old n number HasTakenReplies) where
+module _ (old new : List Bared) (n number : ℕ) (c : Connected old n number HasTakenReplies) where
   -- how the connection is left
   pub connected-settled : (happened : Event) → At old new n (λ was is. served.Settled was is happened) → Connected new n number IsFed
   connected-settled happened a =
@@ -229,7 +229,7 @@ module _ (old new : List Space) (n number : ℕ) (c : Connected old n number Has
   pub connected-kept : At old new n SameSpace → Connected new n number HasTakenReplies
   connected-kept a = connected-but-loads (at-but-loads old new n a)
 
-module _ (old new : List Space) (n number : ℕ) (moment : ℕ) (c : Connected old n number HasTakenReplies) where
+module _ (old new : List Bared) (n number : ℕ) (moment : ℕ) (c : Connected old n number HasTakenReplies) where
   -- a give-up
   pub at-given-up : (load : ℕ) → At old new n (λ was is. served.Settled was is (giving_up load moment))
       → At old new n (λ was is. (asking : Asking) → IsGivenUpFor (config_of was) asking.answer → Goes number was is (λ s t. AnsweredLoad (config_of was) number load moment asking s t (notices_of was) (notices_of is) (untaken_output is number)))
@@ -256,7 +256,7 @@ module _ (old new : List Space) (n number : ℕ) (moment : ℕ) (c : Connected o
       (λ s t entry follows is known. subst (λ h. IsKeyOf s h key) (sym is) (answered-key (config_of c.space) s t entry load outcome _ key follows is known.1)) settled)
 
 -- what comes behind calls that left the namespace the same
-after-same : (number : ℕ) (x y z : Space) (load moment : ℕ) (asking : Asking) → SameSpace x y → Goes number y z (λ s t. AnsweredLoad (config_of y) number load moment asking s t (notices_of y) (notices_of z) (untaken_output z number))
+after-same : (number : ℕ) (x y z : Bared) (load moment : ℕ) (asking : Asking) → SameSpace x y → Goes number y z (λ s t. AnsweredLoad (config_of y) number load moment asking s t (notices_of y) (notices_of z) (untaken_output z number))
     → Goes number x z (λ s t. AnsweredLoad (config_of x) number load moment asking s t (notices_of x) (notices_of z) (untaken_output z number))
 after-same number x y z load moment asking same g =
     goes-more number x y z (λ s t. t ≡ s) (λ s t. AnsweredLoad (config_of y) number load moment asking s t (notices_of y) (notices_of z) (untaken_output z number)) (λ s t. AnsweredLoad (config_of x) number load moment asking s t (notices_of x) (notices_of z) (untaken_output z number))
@@ -267,7 +267,7 @@ after-same number x y z load moment asking same g =
     (subst (λ l. AnsweredLoad (config_of y) number load moment asking t u l (notices_of z) (untaken_output z number)) same.notices f)))
 
 -- an outcome was refused, and then its load was given up
-pub at-refused-outcome : (old mid new : List Space) (n number : ℕ) (load moment : ℕ) (outcome : Outcome) → At old mid n (λ was is. SameSpace was is × (is_some (refusal_of_outcome (config_of was) outcome) ≡ true))
+pub at-refused-outcome : (old mid new : List Bared) (n number : ℕ) (load moment : ℕ) (outcome : Outcome) → At old mid n (λ was is. SameSpace was is × (is_some (refusal_of_outcome (config_of was) outcome) ≡ true))
     → At mid new n (λ was is. (asking : Asking) → IsGivenUpFor (config_of was) asking.answer → Goes number was is (λ s t. AnsweredLoad (config_of was) number load moment asking s t (notices_of was) (notices_of is) (untaken_output is number)))
     → At old new n (λ was is. (key : List ℕ) → Goes number was is (λ s t. AnsweredLoad (config_of was) number load moment (asking_of key (Some outcome)) s t (notices_of was) (notices_of is) (untaken_output is number)))
 at-refused-outcome old mid new n number load moment outcome a b =
@@ -278,7 +278,7 @@ at-refused-outcome old mid new n number load moment outcome a b =
     after-same number x y z load moment (asking_of key (Some outcome)) p.0 (given (asking_of key (Some outcome)) (subst (λ k. is_some (refusal_of_outcome k outcome) ≡ true) (sym p.0.config) p.1)))
 
 -- a give-up without an outcome
-pub at-unsaid : (old new : List Space) (n number : ℕ) (load moment : ℕ) (said : Option Outcome) → said ≡ None
+pub at-unsaid : (old new : List Bared) (n number : ℕ) (load moment : ℕ) (said : Option Outcome) → said ≡ None
     → At old new n (λ was is. (asking : Asking) → IsGivenUpFor (config_of was) asking.answer → Goes number was is (λ s t. AnsweredLoad (config_of was) number load moment asking s t (notices_of was) (notices_of is) (untaken_output is number)))
     → At old new n (λ was is. (key : List ℕ) → Goes number was is (λ s t. AnsweredLoad (config_of was) number load moment (asking_of key said) s t (notices_of was) (notices_of is) (untaken_output is number)))
 at-unsaid old new n number load moment said none a =
@@ -287,7 +287,7 @@ at-unsaid old new n number load moment said none a =
     (λ x y given key. given (asking_of key said) (subst (IsGivenUpFor (config_of x)) (sym none) tt))
 
 -- with the outcome that was said
-pub at-said : (old new : List Space) (n number : ℕ) (load moment : ℕ) (said : Option Outcome) (outcome : Outcome) → said ≡ Some outcome
+pub at-said : (old new : List Bared) (n number : ℕ) (load moment : ℕ) (said : Option Outcome) (outcome : Outcome) → said ≡ Some outcome
     → At old new n (λ was is. (key : List ℕ) → Goes number was is (λ s t. AnsweredLoad (config_of was) number load moment (asking_of key (Some outcome)) s t (notices_of was) (notices_of is) (untaken_output is number)))
     → At old new n (λ was is. (key : List ℕ) → Goes number was is (λ s t. AnsweredLoad (config_of was) number load moment (asking_of key said) s t (notices_of was) (notices_of is) (untaken_output is number)))
 at-said old new n number load moment said outcome is a =
@@ -302,7 +302,7 @@ on-err P Q (Ok x) a h = tt
 on-err P Q (Err e) a h = h e a
 
 -- the same after the same
-pub same-more : (x y z : Space) → SameSpace x y → SameSpace y z → SameSpace x z
+pub same-more : (x y z : Bared) → SameSpace x y → SameSpace y z → SameSpace x z
 same-more x y z a b = record {
   stands = λ s stands. b.stands s (a.stands s stands);
   recency = λ settled keys r. b.recency settled keys (a.recency settled keys r);
@@ -316,11 +316,11 @@ same-more x y z a b = record {
 }
 
 -- nothing was called
-pub same-here : (spaces : List Space) (n number : ℕ) → Connected spaces n number HasTakenReplies → At spaces spaces n SameSpace
+pub same-here : (spaces : List Bared) (n number : ℕ) → Connected spaces n number HasTakenReplies → At spaces spaces n SameSpace
 same-here spaces n number c = at-same SameSpace spaces n c.space c.at (same-space c.space c.space refl)
 
 -- the replies that came of it were taken
-pub at-replied : (old mid new : List Space) (n number : ℕ) (load moment : ℕ) (said : Option Outcome) (key text : List ℕ)
+pub at-replied : (old mid new : List Bared) (n number : ℕ) (load moment : ℕ) (said : Option Outcome) (key text : List ℕ)
     → At old mid n (λ was is. (key : List ℕ) → Goes number was is (λ s t. AnsweredLoad (config_of was) number load moment (asking_of key said) s t (notices_of was) (notices_of is) (untaken_output is number)))
     → At mid new n (λ was is. TakesOutput was is number text)
     → At old new n (λ was is. Goes number was is (λ s t. AnsweredLoad (config_of was) number load moment (asking_of key said) s t (notices_of was) (notices_of is) text))
