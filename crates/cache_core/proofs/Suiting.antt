@@ -3,6 +3,7 @@ use Rattle.std.proofs.Common.{◌≡◌, ℕ, zero, suc, ◌<◌, ◌≤◌, Boo
 use Rattle.std.specs.Prelude.{is_none, is_some}
 use Rattle.std.specs.List.{find}
 use Rattle.std.proofs.lemmas.Bool.{and_parts, leb-true}
+use Rattle.std.proofs.lemmas.List.{length-map}
 use Rattle.audit_model.specs.Situation as model
 use Rattle.cache_connection.specs.Shown.{open_from, shown}
 use Rattle.cache_connection.specs.declared.connection.Connection.{Connection}
@@ -12,6 +13,10 @@ use Rattle.cache_core.proofs.Orders.{there}
 use Rattle.cache_core.proofs.Spots.{seen-was}
 use Rattle.cache_core.proofs.Table.{listed_as}
 use Rattle.cache_core.proofs.Turning.{found-is}
+
+-- each has its replies and the reason of its closing
+pub counted-all : (cs : List Connection) → length (map (λ (c : Connection). c.output.text.items) cs) ≡ length (map (λ (c : Connection). c.closing) cs)
+counted-all cs = length-map cs (λ (c : Connection). c.output.text.items) ∙ sym (count-open cs)
 
 is-listed : (b : Bool) (c : model.Connection) → is_some (listed_as b c) ≡ b
 is-listed true c = refl

@@ -98,9 +98,10 @@ module _ {S T : Type 0} where
     pub tidy : Tidy [] (situation_with view n [])
     pub reads : WaitForLoads (view n.store).frame.config (situation_with view n [])
 
--- how its parts suit one another: a connection that was opened is listed just while it has not closed; no load was not sent, and no more went
--- out than were
+-- how its parts suit one another: a connection that was opened has replies, and is listed just while it has not closed; no load was not sent,
+-- and no more went out than were
 pub record SuitsItself {S T : Type 0} (view : S → Values) (n : State S T) : Type 0 where
   pub listed : (number : ℕ) → was_opened n number ≡ true → is_some (model.connection_in number (situation_with view n [])) ≡ is_none (closing_in n number)
+  pub counted : length n.outputs ≡ length n.closings
   pub sent : IsTrue (were_sent n.sent n.pending)
   pub fewer : length n.outgoing ≤ n.sent

@@ -52,11 +52,11 @@ later-happened was is happened sound h = record {
   loads = let x = h.turned sound.some sound.stands in later-follows was is sound.some x.2.next x.0 sound.stands x.2.stands x.2.follows;
 }
 
-pub later-output : (was is : Bared) (number : ℕ) (text : List ℕ) → TakesOutput was is number text → SendsLater was is
-later-output was is number text t = subst (λ x. SendsLater was x) (sym t.rest) (later-kept was was (keeps-same was))
-
 pub later-same : (x : Bared) → SendsLater x x
 later-same x = later-kept x x (keeps-same x)
+
+pub later-output : (was is : Bared) (number : ℕ) (text : List ℕ) → TakesOutput was is number text → SendsLater was is
+later-output was is number text t = record { taken = ap taken_of t.rest; loads = ap (λ l. are_old_or_later (pending_of was) (taken_of was) l) (ap pending_of t.rest) ∙ (later-same was).loads }
 
 pub later-more : (x y z : Bared) → SendsLater x y → SendsLater y z → SendsLater x z
 later-more x y z a b =
@@ -269,7 +269,7 @@ pub taken-count : (was is : Bared) (loads : Outs) → IsSound bare_tape was → 
 taken-count was is loads sound t = let count = ap length t.taken in let few = sound.suits.fewer in omega (arith, count, few)
 
 taken-now : (was is : Bared) (loads : Outs) → TakesLoads was is loads → taken_of is ≡ was.sent
-taken-now was is loads t = ap taken_of t.rest
+taken-now was is loads t = let is_so : taken_of is ≡ was.sent - 0 = ap taken_of t.rest in omega (arith, is_so)
 
 pub loads-same : (was is : Bared) (loads : Outs) → TakesLoads was is loads → pending_of is ≡ pending_of was
 loads-same was is loads t = ap pending_of t.rest

@@ -30,9 +30,9 @@ found-at (x ∷ xs) (suc i) lt = found-at xs i (omega (arith, lt))
 
 -- a closing is refused only where the connection has closed
 closed-where : (was_opened is_open : Bool) (e : ServiceError) → was_opened ≡ true → is_open ≡ true → option_or (refusal_where (not was_opened) error.NoConnection) (refusal_where (not is_open) error.Closed) ≡ Some e → ⊥
-closed-where true true e opened open refused = none-some e refused
-closed-where true false e opened open refused = let no : false ≡ true = open in cc
-closed-where false is_open e opened open refused = let no : false ≡ true = opened in cc
+closed-where true true e opened opens refused = none-some e refused
+closed-where true false e opened opens refused = let no : false ≡ true = opens in cc
+closed-where false is_open e opened opens refused = let no : false ≡ true = opened in cc
 
 pub close-refused : (space : Bared) (number : ℕ) (e : ServiceError) → IsSound bare_tape space → IsOpened space number → refusal_of (config_of space) (known_of space) (event.Close number) ≡ Some e → closing_of space number ≡ None → ⊥
 close-refused space number e sound opened refused is_open =

@@ -1,6 +1,6 @@
 -- Loads that are given up behind a closing.
-use Rattle.std.proofs.Common.{◌≡◌, ℕ, suc, ◌<◌, ◌≤◌, ◌+◌, ◌-◌, Bool, true, false, not, ◌&&◌, ◌||◌, ◌==◌, List, [], ◌∷◌, ◌++◌, length, Some, refl, sym, ap, ◌∙◌, subst, arith, append_assoc}
-use Rattle.std.specs.List.{flat_map, list_all}
+use Rattle.std.proofs.Common.{◌≡◌, ℕ, suc, ◌<◌, ◌≤◌, ◌+◌, Bool, true, false, not, ◌&&◌, ◌||◌, ◌==◌, List, [], ◌∷◌, ◌++◌, length, Some, refl, sym, ap, ◌∙◌, subst, arith, append_assoc}
+use Rattle.std.specs.List.{flat_map, list_all, slice_get}
 use Rattle.std.proofs.lemmas.Bool.{and_parts, eq-eqb, eqb-true}
 use Rattle.std.proofs.lemmas.List.{append-nil}
 use Rattle.std.proofs.lemmas.Option.{slice_get_within}
@@ -14,22 +14,20 @@ use Rattle.audit_model.specs.declared.transcript.Record.{Record}
 use Rattle.audit_model.specs.declared.input.LoadId.{LoadId}
 use Rattle.cache_loads.specs.Keys.{agrees_on, are_in_turn, has_its_key, have_their_keys}
 use Rattle.audit_waiting_laws.specs.Keys.{HasKey}
-use Rattle.cache_namespace.specs.Taken.{closing_at, text_at}
 use Rattle.cache_core.specs.Settling.{giving_up}
-use Rattle.cache_spaces.proofs.Putting.{same-space}
-use Rattle.cache_spaces.specs.Calls.{At}
-use Rattle.cache_spaces.specs.Serves as served
-use Rattle.cache_spaces.specs.Serves.{SameSpace, TakesLoads}
-use Rattle.cache_spaces.specs.Spaces.{config_of, notices_of, place_of, taken_of}
-use Rattle.cache_run.specs.Bared.{Bared}
 use Rattle.cache_core.specs.Turned.{notes_in}
+use Rattle.cache_spaces.specs.Calls as served
+use Rattle.cache_spaces.specs.Calls.{At, TakesLoads}
+use Rattle.cache_spaces.specs.Sound.{IsSound}
+use Rattle.cache_spaces.specs.Spaces.{closing_of, config_of, notices_of, outgoing_of, place_of, taken_of}
+use Rattle.cache_run.specs.Bared.{Bared, bare_tape}
 use Rattle.cache_run.specs.Happened.{AreDrops}
 use Rattle.cache_run.specs.Loading.{AreKnown, OnlyGivesUp, GivesUpLoads, SameButLoads, TakesMore}
+use Rattle.cache_run.proofs.Accounting.{taken-count}
 use Rattle.cache_run.proofs.Carrying.{record-one, records-more}
-use Rattle.cache_run.proofs.Connecting.{found-at}
 use Rattle.cache_run.proofs.Going.{goes-more, goes-same}
-use Rattle.cache_run.proofs.Placing.{at-is, at-map, at-more, at-same}
-use Rattle.cache_run.proofs.Settling.{others-left, settled-alone, settled-closed}
+use Rattle.cache_run.proofs.Placing.{at-given-was, at-is, at-map, at-more, at-same}
+use Rattle.cache_run.proofs.Serving.{IsSoundAt, goes-by, pending-is, sent-is, stays-closed}
 
 pub drops-more : (xs ys : List Record) → AreDrops xs → AreDrops ys → AreDrops (xs ++ ys)
 drops-more [] ys a b = b
@@ -37,14 +35,7 @@ drops-more (x ∷ xs) ys a b = (a.0, drops-more xs ys a.1 b)
 
 -- loads that were taken leave the namespace the same
 pub taken-same : (was is : Bared) (loads : List (LoadId × List ℕ)) → TakesLoads was is loads → SameButLoads was is
-taken-same was is loads t = record {
-  stands = t.stands;
-  config = t.config;
-  outputs = λ number. ap (λ cs. text_at cs (number - 1)) t.connections;
-  closings = λ number. ap (λ cs. closing_at cs (number - 1)) t.connections;
-  notices = t.notices;
-  count = ap length t.connections;
-}
+taken-same was is loads t = t.rest ∙ ap (λ o. record was { outgoing = o }) (sym (ap outgoing_of t.rest))
 
 given-none : (config : Config) (s t : Situation) (before after : List Note) → t ≡ s → after ≡ before → OnlyGivesUp config s t before after
 given-none config s t before after same notices = record { drops = []; dropped = tt; follows = ap (λ x. Some x) (sym same); notices = notices ∙ sym (append-nil before) }
@@ -81,8 +72,8 @@ known-taken place before (out ∷ outs) s turn few have =
 -- nothing was given up
 pub drops-none : (number : ℕ) (was is : Bared) → SameButLoads was is → GivesUpLoads number was is
 drops-none number was is same = (
-  goes-same number was is (λ s t. OnlyGivesUp (config_of was) s t (notices_of was) (notices_of is)) same (λ s. given-none (config_of was) s s (notices_of was) (notices_of is) refl same.notices),
-  λ closed is_open. closed (sym (same.closings number) ∙ is_open),
+  goes-same number was is (λ s t. OnlyGivesUp (config_of was) s t (notices_of was) (notices_of is)) same (λ s. given-none (config_of was) s s (notices_of was) (notices_of is) refl (ap notices_of same)),
+  λ closed is_open. closed (sym (ap (λ x. closing_of x number) same) ∙ is_open),
 )
 
 -- one after another
@@ -94,27 +85,16 @@ drops-again number x y z a b = (
 )
 
 -- one load was given up
-pub drops-one : (number : ℕ) (was is : Bared) (load : ℕ) → served.Settled was is (giving_up load 0) → GivesUpLoads number was is
-drops-one number was is load settled = (
-  record {
-    each = λ s stands alone.
-        let r = settled.settles s stands in
-        let law = settled-alone number was is s (giving_up load 0) r (λ n. tt) alone in
-        record {
-          next = r.next;
-          stands = r.stands;
-          alone = law.1;
-          fact = record {
-            drops = r.entry ∷ [];
-            dropped = ((load, r.event), tt);
-            follows = record-one (config_of was) s r.entry r.next r.follows;
-            notices = r.notices ∙ ap (λ l. notices_of was ++ l) (sym (append-nil (notes_in r.entry)));
-          };
-          others = λ other ne. others-left number other was is s (giving_up load 0) r law.0 ne;
-        };
-    config = settled.config;
-  },
-  settled-closed number was is (giving_up load 0) settled,
+pub drops-one : (number : ℕ) (was is : Bared) (load : ℕ) → IsSound bare_tape was → served.Settled bare_tape was is (giving_up load 0) → GivesUpLoads number was is
+drops-one number was is load sound settled = (
+  goes-by was is (giving_up load 0) settled number tt (λ s t. OnlyGivesUp (config_of was) s t (notices_of was) (notices_of is))
+      (λ s t entry event turned follows own stands. record {
+        drops = entry ∷ [];
+        dropped = ((load, event), tt);
+        follows = record-one (config_of was) s entry t follows;
+        notices = turned.notes ∙ ap (λ l. notices_of was ++ l) (sym (append-nil (notes_in entry)));
+      }),
+  λ closed is_open. closed (sym (stays-closed was is (giving_up load 0) settled number sound closed) ∙ is_open),
 )
 
 -- ---- among many
@@ -122,26 +102,33 @@ drops-one number was is load settled = (
 pub known-still : {X : Type 0} (F : X → X → Type 0) (old new : List X) (n : ℕ) → At old new n F → n < length new
 known-still F old new n a = slice_get_within new n a.is (at-is F old new n a)
 
--- nothing was called
-pub same-at : (spaces : List Bared) (n : ℕ) → n < length spaces → At spaces spaces n SameSpace
-same-at spaces n known = let found = found-at spaces n known in at-same SameSpace spaces n found.0 found.1 (same-space found.0 found.0 refl)
-
 -- loads were taken
 pub at-taken : (old new : List Bared) (n : ℕ) (loads : List (LoadId × List ℕ)) → At old new n (λ was is. TakesLoads was is loads) → At old new n SameButLoads
 at-taken old new n loads a = at-map (λ was is. TakesLoads was is loads) SameButLoads old new n a (λ x y t. taken-same x y loads t)
 
 -- and are known
-pub at-more-taken : (old new : List Bared) (n : ℕ) (before loads : List (LoadId × List ℕ)) → At old new n (λ was is. TakesLoads was is loads) → At old new n (λ was is. TakesMore was is before loads)
-at-more-taken old new n before loads a =
-    at-map (λ was is. TakesLoads was is loads) (λ was is. TakesMore was is before loads) old new n a
-    (λ x y t. record { same = taken-same x y loads t; known = λ s stands known. known-taken (place_of x) (taken_of x) loads s t.in_turn (let count = t.count s stands in omega arith) (t.keys s stands) })
+pub at-more-taken : (old new : List Bared) (n : ℕ) (before loads : List (LoadId × List ℕ)) → IsSoundAt old n → At old new n (λ was is. TakesLoads was is loads) → At old new n (λ was is. TakesMore was is before loads)
+at-more-taken old new n before loads sound a =
+    at-given-was (λ was is. TakesLoads was is loads) (λ was is. TakesMore was is before loads) old new n a
+    (λ x y at t. record {
+      same = taken-same x y loads t;
+      known = λ s stands known.
+          let count = taken-count x y loads (sound x at) t in
+          let sent = sent-is x s stands in
+          known-taken (place_of x) (taken_of x) loads s t.in_turn (omega (arith, count, sent)) (ap (λ l. have_their_keys l loads) (pending-is x s stands) ∙ t.keys);
+    })
 
 module _ (number n : ℕ) where
-  pub at-drop : (old new : List Bared) (load : ℕ) → At old new n (λ was is. served.Settled was is (giving_up load 0)) → At old new n (GivesUpLoads number)
-  at-drop old new load a = at-map (λ was is. served.Settled was is (giving_up load 0)) (GivesUpLoads number) old new n a (λ x y settled. drops-one number x y load settled)
+  pub at-drop : (old new : List Bared) (load : ℕ) → IsSoundAt old n → At old new n (λ was is. served.Settled bare_tape was is (giving_up load 0)) → At old new n (GivesUpLoads number)
+  at-drop old new load sound a =
+      at-given-was (λ was is. served.Settled bare_tape was is (giving_up load 0)) (GivesUpLoads number) old new n a (λ x y at settled. drops-one number x y load (sound x at) settled)
 
   pub at-undropped : (old new : List Bared) → At old new n SameButLoads → At old new n (GivesUpLoads number)
   at-undropped old new a = at-map SameButLoads (GivesUpLoads number) old new n a (λ x y same. drops-none number x y same)
+
+  -- nothing was called
+  pub at-undropped-still : (spaces : List Bared) (x : Bared) → slice_get spaces n ≡ Some x → At spaces spaces n (GivesUpLoads number)
+  at-undropped-still spaces x at = at-same (GivesUpLoads number) spaces n x at (drops-none number x x refl)
 
   pub at-drops-more : (first second third : List Bared) → At first second n (GivesUpLoads number) → At second third n (GivesUpLoads number) → At first third n (GivesUpLoads number)
   at-drops-more first second third a b = at-more (GivesUpLoads number) (GivesUpLoads number) (GivesUpLoads number) first second third n a b (λ x y z p q. drops-again number x y z p q)

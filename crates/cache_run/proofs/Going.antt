@@ -63,7 +63,9 @@ output-stands was is number text s t x = subst (λ y. StandsFor y s) (sym t.rest
 set-other : {A : Type 0} (d x : A) (xs : List A) (number other : ℕ) → 0 < number → other ≢ number → at_number d (slice_set xs (number - 1) x) other ≡ at_number d xs other
 set-other d x xs zero other positive ne = absurd (omega (arith, positive))
 set-other d x xs (suc place) zero positive ne = refl
-set-other {A} d x xs (suc place) (suc index) positive ne = ap (λ (o : Option A). unwrap_or o d) (elsewhere xs place index (λ e. ne (ap suc e)))
+set-other {A} d x xs (suc place) (suc index) positive ne =
+    let place_is : suc place - 1 ≡ place = omega arith in
+    ap (λ k. at_number d (slice_set xs k x) (suc index)) place_is ∙ ap (λ (o : Option A). unwrap_or o d) (elsewhere xs place index (λ e. ne (ap suc e)))
   where
     elsewhere : (ys : List A) (i j : ℕ) → j ≢ i → slice_get (slice_set ys i x) j ≡ slice_get ys j
     elsewhere [] i j apart = refl
@@ -74,7 +76,9 @@ set-other {A} d x xs (suc place) (suc index) positive ne = ap (λ (o : Option A)
 
 set-own : (xs : List (List ℕ)) (number : ℕ) → at_number [] (slice_set xs (number - 1) []) number ≡ []
 set-own xs zero = refl
-set-own xs (suc place) = there xs place
+set-own xs (suc place) =
+    let place_is : suc place - 1 ≡ place = omega arith in
+    ap (λ k. at_number [] (slice_set xs k []) (suc place)) place_is ∙ there xs place
   where
     there : (ys : List (List ℕ)) (i : ℕ) → unwrap_or (slice_get (slice_set ys i []) i) [] ≡ []
     there [] i = refl

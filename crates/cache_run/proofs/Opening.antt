@@ -83,13 +83,20 @@ pub no-steps : (config : Config) (s t : Situation) (steps : List Step) → after
 no-steps config s t [] e = (refl, sym (same_Some s t e))
 no-steps config s t (step ∷ steps) e = absurd (none-some t e)
 
+pub plain-steps : (happened : Event) (steps : List Step) → IsPlain happened → steps_of (record_of happened steps) ≡ steps
+plain-steps (event.Open conn) steps plain = refl
+plain-steps (event.Close conn) steps plain = refl
+plain-steps (event.Feed conn piece moment) steps plain = refl
+plain-steps (event.Answer load outcome moment) steps plain = absurd plain
+plain-steps (event.GiveUp load moment) steps plain = refl
+
 -- such a record leads to where its event does
 pub quiet-steps : (config : Config) (s t : Situation) (entry : Record) (happened : Event) → entry.event ≡ happened → ((u : Situation) → tasks_in u happened ≡ []) → IsPlain happened → Follows config s entry t
     → (entry ≡ record_of happened []) × (t ≡ after_event happened s)
 quiet-steps config s t entry happened is idle plain follows =
     let alike = plain-record config s t entry happened follows is (subst IsPlain (sym is) plain) in
     let same : Follows config s (record_of happened entry.steps) t = subst (λ e. Follows config s e t) alike follows in
-    let steps = steps-follow config s t (record_of happened entry.steps) same in
+    let steps = subst (λ l. after_steps config (after_event happened s) (tasks_in s happened) l ≡ Some t) (plain-steps happened entry.steps plain) (steps-follow config s t (record_of happened entry.steps) same) in
     let none = no-steps config (after_event happened s) t entry.steps (subst (λ tasks. after_steps config (after_event happened s) tasks entry.steps ≡ Some t) (idle s) steps) in
     (alike ∙ ap (record_of happened) none.0, none.1)
 

@@ -1,6 +1,7 @@
 -- One turn of a run.
-use Rattle.std.proofs.Common.{◌≡◌, ◌≢◌, ℕ, ◌+◌, ◌<◌, ◌≤◌, ◌⊎◌, ◌++◌, false, List, [], ◌∷◌, length, take, Option, refl, sym, ap, ◌∙◌, subst, inl, inr, arith, length-append}
+use Rattle.std.proofs.Common.{◌≡◌, ◌≢◌, ℕ, ◌+◌, ◌<◌, ◌≤◌, ◌⊎◌, ◌++◌, false, List, [], ◌∷◌, length, take, Option, Some, refl, sym, ap, ◌∙◌, subst, inl, inr, arith, length-append}
 use Rattle.std.specs.Prelude.{Result, Ok, Err, IfErr, IsErrOf, MatchResult}
+use Rattle.std.specs.List.{slice_get}
 use Rattle.std.proofs.lemmas.List.{append-nil, length-take-le}
 use Rattle.std.specs.Io.KnownBytes.{Appends, Consumes}
 use Rattle.audit_model.specs.Situation.{Situation}
@@ -13,9 +14,9 @@ use Rattle.cache_devices.proofs.Sending.{failed_after, failed_before, same_appen
 use Rattle.cache_devices.specs.Failures.{HasFailed}
 use Rattle.cache_run.specs.Turns.{HasAsked, HasRead}
 use Rattle.cache_spaces.specs.Calls.{At}
-use Rattle.cache_run.specs.Loading.{AreKnown, BreaksOff, Carries, SameButLoads, TakesMore}
+use Rattle.cache_run.specs.Loading.{AreKnown, BreaksOff, Carries, TakesMore}
 use Rattle.audit_waiting_laws.specs.Keys.{IsKnown}
-use Rattle.cache_spaces.specs.Spaces.{config_of, notices_of}
+use Rattle.cache_spaces.specs.Spaces.{closing_of, config_of, notices_of, untaken_output}
 use Rattle.cache_run.specs.Bared.{Bared}
 use Rattle.audit_model.specs.declared.event.Outcome.{Outcome}
 use Rattle.cache_run.specs.Carried.{Askings, Broken, Carried, nothing_left}
@@ -29,7 +30,7 @@ use Rattle.cache_run.specs.declared.errors.RunError.{RunError}
 use Rattle.cache_run.specs.declared.errors.RunError.TheVariants.{Moment}
 use Rattle.cache_run.proofs.Carrying.{askings_more, consumes_more, same_consumes, broken-more, broken-one, carried-more, carried-none, carried-one, carried-same}
 use Rattle.cache_run.proofs.Causing.{not-late}
-use Rattle.cache_run.proofs.Going.{at-goes-map, at-goes-more}
+use Rattle.cache_run.proofs.Going.{at-goes-map, at-goes-more, still-stands}
 use Rattle.cache_run.proofs.Placing.{at-map, at-same}
 
 module _ {C L : Type 0} (reads : C → ℕ → C → Type 0) (loads : L → List ℕ → Option Outcome → L → Type 0) (old : List Bared) (n number : ℕ) where
@@ -223,17 +224,17 @@ at-carried-same reads loads old new n number a before after more =
     (λ x y p. record {
       each = λ s stands alone. record {
         next = s;
-        stands = p.same.stands s stands;
+        stands = still-stands x y s p.same stands;
         alone = alone;
-        fact = λ known. (carried-same (config_of x) number reads loads x y s s a refl p.same.notices, p.known s stands known);
-        others = λ other ne. (p.same.outputs other, p.same.closings other);
+        fact = λ known. (carried-same (config_of x) number reads loads x y s s a refl (ap notices_of p.same), p.known s stands known);
+        others = λ other ne. (ap (λ z. untaken_output z other) p.same, ap (λ z. closing_of z other) p.same);
       };
-      config = p.same.config;
+      config = ap config_of p.same;
     })
 
 -- nothing was taken
-pub at-none-taken : (old new : List Bared) (n : ℕ) (outs : List (LoadId × List ℕ)) → At old new n SameButLoads → At old new n (λ was is. TakesMore was is outs outs)
-at-none-taken old new n outs a = at-map SameButLoads (λ was is. TakesMore was is outs outs) old new n a (λ x y p. record { same = p; known = λ s stands known. known })
+pub at-none-taken : (spaces : List Bared) (n : ℕ) (outs : List (LoadId × List ℕ)) (x : Bared) → slice_get spaces n ≡ Some x → At spaces spaces n (λ was is. TakesMore was is outs outs)
+at-none-taken spaces n outs x at = at-same (λ was is. TakesMore was is outs outs) spaces n x at (record { same = refl; known = λ s stands known. known })
 
 -- the same error of another result
 pub still-err : {T U E : Type 0} (e v : E) → IsErrOf {T = T} (Err e) v → IsErrOf {T = U} (Err e) v

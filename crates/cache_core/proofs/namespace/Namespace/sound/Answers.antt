@@ -1,7 +1,7 @@
 use Rattle.std.proofs.Common.{refl, subst}
 use Rattle.audit_model.specs.Situation.{Situation}
 use Rattle.cache_core.specs.State.{StandsFor, SuitsItself, situation_with, state_of}
-use Rattle.cache_core.proofs.Suiting.{listed-open}
+use Rattle.cache_core.proofs.Suiting.{counted-all, listed-open}
 use Rattle.cache_core.proofs.namespace.Namespace.sound.Goals as goal
 
 pub returns-clause-stands : goal.returns-clause-stands
@@ -17,4 +17,4 @@ returns-clause-suits g c =
     let view = g.S.Store.view in
     let inside = c.self.inside in
     let loads = inside.base.loads in
-    subst (λ n. SuitsItself view n) c.self.view_is (record { listed = λ number opened. listed-open inside.connections.items number opened; sent = loads.sent_before; fewer = loads.fewer })
+    subst (λ n. SuitsItself view n) c.self.view_is (record { listed = λ number opened. listed-open inside.connections.items number opened; counted = counted-all inside.connections.items; sent = loads.sent_before; fewer = loads.fewer })
