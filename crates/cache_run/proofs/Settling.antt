@@ -25,6 +25,7 @@ use Rattle.cache_run.specs.Connected.{Connected, HasTakenReplies}
 use Rattle.cache_run.specs.Delivered.{AnsweredLoad}
 use Rattle.cache_run.specs.Goes.{Goes}
 use Rattle.cache_run.specs.Happened.{Asking, Dropped, asking_of, IsGivenUpFor, IsKeyOf, IsSettledBy, Settled, record_replies}
+use Rattle.cache_run.specs.Loading.{GivenUpSo, SettledSo}
 use Rattle.cache_run.proofs.Carrying.{record-one}
 use Rattle.cache_run.proofs.Going.{goes-map, goes-output}
 use Rattle.cache_run.proofs.Placing.{at-map, at-more, at-same, at-with}
@@ -86,16 +87,6 @@ dropped-goes number x asking moment load none unknown = record {
   };
   config = refl;
 }
-
--- that is so of the load, whatever its key is
-abbrev SettledSo : ℕ → ℕ → ℕ → Option Outcome → Bared → Bared → Type 0
-SettledSo number load moment said was is =
-    (key : List ℕ) → Goes number was is (λ s t. AnsweredLoad (config_of was) number load moment (asking_of key said) s t (notices_of was) (notices_of is) (untaken_output is number))
-
--- it was given up, and that is so of each asking for which it may be
-abbrev GivenUpSo : ℕ → ℕ → ℕ → Bared → Bared → Type 0
-GivenUpSo number load moment was is =
-    (asking : Asking) → IsGivenUpFor (config_of was) asking.answer → Goes number was is (λ s t. AnsweredLoad (config_of was) number load moment asking s t (notices_of was) (notices_of is) (untaken_output is number))
 
 module _ (old new : List Bared) (n number : ℕ) (moment : ℕ) (c : Connected old n number HasTakenReplies) where
   -- a give-up

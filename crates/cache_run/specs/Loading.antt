@@ -9,13 +9,14 @@ use Rattle.audit_model.specs.declared.transcript.Note.{Note}
 use Rattle.audit_model.specs.declared.transcript.Record.{Record}
 use Rattle.audit_model.specs.declared.input.LoadId.{LoadId}
 use Rattle.cache_spaces.specs.Calls.{At}
-use Rattle.cache_spaces.specs.Spaces.{StandsFor, closing_of, config_of, notices_of}
+use Rattle.cache_spaces.specs.Spaces.{StandsFor, closing_of, config_of, notices_of, untaken_output}
 use Rattle.audit_waiting_laws.specs.Keys.{IsKnown}
 use Rattle.cache_core.specs.Turned.{notes_in}
 use Rattle.cache_run.specs.Bared.{Bared}
 use Rattle.cache_run.specs.Carried.{Broken, Carried, nothing_left}
 use Rattle.cache_run.specs.Goes.{Goes}
-use Rattle.cache_run.specs.Happened.{AreDrops}
+use Rattle.cache_run.specs.Delivered.{AnsweredLoad}
+use Rattle.cache_run.specs.Happened.{AreDrops, Asking, IsGivenUpFor, asking_of}
 use Rattle.cache_run.specs.Worlds.{Outside, world}
 use Rattle.cache_run.specs.declared.errors.RunError.{RunError}
 
@@ -54,3 +55,13 @@ pub record OnlyGivesUp (config : Config) (s t : Situation) (before after : List 
 abbrev pub GivesUpLoads : ℕ → Bared → Bared → Type 0
 GivesUpLoads number was is =
     Goes number was is (λ s t. OnlyGivesUp (config_of was) s t (notices_of was) (notices_of is)) × (closing_of was number ≢ None → closing_of is number ≢ None)
+
+-- a load was settled by what the loader said of its key, whatever that is, or had been settled
+abbrev pub SettledSo : ℕ → ℕ → ℕ → Option Outcome → Bared → Bared → Type 0
+SettledSo number load moment said was is =
+    (key : List ℕ) → Goes number was is (λ s t. AnsweredLoad (config_of was) number load moment (asking_of key said) s t (notices_of was) (notices_of is) (untaken_output is number))
+
+-- a load was given up, which each asking allows that came to nothing that fits, or had been settled
+abbrev pub GivenUpSo : ℕ → ℕ → ℕ → Bared → Bared → Type 0
+GivenUpSo number load moment was is =
+    (asking : Asking) → IsGivenUpFor (config_of was) asking.answer → Goes number was is (λ s t. AnsweredLoad (config_of was) number load moment asking s t (notices_of was) (notices_of is) (untaken_output is number))

@@ -10,6 +10,9 @@ use Rattle.audit_model.specs.declared.event.Event.{Event}
 use Rattle.audit_model.specs.declared.event.Event.TheVariants as event
 use Rattle.audit_model.specs.declared.transcript.Note.{Note}
 use Rattle.audit_model.specs.declared.transcript.Record.{Record}
+use Rattle.cache_devices.specs.Watched.{device}
+use Rattle.cache_devices.specs.declared.watched.Watched.{Watched}
+use Rattle.cache_spaces.specs.Calls.{At}
 use Rattle.cache_spaces.specs.Spaces.{closing_of, config_of, notices_of}
 use Rattle.audit_model.specs.declared.event.Outcome.{Outcome}
 use Rattle.audit_waiting_laws.specs.Alone.{WaitsAlone}
@@ -20,8 +23,9 @@ use Rattle.cache_run.specs.Connected.{IsEnded}
 use Rattle.cache_run.specs.Delivered.{Unfed}
 use Rattle.cache_run.specs.Goes.{Goes}
 use Rattle.cache_run.specs.Happened.{record_of}
-use Rattle.cache_run.specs.Worlds.{Outside, world}
+use Rattle.cache_run.specs.Worlds.{Outside, outside, world}
 use Rattle.cache_run.specs.declared.errors.RunError.{RunError}
+use Rattle.cache_run.specs.declared.errors.RunError.TheVariants.{OutOfMemory}
 
 -- the number that the next connection gets
 abbrev pub next_number : Bared → ℕ
@@ -64,3 +68,18 @@ pub record ServesPartly {C L : Type 0} (reads : C → ℕ → C → Type 0) (loa
   pub closed : closing_of is number ≡ Some why
   -- where no other connection waits for a load, each load under way behind it was under way before it
   pub settled : WaitsAlone number (pending_of was) → AddsNoLoads was is
+
+-- ---- over devices
+
+-- so it was of a namespace, a reader, a writer, a clock and a loader
+abbrev pub RunsWhole : {R W C L : Type 0} → (R → Option (List ℕ)) → (W → Option (List ℕ)) → (C → ℕ → C → Type 0) → (L → List ℕ → Option Outcome → L → Type 0) → ℕ → List Bared → List Bared
+    → Watched R → Watched R → Watched W → Watched W → C → C → L → L → Type 0
+RunsWhole remaining contents reads loads namespace old new reader reader' writer writer' clock clock' loader loader' =
+    At old new namespace (λ was is. ServesWhole reads loads was is (outside (remaining (device reader)) (contents (device writer)) clock loader) (outside (remaining (device reader')) (contents (device writer')) clock' loader'))
+
+-- no connection was opened for want of memory, and nothing was called; or one was served, but for what the error left
+abbrev pub RunsPartly : {R W C L : Type 0} → (R → Option (List ℕ)) → (W → Option (List ℕ)) → (C → ℕ → C → Type 0) → (L → List ℕ → Option Outcome → L → Type 0) → ℕ → List Bared → List Bared
+    → Watched R → Watched R → Watched W → Watched W → C → C → L → L → RunError → Type 0
+RunsPartly remaining contents reads loads namespace old new reader reader' writer writer' clock clock' loader loader' e =
+    ((e ≡ OutOfMemory) × (new ≡ old) × (reader' ≡ reader) × (writer' ≡ writer) × (clock' ≡ clock) × (loader' ≡ loader))
+    ⊎ At old new namespace (λ was is. ServesPartly reads loads was is (outside (remaining (device reader)) (contents (device writer)) clock loader) (outside (remaining (device reader')) (contents (device writer')) clock' loader') e)

@@ -1,7 +1,10 @@
 -- Whether a run goes on.
-use Rattle.std.specs.Prelude.{ℕ, ◌≤◌, ◌^◌, List, length, Option, Result, Ok, Err}
+use Rattle.std.specs.Prelude.{ℕ, ◌≤◌, ◌^◌, ◌-◌, ◌⊎◌, List, length, Option, Result, Ok, Err}
 use Rattle.std.specs.Io.KnownBytes.{Consumes}
 use Rattle.audit_model.specs.declared.event.Outcome.{Outcome}
+use Rattle.cache_devices.specs.Failures.{HasFailed}
+use Rattle.cache_devices.specs.Watched.{device, failures}
+use Rattle.cache_devices.specs.declared.watched.Watched.{Watched}
 use Rattle.cache_run.specs.Carried.{Askings}
 use Rattle.cache_run.specs.Connected.{IsFed, IsReady, IsOver}
 use Rattle.cache_run.specs.Happened.{Asking}
@@ -30,3 +33,12 @@ HasToldLate {C} reads clock = (before : C) × (moment : ℕ) × reads before mom
 -- the loader was asked at least so often
 abbrev pub HasAsked : {L : Type 0} → (L → List ℕ → Option Outcome → L → Type 0) → L → ℕ → L → Type 0
 HasAsked loads before count after = (askings : List Asking) × Askings loads before askings after × (count ≤ length askings)
+
+-- a device failed between, unless its count was full
+abbrev pub Fails : {T : Type 0} → (was is : Watched T) → Type 0
+Fails was is = HasFailed (failures was) (failures is)
+
+-- the writer or the reader failed, or as many bytes were read, or the loader was asked as often, as turns are counted
+abbrev pub RunsOut : {R W L : Type 0} → (R → Option (List ℕ)) → (L → List ℕ → Option Outcome → L → Type 0) → Watched R → Watched R → Watched W → Watched W → L → L → Type 0
+RunsOut remaining loads reader reader' writer writer' loader loader' =
+    Fails writer writer' ⊎ (Fails reader reader' ⊎ (HasRead (remaining (device reader)) (remaining (device reader')) (2 ^ 64 - 1) ⊎ HasAsked loads loader (2 ^ 64 - 1) loader'))
