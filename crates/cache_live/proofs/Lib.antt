@@ -1,3 +1,2 @@
-pub mod Performing
 pub mod Living
 pub mod Looking
