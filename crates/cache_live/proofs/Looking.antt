@@ -9,7 +9,7 @@ use Rattle.audit_model.specs.declared.input.ServiceError.{ServiceError}
 use Rattle.audit_model.specs.declared.input.ServiceError.TheVariants as error
 use Rattle.audit_model.specs.declared.transcript.Note.{Note}
 use Rattle.cache_core.specs.State.{at_number}
-use Rattle.cache_live.specs.Live.{bare_tape}
+use Rattle.cache_spaces.specs.Bares.{bare_tape}
 use Rattle.cache_live.proofs.Living.{elsewhere, put-there}
 use Rattle.cache_shared.proofs.Looking.{same-conn}
 use Rattle.cache_spaces.proofs.Putting.{same-or-not}

@@ -1,4 +1,4 @@
--- What happens in a run: pieces are feed_event, and loads are settled by what the loader says of their keys.
+-- What happens in a run: pieces are feeding, and loads are settled by what the loader says of their keys.
 use Rattle.std.specs.Prelude.{◌≡◌, ℕ, true, List, [], ◌∷◌, Option, None, Some, IfSome, is_some, ◌⊎◌}
 use Rattle.std.specs.List.{flat_map}
 use Rattle.audit_model.specs.Belongs.{refusal_of_outcome}
@@ -12,16 +12,16 @@ use Rattle.audit_model.specs.declared.event.Outcome.{Outcome}
 use Rattle.audit_model.specs.declared.transcript.Note.{Note}
 use Rattle.audit_model.specs.declared.transcript.Record.{Record}
 use Rattle.audit_model.specs.declared.transcript.Step.{Step}
-use Rattle.cache_namespace.specs.Gathered.{reply_in}
-use Rattle.cache_namespace.specs.Taken.{feed_event, record_of}
-use Rattle.cache_settling.specs.Answered.{answering, giving_up}
+use Rattle.cache_core.specs.Settling.{answering, giving_up}
+use Rattle.cache_core.specs.Turned.{feeding}
+use Rattle.cache_lines.specs.Gathered.{reply_in}
 
 -- what a loader was asked, and what it said
 pub record Asking : Type 0 where
   pub key : List ℕ
   pub answer : Option Outcome
 
--- a piece was feed_event at a moment, and these steps ran; or the loader was asked, and at that moment the load was settled by that record; or the
+-- a piece was feeding at a moment, and these steps ran; or the loader was asked, and at that moment the load was settled by that record; or the
 -- load of that number was not under way any more, and what the loader said was dropped
 pub data Turn : Type 0 where
   Fed : (piece : List ℕ) → (moment : ℕ) → (steps : List Step) → Turn
@@ -46,9 +46,13 @@ asked_in (Fed piece moment steps) = []
 asked_in (Settled asking moment entry) = asking ∷ []
 asked_in (Dropped asking moment load) = asking ∷ []
 
+-- the record of an event with these steps, of which no value is accepted but by them
+abbrev pub record_of : Event → List Step → Record
+record_of happened steps = record { event = happened; own = None; notices = []; steps = steps }
+
 -- its record, if there is one
 abbrev pub records_in : ℕ → Turn → List Record
-records_in number (Fed piece moment steps) = record_of (feed_event number piece moment) steps ∷ []
+records_in number (Fed piece moment steps) = record_of (feeding number piece moment) steps ∷ []
 records_in number (Settled asking moment entry) = entry ∷ []
 records_in number (Dropped asking moment load) = []
 

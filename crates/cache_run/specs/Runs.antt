@@ -10,9 +10,8 @@ use Rattle.audit_model.specs.declared.event.Event.{Event}
 use Rattle.audit_model.specs.declared.event.Event.TheVariants as event
 use Rattle.audit_model.specs.declared.transcript.Note.{Note}
 use Rattle.audit_model.specs.declared.transcript.Record.{Record}
-use Rattle.cache_namespace.specs.Taken.{record_of}
-use Rattle.cache_spaces.specs.Spaces.{closing_of, config_of, connections_of, notices_of}
-use Rattle.cache_spaces.specs.declared.space.Space.{Space}
+use Rattle.cache_spaces.specs.Spaces.{closing_of, config_of, notices_of}
+use Rattle.cache_spaces.specs.Bares.{BareSpace}
 use Rattle.audit_model.specs.declared.event.Outcome.{Outcome}
 use Rattle.audit_waiting_laws.specs.Alone.{WaitsAlone}
 use Rattle.cache_run.specs.Accounts.{AddsNoLoads, pending_of}
@@ -24,8 +23,8 @@ use Rattle.cache_run.specs.Worlds.{Outside, world}
 use Rattle.cache_run.specs.declared.errors.RunError.{RunError}
 
 -- the number that the next connection gets
-abbrev pub next_number : Space → ℕ
-next_number space = length (connections_of space) + 1
+abbrev pub next_number : BareSpace → ℕ
+next_number space = length space.closings + 1
 
 -- the event's record follows without steps, and nothing was told
 pub record Quiet (config : Config) (happened : Event) (s t : Situation) (before after : List Note) : Type 0 where
@@ -33,7 +32,7 @@ pub record Quiet (config : Config) (happened : Event) (s t : Situation) (before 
   pub notices : after ≡ before
 
 -- an open connection closes as asked, and one that has closed for what it was fed stays so
-abbrev pub Closes : ℕ → Space → Space → Type 0
+abbrev pub Closes : ℕ → BareSpace → BareSpace → Type 0
 Closes number was is =
     ((closing_of was number ≡ None) × (closing_of is number ≡ Some by.Asked) × Goes number was is (λ s t. Quiet (config_of was) (event.Close number) s t (notices_of was) (notices_of is)))
     ⊎ (IsEnded (closing_of was number) × (closing_of is number ≡ closing_of was number) × Goes number was is (λ s t. Unfed s t (notices_of was) (notices_of is)))
@@ -45,7 +44,7 @@ EndsRun true closing remaining = (closing ≡ Some by.Asked) × IsAtEnd remainin
 EndsRun false closing remaining = IsEnded closing
 
 -- One connection was opened, fed with all that was read, and closed; the bytes written are its replies.
-pub record ServesWhole {C L : Type 0} (reads : C → ℕ → C → Type 0) (loads : L → List ℕ → Option Outcome → L → Type 0) (was is : Space) (before after : Outside C L) : Type 0 where
+pub record ServesWhole {C L : Type 0} (reads : C → ℕ → C → Type 0) (loads : L → List ℕ → Option Outcome → L → Type 0) (was is : BareSpace) (before after : Outside C L) : Type 0 where
   pub number : ℕ
   pub next : number ≡ next_number was
   pub closes : Bool
@@ -55,7 +54,7 @@ pub record ServesWhole {C L : Type 0} (reads : C → ℕ → C → Type 0) (load
   pub settled : AddsNoLoads was is
 
 -- One connection was opened, fed, and closed after an error, and then loads were given up; the bytes written are a beginning of its replies.
-pub record ServesPartly {C L : Type 0} (reads : C → ℕ → C → Type 0) (loads : L → List ℕ → Option Outcome → L → Type 0) (was is : Space) (before after : Outside C L) (e : RunError) : Type 0 where
+pub record ServesPartly {C L : Type 0} (reads : C → ℕ → C → Type 0) (loads : L → List ℕ → Option Outcome → L → Type 0) (was is : BareSpace) (before after : Outside C L) (e : RunError) : Type 0 where
   pub number : ℕ
   pub next : number ≡ next_number was
   pub closes : Bool

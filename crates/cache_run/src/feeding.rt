@@ -4,16 +4,16 @@ ghost use Rattle.cache_devices.specs.Sent.{SentBut};
 ghost use Rattle.std.specs.Prelude.{◌≤◌, ◌^◌, ℕ, List, [], IfOk, IfErr, MatchResult};
 ghost use Rattle.cache_devices.specs.Failures.{HasFailed};
 ghost use Rattle.cache_devices.specs.Watched.{device, failures};
-ghost use Rattle.cache_namespace.specs.Taken.{feed_event};
-ghost use Rattle.cache_spaces.specs.Moves.{At};
-ghost use Rattle.cache_spaces.specs.Serves.{SameSpace, ServesEvent, TakesOutput};
-ghost use Rattle.cache_spaces.specs.Services.{feed_is_held, spaces_of};
+ghost use Rattle.cache_core.specs.Turned.{feeding};
+ghost use Rattle.cache_spaces.specs.Calls.{At, ServesEvent, TakesOutput};
+ghost use Rattle.cache_spaces.specs.Bares.{bare_tape};
+ghost use Rattle.cache_spaces.specs.Services.{feed_is_held};
 ghost use Rattle.cache_spaces.specs.Spaces.{config_of, notices_of};
 ghost use Rattle.cache_run.specs.Accounts.{SendsLater};
 ghost use Rattle.cache_run.specs.Causes.{Because};
 ghost use Rattle.cache_run.specs.Connected.{Connected, IsFed, IsLeftBy, IsReady};
 ghost use Rattle.cache_run.specs.Delivered.{Answered, Delivered, IsCause, Unanswered, Undelivered};
-ghost use Rattle.cache_run.specs.Goes.{Goes};
+ghost use Rattle.cache_run.specs.Goes.{Goes, SameSpace};
 
 use crate::errors::{RunError, error_of_send};
 use audit_model::{Conn, Instant, ServiceError};
@@ -23,9 +23,9 @@ use std::io::Write;
 
 /// Feeds a piece to a connection that is open.
 fn feed_piece(service: &mut Service, conn: Conn, piece: &[u8], moment: u64) -> Result<Fed, RunError>
-    requires ready { Connected (spaces_of service.old) conn.namespace conn.number IsReady }
-    ensures taken { IfOk result (λ done. At (spaces_of service.old) (spaces_of service.new) conn.namespace (λ was is. ServesEvent was is conn.number (feed_event conn.number piece.now moment) (feed_is_held done))) }
-    ensures refused { IfErr result (λ e. At (spaces_of service.old) (spaces_of service.new) conn.namespace SameSpace × IsCause moment e) }
+    requires ready { Connected service.old conn.namespace conn.number IsReady }
+    ensures taken { IfOk result (λ done. At service.old service.new conn.namespace (λ was is. ServesEvent bare_tape was is (feeding conn.number piece.now moment) (feed_is_held done))) }
+    ensures refused { IfErr result (λ e. At service.old service.new conn.namespace SameSpace × IsCause moment e) }
 {
     match service.feed(conn, piece, Instant { nanos: moment }) {
         Ok(done) => Ok(done),
@@ -52,8 +52,8 @@ pub fn write_replies<W: Write>(replies: &[u8], writer: &mut Watched<W>) -> Resul
 
 /// Takes the replies of a connection.
 pub fn take_replies(service: &mut Service, conn: Conn) -> Vec<u8>
-    requires known { Connected (spaces_of service.old) conn.namespace conn.number IsFed }
-    ensures { At (spaces_of service.old) (spaces_of service.new) conn.namespace (λ was is. TakesOutput was is conn.number result.items) }
+    requires known { Connected service.old conn.namespace conn.number IsFed }
+    ensures { At service.old service.new conn.namespace (λ was is. TakesOutput was is conn.number result.items) }
 {
     match service.take_output(conn) {
         Ok(text) => text,
@@ -68,12 +68,12 @@ fn answer_piece(
     piece: &[u8],
     moment: u64,
 ) -> Result<Vec<u8>, RunError>
-    requires ready { Connected (spaces_of service.old) conn.namespace conn.number IsReady }
+    requires ready { Connected service.old conn.namespace conn.number IsReady }
     ensures goes { MatchResult result
-        (λ text. At (spaces_of service.old) (spaces_of service.new) conn.namespace (λ was is. Goes conn.number was is (λ s t. Answered (config_of was) conn.number piece.now moment [] s t (notices_of was) (notices_of is) text.items)))
-        (λ e. At (spaces_of service.old) (spaces_of service.new) conn.namespace (λ was is. Goes conn.number was is (λ s t. Unanswered (config_of was) conn.number piece.now moment [] s t (notices_of was) (notices_of is) e))) }
-    ensures left { Connected (spaces_of service.new) conn.namespace conn.number (IsLeftBy result) }
-    ensures later { At (spaces_of service.old) (spaces_of service.new) conn.namespace SendsLater }
+        (λ text. At service.old service.new conn.namespace (λ was is. Goes conn.number was is (λ s t. Answered (config_of was) conn.number piece.now moment [] s t (notices_of was) (notices_of is) text.items)))
+        (λ e. At service.old service.new conn.namespace (λ was is. Goes conn.number was is (λ s t. Unanswered (config_of was) conn.number piece.now moment [] s t (notices_of was) (notices_of is) e))) }
+    ensures left { Connected service.new conn.namespace conn.number (IsLeftBy result) }
+    ensures later { At service.old service.new conn.namespace SendsLater }
     ensures why { IfErr result (Because ⊥ ⊥ ⊥ (2 ^ 63 ≤ moment)) }
 {
     match feed_piece(service, conn, piece, moment) {
@@ -91,12 +91,12 @@ pub fn deliver<W: Write>(
     moment: u64,
     writer: &mut Watched<W>,
 ) -> Result<(), RunError>
-    requires ready { Connected (spaces_of service.old) conn.namespace conn.number IsReady }
+    requires ready { Connected service.old conn.namespace conn.number IsReady }
     ensures goes { MatchResult result
-        (λ done. At (spaces_of service.old) (spaces_of service.new) conn.namespace (λ was is. Goes conn.number was is (λ s t. Delivered (config_of was) conn.number piece.now moment [] s t (notices_of was) (notices_of is) (W.contents (device writer.old)) (W.contents (device writer.new)) [])))
-        (λ e. At (spaces_of service.old) (spaces_of service.new) conn.namespace (λ was is. Goes conn.number was is (λ s t. Undelivered (config_of was) conn.number piece.now moment [] s t (notices_of was) (notices_of is) (W.contents (device writer.old)) (W.contents (device writer.new)) e))) }
-    ensures left { Connected (spaces_of service.new) conn.namespace conn.number (IsLeftBy result) }
-    ensures later { At (spaces_of service.old) (spaces_of service.new) conn.namespace SendsLater }
+        (λ done. At service.old service.new conn.namespace (λ was is. Goes conn.number was is (λ s t. Delivered (config_of was) conn.number piece.now moment [] s t (notices_of was) (notices_of is) (W.contents (device writer.old)) (W.contents (device writer.new)) [])))
+        (λ e. At service.old service.new conn.namespace (λ was is. Goes conn.number was is (λ s t. Undelivered (config_of was) conn.number piece.now moment [] s t (notices_of was) (notices_of is) (W.contents (device writer.old)) (W.contents (device writer.new)) e))) }
+    ensures left { Connected service.new conn.namespace conn.number (IsLeftBy result) }
+    ensures later { At service.old service.new conn.namespace SendsLater }
     ensures why { IfErr result (Because ⊥ (HasFailed (failures writer.old) (failures writer.new)) (HasFailed (failures writer.old) (failures writer.new)) (2 ^ 63 ≤ moment)) }
     ensures count { failures writer.old ≤ failures writer.new }
 {

@@ -3,15 +3,13 @@ ghost use Rattle.std.specs.Prelude.{◌≡◌, ◌≢◌, ◌==◌, ◌≤◌, �
 ghost use Rattle.audit_model.specs.Belongs.{refusal_of_outcome};
 ghost use Rattle.cache_devices.specs.Failures.{HasFailed};
 ghost use Rattle.cache_devices.specs.Watched.{device, failures};
-ghost use Rattle.cache_spaces.specs.Moves.{At};
-ghost use Rattle.cache_spaces.specs.Serves.{SameSpace};
-ghost use Rattle.cache_spaces.specs.Services.{spaces_of};
+ghost use Rattle.cache_spaces.specs.Calls.{At};
 ghost use Rattle.cache_spaces.specs.Spaces.{config_of, notices_of, untaken_output};
 ghost use Rattle.cache_run.specs.Accounts.{Accounts, DropsAll, DropsUnwaited, HasTakenAll, SettlesLoad, is_left};
 ghost use Rattle.cache_run.specs.Causes.{Because};
 ghost use Rattle.cache_run.specs.Connected.{Connected, IsFed, IsLeftBy, HasTakenReplies};
 ghost use Rattle.cache_run.specs.Delivered.{AnsweredLoad, IsCause};
-ghost use Rattle.cache_run.specs.Goes.{Goes};
+ghost use Rattle.cache_run.specs.Goes.{Goes, SameSpace};
 ghost use Rattle.cache_run.specs.Happened.{Asking, IsGivenUpFor, asking_of};
 ghost use Rattle.cache_run.specs.Loading.{BreaksOff, Carries, GivesUpLoads, TakesMore};
 ghost use Rattle.cache_run.specs.Turns.{HasAsked, HasToldLate};
@@ -27,11 +25,11 @@ use std::io::Write;
 
 /// Gives a load up. One that is not under way stays settled.
 fn give_up(service: &mut Service, conn: Conn, load: u64, moment: u64) -> Result<(), RunError>
-    requires taken { Connected (spaces_of service.old) conn.namespace conn.number HasTakenReplies }
-    ensures ok { OnOk result (At (spaces_of service.old) (spaces_of service.new) conn.namespace (λ was is. (asking : Asking) → IsGivenUpFor (config_of was) asking.answer → Goes conn.number was is (λ s t. AnsweredLoad (config_of was) conn.number load moment asking s t (notices_of was) (notices_of is) (untaken_output is conn.number)))) }
-    ensures left { OnOk result (Connected (spaces_of service.new) conn.namespace conn.number IsFed) }
-    ensures gone { OnOk result (At (spaces_of service.old) (spaces_of service.new) conn.namespace (SettlesLoad load)) }
-    ensures err { IfErr result (λ e. At (spaces_of service.old) (spaces_of service.new) conn.namespace SameSpace × IsCause moment e) }
+    requires taken { Connected service.old conn.namespace conn.number HasTakenReplies }
+    ensures ok { OnOk result (At service.old service.new conn.namespace (λ was is. (asking : Asking) → IsGivenUpFor (config_of was) asking.answer → Goes conn.number was is (λ s t. AnsweredLoad (config_of was) conn.number load moment asking s t (notices_of was) (notices_of is) (untaken_output is conn.number)))) }
+    ensures left { OnOk result (Connected service.new conn.namespace conn.number IsFed) }
+    ensures gone { OnOk result (At service.old service.new conn.namespace (SettlesLoad load)) }
+    ensures err { IfErr result (λ e. At service.old service.new conn.namespace SameSpace × IsCause moment e) }
 {
     let id = LoadId {
         namespace: conn.namespace,
@@ -57,12 +55,12 @@ fn answer(
     outcome: Outcome,
     moment: u64,
 ) -> Result<bool, RunError>
-    requires taken { Connected (spaces_of service.old) conn.namespace conn.number HasTakenReplies }
-    ensures settled { IfOk result (λ settled. settled ≡ true → At (spaces_of service.old) (spaces_of service.new) conn.namespace (λ was is. (key : List ℕ) → Goes conn.number was is (λ s t. AnsweredLoad (config_of was) conn.number load moment (asking_of key (Some outcome)) s t (notices_of was) (notices_of is) (untaken_output is conn.number)))) }
-    ensures refused { IfOk result (λ settled. settled ≡ false → At (spaces_of service.old) (spaces_of service.new) conn.namespace (λ was is. SameSpace was is × (is_some (refusal_of_outcome (config_of was) outcome) ≡ true))) }
-    ensures left { IfOk result (λ settled. settled ≡ true → Connected (spaces_of service.new) conn.namespace conn.number IsFed) }
-    ensures gone { IfOk result (λ settled. settled ≡ true → At (spaces_of service.old) (spaces_of service.new) conn.namespace (SettlesLoad load)) }
-    ensures err { IfErr result (λ e. At (spaces_of service.old) (spaces_of service.new) conn.namespace SameSpace × IsCause moment e) }
+    requires taken { Connected service.old conn.namespace conn.number HasTakenReplies }
+    ensures settled { IfOk result (λ settled. settled ≡ true → At service.old service.new conn.namespace (λ was is. (key : List ℕ) → Goes conn.number was is (λ s t. AnsweredLoad (config_of was) conn.number load moment (asking_of key (Some outcome)) s t (notices_of was) (notices_of is) (untaken_output is conn.number)))) }
+    ensures refused { IfOk result (λ settled. settled ≡ false → At service.old service.new conn.namespace (λ was is. SameSpace was is × (is_some (refusal_of_outcome (config_of was) outcome) ≡ true))) }
+    ensures left { IfOk result (λ settled. settled ≡ true → Connected service.new conn.namespace conn.number IsFed) }
+    ensures gone { IfOk result (λ settled. settled ≡ true → At service.old service.new conn.namespace (SettlesLoad load)) }
+    ensures err { IfErr result (λ e. At service.old service.new conn.namespace SameSpace × IsCause moment e) }
 {
     let id = LoadId {
         namespace: conn.namespace,
@@ -90,11 +88,11 @@ fn settle(
     said: Option<Outcome>,
     moment: u64,
 ) -> Result<(), RunError>
-    requires taken { Connected (spaces_of service.old) conn.namespace conn.number HasTakenReplies }
-    ensures ok { OnOk result (At (spaces_of service.old) (spaces_of service.new) conn.namespace (λ was is. (key : List ℕ) → Goes conn.number was is (λ s t. AnsweredLoad (config_of was) conn.number load moment (asking_of key said) s t (notices_of was) (notices_of is) (untaken_output is conn.number)))) }
-    ensures left { OnOk result (Connected (spaces_of service.new) conn.namespace conn.number IsFed) }
-    ensures gone { OnOk result (At (spaces_of service.old) (spaces_of service.new) conn.namespace (SettlesLoad load)) }
-    ensures err { IfErr result (λ e. At (spaces_of service.old) (spaces_of service.new) conn.namespace SameSpace × IsCause moment e) }
+    requires taken { Connected service.old conn.namespace conn.number HasTakenReplies }
+    ensures ok { OnOk result (At service.old service.new conn.namespace (λ was is. (key : List ℕ) → Goes conn.number was is (λ s t. AnsweredLoad (config_of was) conn.number load moment (asking_of key said) s t (notices_of was) (notices_of is) (untaken_output is conn.number)))) }
+    ensures left { OnOk result (Connected service.new conn.namespace conn.number IsFed) }
+    ensures gone { OnOk result (At service.old service.new conn.namespace (SettlesLoad load)) }
+    ensures err { IfErr result (λ e. At service.old service.new conn.namespace SameSpace × IsCause moment e) }
 {
     let outcome = match said {
         Some(outcome) => outcome,
@@ -115,11 +113,11 @@ fn settle_load(
     said: Option<Outcome>,
     moment: u64,
 ) -> Result<Vec<u8>, RunError>
-    requires taken { Connected (spaces_of service.old) conn.namespace conn.number HasTakenReplies }
-    ensures ok { IfOk result (λ text. (key : List ℕ) → At (spaces_of service.old) (spaces_of service.new) conn.namespace (λ was is. Goes conn.number was is (λ s t. AnsweredLoad (config_of was) conn.number load moment (asking_of key said) s t (notices_of was) (notices_of is) text.items))) }
-    ensures taken { OnOk result (Connected (spaces_of service.new) conn.namespace conn.number HasTakenReplies) }
-    ensures gone { OnOk result (At (spaces_of service.old) (spaces_of service.new) conn.namespace (SettlesLoad load)) }
-    ensures err { IfErr result (λ e. At (spaces_of service.old) (spaces_of service.new) conn.namespace SameSpace × IsCause moment e) }
+    requires taken { Connected service.old conn.namespace conn.number HasTakenReplies }
+    ensures ok { IfOk result (λ text. (key : List ℕ) → At service.old service.new conn.namespace (λ was is. Goes conn.number was is (λ s t. AnsweredLoad (config_of was) conn.number load moment (asking_of key said) s t (notices_of was) (notices_of is) text.items))) }
+    ensures taken { OnOk result (Connected service.new conn.namespace conn.number HasTakenReplies) }
+    ensures gone { OnOk result (At service.old service.new conn.namespace (SettlesLoad load)) }
+    ensures err { IfErr result (λ e. At service.old service.new conn.namespace SameSpace × IsCause moment e) }
 {
     match settle(service, conn, load, said, moment) {
         Ok(()) => Ok(take_replies(service, conn)),
@@ -137,13 +135,13 @@ fn settle_last<W: Write, C: Clock, L: Loader>(
     clock: &mut C,
     loader: &mut L,
 ) -> Result<(), RunError>
-    requires taken { Connected (spaces_of service.old) conn.namespace conn.number HasTakenReplies }
+    requires taken { Connected service.old conn.namespace conn.number HasTakenReplies }
     requires some { taken.old.items ≢ [] }
     ensures goes { (remaining : Option (List ℕ)) → MatchResult result
-        (λ done. Carries C.reads L.loads (spaces_of service.old) (spaces_of service.new) conn.namespace conn.number (outside remaining (W.contents (device writer.old)) clock.old loader.old) (outside remaining (W.contents (device writer.new)) clock.new loader.new) taken.old.items taken.new.items)
-        (λ e. BreaksOff C.reads L.loads (spaces_of service.old) (spaces_of service.new) conn.namespace conn.number (outside remaining (W.contents (device writer.old)) clock.old loader.old) (outside remaining (W.contents (device writer.new)) clock.new loader.new) taken.old.items e) }
-    ensures left { Connected (spaces_of service.new) conn.namespace conn.number (IsLeftBy result) }
-    ensures accounted { At (spaces_of service.old) (spaces_of service.new) conn.namespace (λ was is. Accounts was is taken.old.items taken.new.items) }
+        (λ done. Carries C.reads L.loads service.old service.new conn.namespace conn.number (outside remaining (W.contents (device writer.old)) clock.old loader.old) (outside remaining (W.contents (device writer.new)) clock.new loader.new) taken.old.items taken.new.items)
+        (λ e. BreaksOff C.reads L.loads service.old service.new conn.namespace conn.number (outside remaining (W.contents (device writer.old)) clock.old loader.old) (outside remaining (W.contents (device writer.new)) clock.new loader.new) taken.old.items e) }
+    ensures left { Connected service.new conn.namespace conn.number (IsLeftBy result) }
+    ensures accounted { At service.old service.new conn.namespace (λ was is. Accounts was is taken.old.items taken.new.items) }
     ensures asked { HasAsked L.loads loader.old 1 loader.new }
     ensures why { IfErr result (Because ⊥ (HasFailed (failures writer.old) (failures writer.new)) (HasFailed (failures writer.old) (failures writer.new)) (HasToldLate C.reads clock.new)) }
     ensures count { failures writer.old ≤ failures writer.new }
@@ -170,13 +168,13 @@ fn settle_next<W: Write, C: Clock, L: Loader>(
     clock: &mut C,
     loader: &mut L,
 ) -> Result<(), RunError>
-    requires taken { Connected (spaces_of service.old) conn.namespace conn.number HasTakenReplies }
+    requires taken { Connected service.old conn.namespace conn.number HasTakenReplies }
     requires some { taken.old.items ≢ [] }
     ensures goes { (remaining : Option (List ℕ)) → MatchResult result
-        (λ done. Carries C.reads L.loads (spaces_of service.old) (spaces_of service.new) conn.namespace conn.number (outside remaining (W.contents (device writer.old)) clock.old loader.old) (outside remaining (W.contents (device writer.new)) clock.new loader.new) taken.old.items taken.new.items)
-        (λ e. BreaksOff C.reads L.loads (spaces_of service.old) (spaces_of service.new) conn.namespace conn.number (outside remaining (W.contents (device writer.old)) clock.old loader.old) (outside remaining (W.contents (device writer.new)) clock.new loader.new) taken.old.items e) }
-    ensures left { Connected (spaces_of service.new) conn.namespace conn.number (IsLeftBy result) }
-    ensures accounted { At (spaces_of service.old) (spaces_of service.new) conn.namespace (λ was is. Accounts was is taken.old.items taken.new.items) }
+        (λ done. Carries C.reads L.loads service.old service.new conn.namespace conn.number (outside remaining (W.contents (device writer.old)) clock.old loader.old) (outside remaining (W.contents (device writer.new)) clock.new loader.new) taken.old.items taken.new.items)
+        (λ e. BreaksOff C.reads L.loads service.old service.new conn.namespace conn.number (outside remaining (W.contents (device writer.old)) clock.old loader.old) (outside remaining (W.contents (device writer.new)) clock.new loader.new) taken.old.items e) }
+    ensures left { Connected service.new conn.namespace conn.number (IsLeftBy result) }
+    ensures accounted { At service.old service.new conn.namespace (λ was is. Accounts was is taken.old.items taken.new.items) }
     ensures asked { HasAsked L.loads loader.old 1 loader.new }
     ensures why { IfErr result (Because ⊥ (HasFailed (failures writer.old) (failures writer.new)) (HasFailed (failures writer.old) (failures writer.new)) (HasToldLate C.reads clock.new)) }
     ensures count { failures writer.old ≤ failures writer.new }
@@ -195,11 +193,11 @@ fn settle_next<W: Write, C: Clock, L: Loader>(
 
 /// Takes the loads of a namespace that have gone out, where none that was taken is left.
 fn take_more(service: &mut Service, conn: Conn, taken: &mut Vec<(LoadId, Bytes)>)
-    requires taken { Connected (spaces_of service.old) conn.namespace conn.number HasTakenReplies }
-    ensures same { At (spaces_of service.old) (spaces_of service.new) conn.namespace (λ was is. TakesMore was is taken.old.items taken.new.items) }
-    ensures taken { Connected (spaces_of service.new) conn.namespace conn.number HasTakenReplies }
-    ensures accounted { At (spaces_of service.old) (spaces_of service.new) conn.namespace (λ was is. Accounts was is taken.old.items taken.new.items) }
-    ensures all { taken.new.items ≡ [] → At (spaces_of service.old) (spaces_of service.new) conn.namespace HasTakenAll }
+    requires taken { Connected service.old conn.namespace conn.number HasTakenReplies }
+    ensures same { At service.old service.new conn.namespace (λ was is. TakesMore was is taken.old.items taken.new.items) }
+    ensures taken { Connected service.new conn.namespace conn.number HasTakenReplies }
+    ensures accounted { At service.old service.new conn.namespace (λ was is. Accounts was is taken.old.items taken.new.items) }
+    ensures all { taken.new.items ≡ [] → At service.old service.new conn.namespace HasTakenAll }
 {
     if !taken.is_empty() {
         return;
@@ -219,13 +217,13 @@ pub fn settle_loads<W: Write, C: Clock, L: Loader>(
     clock: &mut C,
     loader: &mut L,
 ) -> Result<(), RunError>
-    requires taken { Connected (spaces_of service.old) conn.namespace conn.number HasTakenReplies }
+    requires taken { Connected service.old conn.namespace conn.number HasTakenReplies }
     ensures goes { (remaining : Option (List ℕ)) → MatchResult result
-        (λ done. Carries C.reads L.loads (spaces_of service.old) (spaces_of service.new) conn.namespace conn.number (outside remaining (W.contents (device writer.old)) clock.old loader.old) (outside remaining (W.contents (device writer.new)) clock.new loader.new) taken.old.items taken.new.items)
-        (λ e. BreaksOff C.reads L.loads (spaces_of service.old) (spaces_of service.new) conn.namespace conn.number (outside remaining (W.contents (device writer.old)) clock.old loader.old) (outside remaining (W.contents (device writer.new)) clock.new loader.new) taken.old.items e) }
-    ensures left { Connected (spaces_of service.new) conn.namespace conn.number (IsLeftBy result) }
-    ensures accounted { At (spaces_of service.old) (spaces_of service.new) conn.namespace (λ was is. Accounts was is taken.old.items taken.new.items) }
-    ensures all { OnOk result ((taken.new.items ≡ []) × At (spaces_of service.old) (spaces_of service.new) conn.namespace HasTakenAll) }
+        (λ done. Carries C.reads L.loads service.old service.new conn.namespace conn.number (outside remaining (W.contents (device writer.old)) clock.old loader.old) (outside remaining (W.contents (device writer.new)) clock.new loader.new) taken.old.items taken.new.items)
+        (λ e. BreaksOff C.reads L.loads service.old service.new conn.namespace conn.number (outside remaining (W.contents (device writer.old)) clock.old loader.old) (outside remaining (W.contents (device writer.new)) clock.new loader.new) taken.old.items e) }
+    ensures left { Connected service.new conn.namespace conn.number (IsLeftBy result) }
+    ensures accounted { At service.old service.new conn.namespace (λ was is. Accounts was is taken.old.items taken.new.items) }
+    ensures all { OnOk result ((taken.new.items ≡ []) × At service.old service.new conn.namespace HasTakenAll) }
     ensures asks { HasAsked L.loads loader.old 0 loader.new }
     ensures why { IfErr result (Because ⊥ (HasFailed (failures writer.old) (failures writer.new)) (HasFailed (failures writer.old) (failures writer.new) ⊎ HasAsked L.loads loader.old (2 ^ 64 - 1) loader.new) (HasToldLate C.reads clock.new)) }
     ensures count { failures writer.old ≤ failures writer.new }
@@ -245,10 +243,10 @@ pub fn settle_loads<W: Write, C: Clock, L: Loader>(
 
 /// Gives a load up at moment 0, which counts as the latest. One that is not under way stays settled.
 fn drop_load(service: &mut Service, conn: Conn, load: u64)
-    requires known { conn.namespace < length (spaces_of service.old) }
-    ensures dropped { At (spaces_of service.old) (spaces_of service.new) conn.namespace (GivesUpLoads conn.number) }
-    ensures gone { At (spaces_of service.old) (spaces_of service.new) conn.namespace (DropsUnwaited (λ n. n == load)) }
-    ensures known { conn.namespace < length (spaces_of service.new) }
+    requires known { conn.namespace < length service.old }
+    ensures dropped { At service.old service.new conn.namespace (GivesUpLoads conn.number) }
+    ensures gone { At service.old service.new conn.namespace (DropsUnwaited (λ n. n == load)) }
+    ensures known { conn.namespace < length service.new }
 {
     let id = LoadId {
         namespace: conn.namespace,
@@ -263,10 +261,10 @@ fn drop_load(service: &mut Service, conn: Conn, load: u64)
 
 /// Gives up these loads.
 fn drop_all(service: &mut Service, conn: Conn, loads: &[(LoadId, Bytes)])
-    requires known { conn.namespace < length (spaces_of service.old) }
-    ensures dropped { At (spaces_of service.old) (spaces_of service.new) conn.namespace (GivesUpLoads conn.number) }
-    ensures gone { At (spaces_of service.old) (spaces_of service.new) conn.namespace (DropsUnwaited (λ n. is_left n loads.now)) }
-    ensures known { conn.namespace < length (spaces_of service.new) }
+    requires known { conn.namespace < length service.old }
+    ensures dropped { At service.old service.new conn.namespace (GivesUpLoads conn.number) }
+    ensures gone { At service.old service.new conn.namespace (DropsUnwaited (λ n. is_left n loads.now)) }
+    ensures known { conn.namespace < length service.new }
 {
     for (load, _key) in loads {
         drop_load(service, conn, load.number);
@@ -275,9 +273,9 @@ fn drop_all(service: &mut Service, conn: Conn, loads: &[(LoadId, Bytes)])
 
 /// Gives up the loads of a connection that has closed: those that were taken, and then those that have gone out.
 pub fn drop_loads(service: &mut Service, conn: Conn, taken: &[(LoadId, Bytes)])
-    requires known { conn.namespace < length (spaces_of service.old) }
-    ensures dropped { At (spaces_of service.old) (spaces_of service.new) conn.namespace (GivesUpLoads conn.number) }
-    ensures gone { At (spaces_of service.old) (spaces_of service.new) conn.namespace (DropsAll taken.now) }
+    requires known { conn.namespace < length service.old }
+    ensures dropped { At service.old service.new conn.namespace (GivesUpLoads conn.number) }
+    ensures gone { At service.old service.new conn.namespace (DropsAll taken.now) }
 {
     drop_all(service, conn, taken);
     match service.take_loads(conn.namespace) {

@@ -3,15 +3,13 @@ ghost use Rattle.std.specs.Prelude.{◌≡◌, ◌<◌, ◌⊎◌, ◌^◌, ◌-
 ghost use Rattle.audit_model.specs.declared.event.Event.TheVariants as event;
 ghost use Rattle.cache_devices.specs.Failures.{HasFailed};
 ghost use Rattle.cache_devices.specs.Watched.{device, failures};
-ghost use Rattle.cache_spaces.specs.Moves.{At};
-ghost use Rattle.cache_spaces.specs.Serves.{SameSpace};
-ghost use Rattle.cache_spaces.specs.Services.{spaces_of};
+ghost use Rattle.cache_spaces.specs.Calls.{At};
 ghost use Rattle.cache_spaces.specs.Spaces.{config_of, notices_of};
 ghost use Rattle.cache_run.specs.Accounts.{Accounts, AddsNoLoads, KeepsLoads, pending_of};
 ghost use Rattle.cache_run.specs.Carried.{Broken, Carried, nothing_left};
 ghost use Rattle.cache_run.specs.Causes.{Because};
 ghost use Rattle.cache_run.specs.Connected.{Connected, IsFed, IsOver, IsReady};
-ghost use Rattle.cache_run.specs.Goes.{Goes};
+ghost use Rattle.cache_run.specs.Goes.{Goes, SameSpace};
 ghost use Rattle.cache_run.specs.Runs.{Closes, Quiet, ServesPartly, ServesWhole, next_number};
 ghost use Rattle.cache_run.specs.Turns.{HasAsked, HasRead, HasToldLate};
 ghost use Rattle.cache_run.specs.Worlds.{outside, world};
@@ -30,11 +28,11 @@ const PIECE_BYTES: usize = 8192;
 
 /// Opens a connection of a namespace that there is.
 fn open_connection(service: &mut Service, namespace: u64) -> Result<Conn, RunError>
-    requires known { namespace < length (spaces_of service.old) }
-    ensures ok { IfOk result (λ conn. (conn.namespace ≡ namespace) × At (spaces_of service.old) (spaces_of service.new) namespace (λ was is. (conn.number ≡ next_number was) × Goes conn.number was is (λ s t. Quiet (config_of was) (event.Open conn.number) s t (notices_of was) (notices_of is)))) }
-    ensures ready { IfOk result (λ conn. Connected (spaces_of service.new) conn.namespace conn.number IsReady) }
-    ensures loads { IfOk result (λ conn. At (spaces_of service.old) (spaces_of service.new) namespace KeepsLoads) }
-    ensures err { IfErr result (λ e. (e ≡ RunError.OutOfMemory) × At (spaces_of service.old) (spaces_of service.new) namespace SameSpace) }
+    requires known { namespace < length service.old }
+    ensures ok { IfOk result (λ conn. (conn.namespace ≡ namespace) × At service.old service.new namespace (λ was is. (conn.number ≡ next_number was) × Goes conn.number was is (λ s t. Quiet (config_of was) (event.Open conn.number) s t (notices_of was) (notices_of is)))) }
+    ensures ready { IfOk result (λ conn. Connected service.new conn.namespace conn.number IsReady) }
+    ensures loads { IfOk result (λ conn. At service.old service.new namespace KeepsLoads) }
+    ensures err { IfErr result (λ e. (e ≡ RunError.OutOfMemory) × At service.old service.new namespace SameSpace) }
 {
     match service.open(namespace) {
         Ok(conn) => Ok(conn),
@@ -44,10 +42,10 @@ fn open_connection(service: &mut Service, namespace: u64) -> Result<Conn, RunErr
 
 /// Closes a connection, unless it has closed.
 fn close_if_open(service: &mut Service, conn: Conn)
-    requires fed { Connected (spaces_of service.old) conn.namespace conn.number IsFed }
-    ensures closes { At (spaces_of service.old) (spaces_of service.new) conn.namespace (Closes conn.number) }
-    ensures loads { At (spaces_of service.old) (spaces_of service.new) conn.namespace KeepsLoads }
-    ensures known { conn.namespace < length (spaces_of service.new) }
+    requires fed { Connected service.old conn.namespace conn.number IsFed }
+    ensures closes { At service.old service.new conn.namespace (Closes conn.number) }
+    ensures loads { At service.old service.new conn.namespace KeepsLoads }
+    ensures known { conn.namespace < length service.new }
 {
     match service.close(conn) {
         Ok(()) => (),
@@ -68,18 +66,18 @@ fn converse<R: Read, W: Write, C: Clock, L: Loader>(
     taken: &mut Vec<(LoadId, Bytes)>,
 ) -> Result<(), RunError>
     requires room { 0 < length buffer.old }
-    requires ready { Connected (spaces_of service.old) conn.namespace conn.number IsReady }
+    requires ready { Connected service.old conn.namespace conn.number IsReady }
     requires fresh { taken.old.items ≡ [] }
     ensures goes { MatchResult result
-        (λ done. At (spaces_of service.old) (spaces_of service.new) conn.namespace (λ was is. Goes conn.number was is (λ s t. Carried (config_of was) conn.number C.reads L.loads
+        (λ done. At service.old service.new conn.namespace (λ was is. Goes conn.number was is (λ s t. Carried (config_of was) conn.number C.reads L.loads
         (world was s (outside (R.remaining (device reader.old)) (W.contents (device writer.old)) clock.old loader.old))
         (world is t (outside (R.remaining (device reader.new)) (W.contents (device writer.new)) clock.new loader.new)) false false [] nothing_left)))
-        (λ e. At (spaces_of service.old) (spaces_of service.new) conn.namespace (λ was is. Goes conn.number was is (λ s t. Broken (config_of was) conn.number C.reads L.loads
+        (λ e. At service.old service.new conn.namespace (λ was is. Goes conn.number was is (λ s t. Broken (config_of was) conn.number C.reads L.loads
         (world was s (outside (R.remaining (device reader.old)) (W.contents (device writer.old)) clock.old loader.old))
         (world is t (outside (R.remaining (device reader.new)) (W.contents (device writer.new)) clock.new loader.new)) false false [] e))) }
-    ensures left { MatchResult result (λ done. Connected (spaces_of service.new) conn.namespace conn.number (IsOver (R.remaining (device reader.new)))) (λ e. Connected (spaces_of service.new) conn.namespace conn.number IsFed) }
-    ensures settled { OnOk result (At (spaces_of service.old) (spaces_of service.new) conn.namespace AddsNoLoads) }
-    ensures accounted { At (spaces_of service.old) (spaces_of service.new) conn.namespace (λ was is. Accounts was is [] taken.new.items) }
+    ensures left { MatchResult result (λ done. Connected service.new conn.namespace conn.number (IsOver (R.remaining (device reader.new)))) (λ e. Connected service.new conn.namespace conn.number IsFed) }
+    ensures settled { OnOk result (At service.old service.new conn.namespace AddsNoLoads) }
+    ensures accounted { At service.old service.new conn.namespace (λ was is. Accounts was is [] taken.new.items) }
     ensures why { IfErr result (Because (HasFailed (failures reader.old) (failures reader.new)) (HasFailed (failures writer.old) (failures writer.new))
         (HasFailed (failures writer.old) (failures writer.new) ⊎ (HasFailed (failures reader.old) (failures reader.new) ⊎ (HasRead (R.remaining (device reader.old)) (R.remaining (device reader.new)) (2 ^ 64 - 1) ⊎ HasAsked L.loads loader.old (2 ^ 64 - 1) loader.new))) (HasToldLate C.reads clock.new)) }
 {
@@ -104,12 +102,12 @@ fn serve_with<R: Read, W: Write, C: Clock, L: Loader>(
     clock: &mut C,
     loader: &mut L,
 ) -> Result<(), RunError>
-    requires known { namespace < length (spaces_of service.old) }
+    requires known { namespace < length service.old }
     requires room { 0 < length buffer.old }
-    ensures ok { OnOk result (At (spaces_of service.old) (spaces_of service.new) namespace (λ was is. ServesWhole C.reads L.loads was is
+    ensures ok { OnOk result (At service.old service.new namespace (λ was is. ServesWhole C.reads L.loads was is
         (outside (R.remaining (device reader.old)) (W.contents (device writer.old)) clock.old loader.old)
         (outside (R.remaining (device reader.new)) (W.contents (device writer.new)) clock.new loader.new))) }
-    ensures err { IfErr result (λ e. At (spaces_of service.old) (spaces_of service.new) namespace (λ was is. ((e ≡ RunError.OutOfMemory) × SameSpace was is × (reader.new ≡ reader.old) × (writer.new ≡ writer.old) × (clock.new ≡ clock.old) × (loader.new ≡ loader.old))
+    ensures err { IfErr result (λ e. At service.old service.new namespace (λ was is. ((e ≡ RunError.OutOfMemory) × SameSpace was is × (reader.new ≡ reader.old) × (writer.new ≡ writer.old) × (clock.new ≡ clock.old) × (loader.new ≡ loader.old))
         ⊎ ServesPartly C.reads L.loads was is
         (outside (R.remaining (device reader.old)) (W.contents (device writer.old)) clock.old loader.old)
         (outside (R.remaining (device reader.new)) (W.contents (device writer.new)) clock.new loader.new) e)) }
@@ -154,21 +152,21 @@ pub fn run<R: Read, W: Write, C: Clock, L: Loader>(
     clock: &mut C,
     loader: &mut L,
 ) -> Result<(), RunError>
-    requires known { namespace < length (spaces_of service.old) }
+    requires known { namespace < length service.old }
 
     // The bytes written are the replies of one connection whose pieces joined are the bytes read.
-    ensures ok { OnOk result (At (spaces_of service.old) (spaces_of service.new) namespace (λ was is. ServesWhole C.reads L.loads was is
+    ensures ok { OnOk result (At service.old service.new namespace (λ was is. ServesWhole C.reads L.loads was is
         (outside (R.remaining (device reader.old)) (W.contents (device writer.old)) clock.old loader.old)
         (outside (R.remaining (device reader.new)) (W.contents (device writer.new)) clock.new loader.new))) }
 
     // After an error they are a beginning of them, unless no connection was opened.
-    ensures err { IfErr result (λ e. At (spaces_of service.old) (spaces_of service.new) namespace (λ was is. ((e ≡ RunError.OutOfMemory) × SameSpace was is × (reader.new ≡ reader.old) × (writer.new ≡ writer.old) × (clock.new ≡ clock.old) × (loader.new ≡ loader.old))
+    ensures err { IfErr result (λ e. At service.old service.new namespace (λ was is. ((e ≡ RunError.OutOfMemory) × SameSpace was is × (reader.new ≡ reader.old) × (writer.new ≡ writer.old) × (clock.new ≡ clock.old) × (loader.new ≡ loader.old))
         ⊎ ServesPartly C.reads L.loads was is
         (outside (R.remaining (device reader.old)) (W.contents (device writer.old)) clock.old loader.old)
         (outside (R.remaining (device reader.new)) (W.contents (device writer.new)) clock.new loader.new) e)) }
 
     // However it ends, no load is under way behind it where none was before.
-    ensures none { At (spaces_of service.old) (spaces_of service.new) namespace (λ was is. pending_of was ≡ [] → pending_of is ≡ []) }
+    ensures none { At service.old service.new namespace (λ was is. pending_of was ≡ [] → pending_of is ≡ []) }
     ensures read { IsErrOf result RunError.Read → HasFailed (failures reader.old) (failures reader.new) }
     ensures write { IsErrOf result RunError.Write → HasFailed (failures writer.old) (failures writer.new) }
     ensures moment { IsErrOf result RunError.Moment → HasToldLate C.reads clock.new }

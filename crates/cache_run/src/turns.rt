@@ -2,8 +2,7 @@
 ghost use Rattle.std.specs.Prelude.{◌≡◌, ◌≤◌, ◌<◌, ◌⊎◌, ◌^◌, ◌-◌, ℕ, List, [], Option, length, IfOk, IfErr, OnOk, MatchResult};
 ghost use Rattle.cache_devices.specs.Failures.{HasFailed};
 ghost use Rattle.cache_devices.specs.Watched.{device, failures};
-ghost use Rattle.cache_spaces.specs.Moves.{At};
-ghost use Rattle.cache_spaces.specs.Services.{spaces_of};
+ghost use Rattle.cache_spaces.specs.Calls.{At};
 ghost use Rattle.cache_run.specs.Accounts.{Accounts, AddsNoLoads};
 ghost use Rattle.cache_run.specs.Causes.{Because};
 ghost use Rattle.cache_run.specs.Connected.{Connected, IsReady, HasTakenReplies};
@@ -30,8 +29,8 @@ pub enum Progress {
 
 /// Whether a run goes on behind a piece: not where the connection has closed.
 pub fn progress_of(service: &Service, conn: Conn) -> Progress
-    requires taken { Connected (spaces_of service.now) conn.namespace conn.number HasTakenReplies }
-    ensures { (remaining : Option (List ℕ)) → Connected (spaces_of service.now) conn.namespace conn.number (LeavesSo result remaining) }
+    requires taken { Connected service.now conn.namespace conn.number HasTakenReplies }
+    ensures { (remaining : Option (List ℕ)) → Connected service.now conn.namespace conn.number (LeavesSo result remaining) }
 {
     match service.closed(conn) {
         Ok(None) => Progress::More,
@@ -52,17 +51,17 @@ pub fn take_turn<R: Read, W: Write, C: Clock, L: Loader>(
     taken: &mut Vec<(LoadId, Bytes)>,
 ) -> Result<Progress, RunError>
     requires room { 0 < length buffer.old }
-    requires ready { Connected (spaces_of service.old) conn.namespace conn.number IsReady }
+    requires ready { Connected service.old conn.namespace conn.number IsReady }
     ensures goes { MatchResult result
-        (λ progress. Carries C.reads L.loads (spaces_of service.old) (spaces_of service.new) conn.namespace conn.number
+        (λ progress. Carries C.reads L.loads service.old service.new conn.namespace conn.number
         (outside (R.remaining (device reader.old)) (W.contents (device writer.old)) clock.old loader.old)
         (outside (R.remaining (device reader.new)) (W.contents (device writer.new)) clock.new loader.new) taken.old.items taken.new.items)
-        (λ e. BreaksOff C.reads L.loads (spaces_of service.old) (spaces_of service.new) conn.namespace conn.number
+        (λ e. BreaksOff C.reads L.loads service.old service.new conn.namespace conn.number
         (outside (R.remaining (device reader.old)) (W.contents (device writer.old)) clock.old loader.old)
         (outside (R.remaining (device reader.new)) (W.contents (device writer.new)) clock.new loader.new) taken.old.items e) }
-    ensures left { Connected (spaces_of service.new) conn.namespace conn.number (TurnLeavesSo result (R.remaining (device reader.new))) }
-    ensures accounted { At (spaces_of service.old) (spaces_of service.new) conn.namespace (λ was is. Accounts was is taken.old.items taken.new.items) }
-    ensures settled { OnOk result (taken.old.items ≡ [] → (taken.new.items ≡ []) × At (spaces_of service.old) (spaces_of service.new) conn.namespace AddsNoLoads) }
+    ensures left { Connected service.new conn.namespace conn.number (TurnLeavesSo result (R.remaining (device reader.new))) }
+    ensures accounted { At service.old service.new conn.namespace (λ was is. Accounts was is taken.old.items taken.new.items) }
+    ensures settled { OnOk result (taken.old.items ≡ [] → (taken.new.items ≡ []) × At service.old service.new conn.namespace AddsNoLoads) }
     ensures why { IfErr result (Because (HasFailed (failures reader.old) (failures reader.new)) (HasFailed (failures writer.old) (failures writer.new)) (HasFailed (failures writer.old) (failures writer.new) ⊎ HasAsked L.loads loader.old (2 ^ 64 - 1) loader.new) (HasToldLate C.reads clock.new)) }
     ensures asks { HasAsked L.loads loader.old 0 loader.new }
     ensures more { IfOk result (λ progress. progress ≡ Progress.More → HasFailed (failures reader.old) (failures reader.new) ⊎ HasRead (R.remaining (device reader.old)) (R.remaining (device reader.new)) 1) }
