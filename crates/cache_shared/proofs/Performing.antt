@@ -6,6 +6,7 @@ use Rattle.std.proofs.Math.Logic.{∥∥₁_elim}
 use Rattle.std.proofs.Props.{props}
 use Rattle.std.proofs.lemmas.Option.{same_Some}
 use Rattle.audit_model.specs.declared.input.Input.{Input}
+use Rattle.audit_model.specs.declared.input.ServiceError.{ServiceError}
 use Rattle.audit_model.specs.declared.transcript.Record.{Record}
 use Rattle.audit_model.specs.declared.transcript.Transcript.{Transcript}
 use Rattle.audit_receipts.specs.declared.output.Output.{Output}
@@ -26,9 +27,14 @@ use Rattle.cache_tape.specs.Taped.{Taped, with_entry}
 abbrev pub all-shown : List (Space Taped) → List Shown
 all-shown spaces = map (shown kept_by) spaces
 
-pub performs : {E : Type 0} (i : Input) (r : Result Output E) (old new : List (Space Taped)) → IfOk r (λ output. At old new (namespace_of i) (Performs kept_by i output)) → IfOk r (λ output. events.Performs i output (all-shown old) (all-shown new))
-performs i (Ok output) old new taken = at-shown (shown kept_by) old new (namespace_of i) (λ was is p. performs-shown kept_by i output was is p) taken
-performs i (Err e) old new taken = taken
+module _ {T : Type 0} (tape : T → Option Taped) where
+  pub performs : {E : Type 0} (i : Input) (r : Result Output E) (old new : List (Space T)) → IfOk r (λ output. At old new (namespace_of i) (Performs tape i output)) → IfOk r (λ output. events.Performs i output (map (shown tape) old) (map (shown tape) new))
+  performs i (Ok output) old new taken = at-shown (shown tape) old new (namespace_of i) (λ was is p. performs-shown tape i output was is p) taken
+  performs i (Err e) old new taken = taken
+
+  -- a refusal of the service
+  pub refused : (i : Input) (e : ServiceError) (count : ℕ) (old : List (Space T)) → Refuses old (namespace_of i) e (RefusedInput i e) → RefusesEvent i e count (map (shown tape) old)
+  refused i e count old cause = inr (refuses-shown (shown tape) old (namespace_of i) e (λ was c. refused-shown tape i e was c) cause)
 
 counts-one : (i : Input) (output : Output) (old new : List (Space Taped)) → WerePlayed old → At old new (namespace_of i) (Performs kept_by i output) → record_count (journals_of new) ≡ record_count (journals_of old) + 1
 counts-one i output old new w a =
@@ -49,11 +55,10 @@ pub still : {A E : Type 0} (r : Result A E) (old new : List (Space Taped)) → O
 still (Ok a) old new same = same
 still (Err e) old new same = (ap (λ spaces. record_count (journals_of spaces)) same, ap all-shown same)
 
--- a refusal of the service
-pub refused : {A : Type 0} (i : Input) (r : Result A Refusal) (count : ℕ) (old : List (Space Taped)) → IfErr r (λ refusal. Refuses old (namespace_of i) refusal.error (RefusedInput i refusal.error))
+pub refused-kept : {A : Type 0} (i : Input) (r : Result A Refusal) (count : ℕ) (old : List (Space Taped)) → IfErr r (λ refusal. Refuses old (namespace_of i) refusal.error (RefusedInput i refusal.error))
     → IfErr r (λ refusal. RefusesEvent i refusal.error count (all-shown old))
-refused i (Ok x) count old cause = cause
-refused i (Err refusal) count old cause = inr (refuses-shown (shown kept_by) old (namespace_of i) refusal.error (λ was c. refused-shown kept_by i refusal.error was c) cause)
+refused-kept i (Ok x) count old cause = cause
+refused-kept i (Err refusal) count old cause = refused kept_by i refusal.error count old cause
 
 -- a namespace that the service does not have has no journal
 pub none-there : {A E : Type 0} (P : E → Type 0) (r : Result A E) (spaces : List (Space Taped)) (k : ℕ) → IfErr r (λ e. P e × (length spaces ≤ k)) → IfErr r (λ e. length (journals_of spaces) ≤ k)
