@@ -7,5 +7,5 @@ invariant_of-result c =
     (
       ∣ were-none c.args.configs.now c.args.generator c.args.moment c.in-Ok.core c.in-Ok.ensures.made ∣₁,
       c.in-Ok-with_capacity.ensures.items,
-      let count = c.in-Ok.ensures.made.count in let capacity = c.in-Ok-with_capacity.ensures.capacity in let many = c.len.ensures in omega (arith, count, capacity, many),
+      let count = c.in-Ok.ensures.made.count in let capacity = c.in-Ok-with_capacity.ensures.capacity in omega (arith, count, capacity),
     )

@@ -11,14 +11,14 @@ returns-in-Ok-All-clause-performed g c =
     let a = c.args in
     at-map a.self.now c.feed.new.self a.conn.namespace
     (λ was is at f. serves-performs g.T.Tape.view (input.Feed a.conn a.piece a.moment) was is (feeding a.conn.number a.piece a.moment.nanos) All (feeds a.conn a.piece a.moment (length was.closings)) false (comes-all a.conn.namespace a.conn.number a.piece a.moment.nanos) f)
-    (rw c.as_slice.ensures at c.in-Ok-All.ensures.taken)
+    (rw c.as_slice.ensures at rw c.in-Ok-All.field-0-is at c.in-Ok-All.ensures.taken)
 
 pub returns-in-Ok-Held-clause-performed : goal.returns-in-Ok-Held-clause-performed
 returns-in-Ok-Held-clause-performed g c =
     let a = c.args in
     at-map a.self.now c.feed.new.self a.conn.namespace
     (λ was is at f. serves-performs g.T.Tape.view (input.Feed a.conn a.piece a.moment) was is (feeding a.conn.number a.piece a.moment.nanos) Held (feeds a.conn a.piece a.moment (length was.closings)) true (comes-held a.conn.namespace a.conn.number a.piece a.moment.nanos) f)
-    (rw c.as_slice.ensures at c.in-Ok-Held.ensures.taken)
+    (rw c.as_slice.ensures at rw c.in-Ok-Held.field-0-is at c.in-Ok-Held.ensures.taken)
 
 pub returns-clause-refused : goal.returns-clause-refused
 returns-clause-refused g c =
