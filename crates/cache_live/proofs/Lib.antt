@@ -1,3 +1,3 @@
-pub mod Performing
 pub mod Living
 pub mod Looking
+pub mod Performing

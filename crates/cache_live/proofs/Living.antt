@@ -1,6 +1,6 @@
 -- Journals that nobody keeps go on.
-use Rattle.std.proofs.Common.{◌≡◌, ◌≢◌, ◌∙◌, ℕ, zero, suc, ◌+◌, List, [], ◌∷◌, ◌++◌, length, length-append, Option, Some, Vec, Global, refl, sym, ap, subst, inl, inr, arith}
-use Rattle.std.specs.Prelude.{◌⊎◌, slice_set, map, Result, Ok, Err, IfOk, IfErr}
+use Rattle.std.proofs.Common.{◌≡◌, ◌≢◌, ◌∙◌, ℕ, zero, suc, ◌+◌, List, [], ◌∷◌, ◌++◌, length, length-append, Option, None, Some, Vec, Global, refl, sym, ap, subst, inl, inr, arith}
+use Rattle.std.specs.Prelude.{◌⊎◌, slice_set, map, Result, Ok, Err, IfOk, OnErr}
 use Rattle.std.specs.List.{slice_get}
 use Rattle.std.proofs.lemmas.List.{length-set}
 use Rattle.std.proofs.lemmas.Option.{slice_get_within, none-some, same_Some}
@@ -15,21 +15,19 @@ use Rattle.audit_model.specs.declared.input.ServiceError.{ServiceError}
 use Rattle.audit_model.specs.declared.transcript.Note.{Note}
 use Rattle.audit_model.specs.declared.transcript.Transcript.{Transcript}
 use Rattle.audit_receipts.specs.declared.output.Output.{Output}
+use Rattle.cache_spaces.specs.Bares.{bare_tape}
 use Rattle.cache_live.specs.Lived.{HasLived, Lived}
-use Rattle.cache_live.specs.Taken.{TakesInput}
-use Rattle.cache_live.proofs.Performing.{config-kept, goes-on, making-kept}
-use Rattle.cache_namespace.proofs.Places.{at-replaced}
 use Rattle.cache_shared.proofs.Counting.{count-empty, count-more}
-use Rattle.cache_shared.specs.Events.{IsReached, record_count}
-use Rattle.cache_spaces.proofs.Journaling.{got}
-use Rattle.cache_spaces.proofs.Noting.{same-or-not}
-use Rattle.cache_namespace.specs.Making.{Making}
-use Rattle.cache_spaces.specs.Moves.{At}
-use Rattle.cache_spaces.specs.Recorded.{namespace_of}
-use Rattle.cache_spaces.specs.Serves.{IsUnknown, SameSpace, TakesLoads, TakesNotice, TakesOutput}
-use Rattle.cache_spaces.specs.Services.{AreNew, Refuses}
-use Rattle.cache_spaces.specs.Spaces.{StandsFor, config_of, making_in, part_in}
-use Rattle.cache_spaces.specs.declared.space.Space.{Space}
+use Rattle.cache_shared.specs.Events.{IsJournal, IsReached, record_count}
+use Rattle.cache_spaces.proofs.Journaling.{got, mapped}
+use Rattle.cache_spaces.proofs.Putting.{at-it, same-or-not}
+use Rattle.cache_spaces.proofs.Showing.{length-shown}
+use Rattle.cache_spaces.specs.Calls.{At, TakesLoads, TakesNotice, TakesOutput}
+use Rattle.cache_spaces.specs.Inputs.{Performs, namespace_of}
+use Rattle.cache_spaces.specs.Services.{AreNew}
+use Rattle.cache_spaces.specs.Spaces.{Space, StandsFor, config_of, part_in, shown}
+use Rattle.cache_spaces.specs.Stores.{shown_of}
+use Rattle.cache_tape.specs.declared.bare.Bare.{Bare}
 
 -- ---- places
 
@@ -45,28 +43,33 @@ set-same [] n a at = refl
 set-same (x ∷ xs) zero a at = ap (λ y. y ∷ xs) (sym (same_Some x a at))
 set-same (x ∷ xs) (suc n) a at = ap (λ l. x ∷ l) (set-same xs n a at)
 
+pub put-there : {X : Type 0} (xs : List X) (k : ℕ) (was is : X) → slice_get xs k ≡ Some was → slice_get (slice_set xs k is) k ≡ Some is
+put-there [] k was is at = absurd (none-some was at)
+put-there (x ∷ xs) zero was is at = refl
+put-there (x ∷ xs) (suc k) was is at = put-there xs k was is at
+
 -- what was put there
 there : {X : Type 0} (xs : List X) (k : ℕ) (was is x : X) → slice_get xs k ≡ Some was → slice_get (slice_set xs k is) k ≡ Some x → is ≡ x
-there xs k was is x at here = same_Some is x (sym (at-replaced xs k is (slice_get_within xs k was at)) ∙ here)
+there xs k was is x at here = same_Some is x (sym (put-there xs k was is at) ∙ here)
 
 -- ---- the beginning
 
 -- journals of that moment without records
-empties : Instant → List Space → List Transcript
+empties : Instant → List (Space Bare) → List Transcript
 empties made spaces = map (λ space. record { made = made; records = [] }) spaces
 
-empties-at : (made : Instant) (spaces : List Space) (k : ℕ) (journal : Transcript) → slice_get (empties made spaces) k ≡ Some journal → journal ≡ record { made = made; records = [] }
+empties-at : (made : Instant) (spaces : List (Space Bare)) (k : ℕ) (journal : Transcript) → slice_get (empties made spaces) k ≡ Some journal → journal ≡ record { made = made; records = [] }
 unfolding empties
 empties-at made [] k journal at = absurd (none-some journal at)
 empties-at made (x ∷ xs) zero journal at = sym (same_Some _ journal at)
 empties-at made (x ∷ xs) (suc k) journal at = empties-at made xs k journal at
 
-empties-count : (made : Instant) (spaces : List Space) → length (empties made spaces) ≡ length spaces
+empties-count : (made : Instant) (spaces : List (Space Bare)) → length (empties made spaces) ≡ length spaces
 unfolding empties
 empties-count made [] = refl
 empties-count made (x ∷ xs) = let e = empties-count made xs in omega (arith, e)
 
-pub lived-none : (configs : List Config) (generator : List ℕ) (moment : Instant) (spaces : List Space) → AreNew spaces configs generator moment.nanos → Lived spaces 0
+pub lived-none : (configs : List Config) (generator : List ℕ) (moment : Instant) (spaces : List (Space Bare)) → AreNew bare_tape None spaces configs generator moment.nanos → Lived spaces 0
 lived-none configs generator moment spaces new = record {
   journals = empties moment spaces;
   count = empties-count moment spaces;
@@ -85,7 +88,7 @@ lived-none configs generator moment spaces new = record {
 
 -- ---- one namespace changes
 
-lived-set : (F : Space → Space → Type 0) (old new : List Space) (k n m : ℕ) (w : Lived old n) (a : At old new k F) (t u : Transcript)
+lived-set : (F : Space Bare → Space Bare → Type 0) (old new : List (Space Bare)) (k n m : ℕ) (w : Lived old n) (a : At old new k F) (t u : Transcript)
     → slice_get w.journals k ≡ Some t → HasLived a.is u → record_count (slice_set w.journals k u) ≡ m → Lived new m
 lived-set F old new k n m w a t u at lived records = record {
   journals = slice_set w.journals k u;
@@ -94,7 +97,7 @@ lived-set F old new k n m w a t u at lived records = record {
   records = records;
 }
   where
-    go : (j : ℕ) (space : Space) (journal : Transcript) → slice_get new j ≡ Some space → slice_get (slice_set w.journals k u) j ≡ Some journal → (j ≡ k) ⊎ (j ≢ k) → HasLived space journal
+    go : (j : ℕ) (space : Space Bare) (journal : Transcript) → slice_get new j ≡ Some space → slice_get (slice_set w.journals k u) j ≡ Some journal → (j ≡ k) ⊎ (j ≢ k) → HasLived space journal
     go j space journal s c (inl here) =
         let is = there old k a.was a.is space a.at (ap (λ l. slice_get l k) (sym a.set) ∙ ap (slice_get new) (sym here) ∙ s) in
         let same = there w.journals k t u journal at (ap (slice_get (slice_set w.journals k u)) (sym here) ∙ c) in
@@ -103,76 +106,96 @@ lived-set F old new k n m w a t u at lived records = record {
         w.each j space journal (sym (elsewhere old k j a.is ne) ∙ ap (λ l. slice_get l j) (sym a.set) ∙ s) (sym (elsewhere w.journals k j u ne) ∙ c)
 
 -- the journal of that namespace
-journal-at : (F : Space → Space → Type 0) (old new : List Space) (k n : ℕ) (w : Lived old n) → At old new k F → (t : Transcript) × (slice_get w.journals k ≡ Some t)
+journal-at : (F : Space Bare → Space Bare → Type 0) (old new : List (Space Bare)) (k n : ℕ) (w : Lived old n) → At old new k F → (t : Transcript) × (slice_get w.journals k ≡ Some t)
 journal-at F old new k n w a =
     let lt = slice_get_within old k a.was a.at in
     got w.journals k (let e = w.count in omega arith)
 
 -- an input was taken
-pub lived-more : (i : Input) (output : Output) (old new : List Space) (n : ℕ) → Lived old n → At old new (namespace_of i) (TakesInput i output) → Lived new (n + 1)
+pub lived-more : (i : Input) (output : Output) (old new : List (Space Bare)) (n : ℕ) → Lived old n → At old new (namespace_of i) (Performs bare_tape i output) → Lived new (n + 1)
 lived-more i output old new n w a =
     let k = namespace_of i in
-    let t = journal-at (TakesInput i output) old new k n w a in
+    let t = journal-at (Performs bare_tape i output) old new k n w a in
     let h = w.each k a.was t.0 a.at t.1 in
-    let g = goes-on a.was a.is a.fact.happened a.fact.is_held a.fact.takes h.led.last h.led.stands in
-    let config = config-kept a.was a.is a.fact.happened a.fact.is_held a.fact.takes in
-    let last = g.leads.next in
-    let u : Transcript = record { made = t.0.made; records = t.0.records ++ g.entry ∷ [] } in
+    let p = a.fact.from h.led.last h.led.stands in
+    let config = a.fact.stays.config in
+    let last = p.turned.next in
+    let u : Transcript = record { made = t.0.made; records = t.0.records ++ p.entry ∷ [] } in
     let more : LeadsBy (config_of a.was) (part_in a.was) u last =
-    leads_by-more (config_of a.was) (part_in a.was) t.0.made t.0.records g.entry h.led.last last h.parted g.leads.follows g.parted in
-    lived-set (TakesInput i output) old new k n (n + 1) w a t.0 u t.1
+    leads_by-more (config_of a.was) (part_in a.was) t.0.made t.0.records p.entry h.led.last last h.parted p.turned.follows p.turned.parted in
+    lived-set (Performs bare_tape i output) old new k n (n + 1) w a t.0 u t.1
     (record {
-      led = record { last = last; stands = g.leads.stands; leads = subst (λ c. LeadsTo c u last) (sym config) more.leads };
-      parted = subst (λ (m : Making). LeadsBy (config_of a.is) m.part_of u last) (sym (making-kept a.was a.is a.fact.happened a.fact.is_held a.fact.takes)) (subst (λ c. LeadsBy c (part_in a.was) u last) (sym config) more);
+      led = record { last = last; stands = p.turned.stands; leads = subst (λ c. LeadsTo c u last) (sym config) more.leads };
+      parted = subst (λ m. LeadsBy (config_of a.is) m u last) (sym a.fact.stays.part_of) (subst (λ c. LeadsBy c (part_in a.was) u last) (sym config) more);
     })
-    (count-more w.journals (slice_set w.journals k u) k t.0 u t.1 refl (length-append t.0.records (g.entry ∷ [])) ∙ ap (λ c. c + 1) w.records)
+    (count-more w.journals (slice_set w.journals k u) k t.0 u t.1 refl (length-append t.0.records (p.entry ∷ [])) ∙ ap (λ c. c + 1) w.records)
 
--- nothing that is told of it changed
-pub lived-still : (F : Space → Space → Type 0) (old new : List Space) (k n : ℕ) → ((x y : Space) → F x y → ((s : Situation) → StandsFor x s → StandsFor y s) × (config_of y ≡ config_of x) × (making_in y ≡ making_in x)) → At old new k F → Lived old n → Lived new n
+-- the namespace stands for the same, made as it was
+pub record IsStill (was is : Space Bare) : Type 0 where
+  pub stands : (s : Situation) → StandsFor was s → StandsFor is s
+  pub config : config_of is ≡ config_of was
+  pub part_of : part_in is ≡ part_in was
+
+pub lived-still : (F : Space Bare → Space Bare → Type 0) (old new : List (Space Bare)) (k n : ℕ) → ((x y : Space Bare) → F x y → IsStill x y) → At old new k F → Lived old n → Lived new n
 lived-still F old new k n same a w =
     let t = journal-at F old new k n w a in
     let h = w.each k a.was t.0 a.at t.1 in
     let e = same a.was a.is a.fact in
     lived-set F old new k n n w a t.0 t.0 t.1
     (record {
-      led = record { last = h.led.last; stands = e.0 h.led.last h.led.stands; leads = subst (λ c. LeadsTo c t.0 h.led.last) (sym e.1) h.led.leads };
-      parted = subst (λ (m : Making). LeadsBy (config_of a.is) m.part_of t.0 h.led.last) (sym e.2) (subst (λ c. LeadsBy c (part_in a.was) t.0 h.led.last) (sym e.1) h.parted);
+      led = record { last = h.led.last; stands = e.stands h.led.last h.led.stands; leads = subst (λ c. LeadsTo c t.0 h.led.last) (sym e.config) h.led.leads };
+      parted = subst (λ m. LeadsBy (config_of a.is) m t.0 h.led.last) (sym e.part_of) (subst (λ c. LeadsBy c (part_in a.was) t.0 h.led.last) (sym e.config) h.parted);
     })
     (ap record_count (set-same w.journals k t.0 t.1) ∙ w.records)
 
-pub lived-refused : (Cause : Space → Type 0) (old new : List Space) (k n : ℕ) (e : ServiceError) → Refuses old new k e Cause → Lived old n → Lived new n
-lived-refused Cause old new k n e (inl none) w = subst (λ x. Lived x n) (sym none.2) w
-lived-refused Cause old new k n e (inr a) w = lived-still (λ was is. SameSpace was is × Cause was) old new k n (λ x y p. (p.0.stands, p.0.config, p.0.made)) a w
+still-text : (was is : Space Bare) (number : ℕ) (text : List ℕ) → TakesOutput was is number text → IsStill was is
+still-text was is number text t =
+    subst (IsStill was) (sym t.rest) (record { stands = λ s x. record { held = x.held; stands = x.stands; is = x.is }; config = refl; part_of = refl })
+
+still-loads : (was is : Space Bare) (loads : List (LoadId × List ℕ)) → TakesLoads was is loads → IsStill was is
+still-loads was is loads t = subst (IsStill was) (sym t.rest) (record { stands = λ s x. record { held = x.held; stands = x.stands; is = x.is }; config = refl; part_of = refl })
+
+still-note : (was is : Space Bare) (note : Option Note) → TakesNotice was is note → IsStill was is
+still-note was is note t =
+    let frame = t.gives.frame in
+    subst (IsStill was) (sym t.rest) (record {
+      stands = λ s x. record {
+        held = x.held;
+        stands = t.gives.stands x.held x.stands;
+        is = x.is ∙ ap (λ d. record { latest = was.latest; opened = length was.closings; sent = was.sent; connections = was.connections; pending = was.pending; held = x.held; dropped = d }) (sym (ap (λ f. f.dropped) frame));
+      };
+      config = ap (λ f. f.config) frame;
+      part_of = ap (λ f. f.part_of) frame;
+    })
 
 -- replies were taken, or refused
-pub lived-text : (k number : ℕ) (old new : List Space) (n : ℕ) (r : Result (Vec ℕ Global) ServiceError)
-    → IfOk r (λ text. At old new k (λ was is. TakesOutput was is number text.items)) → IfErr r (λ e. Refuses old new k e (λ was. IsUnknown was number e)) → Lived old n → Lived new n
-lived-text k number old new n (Ok text) taken refused w = lived-still (λ was is. TakesOutput was is number text.items) old new k n (λ x y t. (t.stands, t.config, t.made)) taken w
-lived-text k number old new n (Err e) taken refused w = lived-refused (λ was. IsUnknown was number e) old new k n e refused w
+pub lived-text : (k number : ℕ) (old new : List (Space Bare)) (n : ℕ) (r : Result (Vec ℕ Global) ServiceError) → IfOk r (λ text. At old new k (λ was is. TakesOutput was is number text.items)) → OnErr r (new ≡ old) → Lived old n → Lived new n
+lived-text k number old new n (Ok text) taken same w = lived-still (λ was is. TakesOutput was is number text.items) old new k n (λ x y t. still-text x y number text.items t) taken w
+lived-text k number old new n (Err e) taken same w = subst (λ x. Lived x n) (sym same) w
 
 -- a note was taken, or refused
-pub lived-note : (k : ℕ) (old new : List Space) (n : ℕ) (r : Result (Option Note) ServiceError)
-    → IfOk r (λ note. At old new k (λ was is. TakesNotice was is note)) → IfErr r (λ e. Refuses old new k e (λ was. ⊥)) → Lived old n → Lived new n
-lived-note k old new n (Ok note) taken refused w = lived-still (λ was is. TakesNotice was is note) old new k n (λ x y t. (t.stands, t.config, t.made)) taken w
-lived-note k old new n (Err e) taken refused w = lived-refused (λ was. ⊥) old new k n e refused w
+pub lived-note : (k : ℕ) (old new : List (Space Bare)) (n : ℕ) (r : Result (Option Note) ServiceError) → IfOk r (λ note. At old new k (λ was is. TakesNotice was is note)) → OnErr r (new ≡ old) → Lived old n → Lived new n
+lived-note k old new n (Ok note) taken same w = lived-still (λ was is. TakesNotice was is note) old new k n (λ x y t. still-note x y note t) taken w
+lived-note k old new n (Err e) taken same w = subst (λ x. Lived x n) (sym same) w
 
 -- loads were taken, or refused
-pub lived-loads : (k : ℕ) (old new : List Space) (n : ℕ) (r : Result (Vec (LoadId × List ℕ) Global) ServiceError)
-    → IfOk r (λ loads. At old new k (λ was is. TakesLoads was is loads.items)) → IfErr r (λ e. Refuses old new k e (λ was. ⊥)) → Lived old n → Lived new n
-lived-loads k old new n (Ok loads) taken refused w = lived-still (λ was is. TakesLoads was is loads.items) old new k n (λ x y t. (t.stands, t.config, t.made)) taken w
-lived-loads k old new n (Err e) taken refused w = lived-refused (λ was. ⊥) old new k n e refused w
+pub lived-loads : (k : ℕ) (old new : List (Space Bare)) (n : ℕ) (r : Result (Vec (LoadId × List ℕ) Global) ServiceError) → IfOk r (λ loads. At old new k (λ was is. TakesLoads was is loads.items)) → OnErr r (new ≡ old) → Lived old n → Lived new n
+lived-loads k old new n (Ok loads) taken same w = lived-still (λ was is. TakesLoads was is loads.items) old new k n (λ x y t. still-loads x y loads.items t) taken w
+lived-loads k old new n (Err e) taken same w = subst (λ x. Lived x n) (sym same) w
 
 -- ---- journals that obey
 
-pub reached : (spaces : List Space) (n : ℕ) → Lived spaces n → IsReached spaces n
+pub reached : (spaces : List (Space Bare)) (n : ℕ) → Lived spaces n → IsReached (map (shown bare_tape) spaces) n
 reached spaces n w = record {
   journals = w.journals;
   are = record {
-    count = w.count;
+    count = w.count ∙ sym (length-shown (shown bare_tape) spaces);
     each = λ k space journal s j.
-        let h = w.each k space journal s j in
-        let o = obeys-led (config_of space) (part_in space) journal h.led.last h.parted in
-        record { obeys = o.0; admitted = o.1; leads = h.led };
+        let x = mapped (shown bare_tape) spaces k space s in
+        let h = w.each k x.0 journal x.1 j in
+        let o = obeys-led (config_of x.0) (part_in x.0) journal h.led.last h.parted in
+        subst (λ v. IsJournal v journal) x.2
+        (record { obeys = o.0; admitted = o.1; leads = record { last = h.led.last; stands = record { held = h.led.stands.held; stands = h.led.stands.stands; is = h.led.stands.is }; leads = h.led.leads } });
   };
   count = w.records;
 }

@@ -1,5 +1,5 @@
 -- What is seen of a service that keeps no journal.
-use Rattle.std.specs.Prelude.{◌≡◌, ℕ, ◌-◌, ◌^◌, List, [], map, Option, None, ◌⊎◌}
+use Rattle.std.specs.Prelude.{◌≡◌, ℕ, ◌-◌, ◌^◌, List, [], map, ◌⊎◌}
 use Rattle.std.specs.List.{slice_get}
 use Rattle.std.specs.Option.{option_map_or}
 use Rattle.audit_model.specs.declared.input.Conn.{Conn}
@@ -8,15 +8,11 @@ use Rattle.audit_model.specs.declared.input.ServiceError.{ServiceError}
 use Rattle.audit_model.specs.declared.input.ServiceError.TheVariants as error
 use Rattle.audit_model.specs.declared.transcript.Note.{Note}
 use Rattle.cache_live.specs.declared.live.LiveService.{LiveService}
+use Rattle.cache_spaces.specs.Bares.{bare_tape}
 use Rattle.cache_spaces.specs.Calls.{Refuses}
 use Rattle.cache_spaces.specs.Inputs.{RefusedInput, namespace_of}
 use Rattle.cache_spaces.specs.Spaces.{Shown, Space, notices_of, shown, untaken_output}
-use Rattle.cache_tape.specs.Taped.{Taped}
 use Rattle.cache_tape.specs.declared.bare.Bare.{Bare}
-
--- what such a tape keeps
-abbrev pub bare_tape : Bare → Option Taped
-bare_tape t = None
 
 abbrev pub live_service : LiveService → List (Space Bare)
 live_service live = live.service

@@ -19,7 +19,8 @@ pub struct LiveService {
 }
 
 impl LiveService {
-    ghost use Rattle.cache_live.specs.Live.{RefusesLive, bare_tape, events_of, live_service};
+    ghost use Rattle.cache_live.specs.Live.{RefusesLive, events_of, live_service};
+    ghost use Rattle.cache_spaces.specs.Bares.{bare_tape};
     ghost use Rattle.cache_spaces.specs.Calls.{At, InSpace, IsOpened, IsUnknown, Refuses, TakesLoads, TakesNotice, TakesOutput};
     ghost use Rattle.cache_spaces.specs.Inputs.{Performs, namespace_of};
     ghost use Rattle.cache_spaces.specs.Spaces.{closing_of};

@@ -5,12 +5,11 @@ use cache_shared::{Stepping, Takings};
 use cache_spaces::{Output, RecordedService, Refusal};
 
 impl Stepping for ReadService {
-    ghost use Rattle.cache_shared.specs.Events.{RecordedAs, record_count};
-    ghost use Rattle.cache_reading.specs.Read.{journals_in, service_in};
-    ghost use Rattle.cache_spaces.specs.Services.{spaces_of};
     ghost use Rattle.std.specs.Prelude.{true};
+    ghost use Rattle.cache_reading.specs.Read.{journals_in, spaces_in};
+    ghost use Rattle.cache_shared.specs.Events.{record_count};
 
-    ghost service = { service_in };
+    ghost spaces = { spaces_in };
 
     ghost events = { λ reader. record_count (journals_in reader) };
 
@@ -19,8 +18,6 @@ impl Stepping for ReadService {
     ghost KEEPS = { true };
 
     const KEEPS: bool = true;
-
-    ghost Recorded = { λ i output was is. RecordedAs i output (journals_in was) (journals_in is) (spaces_of (service_in was)) (spaces_of (service_in is)) };
 
     fn step(&mut self, input: Input) -> Result<Output, Refusal> {
         let ReadService { recorded, .. } = self;

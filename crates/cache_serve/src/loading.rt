@@ -81,7 +81,7 @@ fn answer<L: Seating, C: Takings>(
     ensures causes { IfErr result (λ e. (e ≢ RunError.Read) × (e ≢ RunError.Write)) }
     ensures asked { C.KEEPS ≡ true → AsksOrNot load.namespace seat.old.receipts.items seat.new.receipts.items (answer_input load.namespace moment load.number outcome) }
     ensures refused { result ≡ Ok false → SameReceipts seat.old.receipts.items seat.new.receipts.items }
-    ensures unfit { result ≡ Ok false → IsUnfit C.service C.events load.namespace outcome }
+    ensures unfit { result ≡ Ok false → IsUnfit C.spaces C.events load.namespace outcome }
     ensures kept { OnErr result (seat.new.count ≡ seat.old.count) }
     ensures same { C.KEEPS ≡ true → OnErr result (SameReceipts seat.old.receipts.items seat.new.receipts.items) }
 {
@@ -122,7 +122,7 @@ fn settle<L: Seating, C: Takings>(
     ensures moment { IsErrOf result RunError.Moment → 2 ^ 63 ≤ moment }
     ensures used_up { IsErrOf result RunError.UsedUp → HasUsedUp C.events seat.old.count seat.new.count }
     ensures causes { IfErr result (λ e. (e ≢ RunError.Read) × (e ≢ RunError.Write)) }
-    ensures asked { C.KEEPS ≡ true → (key : List ℕ) → SettlesSo load.namespace seat.old.receipts.items seat.new.receipts.items (IsUnfit C.service C.events) moment load.number (record { key = key; answer = said }) }
+    ensures asked { C.KEEPS ≡ true → (key : List ℕ) → SettlesSo load.namespace seat.old.receipts.items seat.new.receipts.items (IsUnfit C.spaces C.events) moment load.number (record { key = key; answer = said }) }
     ensures kept { OnErr result (seat.new.count ≡ seat.old.count) }
     ensures same { C.KEEPS ≡ true → OnErr result (SameReceipts seat.old.receipts.items seat.new.receipts.items) }
 {
@@ -146,14 +146,14 @@ fn ask<L: Seating, C: Takings, K: Clock, D: Loader>(
     clock: &mut K,
     loader: &mut D,
 ) -> Result<(), RunError>
-    requires out { HadGoneOut C.service C.events load.namespace load.number key.now }
+    requires out { HadGoneOut C.spaces C.events load.namespace load.number key.now }
     ensures one { seat.new.count ≤ seat.old.count + 1 }
     ensures count { seat.old.count ≤ seat.new.count }
     ensures moment { IsErrOf result RunError.Moment → HasToldLate K.reads clock.new }
     ensures used_up { IsErrOf result RunError.UsedUp → HasUsedUp C.events seat.old.count seat.new.count }
     ensures causes { IfErr result (λ e. (e ≢ RunError.Read) × (e ≢ RunError.Write)) }
     ensures loader { HasAskedSome D.loads loader.old loader.new }
-    ensures asked { C.KEEPS ≡ true → (conn : Conn) → conn.namespace ≡ load.namespace → (read : Option (List ℕ)) → Feeds (HadGoneOut C.service C.events) (IsUnfit C.service C.events) K.reads D.loads seat.old.receipts.items seat.new.receipts.items read read clock.old clock.new loader.old loader.new conn [] [] }
+    ensures asked { C.KEEPS ≡ true → (conn : Conn) → conn.namespace ≡ load.namespace → (read : Option (List ℕ)) → Feeds (HadGoneOut C.spaces C.events) (IsUnfit C.spaces C.events) K.reads D.loads seat.old.receipts.items seat.new.receipts.items read read clock.old clock.new loader.old loader.new conn [] [] }
 {
     let said = loader.load(key);
     let moment = clock.now();
@@ -171,15 +171,15 @@ fn settle_last<L: Seating, C: Takings, K: Clock, D: Loader, T: Teller, R: Wait>(
     loader: &mut D,
     teller: &mut T,
 ) -> Result<(), RunError>
-    requires out { AreOut C.service C.events conn.namespace taken.old.items }
-    ensures out { AreOut C.service C.events conn.namespace taken.new.items }
+    requires out { AreOut C.spaces C.events conn.namespace taken.old.items }
+    ensures out { AreOut C.spaces C.events conn.namespace taken.new.items }
     ensures one { seat.new.count ≤ seat.old.count + 1 }
     ensures count { seat.old.count ≤ seat.new.count }
     ensures moment { IsErrOf result RunError.Moment → HasToldLate K.reads clock.new }
     ensures used_up { IsErrOf result RunError.UsedUp → HasUsedUp C.events seat.old.count seat.new.count }
     ensures causes { IfErr result (λ e. (e ≢ RunError.Read) × (e ≢ RunError.Write)) }
     ensures loader { HasAskedSome D.loads loader.old loader.new }
-    ensures asked { C.KEEPS ≡ true → (read : Option (List ℕ)) → Feeds (HadGoneOut C.service C.events) (IsUnfit C.service C.events) K.reads D.loads seat.old.receipts.items seat.new.receipts.items read read clock.old clock.new loader.old loader.new conn [] [] }
+    ensures asked { C.KEEPS ≡ true → (read : Option (List ℕ)) → Feeds (HadGoneOut C.spaces C.events) (IsUnfit C.spaces C.events) K.reads D.loads seat.old.receipts.items seat.new.receipts.items read read clock.old clock.new loader.old loader.new conn [] [] }
 {
     let Some((load, key)) = taken.last() else {
         return Ok(());
@@ -204,8 +204,8 @@ fn take_more<L: Seating, C: Takings>(
     namespace: u64,
     taken: &mut Vec<(LoadId, Bytes)>,
 )
-    requires out { AreOut C.service C.events namespace taken.old.items }
-    ensures out { AreOut C.service C.events namespace taken.new.items }
+    requires out { AreOut C.spaces C.events namespace taken.old.items }
+    ensures out { AreOut C.spaces C.events namespace taken.new.items }
 {
     if !taken.is_empty() {
         return;
@@ -254,8 +254,8 @@ fn go_on<L: Seating, C: Takings, K: Clock, D: Loader, T: Teller, R: Wait>(
     loader: &mut D,
     teller: &mut T,
 ) -> Result<Next, RunError>
-    requires out { AreOut C.service C.events conn.namespace taken.old.items }
-    ensures out { AreOut C.service C.events conn.namespace taken.new.items }
+    requires out { AreOut C.spaces C.events conn.namespace taken.old.items }
+    ensures out { AreOut C.spaces C.events conn.namespace taken.new.items }
     ensures one { seat.new.count ≤ seat.old.count + 1 }
     ensures count { seat.old.count ≤ seat.new.count }
     ensures nothing { result ≡ Ok Next.Nothing → seat.new.count ≡ seat.old.count }
@@ -264,8 +264,8 @@ fn go_on<L: Seating, C: Takings, K: Clock, D: Loader, T: Teller, R: Wait>(
     ensures used_up { IsErrOf result RunError.UsedUp → HasUsedUp C.events seat.old.count seat.new.count }
     ensures causes { IfErr result (λ e. (e ≢ RunError.Read) × (e ≢ RunError.Write)) }
     ensures loader { HasAskedSome D.loads loader.old loader.new }
-    ensures asked { C.KEEPS ≡ true → result ≢ Ok Next.Over → OnOk result ((read : Option (List ℕ)) → Feeds (HadGoneOut C.service C.events) (IsUnfit C.service C.events) K.reads D.loads seat.old.receipts.items seat.new.receipts.items read read clock.old clock.new loader.old loader.new conn [] []) }
-    ensures left { C.KEEPS ≡ true → (read : Option (List ℕ)) → FeedsMost (HadGoneOut C.service C.events) (IsUnfit C.service C.events) K.reads D.loads seat.old.receipts.items seat.new.receipts.items read read clock.old clock.new loader.old loader.new conn }
+    ensures asked { C.KEEPS ≡ true → result ≢ Ok Next.Over → OnOk result ((read : Option (List ℕ)) → Feeds (HadGoneOut C.spaces C.events) (IsUnfit C.spaces C.events) K.reads D.loads seat.old.receipts.items seat.new.receipts.items read read clock.old clock.new loader.old loader.new conn [] []) }
+    ensures left { C.KEEPS ≡ true → (read : Option (List ℕ)) → FeedsMost (HadGoneOut C.spaces C.events) (IsUnfit C.spaces C.events) K.reads D.loads seat.old.receipts.items seat.new.receipts.items read read clock.old clock.new loader.old loader.new conn }
 {
     if !taken.is_empty() {
         return match settle_last(rt, shared, seat, conn, taken, clock, loader, teller) {
@@ -301,12 +301,12 @@ fn settle_next<L: Seating, C: Takings, O: Write, K: Clock, D: Loader, T: Teller,
     loader: &mut D,
     teller: &mut T,
 ) -> Result<Next, RunError>
-    requires out { AreOut C.service C.events conn.namespace taken.old.items }
-    ensures out { AreOut C.service C.events conn.namespace taken.new.items }
-    ensures ok { OnOk result (WritesAll (λ text. ∥ WereUntaken C.service C.events C.untaken conn text ∥₁) seat.old.count seat.new.count (O.contents (device writer.old)) (O.contents (device writer.new))) }
-    ensures nothing { result ≡ Ok Next.Nothing → WritesAll (λ text. ∥ WereUntaken C.service C.events C.untaken conn text ∥₁) seat.old.count (seat.new.count + 1) (O.contents (device writer.old)) (O.contents (device writer.new)) }
-    ensures over { result ≡ Ok Next.Over → WritesAll (λ text. ∥ WereUntaken C.service C.events C.untaken conn text ∥₁) seat.old.count (seat.new.count + 1) (O.contents (device writer.old)) (O.contents (device writer.new)) }
-    ensures err { OnErr result (WritesThenFails (λ text. ∥ WereUntaken C.service C.events C.untaken conn text ∥₁) seat.old.count (seat.new.count + 1) (O.contents (device writer.old)) (O.contents (device writer.new))) }
+    requires out { AreOut C.spaces C.events conn.namespace taken.old.items }
+    ensures out { AreOut C.spaces C.events conn.namespace taken.new.items }
+    ensures ok { OnOk result (WritesAll (λ text. ∥ WereUntaken C.spaces C.events C.untaken conn text ∥₁) seat.old.count seat.new.count (O.contents (device writer.old)) (O.contents (device writer.new))) }
+    ensures nothing { result ≡ Ok Next.Nothing → WritesAll (λ text. ∥ WereUntaken C.spaces C.events C.untaken conn text ∥₁) seat.old.count (seat.new.count + 1) (O.contents (device writer.old)) (O.contents (device writer.new)) }
+    ensures over { result ≡ Ok Next.Over → WritesAll (λ text. ∥ WereUntaken C.spaces C.events C.untaken conn text ∥₁) seat.old.count (seat.new.count + 1) (O.contents (device writer.old)) (O.contents (device writer.new)) }
+    ensures err { OnErr result (WritesThenFails (λ text. ∥ WereUntaken C.spaces C.events C.untaken conn text ∥₁) seat.old.count (seat.new.count + 1) (O.contents (device writer.old)) (O.contents (device writer.new))) }
     ensures count { seat.old.count ≤ seat.new.count }
     ensures write { IsErrOf result RunError.Write → HasFailed (failures writer.old) (failures writer.new) }
     ensures writes { failures writer.old ≤ failures writer.new }
@@ -314,8 +314,8 @@ fn settle_next<L: Seating, C: Takings, O: Write, K: Clock, D: Loader, T: Teller,
     ensures moment { IsErrOf result RunError.Moment → HasToldLate K.reads clock.new }
     ensures causes { IfErr result (λ e. e ≢ RunError.Read) }
     ensures loader { HasAskedSome D.loads loader.old loader.new }
-    ensures asked { C.KEEPS ≡ true → result ≢ Ok Next.Over → OnOk result ((read : Option (List ℕ)) → Feeds (HadGoneOut C.service C.events) (IsUnfit C.service C.events) K.reads D.loads seat.old.receipts.items seat.new.receipts.items read read clock.old clock.new loader.old loader.new conn [] []) }
-    ensures left { C.KEEPS ≡ true → (read : Option (List ℕ)) → FeedsMost (HadGoneOut C.service C.events) (IsUnfit C.service C.events) K.reads D.loads seat.old.receipts.items seat.new.receipts.items read read clock.old clock.new loader.old loader.new conn }
+    ensures asked { C.KEEPS ≡ true → result ≢ Ok Next.Over → OnOk result ((read : Option (List ℕ)) → Feeds (HadGoneOut C.spaces C.events) (IsUnfit C.spaces C.events) K.reads D.loads seat.old.receipts.items seat.new.receipts.items read read clock.old clock.new loader.old loader.new conn [] []) }
+    ensures left { C.KEEPS ≡ true → (read : Option (List ℕ)) → FeedsMost (HadGoneOut C.spaces C.events) (IsUnfit C.spaces C.events) K.reads D.loads seat.old.receipts.items seat.new.receipts.items read read clock.old clock.new loader.old loader.new conn }
 {
     take_more(rt, shared, conn.namespace, taken);
     // Where nothing waits now, the replies that are taken next are all.
@@ -346,10 +346,10 @@ pub fn settle_loads<L: Seating, C: Takings, O: Write, K: Clock, D: Loader, T: Te
     loader: &mut D,
     teller: &mut T,
 ) -> Result<Progress, RunError>
-    requires out { AreOut C.service C.events conn.namespace taken.old.items }
-    ensures out { AreOut C.service C.events conn.namespace taken.new.items }
-    ensures ok { OnOk result (WritesAll (λ text. ∥ WereUntaken C.service C.events C.untaken conn text ∥₁) seat.old.count (seat.new.count + 1) (O.contents (device writer.old)) (O.contents (device writer.new))) }
-    ensures err { OnErr result (WritesThenFails (λ text. ∥ WereUntaken C.service C.events C.untaken conn text ∥₁) seat.old.count (seat.new.count + 1) (O.contents (device writer.old)) (O.contents (device writer.new))) }
+    requires out { AreOut C.spaces C.events conn.namespace taken.old.items }
+    ensures out { AreOut C.spaces C.events conn.namespace taken.new.items }
+    ensures ok { OnOk result (WritesAll (λ text. ∥ WereUntaken C.spaces C.events C.untaken conn text ∥₁) seat.old.count (seat.new.count + 1) (O.contents (device writer.old)) (O.contents (device writer.new))) }
+    ensures err { OnErr result (WritesThenFails (λ text. ∥ WereUntaken C.spaces C.events C.untaken conn text ∥₁) seat.old.count (seat.new.count + 1) (O.contents (device writer.old)) (O.contents (device writer.new))) }
     ensures count { seat.old.count ≤ seat.new.count }
     ensures write { IsErrOf result RunError.Write → HasFailed (failures writer.old) (failures writer.new) }
     ensures writes { failures writer.old ≤ failures writer.new }
@@ -357,8 +357,8 @@ pub fn settle_loads<L: Seating, C: Takings, O: Write, K: Clock, D: Loader, T: Te
     ensures moment { IsErrOf result RunError.Moment → HasToldLate K.reads clock.new }
     ensures causes { IfErr result (λ e. e ≢ RunError.Read) }
     ensures loader { HasAskedSome D.loads loader.old loader.new }
-    ensures asked { C.KEEPS ≡ true → result ≡ Ok Progress.More → (read : Option (List ℕ)) → Feeds (HadGoneOut C.service C.events) (IsUnfit C.service C.events) K.reads D.loads seat.old.receipts.items seat.new.receipts.items read read clock.old clock.new loader.old loader.new conn [] [] }
-    ensures left { C.KEEPS ≡ true → (read : Option (List ℕ)) → FeedsMost (HadGoneOut C.service C.events) (IsUnfit C.service C.events) K.reads D.loads seat.old.receipts.items seat.new.receipts.items read read clock.old clock.new loader.old loader.new conn }
+    ensures asked { C.KEEPS ≡ true → result ≡ Ok Progress.More → (read : Option (List ℕ)) → Feeds (HadGoneOut C.spaces C.events) (IsUnfit C.spaces C.events) K.reads D.loads seat.old.receipts.items seat.new.receipts.items read read clock.old clock.new loader.old loader.new conn [] [] }
+    ensures left { C.KEEPS ≡ true → (read : Option (List ℕ)) → FeedsMost (HadGoneOut C.spaces C.events) (IsUnfit C.spaces C.events) K.reads D.loads seat.old.receipts.items seat.new.receipts.items read read clock.old clock.new loader.old loader.new conn }
 {
     let mut may_hold = false;
     for _turn in rt.forever() {
@@ -384,10 +384,10 @@ fn settle_after<L: Seating, C: Takings, D: Loader>(
     key: &[u8],
     loader: &mut D,
 )
-    requires out { HadGoneOut C.service C.events load.namespace load.number key.now }
+    requires out { HadGoneOut C.spaces C.events load.namespace load.number key.now }
     ensures count { seat.old.count ≤ seat.new.count }
     ensures loader { HasAskedMost D.loads loader.old loader.new seat.old.count seat.new.count }
-    ensures asked { C.KEEPS ≡ true → (drops : List Settling) × Drops load.namespace seat.old.receipts.items seat.new.receipts.items (HadGoneOut C.service C.events) D.loads loader.old loader.new drops }
+    ensures asked { C.KEEPS ≡ true → (drops : List Settling) × Drops load.namespace seat.old.receipts.items seat.new.receipts.items (HadGoneOut C.spaces C.events) D.loads loader.old loader.new drops }
 {
     let said = loader.load(key);
     match settle(rt, shared, seat, load, said, 0) {
@@ -408,10 +408,10 @@ pub fn settle_rest<L: Seating, C: Takings, D: Loader, T: Teller, R: Wait>(
     loader: &mut D,
     teller: &mut T,
 )
-    requires out { AreOut C.service C.events namespace taken.old.items }
+    requires out { AreOut C.spaces C.events namespace taken.old.items }
     ensures count { seat.old.count ≤ seat.new.count }
     ensures loader { HasAskedMost D.loads loader.old loader.new seat.old.count seat.new.count }
-    ensures asked { C.KEEPS ≡ true → (drops : List Settling) × Drops namespace seat.old.receipts.items seat.new.receipts.items (HadGoneOut C.service C.events) D.loads loader.old loader.new drops }
+    ensures asked { C.KEEPS ≡ true → (drops : List Settling) × Drops namespace seat.old.receipts.items seat.new.receipts.items (HadGoneOut C.spaces C.events) D.loads loader.old loader.new drops }
 {
     for _turn in 0..u64::MAX {
         take_more(rt, shared, namespace, taken);

@@ -98,17 +98,17 @@ fn converse<L: Seating, C: Takings, I: Read, O: Write, K: Clock, D: Loader, T: T
     loader: &mut D,
     teller: &mut T,
 ) -> Result<(), RunError>
-    requires out { AreOut C.service C.events conn.namespace taken.old.items }
-    ensures out { AreOut C.service C.events conn.namespace taken.new.items }
-    ensures ok { OnOk result (WritesAll (λ text. ∥ WereUntaken C.service C.events C.untaken conn text ∥₁) seat.old.count seat.new.count (O.contents (device writer.old)) (O.contents (device writer.new))) }
-    ensures err { OnErr result (WritesThenFails (λ text. ∥ WereUntaken C.service C.events C.untaken conn text ∥₁) seat.old.count seat.new.count (O.contents (device writer.old)) (O.contents (device writer.new))) }
+    requires out { AreOut C.spaces C.events conn.namespace taken.old.items }
+    ensures out { AreOut C.spaces C.events conn.namespace taken.new.items }
+    ensures ok { OnOk result (WritesAll (λ text. ∥ WereUntaken C.spaces C.events C.untaken conn text ∥₁) seat.old.count seat.new.count (O.contents (device writer.old)) (O.contents (device writer.new))) }
+    ensures err { OnErr result (WritesThenFails (λ text. ∥ WereUntaken C.spaces C.events C.untaken conn text ∥₁) seat.old.count seat.new.count (O.contents (device writer.old)) (O.contents (device writer.new))) }
     ensures count { seat.old.count ≤ seat.new.count }
     ensures read { IsErrOf result RunError.Read → HasFailed (failures reader.old) (failures reader.new) }
     ensures write { IsErrOf result RunError.Write → HasFailed (failures writer.old) (failures writer.new) }
     ensures used_up { IsErrOf result RunError.UsedUp → HasFailed (failures writer.old) (failures writer.new) ⊎ HasUsedUp C.events seat.old.count seat.new.count }
     ensures moment { IsErrOf result RunError.Moment → HasToldLate K.reads clock.new }
     ensures loader { HasAskedSome D.loads loader.old loader.new }
-    ensures asked { C.KEEPS ≡ true → FeedsMost (HadGoneOut C.service C.events) (IsUnfit C.service C.events) K.reads D.loads seat.old.receipts.items seat.new.receipts.items (I.remaining (device reader.old)) (I.remaining (device reader.new)) clock.old clock.new loader.old loader.new conn }
+    ensures asked { C.KEEPS ≡ true → FeedsMost (HadGoneOut C.spaces C.events) (IsUnfit C.spaces C.events) K.reads D.loads seat.old.receipts.items seat.new.receipts.items (I.remaining (device reader.old)) (I.remaining (device reader.new)) clock.old clock.new loader.old loader.new conn }
 {
     for _turn in rt.forever() {
         match take_turn(
@@ -150,8 +150,8 @@ pub fn serve<L: Seating, C: Takings, I: Read, O: Write, K: Clock, D: Loader, R: 
     clock: &mut K,
     loader: &mut D,
 ) -> Result<(), RunError>
-    ensures wrote { OnOk result (Serves C.service C.events C.untaken namespace (λ conn. C.KEEPS ≡ true → ServesConnection (HadGoneOut C.service C.events) (IsUnfit C.service C.events) K.reads D.loads seat.old.receipts.items seat.new.receipts.items (I.remaining (device reader.old)) (I.remaining (device reader.new)) clock.old clock.new loader.old loader.new namespace conn []) seat.old.count seat.new.count 3 (O.contents (device writer.old)) (O.contents (device writer.new)) []) }
-    ensures broke { OnErr result ((rest : List ℕ) × (asks : List Asking) × Askings D.loads loader.old asks loader.new × Serves C.service C.events C.untaken namespace (λ conn. C.KEEPS ≡ true → ServesConnectionOrNot (HadGoneOut C.service C.events) (IsUnfit C.service C.events) K.reads D.loads seat.old.receipts.items seat.new.receipts.items (I.remaining (device reader.old)) (I.remaining (device reader.new)) clock.old clock.new loader.old loader.new namespace conn) seat.old.count seat.new.count (length asks + 3) (O.contents (device writer.old)) (O.contents (device writer.new)) rest) }
+    ensures wrote { OnOk result (Serves C.spaces C.events C.untaken namespace (λ conn. C.KEEPS ≡ true → ServesConnection (HadGoneOut C.spaces C.events) (IsUnfit C.spaces C.events) K.reads D.loads seat.old.receipts.items seat.new.receipts.items (I.remaining (device reader.old)) (I.remaining (device reader.new)) clock.old clock.new loader.old loader.new namespace conn []) seat.old.count seat.new.count 3 (O.contents (device writer.old)) (O.contents (device writer.new)) []) }
+    ensures broke { OnErr result ((rest : List ℕ) × (asks : List Asking) × Askings D.loads loader.old asks loader.new × Serves C.spaces C.events C.untaken namespace (λ conn. C.KEEPS ≡ true → ServesConnectionOrNot (HadGoneOut C.spaces C.events) (IsUnfit C.spaces C.events) K.reads D.loads seat.old.receipts.items seat.new.receipts.items (I.remaining (device reader.old)) (I.remaining (device reader.new)) clock.old clock.new loader.old loader.new namespace conn) seat.old.count seat.new.count (length asks + 3) (O.contents (device writer.old)) (O.contents (device writer.new)) rest) }
     ensures count { seat.old.count ≤ seat.new.count }
     ensures read { IsErrOf result RunError.Read → HasFailed (failures reader.old) (failures reader.new) }
     ensures write { IsErrOf result RunError.Write → HasFailed (failures writer.old) (failures writer.new) }
@@ -199,8 +199,8 @@ pub fn serve_and_tell<
     loader: &mut D,
     teller: &mut T,
 ) -> Result<(), RunError>
-    ensures wrote { OnOk result (Serves C.service C.events C.untaken namespace (λ conn. C.KEEPS ≡ true → ServesConnection (HadGoneOut C.service C.events) (IsUnfit C.service C.events) K.reads D.loads seat.old.receipts.items seat.new.receipts.items (I.remaining (device reader.old)) (I.remaining (device reader.new)) clock.old clock.new loader.old loader.new namespace conn []) seat.old.count seat.new.count 3 (O.contents (device writer.old)) (O.contents (device writer.new)) []) }
-    ensures broke { OnErr result ((rest : List ℕ) × (asks : List Asking) × Askings D.loads loader.old asks loader.new × Serves C.service C.events C.untaken namespace (λ conn. C.KEEPS ≡ true → ServesConnectionOrNot (HadGoneOut C.service C.events) (IsUnfit C.service C.events) K.reads D.loads seat.old.receipts.items seat.new.receipts.items (I.remaining (device reader.old)) (I.remaining (device reader.new)) clock.old clock.new loader.old loader.new namespace conn) seat.old.count seat.new.count (length asks + 3) (O.contents (device writer.old)) (O.contents (device writer.new)) rest) }
+    ensures wrote { OnOk result (Serves C.spaces C.events C.untaken namespace (λ conn. C.KEEPS ≡ true → ServesConnection (HadGoneOut C.spaces C.events) (IsUnfit C.spaces C.events) K.reads D.loads seat.old.receipts.items seat.new.receipts.items (I.remaining (device reader.old)) (I.remaining (device reader.new)) clock.old clock.new loader.old loader.new namespace conn []) seat.old.count seat.new.count 3 (O.contents (device writer.old)) (O.contents (device writer.new)) []) }
+    ensures broke { OnErr result ((rest : List ℕ) × (asks : List Asking) × Askings D.loads loader.old asks loader.new × Serves C.spaces C.events C.untaken namespace (λ conn. C.KEEPS ≡ true → ServesConnectionOrNot (HadGoneOut C.spaces C.events) (IsUnfit C.spaces C.events) K.reads D.loads seat.old.receipts.items seat.new.receipts.items (I.remaining (device reader.old)) (I.remaining (device reader.new)) clock.old clock.new loader.old loader.new namespace conn) seat.old.count seat.new.count (length asks + 3) (O.contents (device writer.old)) (O.contents (device writer.new)) rest) }
     ensures count { seat.old.count ≤ seat.new.count }
     ensures read { IsErrOf result RunError.Read → HasFailed (failures reader.old) (failures reader.new) }
     ensures write { IsErrOf result RunError.Write → HasFailed (failures writer.old) (failures writer.new) }

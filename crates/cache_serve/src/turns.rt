@@ -80,8 +80,8 @@ pub fn deliver<L: Seating, C: Takings, W: Write>(
     conn: Conn,
     writer: &mut Watched<W>,
 ) -> Result<(), RunError>
-    ensures ok { OnOk result (WritesTexts (λ text. ∥ WereUntaken C.service C.events C.untaken conn text ∥₁) 1 (W.contents (device writer.old)) (W.contents (device writer.new)) []) }
-    ensures err { OnErr result ((count : ℕ) × (rest : List ℕ) × WritesTexts (λ text. ∥ WereUntaken C.service C.events C.untaken conn text ∥₁) count (W.contents (device writer.old)) (W.contents (device writer.new)) rest) }
+    ensures ok { OnOk result (WritesTexts (λ text. ∥ WereUntaken C.spaces C.events C.untaken conn text ∥₁) 1 (W.contents (device writer.old)) (W.contents (device writer.new)) []) }
+    ensures err { OnErr result ((count : ℕ) × (rest : List ℕ) × WritesTexts (λ text. ∥ WereUntaken C.spaces C.events C.untaken conn text ∥₁) count (W.contents (device writer.old)) (W.contents (device writer.new)) rest) }
     ensures write { IsErrOf result RunError.Write → HasFailed (failures writer.old) (failures writer.new) }
     ensures used_up { IsErrOf result RunError.UsedUp → HasFailed (failures writer.old) (failures writer.new) }
     ensures causes { IfErr result (λ e. (e ≢ RunError.Read) × (e ≢ RunError.Moment)) }
@@ -196,10 +196,10 @@ pub fn take_turn<
     loader: &mut D,
     teller: &mut T,
 ) -> Result<Progress, RunError>
-    requires out { AreOut C.service C.events conn.namespace taken.old.items }
-    ensures out { AreOut C.service C.events conn.namespace taken.new.items }
-    ensures ok { OnOk result (WritesAll (λ text. ∥ WereUntaken C.service C.events C.untaken conn text ∥₁) seat.old.count seat.new.count (O.contents (device writer.old)) (O.contents (device writer.new))) }
-    ensures err { OnErr result (WritesThenFails (λ text. ∥ WereUntaken C.service C.events C.untaken conn text ∥₁) seat.old.count seat.new.count (O.contents (device writer.old)) (O.contents (device writer.new))) }
+    requires out { AreOut C.spaces C.events conn.namespace taken.old.items }
+    ensures out { AreOut C.spaces C.events conn.namespace taken.new.items }
+    ensures ok { OnOk result (WritesAll (λ text. ∥ WereUntaken C.spaces C.events C.untaken conn text ∥₁) seat.old.count seat.new.count (O.contents (device writer.old)) (O.contents (device writer.new))) }
+    ensures err { OnErr result (WritesThenFails (λ text. ∥ WereUntaken C.spaces C.events C.untaken conn text ∥₁) seat.old.count seat.new.count (O.contents (device writer.old)) (O.contents (device writer.new))) }
     ensures count { seat.old.count ≤ seat.new.count }
     ensures read { IsErrOf result RunError.Read → HasFailed (failures reader.old) (failures reader.new) }
     ensures write { IsErrOf result RunError.Write → HasFailed (failures writer.old) (failures writer.new) }
@@ -208,8 +208,8 @@ pub fn take_turn<
     ensures reads { failures reader.old ≤ failures reader.new }
     ensures writes { failures writer.old ≤ failures writer.new }
     ensures loader { HasAskedSome D.loads loader.old loader.new }
-    ensures asked { C.KEEPS ≡ true → result ≡ Ok Progress.More → Feeds (HadGoneOut C.service C.events) (IsUnfit C.service C.events) K.reads D.loads seat.old.receipts.items seat.new.receipts.items (I.remaining (device reader.old)) (I.remaining (device reader.new)) clock.old clock.new loader.old loader.new conn [] [] }
-    ensures left { C.KEEPS ≡ true → FeedsMost (HadGoneOut C.service C.events) (IsUnfit C.service C.events) K.reads D.loads seat.old.receipts.items seat.new.receipts.items (I.remaining (device reader.old)) (I.remaining (device reader.new)) clock.old clock.new loader.old loader.new conn }
+    ensures asked { C.KEEPS ≡ true → result ≡ Ok Progress.More → Feeds (HadGoneOut C.spaces C.events) (IsUnfit C.spaces C.events) K.reads D.loads seat.old.receipts.items seat.new.receipts.items (I.remaining (device reader.old)) (I.remaining (device reader.new)) clock.old clock.new loader.old loader.new conn [] [] }
+    ensures left { C.KEEPS ≡ true → FeedsMost (HadGoneOut C.spaces C.events) (IsUnfit C.spaces C.events) K.reads D.loads seat.old.receipts.items seat.new.receipts.items (I.remaining (device reader.old)) (I.remaining (device reader.new)) clock.old clock.new loader.old loader.new conn }
 {
     let count = match reader.read(buffer) {
         Ok(count) => count,

@@ -16,8 +16,8 @@ use Rattle.audit_receipts.specs.declared.output.Output.{Output}
 use Rattle.audit_receipts.specs.declared.output.Output.TheVariants.{All, Held}
 use Rattle.cache_shared.specs.Events.{Performs, IsReached, is_fed, is_output_for}
 use Rattle.cache_spaces.proofs.Journaling.{got}
-use Rattle.cache_spaces.specs.Recorded.{namespace_of}
-use Rattle.cache_spaces.specs.declared.space.Space.{Space}
+use Rattle.cache_spaces.specs.Inputs.{namespace_of}
+use Rattle.cache_spaces.specs.Spaces.{Shown}
 
 chosen : {X : Type 0} (b : Bool) (x y : X) → (if b then Some x else None) ≡ Some y → x ≡ y
 chosen true x y e = same_Some x y e
@@ -44,7 +44,7 @@ comes (input.GiveUp load moment) opened happened steps e =
     subst (λ h. IsTrue (is_output_for (input.GiveUp load moment) (output_with load.namespace h steps)))
     (chosen (load.namespace == load.namespace) (event.GiveUp load.number moment) happened e) refl
 
-came : (i : Input) (output : Output) (old new : List Space) (events : ℕ) → IsReached old events → Performs i output old new → IsTrue (is_output_for i output)
+came : (i : Input) (output : Output) (old new : List Shown) (events : ℕ) → IsReached old events → Performs i output old new → IsTrue (is_output_for i output)
 came i output old new events r a =
     let k = namespace_of i in
     let lt = slice_get_within old k a.was a.at in
@@ -53,5 +53,5 @@ came i output old new events r a =
     let h = a.fact.from l.last l.stands in
     subst (λ o. IsTrue (is_output_for i o)) (sym h.answers) (comes i _ h.entry.event h.entry.steps h.event)
 
-pub came-so : (i : Input) (output : Output) (old new : List Space) (events : ℕ) → ∥ IsReached old events ∥₁ → Performs i output old new → IsTrue (is_output_for i output)
+pub came-so : (i : Input) (output : Output) (old new : List Shown) (events : ℕ) → ∥ IsReached old events ∥₁ → Performs i output old new → IsTrue (is_output_for i output)
 came-so i output old new events reached done = ∥∥₁_elim reached (Prim.hlevel props) (λ w. came i output old new events w done)

@@ -1,17 +1,20 @@
 -- What a service that keeps its journals does with an input.
-use Rattle.std.proofs.Common.{◌≡◌, ℕ, ◌+◌, ◌≤◌, List, [], ◌∷◌, ◌++◌, length, length-append, map, Option, Some, refl, sym, ap, ◌∙◌, subst, arith, inl, inr}
+use Rattle.std.proofs.Common.{◌≡◌, ℕ, ◌+◌, ◌≤◌, List, [], ◌∷◌, ◌++◌, length, length-append, map, Option, Some, refl, sym, ap, ◌∙◌, subst, arith, inl, inr, Vec, Global}
 use Rattle.std.specs.Prelude.{Result, Ok, Err, OnOk, OnErr, IfOk, IfErr}
 use Rattle.std.specs.List.{slice_get}
 use Rattle.std.proofs.Math.Logic.{∥∥₁_elim}
 use Rattle.std.proofs.Props.{props}
 use Rattle.std.proofs.lemmas.Option.{same_Some}
 use Rattle.audit_model.specs.declared.input.Input.{Input}
+use Rattle.audit_model.specs.declared.input.LoadId.{LoadId}
+use Rattle.audit_model.specs.declared.input.ServiceError.{ServiceError}
+use Rattle.audit_model.specs.declared.input.ServiceError.TheVariants as error
 use Rattle.audit_model.specs.declared.transcript.Record.{Record}
 use Rattle.audit_model.specs.declared.transcript.Transcript.{Transcript}
 use Rattle.audit_receipts.specs.declared.output.Output.{Output}
 use Rattle.cache_spaces.proofs.Journaling.{journal-at, mapped, were-journals, were-led}
-use Rattle.cache_spaces.proofs.Showing.{at-shown, length-shown, map-set, performs-shown, refused-shown, refuses-shown}
-use Rattle.cache_spaces.specs.Calls.{At, Refuses}
+use Rattle.cache_spaces.proofs.Showing.{at-shown, in-shown, length-shown, map-set, performs-shown, refused-shown, refuses-shown}
+use Rattle.cache_spaces.specs.Calls.{At, InSpace, IsOpened, IsUnknown, Refuses, TakesLoads}
 use Rattle.cache_spaces.specs.Inputs.{Performs, RefusedInput, namespace_of}
 use Rattle.cache_spaces.specs.Journals.{journals_of, kept_by}
 use Rattle.cache_spaces.specs.Played.{WerePlayed, journal_of}
@@ -26,9 +29,35 @@ use Rattle.cache_tape.specs.Taped.{Taped, with_entry}
 abbrev pub all-shown : List (Space Taped) → List Shown
 all-shown spaces = map (shown kept_by) spaces
 
-pub performs : {E : Type 0} (i : Input) (r : Result Output E) (old new : List (Space Taped)) → IfOk r (λ output. At old new (namespace_of i) (Performs kept_by i output)) → IfOk r (λ output. events.Performs i output (all-shown old) (all-shown new))
-performs i (Ok output) old new taken = at-shown (shown kept_by) old new (namespace_of i) (λ was is p. performs-shown kept_by i output was is p) taken
-performs i (Err e) old new taken = taken
+module _ {T : Type 0} (tape : T → Option Taped) where
+  pub performs : {E : Type 0} (i : Input) (r : Result Output E) (old new : List (Space T)) → IfOk r (λ output. At old new (namespace_of i) (Performs tape i output)) → IfOk r (λ output. events.Performs i output (map (shown tape) old) (map (shown tape) new))
+  performs i (Ok output) old new taken = at-shown (shown tape) old new (namespace_of i) (λ was is p. performs-shown tape i output was is p) taken
+  performs i (Err e) old new taken = taken
+
+  -- a refusal of the service
+  pub refused : (i : Input) (e : ServiceError) (count : ℕ) (old : List (Space T)) → Refuses old (namespace_of i) e (RefusedInput i e) → RefusesEvent i e count (map (shown tape) old)
+  refused i e count old cause = inr (refuses-shown (shown tape) old (namespace_of i) e (λ was c. refused-shown tape i e was c) cause)
+
+  -- takings and looks
+
+  pub loads-shown : (n : ℕ) (old new : List (Space T)) (r : Result (Vec (LoadId × List ℕ) Global) ServiceError) → IfOk r (λ loads. At old new n (λ was is. TakesLoads was is loads.items))
+      → IfOk r (λ loads. At (map (shown tape) old) (map (shown tape) new) n (λ was is. TakesLoads was is loads.items))
+  loads-shown n old new (Ok loads) taken = at-shown (shown tape) old new n (λ was is t. record { taken = t.taken; rest = ap (shown tape) t.rest; in_turn = t.in_turn; keys = t.keys }) taken
+  loads-shown n old new (Err e) taken = taken
+
+  pub none-shown : {A : Type 0} (n : ℕ) (old : List (Space T)) (r : Result A ServiceError) → IfErr r (λ e. (e ≡ error.NoNamespace) × (length old ≤ n)) → IfErr r (λ e. (e ≡ error.NoNamespace) × (length (map (shown tape) old) ≤ n))
+  none-shown n old (Ok a) cause = cause
+  none-shown n old (Err e) cause = (cause.0, subst (λ k. k ≤ n) (sym (length-shown (shown tape) old)) cause.1)
+
+  pub look-shown : {A : Type 0} (of : Space T → A) (seen : Shown → A) (n number : ℕ) (spaces : List (Space T)) (r : Result A ServiceError) → ((x : Space T) → seen (shown tape x) ≡ of x)
+      → IfOk r (λ a. InSpace spaces n (λ space. IsOpened space number × (a ≡ of space))) → IfOk r (λ a. InSpace (map (shown tape) spaces) n (λ space. a ≡ seen space))
+  look-shown of seen n number spaces (Ok a) same looked = in-shown (shown tape) spaces n (λ x p. p.1 ∙ sym (same x)) looked
+  look-shown of seen n number spaces (Err e) same looked = looked
+
+  pub unknown-shown : {A : Type 0} (n number : ℕ) (spaces : List (Space T)) (r : Result A ServiceError) → IfErr r (λ e. Refuses spaces n e (λ space. IsUnknown space number e))
+      → IfErr r (λ e. Refuses (map (shown tape) spaces) n e (λ space. IsUnknown space number e))
+  unknown-shown n number spaces (Ok a) cause = cause
+  unknown-shown n number spaces (Err e) cause = refuses-shown (shown tape) spaces n e (λ x u. record { unknown = u.unknown; error = u.error }) cause
 
 counts-one : (i : Input) (output : Output) (old new : List (Space Taped)) → WerePlayed old → At old new (namespace_of i) (Performs kept_by i output) → record_count (journals_of new) ≡ record_count (journals_of old) + 1
 counts-one i output old new w a =
@@ -49,11 +78,10 @@ pub still : {A E : Type 0} (r : Result A E) (old new : List (Space Taped)) → O
 still (Ok a) old new same = same
 still (Err e) old new same = (ap (λ spaces. record_count (journals_of spaces)) same, ap all-shown same)
 
--- a refusal of the service
-pub refused : {A : Type 0} (i : Input) (r : Result A Refusal) (count : ℕ) (old : List (Space Taped)) → IfErr r (λ refusal. Refuses old (namespace_of i) refusal.error (RefusedInput i refusal.error))
+pub refused-kept : {A : Type 0} (i : Input) (r : Result A Refusal) (count : ℕ) (old : List (Space Taped)) → IfErr r (λ refusal. Refuses old (namespace_of i) refusal.error (RefusedInput i refusal.error))
     → IfErr r (λ refusal. RefusesEvent i refusal.error count (all-shown old))
-refused i (Ok x) count old cause = cause
-refused i (Err refusal) count old cause = inr (refuses-shown (shown kept_by) old (namespace_of i) refusal.error (λ was c. refused-shown kept_by i refusal.error was c) cause)
+refused-kept i (Ok x) count old cause = cause
+refused-kept i (Err refusal) count old cause = refused kept_by i refusal.error count old cause
 
 -- a namespace that the service does not have has no journal
 pub none-there : {A E : Type 0} (P : E → Type 0) (r : Result A E) (spaces : List (Space Taped)) (k : ℕ) → IfErr r (λ e. P e × (length spaces ≤ k)) → IfErr r (λ e. length (journals_of spaces) ≤ k)

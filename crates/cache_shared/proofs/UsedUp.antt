@@ -1,6 +1,6 @@
 -- No event is refused with `UsedUp` for what it is.
-use Rattle.std.proofs.Common.{◌≡◌, ◌⊎◌, ℕ, ◌^◌, ◌-◌, ◌<◌, Bool, true, false, not, ◌||◌, List, Option, Some, None, length, inl, inr}
-use Rattle.std.specs.Prelude.{nat_le, nat_lt}
+use Rattle.std.proofs.Common.{◌≡◌, ◌⊎◌, ℕ, ◌^◌, ◌-◌, ◌<◌, Bool, true, false, not, ◌||◌, List, Option, Some, None, length, inl, inr, ap, sym}
+use Rattle.std.specs.Prelude.{MatchOption, nat_le, nat_lt}
 use Rattle.std.specs.Option.{option_or}
 use Rattle.std.proofs.lemmas.Option.{none-some, same_Some}
 use Rattle.audit_model.specs.Belongs.{Known, refusal_of, refusal_of_bytes, refusal_of_conn, refusal_of_load, refusal_of_moment, refusal_of_ms, refusal_of_outcome, refusal_where}
@@ -15,9 +15,7 @@ use Rattle.audit_model.specs.declared.input.Input.{Input}
 use Rattle.audit_model.specs.declared.input.ServiceError.{ServiceError}
 use Rattle.audit_model.specs.declared.input.ServiceError.TheVariants as error
 use Rattle.cache_shared.specs.Events.{IsUsedUp, RefusesEvent}
-use Rattle.cache_spaces.specs.Serves.{known_of}
-use Rattle.cache_spaces.specs.Spaces.{config_of}
-use Rattle.cache_spaces.specs.declared.space.Space.{Space}
+use Rattle.cache_spaces.specs.Spaces.{Shown, config_of, known_of}
 
 or-not : (o p : Option ServiceError) → (o ≡ Some error.UsedUp → ⊥) → (p ≡ Some error.UsedUp → ⊥) → option_or o p ≡ Some error.UsedUp → ⊥
 or-not None p a b e = b e
@@ -61,11 +59,15 @@ event-not config known (event.Answer load outcome moment) e =
     (or-not (refusal_of_moment moment) (refusal_of_outcome config outcome) (moment-not moment) (outcome-not config outcome)) e
 event-not config known (event.GiveUp load moment) e = or-not (refusal_of_load known load) (refusal_of_moment moment) (load-not known load) (moment-not moment) e
 
-pub used-up : (i : Input) (events count : ℕ) (old new : List Space) → RefusesEvent i error.UsedUp events old new → IsUsedUp count events
-used-up i events count old new (inl full) = inr full.1
-used-up i events count old new (inr (inl none)) = absurd (let h : error.UsedUp ≡ error.NoNamespace = none.0 in cc)
-used-up i events count old new (inr (inr there)) =
-    elim there.fact.1.refused [
-      | inl refused ↦ absurd (event-not (config_of there.was) (known_of there.was) there.fact.1.happened refused)
-      | inr other ↦ elim other [ inl memory ↦ absurd (let h : error.UsedUp ≡ error.OutOfMemory = memory in cc) | inr again ↦ absurd (let h : error.UsedUp ≡ error.HeldAgain = again in cc) ]
-    ]
+-- what a definition refuses, or else wants memory
+refused-not : (o : Option ServiceError) (held : Bool) → (o ≡ Some error.UsedUp → ⊥) → MatchOption o ((error.UsedUp ≡ error.OutOfMemory) ⊎ ((error.UsedUp ≡ error.HeldAgain) × (held ≡ true))) (λ refused. error.UsedUp ≡ refused) → ⊥
+refused-not None held n (inl memory) = let h : error.UsedUp ≡ error.OutOfMemory = memory in cc
+refused-not None held n (inr again) = let h : error.UsedUp ≡ error.HeldAgain = again.0 in cc
+refused-not (Some refused) held n e = n (ap Some (sym e))
+
+pub used-up : (i : Input) (events count : ℕ) (spaces : List Shown) → RefusesEvent i error.UsedUp events spaces → IsUsedUp count events
+used-up i events count spaces (inl full) = inr full.1
+used-up i events count spaces (inr (inl none)) = absurd (let h : error.UsedUp ≡ error.NoNamespace = none.0 in cc)
+used-up i events count spaces (inr (inr there)) =
+    let r = there.fact in
+    absurd (refused-not (refusal_of (config_of there.space) (known_of there.space) r.happened) _ (event-not (config_of there.space) (known_of there.space) r.happened) r.refused)

@@ -1,8 +1,9 @@
 -- What inputs do to a service, and where it has come to.
-use Rattle.std.specs.Prelude.{◌≡◌, ℕ, ◌^◌, ◌-◌, ◌≤◌, ◌==◌, Bool, true, false, List, length, Some, sum_by, ◌⊎◌, IsTrue}
+use Rattle.std.specs.Prelude.{◌≡◌, ℕ, ◌^◌, ◌-◌, ◌≤◌, ◌==◌, Bool, true, false, List, [], length, Some, sum_by, ◌⊎◌, IsTrue}
 use Rattle.std.specs.List.{slice_get}
 use Rattle.audit_model.specs.Belongs.{IsAdmitted}
 use Rattle.audit_model.specs.Obeys.{Obeys}
+use Rattle.audit_model.specs.declared.event.Instant.{Instant}
 use Rattle.audit_model.specs.declared.input.Input.{Input}
 use Rattle.audit_model.specs.declared.input.Input.TheVariants as input
 use Rattle.audit_model.specs.declared.input.ServiceError.{ServiceError}
@@ -19,6 +20,10 @@ use Rattle.cache_spaces.specs.Spaces.{Shown, config_of, shown_tape}
 -- how many records the journals have together
 abbrev pub record_count : List Transcript → ℕ
 record_count journals = sum_by (λ journal. length journal.records) journals
+
+-- transcripts that begin at that moment, without records
+abbrev pub AreEmpty : Instant → List Transcript → Type 0
+AreEmpty made transcripts = (namespace : ℕ) (transcript : Transcript) → slice_get transcripts namespace ≡ Some transcript → transcript ≡ record { made = made; records = [] }
 
 -- the journal obeys, none of its events is one that is refused, and it leads to a situation for which the namespace stands
 pub record IsJournal (space : Shown) (journal : Transcript) : Type 0 where

@@ -21,9 +21,9 @@ module _ {T : Type 0} (was : Space T) (number : ℕ) where
   unknown (Ok a) refused none = none
   unknown (Err e) refused none = record { unknown = refused.0 refl; error = none }
 
-  pub first-of : {A Same : Type 0} (r : Result A ServiceError) → IfErr r (λ e. (e ≡ error.NoConnection) × Same) → IfErr r (λ e. e ≡ error.NoConnection)
-  first-of (Ok a) both = both
-  first-of (Err e) both = both.0
+  pub first-of : {A : Type 0} (Same : Type 0) (r : Result A ServiceError) → IfErr r (λ e. (e ≡ error.NoConnection) × Same) → IfErr r (λ e. e ≡ error.NoConnection)
+  first-of Same (Ok a) both = both
+  first-of Same (Err e) both = both.0
 
   pub looked : {A : Type 0} (Fact : A → Type 0) (r : Result A ServiceError) → IfOk r Fact → IsErr r ↔ (was_opened was number ≡ false) → IfOk r (λ a. IsOpened was number × Fact a)
   looked Fact (Ok a) fact refused = (opened (was_opened was number) refused.1, fact)

@@ -28,6 +28,10 @@ module _ {X : Type 0} where
     pub set : new ≡ slice_set old namespace is
     pub fact : Fact was is
 
+  -- the one of that number is this
+  abbrev pub IsSpace : List X → ℕ → X → Type 0
+  IsSpace spaces namespace space = slice_get spaces namespace ≡ Some space
+
   -- that is true of the one of that number
   pub record InSpace (spaces : List X) (namespace : ℕ) (Fact : X → Type 0) : Type 0 where
     pub space : X

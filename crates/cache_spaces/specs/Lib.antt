@@ -2,6 +2,7 @@ pub mod Served
 pub mod Stores
 pub mod Spaces
 pub mod Calls
+pub mod Bares
 pub mod Inputs
 pub mod Services
 pub mod Sound

@@ -89,12 +89,7 @@ impl<T: Tape> Core<T> {
     }
 
     /// Takes a piece of a connection's bytes.
-    fn step_feed(
-        &mut self,
-        conn: Conn,
-        piece: Bytes,
-        moment: Instant,
-    ) -> Result<Output, Refusal>
+    fn step_feed(&mut self, conn: Conn, piece: Bytes, moment: Instant) -> Result<Output, Refusal>
         ensures performed { IfOk result (λ output. At self.old self.new conn.namespace (Performs T.view (input.Feed conn piece moment) output)) }
         ensures refused { IfErr result (λ refusal. Refuses self.old conn.namespace refusal.error (RefusedInput (input.Feed conn piece moment) refusal.error)) }
         ensures back { IfErr result (λ refusal. refusal.input ≡ input.Feed conn piece moment) }

@@ -1,5 +1,5 @@
 -- A script from its new service to its end.
-use Rattle.std.proofs.Common.{◌≡◌, ℕ, ◌+◌, Bool, true, false, List, [], ◌∷◌, ◌++◌, map, length, Option, Some, refl, sym, ap, ◌∙◌, subst}
+use Rattle.std.proofs.Common.{◌≡◌, ℕ, ◌+◌, Bool, true, false, List, [], ◌∷◌, ◌++◌, map, length, Option, None, Some, refl, sym, ap, ◌∙◌, subst}
 use Rattle.std.specs.Io.KnownBytes.{Appends, Consumes, IsAtEnd}
 use Rattle.std.specs.Prelude.{◌&&◌, ◌==◌, Result, Ok, Err, IsOk, OnOk}
 use Rattle.std.specs.List.{flat_map, list_all}
@@ -16,10 +16,10 @@ use Rattle.audit_model.specs.declared.event.Outcome.{Outcome}
 use Rattle.cache_run.specs.Runs.{EndsRun, ServesWhole}
 use Rattle.cache_run.specs.Worlds.{outside, world}
 use Rattle.cache_run.proofs.Placing.{at-is}
-use Rattle.cache_spaces.specs.Moves.{At}
+use Rattle.cache_spaces.specs.Bares.{BareSpace, bare_tape}
+use Rattle.cache_spaces.specs.Calls.{At}
 use Rattle.cache_spaces.specs.Services.{AreNew}
 use Rattle.cache_spaces.specs.Spaces.{config_of, notices_of}
-use Rattle.cache_spaces.specs.declared.space.Space.{Space}
 use Rattle.cached_script.specs.Notes.{notes_text, notices_at}
 use Rattle.cached_script.specs.Scripts.{ServesScript, script_config, script_transcript}
 
@@ -42,7 +42,7 @@ ends-so true closing remaining ends e = ends.1
 ends-so false closing remaining ends e = cc
 
 module _ {C L : Type 0} (loads : L → List ℕ → Option Outcome → L → Type 0) (input rest output written errors told : Option (List ℕ)) (clock after : C) (loader later : L) where
-  carried-script : (was is : Space) (number : ℕ) (closes : Bool) (s : Situation) → number ≡ 1 → config_of was ≡ script_config → notices_of was ≡ []
+  carried-script : (was is : BareSpace) (number : ℕ) (closes : Bool) (s : Situation) → number ≡ 1 → config_of was ≡ script_config → notices_of was ≡ []
       → Carried (config_of was) number stands_still loads (world was (empty_situation 0) (outside input output clock loader)) (world is s (outside rest written after later)) true closes [] nothing_left
       → (closes ≡ true → IsAtEnd rest) → Appends errors told (notes_text (notices_of is))
       → ServesScript input rest output written errors told
@@ -63,7 +63,7 @@ module _ {C L : Type 0} (loads : L → List ℕ → Option Outcome → L → Typ
         notes = subst (λ l. Appends errors told (notes_text l)) (c.notices ∙ append-nil (notices_of was ++ flat_map (turn_notes number) c.turns) ∙ ap (λ l. l ++ flat_map (turn_notes number) c.turns) none ∙ ap (λ n. flat_map (turn_notes n) c.turns) first) notes;
       }
 
-  pub script-served : (old new : List Space) (generator : List ℕ) → AreNew old (script_config ∷ []) generator 0
+  pub script-served : (old new : List BareSpace) (generator : List ℕ) → AreNew bare_tape None old (script_config ∷ []) generator 0
       → At old new 0 (λ was is. ServesWhole stands_still loads was is (outside input output clock loader) (outside rest written after later))
       → Appends errors told (notes_text (notices_at new 0)) → ServesScript input rest output written errors told
   script-served old new generator made a notes =
@@ -71,5 +71,5 @@ module _ {C L : Type 0} (loads : L → List ℕ → Option Outcome → L → Typ
       let w = a.fact in
       let s = w.goes.each (empty_situation 0) begun.stands tt in
       let here = at-is (λ was is. ServesWhole stands_still loads was is (outside input output clock loader) (outside rest written after later)) old new 0 a in
-      carried-script a.was a.is w.number w.closes s.next (w.next ∙ ap (λ cs. length cs + 1) begun.connections) begun.configured begun.notices s.fact (ends-so w.closes _ rest w.ends)
+      carried-script a.was a.is w.number w.closes s.next (w.next ∙ ap (λ (x : BareSpace). length x.closings + 1) begun.state_is) begun.configured begun.notices s.fact (ends-so w.closes _ rest w.ends)
       (subst (λ l. Appends errors told (notes_text l)) (ap (λ o. option_map_or notices_of o []) here) notes)

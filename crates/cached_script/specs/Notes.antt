@@ -5,8 +5,8 @@ use Rattle.std.specs.Option.{option_map_or}
 use Rattle.audit_model.specs.declared.transcript.Note.{Note}
 use Rattle.audit_model.specs.declared.transcript.RemovalCause.{RemovalCause}
 use Rattle.audit_model.specs.declared.transcript.RemovalCause.TheVariants.{Expired, Explicit, Replaced, Size}
+use Rattle.cache_spaces.specs.Bares.{BareSpace}
 use Rattle.cache_spaces.specs.Spaces.{notices_of}
-use Rattle.cache_spaces.specs.declared.space.Space.{Space}
 
 -- the word of a cause
 abbrev pub cause_text : RemovalCause → List ℕ
@@ -24,5 +24,5 @@ abbrev pub notes_text : List Note → List ℕ
 notes_text notes = flat_map note_text notes
 
 -- the notes of a namespace that were told and not taken
-abbrev pub notices_at : List Space → ℕ → List Note
+abbrev pub notices_at : List BareSpace → ℕ → List Note
 notices_at spaces namespace = option_map_or notices_of (slice_get spaces namespace) []

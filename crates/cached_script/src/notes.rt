@@ -3,7 +3,6 @@ ghost use Rattle.std.specs.Prelude.{◌≡◌, ◌≤◌, ◌<◌, ◌∷◌, �
 ghost use Rattle.std.specs.Io.KnownBytes.{Appends};
 ghost use Rattle.cache_devices.specs.Failures.{HasFailed};
 ghost use Rattle.cache_devices.specs.Watched.{device, failures};
-ghost use Rattle.cache_spaces.specs.Services.{spaces_of};
 ghost use Rattle.cached_script.specs.Gathering.{Gathers};
 ghost use Rattle.cached_script.specs.Notes.{cause_text, note_text, notes_text, notices_at};
 
@@ -46,10 +45,10 @@ pub fn write_note<W: Write>(
 
 /// The oldest note of a namespace that there is.
 fn next_note(service: &mut Service, namespace: u64) -> Option<Note>
-    requires known { namespace < length (spaces_of service.old) }
-    ensures none { IfNone result ((notices_at (spaces_of service.old) namespace ≡ []) × (notices_at (spaces_of service.new) namespace ≡ [])) }
-    ensures first { IfSome result (λ note. notices_at (spaces_of service.old) namespace ≡ note ∷ notices_at (spaces_of service.new) namespace) }
-    ensures count { length (spaces_of service.new) ≡ length (spaces_of service.old) }
+    requires known { namespace < length service.old }
+    ensures none { IfNone result ((notices_at service.old namespace ≡ []) × (notices_at service.new namespace ≡ [])) }
+    ensures first { IfSome result (λ note. notices_at service.old namespace ≡ note ∷ notices_at service.new namespace) }
+    ensures count { length service.new ≡ length service.old }
 {
     match service.next_notice(namespace) {
         Ok(note) => note,
@@ -65,11 +64,11 @@ pub fn tell_notes<W: Write>(
     gathered: &mut Vec<u8>,
     writer: &mut Watched<W>,
 ) -> Result<(), SendError>
-    requires known { namespace < length (spaces_of service.old) }
+    requires known { namespace < length service.old }
     requires none { gathered.old.items ≡ [] }
-    ensures told { OnOk result (Appends (W.contents (device writer.old)) (W.contents (device writer.new)) (notes_text (notices_at (spaces_of service.old) namespace))) }
-    ensures all { OnOk result (notices_at (spaces_of service.new) namespace ≡ []) }
-    ensures cause { OnErr result (HasFailed (failures writer.old) (failures writer.new) ⊎ (2 ^ 64 - 1 ≤ length (notices_at (spaces_of service.old) namespace))) }
+    ensures told { OnOk result (Appends (W.contents (device writer.old)) (W.contents (device writer.new)) (notes_text (notices_at service.old namespace))) }
+    ensures all { OnOk result (notices_at service.new namespace ≡ []) }
+    ensures cause { OnErr result (HasFailed (failures writer.old) (failures writer.new) ⊎ (2 ^ 64 - 1 ≤ length (notices_at service.old namespace))) }
     ensures count { failures writer.old ≤ failures writer.new }
 {
     for _note in 0..u64::MAX {

@@ -14,4 +14,4 @@ returns-clause-refused g c =
     let item = c.in-Some.ensures.item in
     let at = there c.self.inside.spaces.items c.args.conn.namespace c.in-Some.space.now item.3.0 item.1 in
     refused-there c.args.self.now c.self.inside.spaces.items c.self.view_is c.args.conn.namespace c.in-Some.space.now at _ c.take_output.result
-    (unknown c.in-Some.space.now c.args.conn.number c.take_output.result c.take_output.ensures.refused (first-of c.in-Some.space.now c.args.conn.number c.take_output.result c.take_output.ensures.unchanged))
+    (unknown c.in-Some.space.now c.args.conn.number c.take_output.result c.take_output.ensures.refused (first-of c.in-Some.space.now c.args.conn.number _ c.take_output.result c.take_output.ensures.unchanged))

@@ -1,0 +1,10 @@
+use Rattle.std.proofs.Common.{arith}
+use Rattle.cache_spaces.proofs.Journaling.{were-none}
+use Rattle.cache_spaces.proofs.journals.RecordedService.new.Goals as goal
+
+pub invariant_of-result : goal.invariant_of-result
+invariant_of-result c = (
+  ∣ were-none c.args.configs.now c.args.generator c.args.moment c.in-Ok.core c.in-Ok.ensures.made ∣₁,
+  c.in-Ok-with_capacity.ensures.items,
+  let count = c.in-Ok.ensures.made.count in let capacity = c.in-Ok-with_capacity.ensures.capacity in omega (arith, count, capacity),
+)
