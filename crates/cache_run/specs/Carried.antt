@@ -8,12 +8,8 @@ use Rattle.audit_model.specs.declared.config.Config.{Config}
 use Rattle.audit_model.specs.declared.event.Event.TheVariants as event
 use Rattle.audit_model.specs.declared.event.Outcome.{Outcome}
 use Rattle.audit_model.specs.declared.transcript.Record.{Record}
-<<<<<<< HEAD
 use Rattle.cache_core.specs.Turned.{notes_in}
 use Rattle.cache_run.specs.Happened.{Asking, Turn, AreDrops, AreInPlace, AreRight, asked_in, moment_in, turn_notes, record_of, piece_in, records_in, replies_in}
-=======
-use Rattle.cache_run.specs.Happened.{Asking, Turn, AreDrops, AreInPlace, AreRight, asked_in, moment_in, turn_notes, record_notes, piece_in, records_in, record_of, replies_in}
->>>>>>> cores
 use Rattle.cache_run.specs.Worlds.{World}
 use Rattle.cache_run.specs.declared.errors.RunError.{RunError}
 use Rattle.cache_run.specs.declared.errors.RunError.TheVariants.{Moment}

@@ -4,7 +4,6 @@ use Rattle.std.specs.List.{slice_get}
 use Rattle.std.specs.Io.KnownBytes.{IsAtEnd}
 use Rattle.audit_model.specs.declared.command.Closing.{Closing}
 use Rattle.audit_model.specs.declared.command.Closing.TheVariants as by
-<<<<<<< HEAD
 use Rattle.cache_spaces.specs.Calls.{IsOpened}
 use Rattle.cache_spaces.specs.Spaces.{closing_of, untaken_output}
 use Rattle.cache_run.specs.Bared.{Bared}
@@ -14,30 +13,10 @@ pub record Connected (spaces : List Bared) (namespace number : ℕ) (IsLeft : �
   pub space : Bared
   pub at : slice_get spaces namespace ≡ Some space
   pub opened : IsOpened space number
-=======
-use Rattle.cache_spaces.specs.Calls.{IsSpace}
-use Rattle.cache_spaces.specs.Spaces.{closing_of, untaken_output}
-use Rattle.cache_spaces.specs.Bares.{BareSpace}
-
--- the namespace knows the connection, and that is true of it
-pub record Connected (spaces : List BareSpace) (namespace number : ℕ) (IsLeft : ℕ → BareSpace → Type 0) : Type 0 where
-  pub space : BareSpace
-  pub at : IsSpace spaces namespace space
-  pub positive : 0 < number
-  pub known : number ≤ length space.closings
->>>>>>> cores
   pub left : IsLeft number space
 
--- it is open, or has closed for what it was fed
-abbrev pub IsOpenOrEnded : Option Closing → Type 0
-IsOpenOrEnded closing = (closing ≡ None) ⊎ (closing ≡ Some by.Long) ⊎ (closing ≡ Some by.Quit) ⊎ (closing ≡ Some by.Behind)
-
 -- it is open, and its replies were taken
-<<<<<<< HEAD
 abbrev pub IsReady : ℕ → Bared → Type 0
-=======
-abbrev pub IsReady : ℕ → BareSpace → Type 0
->>>>>>> cores
 IsReady number space = (closing_of space number ≡ None) × (untaken_output space number ≡ [])
 
 -- it has closed for what it was fed: too long a line, a `QUIT`, or too many bytes behind a `LOAD` that waits
@@ -49,7 +28,6 @@ abbrev pub IsOpenOrEnded : Option Closing → Type 0
 IsOpenOrEnded closing = (closing ≡ None) ⊎ IsEnded closing
 
 -- its replies were taken, and it may have closed for what it was fed
-<<<<<<< HEAD
 abbrev pub HasTakenReplies : ℕ → Bared → Type 0
 HasTakenReplies number space = IsOpenOrEnded (closing_of space number) × (untaken_output space number ≡ [])
 
@@ -59,24 +37,9 @@ IsFed number space = IsOpenOrEnded (closing_of space number)
 
 -- its replies were taken, unless there was an error, and it may have closed for what it was fed
 abbrev pub IsLeftBy : {T E : Type 0} → Result T E → ℕ → Bared → Type 0
-=======
-abbrev pub HasTakenReplies : ℕ → BareSpace → Type 0
-HasTakenReplies number space = IsOpenOrEnded (closing_of space number) × (untaken_output space number ≡ [])
-
--- it may have closed for what it was fed
-abbrev pub IsFed : ℕ → BareSpace → Type 0
-IsFed number space = IsOpenOrEnded (closing_of space number)
-
--- its replies were taken, unless there was an error, and it may have closed for what it was fed
-abbrev pub IsLeftBy : {T E : Type 0} → Result T E → ℕ → BareSpace → Type 0
->>>>>>> cores
 IsLeftBy (Ok done) = HasTakenReplies
 IsLeftBy (Err e) = IsFed
 
 -- the input is at its end, or the connection has closed for what it was fed
-<<<<<<< HEAD
 abbrev pub IsOver : Option (List ℕ) → ℕ → Bared → Type 0
-=======
-abbrev pub IsOver : Option (List ℕ) → ℕ → BareSpace → Type 0
->>>>>>> cores
 IsOver remaining number space = ((closing_of space number ≡ None) × IsAtEnd remaining) ⊎ IsEnded (closing_of space number)

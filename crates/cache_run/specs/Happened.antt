@@ -1,8 +1,4 @@
-<<<<<<< HEAD
 -- What happens in a run: pieces are fed, and loads are settled by what the loader says of their keys.
-=======
--- What happens in a run: pieces are feeding, and loads are settled by what the loader says of their keys.
->>>>>>> cores
 use Rattle.std.specs.Prelude.{◌≡◌, ℕ, true, List, [], ◌∷◌, Option, None, Some, IfSome, is_some, ◌⊎◌}
 use Rattle.std.specs.List.{flat_map}
 use Rattle.audit_model.specs.Belongs.{refusal_of_outcome}
@@ -17,28 +13,19 @@ use Rattle.audit_model.specs.declared.transcript.Note.{Note}
 use Rattle.audit_model.specs.declared.transcript.Record.{Record}
 use Rattle.audit_model.specs.declared.transcript.Step.{Step}
 use Rattle.cache_core.specs.Settling.{answering, giving_up}
-<<<<<<< HEAD
 use Rattle.cache_core.specs.Turned.{feeding, notes_in}
 use Rattle.cache_lines.specs.Gathered.{reply_in}
 
 -- the record of an event that is no answer
 abbrev pub record_of : Event → List Step → Record
 record_of happened steps = record { event = happened; own = None; notices = []; steps = steps }
-=======
-use Rattle.cache_core.specs.Turned.{feeding}
-use Rattle.cache_lines.specs.Gathered.{reply_in}
->>>>>>> cores
 
 -- what a loader was asked, and what it said
 pub record Asking : Type 0 where
   pub key : List ℕ
   pub answer : Option Outcome
 
-<<<<<<< HEAD
 -- a piece was fed at a moment, and these steps ran; or the loader was asked, and at that moment the load was settled by that record; or the
-=======
--- a piece was feeding at a moment, and these steps ran; or the loader was asked, and at that moment the load was settled by that record; or the
->>>>>>> cores
 -- load of that number was not under way any more, and what the loader said was dropped
 pub data Turn : Type 0 where
   Fed : (piece : List ℕ) → (moment : ℕ) → (steps : List Step) → Turn
@@ -62,10 +49,6 @@ abbrev pub asked_in : Turn → List Asking
 asked_in (Fed piece moment steps) = []
 asked_in (Settled asking moment entry) = asking ∷ []
 asked_in (Dropped asking moment load) = asking ∷ []
-
--- the record of an event with these steps, of which no value is accepted but by them
-abbrev pub record_of : Event → List Step → Record
-record_of happened steps = record { event = happened; own = None; notices = []; steps = steps }
 
 -- its record, if there is one
 abbrev pub records_in : ℕ → Turn → List Record

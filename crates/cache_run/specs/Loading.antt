@@ -10,10 +10,6 @@ use Rattle.audit_model.specs.declared.transcript.Record.{Record}
 use Rattle.audit_model.specs.declared.input.LoadId.{LoadId}
 use Rattle.cache_spaces.specs.Calls.{At}
 use Rattle.cache_spaces.specs.Spaces.{StandsFor, closing_of, config_of, notices_of, untaken_output}
-<<<<<<< HEAD
-=======
-use Rattle.cache_spaces.specs.Bares.{BareSpace}
->>>>>>> cores
 use Rattle.audit_waiting_laws.specs.Keys.{IsKnown}
 use Rattle.cache_core.specs.Turned.{notes_in}
 use Rattle.cache_run.specs.Bared.{Bared}
@@ -24,51 +20,27 @@ use Rattle.cache_run.specs.Happened.{AreDrops, Asking, IsGivenUpFor, asking_of}
 use Rattle.cache_run.specs.Worlds.{Outside, world}
 use Rattle.cache_run.specs.declared.errors.RunError.{RunError}
 
-<<<<<<< HEAD
 -- loads may have been taken, and nothing else changed
 abbrev pub SameButLoads : Bared → Bared → Type 0
 SameButLoads was is = is ≡ record was { outgoing = is.outgoing }
-=======
--- the namespace is the same, but that loads may have been taken
-pub record SameButLoads (was is : BareSpace) : Type 0 where
-  pub stands : (s : Situation) → StandsFor was s → StandsFor is s
-  pub config : config_of is ≡ config_of was
-  pub outputs : (number : ℕ) → untaken_output is number ≡ untaken_output was number
-  pub closings : (number : ℕ) → closing_of is number ≡ closing_of was number
-  pub notices : notices_of is ≡ notices_of was
-  pub count : length is.closings ≡ length was.closings
->>>>>>> cores
 
 -- each of the loads that were taken was sent, and where it is under way it has the key that it was taken with
 abbrev pub AreKnown : List (LoadId × List ℕ) → Situation → Type 0
 AreKnown [] s = Unit {0}
 AreKnown (out ∷ outs) s = IsKnown out.0.number out.1 s × AreKnown outs s
 
-<<<<<<< HEAD
 -- the same, and the keys of those that were taken are right
 pub record TakesMore (was is : Bared) (before after : List (LoadId × List ℕ)) : Type 0 where
-=======
--- loads may have been taken, and nothing else changed
-pub record TakesMore (was is : BareSpace) (before after : List (LoadId × List ℕ)) : Type 0 where
->>>>>>> cores
   pub same : SameButLoads was is
   pub known : (s : Situation) → StandsFor was s → AreKnown before s → AreKnown after s
 
 -- where the keys of the loads that were taken before were right, turns came, nothing was left, and the keys of those taken behind are right
-<<<<<<< HEAD
 abbrev pub Carries : {C L : Type 0} → (C → ℕ → C → Type 0) → (L → List ℕ → Option Outcome → L → Type 0) → List Bared → List Bared → ℕ → ℕ → Outside C L → Outside C L → List (LoadId × List ℕ) → List (LoadId × List ℕ) → Type 0
-=======
-abbrev pub Carries : {C L : Type 0} → (C → ℕ → C → Type 0) → (L → List ℕ → Option Outcome → L → Type 0) → List BareSpace → List BareSpace → ℕ → ℕ → Outside C L → Outside C L → List (LoadId × List ℕ) → List (LoadId × List ℕ) → Type 0
->>>>>>> cores
 Carries reads loads old new namespace number a b before after =
     At old new namespace (λ was is. Goes number was is (λ s t. AreKnown before s → Carried (config_of was) number reads loads (world was s a) (world is t b) false false [] nothing_left × AreKnown after t))
 
 -- where the keys of the loads that were taken before were right, turns came, and then an error
-<<<<<<< HEAD
 abbrev pub BreaksOff : {C L : Type 0} → (C → ℕ → C → Type 0) → (L → List ℕ → Option Outcome → L → Type 0) → List Bared → List Bared → ℕ → ℕ → Outside C L → Outside C L → List (LoadId × List ℕ) → RunError → Type 0
-=======
-abbrev pub BreaksOff : {C L : Type 0} → (C → ℕ → C → Type 0) → (L → List ℕ → Option Outcome → L → Type 0) → List BareSpace → List BareSpace → ℕ → ℕ → Outside C L → Outside C L → List (LoadId × List ℕ) → RunError → Type 0
->>>>>>> cores
 BreaksOff reads loads old new namespace number a b before e =
     At old new namespace (λ was is. Goes number was is (λ s t. AreKnown before s → Broken (config_of was) number reads loads (world was s a) (world is t b) false false [] e))
 
@@ -80,11 +52,7 @@ pub record OnlyGivesUp (config : Config) (s t : Situation) (before after : List 
   pub notices : after ≡ before ++ flat_map notes_in drops
 
 -- loads of a connection's namespace were given up, and the connection stays closed if it was
-<<<<<<< HEAD
 abbrev pub GivesUpLoads : ℕ → Bared → Bared → Type 0
-=======
-abbrev pub GivesUpLoads : ℕ → BareSpace → BareSpace → Type 0
->>>>>>> cores
 GivesUpLoads number was is =
     Goes number was is (λ s t. OnlyGivesUp (config_of was) s t (notices_of was) (notices_of is)) × (closing_of was number ≢ None → closing_of is number ≢ None)
 

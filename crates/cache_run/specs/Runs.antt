@@ -10,15 +10,10 @@ use Rattle.audit_model.specs.declared.event.Event.{Event}
 use Rattle.audit_model.specs.declared.event.Event.TheVariants as event
 use Rattle.audit_model.specs.declared.transcript.Note.{Note}
 use Rattle.audit_model.specs.declared.transcript.Record.{Record}
-<<<<<<< HEAD
 use Rattle.cache_devices.specs.Watched.{device}
 use Rattle.cache_devices.specs.declared.watched.Watched.{Watched}
 use Rattle.cache_spaces.specs.Calls.{At}
 use Rattle.cache_spaces.specs.Spaces.{closing_of, config_of, notices_of}
-=======
-use Rattle.cache_spaces.specs.Spaces.{closing_of, config_of, notices_of}
-use Rattle.cache_spaces.specs.Bares.{BareSpace}
->>>>>>> cores
 use Rattle.audit_model.specs.declared.event.Outcome.{Outcome}
 use Rattle.audit_waiting_laws.specs.Alone.{WaitsAlone}
 use Rattle.cache_run.specs.Accounts.{AddsNoLoads, pending_of}
@@ -28,20 +23,12 @@ use Rattle.cache_run.specs.Connected.{IsEnded}
 use Rattle.cache_run.specs.Delivered.{Unfed}
 use Rattle.cache_run.specs.Goes.{Goes}
 use Rattle.cache_run.specs.Happened.{record_of}
-<<<<<<< HEAD
 use Rattle.cache_run.specs.Worlds.{Outside, outside, world}
-=======
-use Rattle.cache_run.specs.Worlds.{Outside, world}
->>>>>>> cores
 use Rattle.cache_run.specs.declared.errors.RunError.{RunError}
 use Rattle.cache_run.specs.declared.errors.RunError.TheVariants.{OutOfMemory}
 
 -- the number that the next connection gets
-<<<<<<< HEAD
 abbrev pub next_number : Bared → ℕ
-=======
-abbrev pub next_number : BareSpace → ℕ
->>>>>>> cores
 next_number space = length space.closings + 1
 
 -- the event's record follows without steps, and nothing was told
@@ -50,11 +37,7 @@ pub record Quiet (config : Config) (happened : Event) (s t : Situation) (before 
   pub notices : after ≡ before
 
 -- an open connection closes as asked, and one that has closed for what it was fed stays so
-<<<<<<< HEAD
 abbrev pub Closes : ℕ → Bared → Bared → Type 0
-=======
-abbrev pub Closes : ℕ → BareSpace → BareSpace → Type 0
->>>>>>> cores
 Closes number was is =
     ((closing_of was number ≡ None) × (closing_of is number ≡ Some by.Asked) × Goes number was is (λ s t. Quiet (config_of was) (event.Close number) s t (notices_of was) (notices_of is)))
     ⊎ (IsEnded (closing_of was number) × (closing_of is number ≡ closing_of was number) × Goes number was is (λ s t. Unfed s t (notices_of was) (notices_of is)))
@@ -66,11 +49,7 @@ EndsRun true closing remaining = (closing ≡ Some by.Asked) × IsAtEnd remainin
 EndsRun false closing remaining = IsEnded closing
 
 -- One connection was opened, fed with all that was read, and closed; the bytes written are its replies.
-<<<<<<< HEAD
 pub record ServesWhole {C L : Type 0} (reads : C → ℕ → C → Type 0) (loads : L → List ℕ → Option Outcome → L → Type 0) (was is : Bared) (before after : Outside C L) : Type 0 where
-=======
-pub record ServesWhole {C L : Type 0} (reads : C → ℕ → C → Type 0) (loads : L → List ℕ → Option Outcome → L → Type 0) (was is : BareSpace) (before after : Outside C L) : Type 0 where
->>>>>>> cores
   pub number : ℕ
   pub next : number ≡ next_number was
   pub closes : Bool
@@ -80,11 +59,7 @@ pub record ServesWhole {C L : Type 0} (reads : C → ℕ → C → Type 0) (load
   pub settled : AddsNoLoads was is
 
 -- One connection was opened, fed, and closed after an error, and then loads were given up; the bytes written are a beginning of its replies.
-<<<<<<< HEAD
 pub record ServesPartly {C L : Type 0} (reads : C → ℕ → C → Type 0) (loads : L → List ℕ → Option Outcome → L → Type 0) (was is : Bared) (before after : Outside C L) (e : RunError) : Type 0 where
-=======
-pub record ServesPartly {C L : Type 0} (reads : C → ℕ → C → Type 0) (loads : L → List ℕ → Option Outcome → L → Type 0) (was is : BareSpace) (before after : Outside C L) (e : RunError) : Type 0 where
->>>>>>> cores
   pub number : ℕ
   pub next : number ≡ next_number was
   pub closes : Bool

@@ -5,10 +5,6 @@ ghost use Rattle.std.specs.Prelude.{◌≤◌, ◌^◌, ℕ, List, [], ◌≡◌
 ghost use Rattle.cache_devices.specs.Watched.{device, failures};
 ghost use Rattle.cache_core.specs.Turned.{feeding};
 ghost use Rattle.cache_spaces.specs.Calls.{At, ServesEvent, TakesOutput};
-<<<<<<< HEAD
-=======
-ghost use Rattle.cache_spaces.specs.Bares.{bare_tape};
->>>>>>> cores
 ghost use Rattle.cache_spaces.specs.Services.{feed_is_held};
 ghost use Rattle.cache_spaces.specs.Spaces.{config_of, notices_of};
 ghost use Rattle.cache_run.specs.Accounts.{SendsLater};
@@ -16,12 +12,8 @@ ghost use Rattle.cache_run.specs.Bared.{bare_tape};
 ghost use Rattle.cache_run.specs.Causes.{Because};
 ghost use Rattle.cache_run.specs.Connected.{Connected, IsFed, IsLeftBy, IsReady};
 ghost use Rattle.cache_run.specs.Delivered.{Answered, Delivered, IsCause, Unanswered, Undelivered};
-<<<<<<< HEAD
 ghost use Rattle.cache_run.specs.Goes.{Goes};
 ghost use Rattle.cache_run.specs.Turns.{Fails};
-=======
-ghost use Rattle.cache_run.specs.Goes.{Goes, SameSpace};
->>>>>>> cores
 
 use crate::errors::{RunError, error_of_send};
 use audit_model::{Conn, Instant, ServiceError};
@@ -31,15 +23,9 @@ use std::io::Write;
 
 /// Feeds a piece to a connection.
 fn feed_piece(service: &mut Service, conn: Conn, piece: &[u8], moment: u64) -> Result<Fed, RunError>
-<<<<<<< HEAD
     ensures taken { IfOk result (λ done. At service.old service.new conn.namespace (λ was is. ServesEvent bare_tape was is (feeding conn.number piece.now moment) (feed_is_held done))) }
     ensures refused { IfErr result (IsCause moment) }
     ensures unchanged { OnErr result (service.new ≡ service.old) }
-=======
-    requires ready { Connected service.old conn.namespace conn.number IsReady }
-    ensures taken { IfOk result (λ done. At service.old service.new conn.namespace (λ was is. ServesEvent bare_tape was is (feeding conn.number piece.now moment) (feed_is_held done))) }
-    ensures refused { IfErr result (λ e. At service.old service.new conn.namespace SameSpace × IsCause moment e) }
->>>>>>> cores
 {
     match service.feed(conn, piece, Instant { nanos: moment }) {
         Ok(done) => Ok(done),
@@ -112,11 +98,7 @@ pub fn deliver<W: Write>(
         (λ e. At service.old service.new conn.namespace (λ was is. Goes conn.number was is (λ s t. Undelivered (config_of was) conn.number piece.now moment [] s t (notices_of was) (notices_of is) (W.contents (device writer.old)) (W.contents (device writer.new)) e))) }
     ensures left { Connected service.new conn.namespace conn.number (IsLeftBy result) }
     ensures later { At service.old service.new conn.namespace SendsLater }
-<<<<<<< HEAD
     ensures why { IfErr result (Because ⊥ (Fails writer.old writer.new) (Fails writer.old writer.new) (2 ^ 63 ≤ moment)) }
-=======
-    ensures why { IfErr result (Because ⊥ (HasFailed (failures writer.old) (failures writer.new)) (HasFailed (failures writer.old) (failures writer.new)) (2 ^ 63 ≤ moment)) }
->>>>>>> cores
     ensures count { failures writer.old ≤ failures writer.new }
 {
     let replies = match answer_piece(service, conn, piece, moment) {

@@ -2,17 +2,13 @@
 ghost use Rattle.std.specs.Prelude.{◌≡◌, ◌≢◌, ◌==◌, ◌≤◌, ◌<◌, ◌⊎◌, ◌^◌, ◌-◌, ℕ, List, [], Option, true, false, length, is_some, IfOk, IfErr, OnOk, MatchResult};
 ghost use Rattle.audit_model.specs.Belongs.{refusal_of_outcome};
 ghost use Rattle.cache_devices.specs.Watched.{device, failures};
-<<<<<<< HEAD
 ghost use Rattle.cache_spaces.specs.Calls.{At, InSpace};
-=======
-ghost use Rattle.cache_spaces.specs.Calls.{At};
->>>>>>> cores
 ghost use Rattle.cache_spaces.specs.Spaces.{config_of, notices_of, untaken_output};
 ghost use Rattle.cache_run.specs.Accounts.{Accounts, DropsAll, DropsUnwaited, HasTakenAll, SettlesLoad, is_left};
 ghost use Rattle.cache_run.specs.Causes.{Because};
 ghost use Rattle.cache_run.specs.Connected.{Connected, IsFed, IsLeftBy, HasTakenReplies};
 ghost use Rattle.cache_run.specs.Delivered.{AnsweredLoad, IsCause};
-ghost use Rattle.cache_run.specs.Goes.{Goes, SameSpace};
+ghost use Rattle.cache_run.specs.Goes.{Goes};
 ghost use Rattle.cache_run.specs.Happened.{Asking, IsGivenUpFor, asking_of};
 ghost use Rattle.cache_run.specs.Loading.{BreaksOff, Carries, GivenUpSo, GivesUpLoads, SettledSo, TakesMore};
 ghost use Rattle.cache_run.specs.Turns.{Fails, HasAsked, HasToldLate};
@@ -29,18 +25,11 @@ use std::io::Write;
 /// Gives a load up. One that is not under way stays settled.
 fn give_up(service: &mut Service, conn: Conn, load: u64, moment: u64) -> Result<(), RunError>
     requires taken { Connected service.old conn.namespace conn.number HasTakenReplies }
-<<<<<<< HEAD
     ensures ok { OnOk result (At service.old service.new conn.namespace (GivenUpSo conn.number load moment)) }
     ensures left { OnOk result (Connected service.new conn.namespace conn.number IsFed) }
     ensures gone { OnOk result (At service.old service.new conn.namespace (SettlesLoad load)) }
     ensures err { IfErr result (IsCause moment) }
     ensures unchanged { OnErr result (service.new ≡ service.old) }
-=======
-    ensures ok { OnOk result (At service.old service.new conn.namespace (λ was is. (asking : Asking) → IsGivenUpFor (config_of was) asking.answer → Goes conn.number was is (λ s t. AnsweredLoad (config_of was) conn.number load moment asking s t (notices_of was) (notices_of is) (untaken_output is conn.number)))) }
-    ensures left { OnOk result (Connected service.new conn.namespace conn.number IsFed) }
-    ensures gone { OnOk result (At service.old service.new conn.namespace (SettlesLoad load)) }
-    ensures err { IfErr result (λ e. At service.old service.new conn.namespace SameSpace × IsCause moment e) }
->>>>>>> cores
 {
     let id = LoadId {
         namespace: conn.namespace,
@@ -68,20 +57,12 @@ fn answer(
     moment: u64,
 ) -> Result<bool, RunError>
     requires taken { Connected service.old conn.namespace conn.number HasTakenReplies }
-<<<<<<< HEAD
     ensures settled { IfOk result (λ settled. settled ≡ true → At service.old service.new conn.namespace (SettledSo conn.number load moment (Some outcome))) }
     ensures refused { IfOk result (λ settled. settled ≡ false → (service.new ≡ service.old) × InSpace service.old conn.namespace (λ was. is_some (refusal_of_outcome (config_of was) outcome) ≡ true)) }
     ensures left { IfOk result (λ settled. settled ≡ true → Connected service.new conn.namespace conn.number IsFed) }
     ensures gone { IfOk result (λ settled. settled ≡ true → At service.old service.new conn.namespace (SettlesLoad load)) }
     ensures err { IfErr result (IsCause moment) }
     ensures unchanged { OnErr result (service.new ≡ service.old) }
-=======
-    ensures settled { IfOk result (λ settled. settled ≡ true → At service.old service.new conn.namespace (λ was is. (key : List ℕ) → Goes conn.number was is (λ s t. AnsweredLoad (config_of was) conn.number load moment (asking_of key (Some outcome)) s t (notices_of was) (notices_of is) (untaken_output is conn.number)))) }
-    ensures refused { IfOk result (λ settled. settled ≡ false → At service.old service.new conn.namespace (λ was is. SameSpace was is × (is_some (refusal_of_outcome (config_of was) outcome) ≡ true))) }
-    ensures left { IfOk result (λ settled. settled ≡ true → Connected service.new conn.namespace conn.number IsFed) }
-    ensures gone { IfOk result (λ settled. settled ≡ true → At service.old service.new conn.namespace (SettlesLoad load)) }
-    ensures err { IfErr result (λ e. At service.old service.new conn.namespace SameSpace × IsCause moment e) }
->>>>>>> cores
 {
     let id = LoadId {
         namespace: conn.namespace,
@@ -111,18 +92,11 @@ fn settle(
     moment: u64,
 ) -> Result<(), RunError>
     requires taken { Connected service.old conn.namespace conn.number HasTakenReplies }
-<<<<<<< HEAD
     ensures ok { OnOk result (At service.old service.new conn.namespace (SettledSo conn.number load moment said)) }
     ensures left { OnOk result (Connected service.new conn.namespace conn.number IsFed) }
     ensures gone { OnOk result (At service.old service.new conn.namespace (SettlesLoad load)) }
     ensures err { IfErr result (IsCause moment) }
     ensures unchanged { OnErr result (service.new ≡ service.old) }
-=======
-    ensures ok { OnOk result (At service.old service.new conn.namespace (λ was is. (key : List ℕ) → Goes conn.number was is (λ s t. AnsweredLoad (config_of was) conn.number load moment (asking_of key said) s t (notices_of was) (notices_of is) (untaken_output is conn.number)))) }
-    ensures left { OnOk result (Connected service.new conn.namespace conn.number IsFed) }
-    ensures gone { OnOk result (At service.old service.new conn.namespace (SettlesLoad load)) }
-    ensures err { IfErr result (λ e. At service.old service.new conn.namespace SameSpace × IsCause moment e) }
->>>>>>> cores
 {
     let outcome = match said {
         Some(outcome) => outcome,
@@ -147,12 +121,8 @@ fn settle_load(
     ensures ok { IfOk result (λ text. (key : List ℕ) → At service.old service.new conn.namespace (λ was is. Goes conn.number was is (λ s t. AnsweredLoad (config_of was) conn.number load moment (asking_of key said) s t (notices_of was) (notices_of is) text.items))) }
     ensures taken { OnOk result (Connected service.new conn.namespace conn.number HasTakenReplies) }
     ensures gone { OnOk result (At service.old service.new conn.namespace (SettlesLoad load)) }
-<<<<<<< HEAD
     ensures err { IfErr result (IsCause moment) }
     ensures unchanged { OnErr result (service.new ≡ service.old) }
-=======
-    ensures err { IfErr result (λ e. At service.old service.new conn.namespace SameSpace × IsCause moment e) }
->>>>>>> cores
 {
     match settle(service, conn, load, said, moment) {
         Ok(()) => Ok(take_replies(service, conn)),

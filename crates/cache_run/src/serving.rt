@@ -1,27 +1,16 @@
 //! One connection, from its opening to its closing.
 ghost use Rattle.std.specs.Prelude.{◌≡◌, ◌<◌, ◌⊎◌, ◌^◌, ◌-◌, [], false, length, IfOk, IfErr, OnOk, IsErrOf, MatchResult};
 ghost use Rattle.audit_model.specs.declared.event.Event.TheVariants as event;
-<<<<<<< HEAD
 ghost use Rattle.cache_devices.specs.Watched.{device};
-=======
-ghost use Rattle.cache_devices.specs.Failures.{HasFailed};
-ghost use Rattle.cache_devices.specs.Watched.{device, failures};
->>>>>>> cores
 ghost use Rattle.cache_spaces.specs.Calls.{At};
 ghost use Rattle.cache_spaces.specs.Spaces.{config_of, notices_of};
 ghost use Rattle.cache_run.specs.Accounts.{Accounts, AddsNoLoads, KeepsLoads, pending_of};
 ghost use Rattle.cache_run.specs.Carried.{Broken, Carried, nothing_left};
 ghost use Rattle.cache_run.specs.Causes.{Because};
 ghost use Rattle.cache_run.specs.Connected.{Connected, IsFed, IsOver, IsReady};
-<<<<<<< HEAD
 ghost use Rattle.cache_run.specs.Goes.{Goes};
 ghost use Rattle.cache_run.specs.Runs.{Closes, Quiet, RunsPartly, RunsWhole, next_number};
 ghost use Rattle.cache_run.specs.Turns.{Fails, HasToldLate, RunsOut};
-=======
-ghost use Rattle.cache_run.specs.Goes.{Goes, SameSpace};
-ghost use Rattle.cache_run.specs.Runs.{Closes, Quiet, ServesPartly, ServesWhole, next_number};
-ghost use Rattle.cache_run.specs.Turns.{HasAsked, HasRead, HasToldLate};
->>>>>>> cores
 ghost use Rattle.cache_run.specs.Worlds.{outside, world};
 
 use crate::errors::RunError;
@@ -42,11 +31,7 @@ fn open_connection(service: &mut Service, namespace: u64) -> Result<Conn, RunErr
     ensures ok { IfOk result (λ conn. (conn.namespace ≡ namespace) × At service.old service.new namespace (λ was is. (conn.number ≡ next_number was) × Goes conn.number was is (λ s t. Quiet (config_of was) (event.Open conn.number) s t (notices_of was) (notices_of is)))) }
     ensures ready { IfOk result (λ conn. Connected service.new conn.namespace conn.number IsReady) }
     ensures loads { IfOk result (λ conn. At service.old service.new namespace KeepsLoads) }
-<<<<<<< HEAD
     ensures err { IfErr result (λ e. (e ≡ RunError.OutOfMemory) × (service.new ≡ service.old)) }
-=======
-    ensures err { IfErr result (λ e. (e ≡ RunError.OutOfMemory) × At service.old service.new namespace SameSpace) }
->>>>>>> cores
 {
     service.sound(namespace);
     match service.open(namespace) {
@@ -94,12 +79,7 @@ fn converse<R: Read, W: Write, C: Clock, L: Loader>(
     ensures left { MatchResult result (λ done. Connected service.new conn.namespace conn.number (IsOver (R.remaining (device reader.new)))) (λ e. Connected service.new conn.namespace conn.number IsFed) }
     ensures settled { OnOk result (At service.old service.new conn.namespace AddsNoLoads) }
     ensures accounted { At service.old service.new conn.namespace (λ was is. Accounts was is [] taken.new.items) }
-<<<<<<< HEAD
     ensures why { IfErr result (Because (Fails reader.old reader.new) (Fails writer.old writer.new) (RunsOut R.remaining L.loads reader.old reader.new writer.old writer.new loader.old loader.new) (HasToldLate C.reads clock.new)) }
-=======
-    ensures why { IfErr result (Because (HasFailed (failures reader.old) (failures reader.new)) (HasFailed (failures writer.old) (failures writer.new))
-        (HasFailed (failures writer.old) (failures writer.new) ⊎ (HasFailed (failures reader.old) (failures reader.new) ⊎ (HasRead (R.remaining (device reader.old)) (R.remaining (device reader.new)) (2 ^ 64 - 1) ⊎ HasAsked L.loads loader.old (2 ^ 64 - 1) loader.new))) (HasToldLate C.reads clock.new)) }
->>>>>>> cores
 {
     for _turn in 0..u64::MAX {
         match take_turn(service, conn, buffer, reader, writer, clock, loader, taken) {
@@ -124,21 +104,9 @@ fn serve_with<R: Read, W: Write, C: Clock, L: Loader>(
 ) -> Result<(), RunError>
     requires known { namespace < length service.old }
     requires room { 0 < length buffer.old }
-<<<<<<< HEAD
     ensures ok { OnOk result (RunsWhole R.remaining W.contents C.reads L.loads namespace service.old service.new reader.old reader.new writer.old writer.new clock.old clock.new loader.old loader.new) }
     ensures err { IfErr result (RunsPartly R.remaining W.contents C.reads L.loads namespace service.old service.new reader.old reader.new writer.old writer.new clock.old clock.new loader.old loader.new) }
     ensures why { IfErr result (Because (Fails reader.old reader.new) (Fails writer.old writer.new) (RunsOut R.remaining L.loads reader.old reader.new writer.old writer.new loader.old loader.new) (HasToldLate C.reads clock.new)) }
-=======
-    ensures ok { OnOk result (At service.old service.new namespace (λ was is. ServesWhole C.reads L.loads was is
-        (outside (R.remaining (device reader.old)) (W.contents (device writer.old)) clock.old loader.old)
-        (outside (R.remaining (device reader.new)) (W.contents (device writer.new)) clock.new loader.new))) }
-    ensures err { IfErr result (λ e. At service.old service.new namespace (λ was is. ((e ≡ RunError.OutOfMemory) × SameSpace was is × (reader.new ≡ reader.old) × (writer.new ≡ writer.old) × (clock.new ≡ clock.old) × (loader.new ≡ loader.old))
-        ⊎ ServesPartly C.reads L.loads was is
-        (outside (R.remaining (device reader.old)) (W.contents (device writer.old)) clock.old loader.old)
-        (outside (R.remaining (device reader.new)) (W.contents (device writer.new)) clock.new loader.new) e)) }
-    ensures why { IfErr result (Because (HasFailed (failures reader.old) (failures reader.new)) (HasFailed (failures writer.old) (failures writer.new))
-        (HasFailed (failures writer.old) (failures writer.new) ⊎ (HasFailed (failures reader.old) (failures reader.new) ⊎ (HasRead (R.remaining (device reader.old)) (R.remaining (device reader.new)) (2 ^ 64 - 1) ⊎ HasAsked L.loads loader.old (2 ^ 64 - 1) loader.new))) (HasToldLate C.reads clock.new)) }
->>>>>>> cores
 {
     let conn = match open_connection(service, namespace) {
         Ok(conn) => conn,
@@ -181,7 +149,6 @@ pub fn run<R: Read, W: Write, C: Clock, L: Loader>(
     requires known { namespace < length service.old }
 
     // The bytes written are the replies of one connection whose pieces joined are the bytes read.
-<<<<<<< HEAD
     ensures ok { OnOk result (RunsWhole R.remaining W.contents C.reads L.loads namespace service.old service.new reader.old reader.new writer.old writer.new clock.old clock.new loader.old loader.new) }
 
     // After an error they are a beginning of them, unless no connection was opened.
@@ -191,22 +158,6 @@ pub fn run<R: Read, W: Write, C: Clock, L: Loader>(
     ensures none { At service.old service.new namespace (λ was is. pending_of was ≡ [] → pending_of is ≡ []) }
     ensures read { IsErrOf result RunError.Read → Fails reader.old reader.new }
     ensures write { IsErrOf result RunError.Write → Fails writer.old writer.new }
-=======
-    ensures ok { OnOk result (At service.old service.new namespace (λ was is. ServesWhole C.reads L.loads was is
-        (outside (R.remaining (device reader.old)) (W.contents (device writer.old)) clock.old loader.old)
-        (outside (R.remaining (device reader.new)) (W.contents (device writer.new)) clock.new loader.new))) }
-
-    // After an error they are a beginning of them, unless no connection was opened.
-    ensures err { IfErr result (λ e. At service.old service.new namespace (λ was is. ((e ≡ RunError.OutOfMemory) × SameSpace was is × (reader.new ≡ reader.old) × (writer.new ≡ writer.old) × (clock.new ≡ clock.old) × (loader.new ≡ loader.old))
-        ⊎ ServesPartly C.reads L.loads was is
-        (outside (R.remaining (device reader.old)) (W.contents (device writer.old)) clock.old loader.old)
-        (outside (R.remaining (device reader.new)) (W.contents (device writer.new)) clock.new loader.new) e)) }
-
-    // However it ends, no load is under way behind it where none was before.
-    ensures none { At service.old service.new namespace (λ was is. pending_of was ≡ [] → pending_of is ≡ []) }
-    ensures read { IsErrOf result RunError.Read → HasFailed (failures reader.old) (failures reader.new) }
-    ensures write { IsErrOf result RunError.Write → HasFailed (failures writer.old) (failures writer.new) }
->>>>>>> cores
     ensures moment { IsErrOf result RunError.Moment → HasToldLate C.reads clock.new }
 
     // Numbers are used up only where a device failed, or where as many bytes were read, or the loader was asked as often, as turns are
