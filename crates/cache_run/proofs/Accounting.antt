@@ -18,7 +18,7 @@ use Rattle.cache_spaces.specs.Spaces.{StandsFor, config_of, known_of, outgoing_o
 use Rattle.audit_waiting_laws.specs.Sending.{IsSettlingOf, are_all, are_others, are_old_or_later, is_under_way}
 use Rattle.audit_waiting_laws.proofs.Sending.{all-from, all-own, all-without, one-of, passes-record, settle}
 use Rattle.cache_run.specs.Accounts.{Accounts, AddsNoLoads, HasTakenAll, KeepsLoads, SendsLater, SettlesLoad, are_accounted, is_left, pending_of, were_taken}
-use Rattle.cache_run.specs.Bared.{Bared, bare_tape}
+use Rattle.cache_spaces.specs.Bares.{BareSpace, bare_tape}
 use Rattle.cache_run.proofs.Opening.{IsPlain, quiet-steps}
 use Rattle.cache_run.proofs.Placing.{at-given-was, at-is, at-map, at-more, at-same, at-was}
 use Rattle.cache_run.proofs.Serving.{IsSoundAt, happened-so, pending-is, sent-is}
@@ -28,16 +28,16 @@ use Rattle.cache_run.proofs.Serving.{IsSoundAt, happened-so, pending-is, sent-is
 pub own-loads : (loads : List PendingLoad) → are_all (λ n. is_under_way n loads) loads ≡ true
 own-loads loads = all-own (λ n. is_under_way n loads) loads (λ n is. is)
 
-pub keeps-same : (x : Bared) → KeepsLoads x x
+pub keeps-same : (x : BareSpace) → KeepsLoads x x
 keeps-same x = record { taken = refl; loads = own-loads (pending_of x) }
 
-pub later-kept : (was is : Bared) → KeepsLoads was is → SendsLater was is
+pub later-kept : (was is : BareSpace) → KeepsLoads was is → SendsLater was is
 later-kept was is k =
     let p : ℕ → Bool = λ n. is_under_way n (pending_of was) in
     let q : ℕ → Bool = λ n. is_under_way n (pending_of was) || nat_lt (taken_of was) n in
     record { taken = k.taken; loads = all-from p p q (pending_of is) (λ n a b. or_left (p n) (nat_lt (taken_of was) n) a) k.loads k.loads }
 
-later-follows : (was is : Bared) (s t : Situation) (entry : Record) → StandsFor was s → StandsFor is t → Follows (config_of was) s entry t → are_old_or_later (pending_of was) (taken_of was) (pending_of is) ≡ true
+later-follows : (was is : BareSpace) (s t : Situation) (entry : Record) → StandsFor was s → StandsFor is t → Follows (config_of was) s entry t → are_old_or_later (pending_of was) (taken_of was) (pending_of is) ≡ true
 later-follows was is s t entry before after follows =
     let p : ℕ → Bool = λ n. is_under_way n (pending_of was) || nat_lt (taken_of was) n in
     let sent = sent-is was s before in
@@ -46,19 +46,19 @@ later-follows was is s t entry before after follows =
     let passed = passes-record (config_of was) p s t entry follows (above, ap (are_all p) (pending-is was s before) ∙ own) in
     ap (are_all p) (sym (pending-is is t after)) ∙ passed.1
 
-pub later-happened : (was is : Bared) (happened : Event) → IsSound bare_tape was → Settled bare_tape was is happened → SendsLater was is
+pub later-happened : (was is : BareSpace) (happened : Event) → IsSound bare_tape was → Settled bare_tape was is happened → SendsLater was is
 later-happened was is happened sound h = record {
   taken = h.stays.taken;
   loads = let x = h.turned sound.some sound.stands in later-follows was is sound.some x.2.next x.0 sound.stands x.2.stands x.2.follows;
 }
 
-pub later-same : (x : Bared) → SendsLater x x
+pub later-same : (x : BareSpace) → SendsLater x x
 later-same x = later-kept x x (keeps-same x)
 
-pub later-output : (was is : Bared) (number : ℕ) (text : List ℕ) → TakesOutput was is number text → SendsLater was is
+pub later-output : (was is : BareSpace) (number : ℕ) (text : List ℕ) → TakesOutput was is number text → SendsLater was is
 later-output was is number text t = record { taken = ap taken_of t.rest; loads = ap (λ l. are_old_or_later (pending_of was) (taken_of was) l) (ap pending_of t.rest) ∙ (later-same was).loads }
 
-pub later-more : (x y z : Bared) → SendsLater x y → SendsLater y z → SendsLater x z
+pub later-more : (x y z : BareSpace) → SendsLater x y → SendsLater y z → SendsLater x z
 later-more x y z a b =
     let p : ℕ → Bool = λ n. is_under_way n (pending_of x) || nat_lt (taken_of x) n in
     let q : ℕ → Bool = λ n. is_under_way n (pending_of y) || nat_lt (taken_of y) n in
@@ -74,7 +74,7 @@ later-more x y z a b =
 
 -- ---- a load is settled
 
-pub settles-load : (number : ℕ) (was is : Bared) (happened : Event) → IsSettlingOf number happened → IsSound bare_tape was → Settled bare_tape was is happened → SettlesLoad number was is
+pub settles-load : (number : ℕ) (was is : BareSpace) (happened : Event) → IsSettlingOf number happened → IsSound bare_tape was → Settled bare_tape was is happened → SettlesLoad number was is
 settles-load number was is happened of sound h = record {
   later = later-happened was is happened sound h;
   settled = λ taken.
@@ -94,18 +94,18 @@ unfound number (load ∷ loads) e = go (unfound number loads) (load.number == nu
     go next true is h = let no : true ≡ false = h in cc
     go next false is h = and_from (not (load.number == number)) (are_others number loads) (ap not is) (next h)
 
-pub others-unknown : (number : ℕ) (was : Bared) → (known_of was).is_under_way number ≡ false → are_others number (pending_of was) ≡ true
+pub others-unknown : (number : ℕ) (was : BareSpace) → (known_of was).is_under_way number ≡ false → are_others number (pending_of was) ≡ true
 others-unknown number was unknown = unfound number (pending_of was) unknown
 
-pub settles-unknown : (number : ℕ) (x : Bared) → (known_of x).is_under_way number ≡ false → SettlesLoad number x x
+pub settles-unknown : (number : ℕ) (x : BareSpace) → (known_of x).is_under_way number ≡ false → SettlesLoad number x x
 settles-unknown number x unknown = record { later = later-same x; settled = λ taken. others-unknown number x unknown }
 
 -- behind a call that takes no load
-pub settles-behind : (number : ℕ) (x y z : Bared) → SendsLater x y → SettlesLoad number y z → SettlesLoad number x z
+pub settles-behind : (number : ℕ) (x y z : BareSpace) → SendsLater x y → SettlesLoad number y z → SettlesLoad number x z
 settles-behind number x y z a b = let same = a.taken in record { later = later-more x y z a b.later; settled = λ taken. b.settled (omega (arith, taken, same)) }
 
 -- before such a call
-pub settles-before : (number : ℕ) (x y z : Bared) → SettlesLoad number x y → SendsLater y z → SettlesLoad number x z
+pub settles-before : (number : ℕ) (x y z : BareSpace) → SettlesLoad number x y → SendsLater y z → SettlesLoad number x z
 settles-before number x y z a b =
     let q : ℕ → Bool = λ n. is_under_way n (pending_of y) || nat_lt (taken_of y) n in
     let r : ℕ → Bool = λ n. not (n == number) in
@@ -140,7 +140,7 @@ taken-left taken n (out ∷ outs) e left =
     ⊎_elim (λ here. let is = eqb-true out.0.number n here in let few = leb-true out.0.number taken parts.0 in omega (arith, is, few)) (λ later. taken-left taken n outs parts.1 later) (or_cases (out.0.number == n) (is_left n outs) left)
 
 -- they are accounted for by what is known of them
-accounted-from : (is_kept : ℕ → Bool) (was is : Bared) (before after : Outs) (p : ℕ → Bool) → are_all p (pending_of is) ≡ true → are_accounted is_kept before (taken_of was) (pending_of was) ≡ true
+accounted-from : (is_kept : ℕ → Bool) (was is : BareSpace) (before after : Outs) (p : ℕ → Bool) → are_all p (pending_of is) ≡ true → are_accounted is_kept before (taken_of was) (pending_of was) ≡ true
     → ((n : ℕ) → p n ≡ true → (is_under_way n (pending_of was) ≡ true) ⊎ (taken_of is < n))
     → ((n : ℕ) → p n ≡ true → (is_left n before ≡ true) ⊎ (taken_of was < n) → (is_left n after ≡ true) ⊎ (taken_of is < n))
     → are_accounted is_kept after (taken_of is) (pending_of is) ≡ true
@@ -163,7 +163,7 @@ accounted-from is_kept was is before after p all accounted from goes =
     all all
 
 -- where no load is taken
-pub accounts-later : (was is : Bared) (outs : Outs) → SendsLater was is → Accounts was is outs outs
+pub accounts-later : (was is : BareSpace) (outs : Outs) → SendsLater was is → Accounts was is outs outs
 accounts-later was is outs l =
     let same = l.taken in
     record {
@@ -174,11 +174,11 @@ accounts-later was is outs l =
           (λ n here c. ⊎_elim (λ left. inl left) (λ lt. inr (omega (arith, lt, same))) c);
     }
 
-pub accounts-more : (x y z : Bared) (a b c : Outs) → Accounts x y a b → Accounts y z b c → Accounts x z a c
+pub accounts-more : (x y z : BareSpace) (a b c : Outs) → Accounts x y a b → Accounts y z b c → Accounts x z a c
 accounts-more x y z a b c p q = record { taken = λ e. q.taken (p.taken e); loads = λ is_kept taken accounted. q.loads is_kept (p.taken taken) (p.loads is_kept taken accounted) }
 
 -- where one of them is settled
-pub accounts-settled : (was is : Bared) (number : ℕ) (before after : Outs) → is_left number before ≡ true → ((taken : ℕ) → were_taken taken before ≡ true → were_taken taken after ≡ true)
+pub accounts-settled : (was is : BareSpace) (number : ℕ) (before after : Outs) → is_left number before ≡ true → ((taken : ℕ) → were_taken taken before ≡ true → were_taken taken after ≡ true)
     → ((n : ℕ) → is_left n before ≡ true → (is_left n after ≡ true) ⊎ (n ≡ number)) → SettlesLoad number was is → Accounts was is before after
 accounts-settled was is number before after left fewer but l =
     let same = l.later.taken in
@@ -224,7 +224,7 @@ count-at m [] out is at = absurd (none-some out at)
 count-at m (o ∷ outs) out is at = omega (arith, is)
 
 -- the last of those that were taken is settled
-pub accounts-last : (was is : Bared) (outs seen after : Outs) (out : LoadId × List ℕ) (last : Option (LoadId × List ℕ)) (count : ℕ) → seen ≡ outs → last ≡ slice_get seen (length seen - 1) → last ≡ Some out → count ≡ length outs
+pub accounts-last : (was is : BareSpace) (outs seen after : Outs) (out : LoadId × List ℕ) (last : Option (LoadId × List ℕ)) (count : ℕ) → seen ≡ outs → last ≡ slice_get seen (length seen - 1) → last ≡ Some out → count ≡ length outs
     → after ≡ take (count - 1) outs → SettlesLoad out.0.number was is → Accounts was is outs after
 accounts-last was is outs seen after out last count same at is_out counted rest l =
     let m : ℕ = length outs - 1 in
@@ -261,20 +261,20 @@ in-turn-few place before (out ∷ outs) taken turn few =
     and_from (nat_le out.0.number taken) (were_taken taken outs) (le-leb out.0.number taken (omega (arith, is, few))) (in-turn-few place (suc before) outs taken ours.1 (omega (arith, few)))
 
 -- a load under way was sent
-pub sent-under : (x : Bared) (n : ℕ) → IsSound bare_tape x → is_under_way n (pending_of x) ≡ true → n ≤ x.sent
+pub sent-under : (x : BareSpace) (n : ℕ) → IsSound bare_tape x → is_under_way n (pending_of x) ≡ true → n ≤ x.sent
 sent-under x n sound under = leb-true n x.sent (one-of (λ m. nat_le m x.sent) n (pending_of x) sound.suits.sent under)
 
 -- those that were taken are the last that were sent
-pub taken-count : (was is : Bared) (loads : Outs) → IsSound bare_tape was → TakesLoads was is loads → taken_of was + length loads ≡ was.sent
+pub taken-count : (was is : BareSpace) (loads : Outs) → IsSound bare_tape was → TakesLoads was is loads → taken_of was + length loads ≡ was.sent
 taken-count was is loads sound t = let count = ap length t.taken in let few = sound.suits.fewer in omega (arith, count, few)
 
-taken-now : (was is : Bared) (loads : Outs) → TakesLoads was is loads → taken_of is ≡ was.sent
+taken-now : (was is : BareSpace) (loads : Outs) → TakesLoads was is loads → taken_of is ≡ was.sent
 taken-now was is loads t = let is_so : taken_of is ≡ was.sent - 0 = ap taken_of t.rest in omega (arith, is_so)
 
-pub loads-same : (was is : Bared) (loads : Outs) → TakesLoads was is loads → pending_of is ≡ pending_of was
+pub loads-same : (was is : BareSpace) (loads : Outs) → TakesLoads was is loads → pending_of is ≡ pending_of was
 loads-same was is loads t = ap pending_of t.rest
 
-pub accounts-taken : (was is : Bared) (before loads : Outs) → before ≡ [] → IsSound bare_tape was → TakesLoads was is loads → Accounts was is before loads
+pub accounts-taken : (was is : BareSpace) (before loads : Outs) → before ≡ [] → IsSound bare_tape was → TakesLoads was is loads → Accounts was is before loads
 accounts-taken was is before loads none sound t =
     let count = taken-count was is loads sound t in
     let now = taken-now was is loads t in
@@ -289,7 +289,7 @@ accounts-taken was is before loads none sound t =
     }
 
 -- where each was taken, and none is left, those under way are kept
-pub kept-all : (is_kept : ℕ → Bool) (x : Bared) (outs : Outs) → IsSound bare_tape x → outs ≡ [] → outgoing_of x ≡ [] → are_accounted is_kept outs (taken_of x) (pending_of x) ≡ true → are_all is_kept (pending_of x) ≡ true
+pub kept-all : (is_kept : ℕ → Bool) (x : BareSpace) (outs : Outs) → IsSound bare_tape x → outs ≡ [] → outgoing_of x ≡ [] → are_accounted is_kept outs (taken_of x) (pending_of x) ≡ true → are_all is_kept (pending_of x) ≡ true
 kept-all is_kept x outs sound none out accounted =
     let all = ap length out in
     let p : ℕ → Bool = λ n. is_under_way n (pending_of x) in
@@ -303,17 +303,17 @@ kept-all is_kept x outs sound none out accounted =
     (own-loads (pending_of x)) accounted
 
 -- where none was left before
-pub accounts-begun : (was is : Bared) (before after : Outs) → before ≡ [] → Accounts was is before after → are_accounted (λ n. is_under_way n (pending_of was)) after (taken_of is) (pending_of is) ≡ true
+pub accounts-begun : (was is : BareSpace) (before after : Outs) → before ≡ [] → Accounts was is before after → are_accounted (λ n. is_under_way n (pending_of was)) after (taken_of is) (pending_of is) ≡ true
 accounts-begun was is before after none a =
     let p : ℕ → Bool = λ n. is_under_way n (pending_of was) in
     let q : ℕ → Bool = λ n. p n || (is_left n before || nat_lt (taken_of was) n) in
     a.loads p (ap (λ outs. were_taken (taken_of was) outs) none) (all-from p p q (pending_of was) (λ n under again. or_left (p n) (is_left n before || nat_lt (taken_of was) n) under) (own-loads (pending_of was)) (own-loads (pending_of was)))
 
 -- where each was taken and none is left, each load under way was so before
-pub adds-none : (was is : Bared) (before after : Outs) → IsSound bare_tape is → before ≡ [] → after ≡ [] → outgoing_of is ≡ [] → Accounts was is before after → AddsNoLoads was is
+pub adds-none : (was is : BareSpace) (before after : Outs) → IsSound bare_tape is → before ≡ [] → after ≡ [] → outgoing_of is ≡ [] → Accounts was is before after → AddsNoLoads was is
 adds-none was is before after sound none left out a = kept-all (λ n. is_under_way n (pending_of was)) is after sound left out (accounts-begun was is before after none a)
 
-pub adds-more : (x y z : Bared) → AddsNoLoads x y → AddsNoLoads y z → AddsNoLoads x z
+pub adds-more : (x y z : BareSpace) → AddsNoLoads x y → AddsNoLoads y z → AddsNoLoads x z
 adds-more x y z a b =
     let p : ℕ → Bool = λ n. is_under_way n (pending_of x) in
     let q : ℕ → Bool = λ n. is_under_way n (pending_of y) in all-from q q p (pending_of z) (λ n under again. one-of p n (pending_of y) a under) b b
@@ -327,14 +327,14 @@ at-both F G xs ys n a b =
     let is = same_Some b.is a.is (sym (at-is G xs ys n b) ∙ at-is F xs ys n a) in
     record { was = a.was; is = a.is; at = a.at; set = a.set; fact = (a.fact, subst (λ y. G a.was y) is (subst (λ x. G x b.is) was b.fact)) }
 
-module _ (first second third : List Bared) (n : ℕ) where
+module _ (first second third : List BareSpace) (n : ℕ) where
   pub at-later-more : At first second n SendsLater → At second third n SendsLater → At first third n SendsLater
   at-later-more a b = at-more SendsLater SendsLater SendsLater first second third n a b later-more
 
   pub at-accounts-more : (x y z : Outs) → At first second n (λ was is. Accounts was is x y) → At second third n (λ was is. Accounts was is y z) → At first third n (λ was is. Accounts was is x z)
   at-accounts-more x y z a b = at-more (λ was is. Accounts was is x y) (λ was is. Accounts was is y z) (λ was is. Accounts was is x z) first second third n a b (λ u v w p q. accounts-more u v w x y z p q)
 
-module _ (old new : List Bared) (n : ℕ) where
+module _ (old new : List BareSpace) (n : ℕ) where
   pub at-later-takes : (happened : Event) (held : Bool) → IsSoundAt old n → At old new n (λ was is. ServesEvent bare_tape was is happened held) → At old new n SendsLater
   at-later-takes happened held sound a =
       at-given-was (λ was is. ServesEvent bare_tape was is happened held) SendsLater old new n a (λ x y at t. later-happened x y happened (sound x at) (happened-so x y happened held t))
@@ -366,7 +366,7 @@ module _ (old new : List Bared) (n : ℕ) where
       }
 
 -- where nothing was called
-module _ (spaces : List Bared) (n : ℕ) (x : Bared) (at : slice_get spaces n ≡ Some x) where
+module _ (spaces : List BareSpace) (n : ℕ) (x : BareSpace) (at : slice_get spaces n ≡ Some x) where
   pub at-later-same : At spaces spaces n SendsLater
   at-later-same = at-same SendsLater spaces n x at (later-same x)
 
@@ -385,13 +385,13 @@ module _ (spaces : List Bared) (n : ℕ) (x : Bared) (at : slice_get spaces n �
   pub at-keeps-same : At spaces spaces n KeepsLoads
   at-keeps-same = at-same KeepsLoads spaces n x at (keeps-same x)
 
-pub at-adds-more : (first second third : List Bared) (n : ℕ) → At first second n AddsNoLoads → At second third n AddsNoLoads → At first third n AddsNoLoads
+pub at-adds-more : (first second third : List BareSpace) (n : ℕ) → At first second n AddsNoLoads → At second third n AddsNoLoads → At first third n AddsNoLoads
 at-adds-more first second third n a b = at-more AddsNoLoads AddsNoLoads AddsNoLoads first second third n a b adds-more
 
 -- ---- an opening and a closing
 
 -- they take no load, and each that is under way was so before
-keeps-quiet : (was is : Bared) (happened : Event) (held : Bool) → ((s : Situation) (p : ℕ → Bool) → are_all p s.pending ≡ true → are_all p (after_event happened s).pending ≡ true)
+keeps-quiet : (was is : BareSpace) (happened : Event) (held : Bool) → ((s : Situation) (p : ℕ → Bool) → are_all p s.pending ≡ true → are_all p (after_event happened s).pending ≡ true)
     → ((s : Situation) → tasks_in s happened ≡ []) → IsPlain happened → IsSound bare_tape was → ServesEvent bare_tape was is happened held → KeepsLoads was is
 keeps-quiet was is happened held quiet idle plain sound takes =
     let p : ℕ → Bool = λ n. is_under_way n (pending_of was) in
@@ -404,12 +404,12 @@ keeps-quiet was is happened held quiet idle plain sound takes =
           ∙ quiet sound.some p (ap (are_all p) (pending-is was sound.some sound.stands) ∙ own-loads (pending_of was));
     }
 
-pub at-opens : (old new : List Bared) (n number : ℕ) → IsSoundAt old n → At old new n (λ was is. ServesEvent bare_tape was is (event.Open number) false × (number ≡ length was.closings + 1)) → At old new n KeepsLoads
+pub at-opens : (old new : List BareSpace) (n number : ℕ) → IsSoundAt old n → At old new n (λ was is. ServesEvent bare_tape was is (event.Open number) false × (number ≡ length was.closings + 1)) → At old new n KeepsLoads
 at-opens old new n number sound a =
     at-given-was (λ was is. ServesEvent bare_tape was is (event.Open number) false × (number ≡ length was.closings + 1)) KeepsLoads old new n a
     (λ x y at p. keeps-quiet x y (event.Open number) false (λ s p all. all) (λ s. refl) tt (sound x at) p.0)
 
-pub at-closes : (old new : List Bared) (n number : ℕ) → IsSoundAt old n → At old new n (λ was is. ServesEvent bare_tape was is (event.Close number) false) → At old new n KeepsLoads
+pub at-closes : (old new : List BareSpace) (n number : ℕ) → IsSoundAt old n → At old new n (λ was is. ServesEvent bare_tape was is (event.Close number) false) → At old new n KeepsLoads
 at-closes old new n number sound a =
     at-given-was (λ was is. ServesEvent bare_tape was is (event.Close number) false) KeepsLoads old new n a
     (λ x y at p. keeps-quiet x y (event.Close number) false (λ s p all. all-without p number s.pending all) (λ s. refl) tt (sound x at) p)

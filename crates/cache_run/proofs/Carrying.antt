@@ -16,7 +16,7 @@ use Rattle.audit_model.specs.declared.transcript.Record.{Record}
 use Rattle.cache_devices.proofs.Sending.{appends_more, same_appends}
 use Rattle.cache_run.specs.Happened.{record_of}
 use Rattle.cache_spaces.specs.Spaces.{notices_of}
-use Rattle.cache_run.specs.Bared.{Bared}
+use Rattle.cache_spaces.specs.Bares.{BareSpace}
 use Rattle.cache_core.specs.Turned.{notes_in}
 use Rattle.cache_run.specs.Carried.{Askings, Broken, Carried, Left, Readings, close_records, nothing_left, open_records, records_of}
 use Rattle.cache_run.specs.Happened.{Asking, Turn, AreInPlace, AreRight, IsInPlace, asked_in, moment_in, turn_notes, piece_in, records_in, replies_in}
@@ -157,7 +157,7 @@ module _ {C L : Type 0} (config : Config) (number : ℕ) (reads : C → ℕ → 
   }
 
   -- where one turn came
-  pub carried-one : (x y : Bared) (s t : Situation) (r q v w : Option (List ℕ)) (k l : C) (m n : L) (piece : List ℕ) (moment : ℕ) (asks : List Asking) (unsent : List ℕ)
+  pub carried-one : (x y : BareSpace) (s t : Situation) (r q v w : Option (List ℕ)) (k l : C) (m n : L) (piece : List ℕ) (moment : ℕ) (asks : List Asking) (unsent : List ℕ)
       → Delivered config number piece moment asks s t (notices_of x) (notices_of y) v w unsent → Consumes r q piece → reads k moment l → Askings loads m asks n
       → Carried config number reads loads (world x s (outside r v k m)) (world y t (outside q w l n)) false false [] (record { late = []; lost = []; asked = []; unsent = unsent })
   carried-one x y s t r q v w k l m n piece moment asks unsent d read clock loader =
@@ -178,7 +178,7 @@ module _ {C L : Type 0} (config : Config) (number : ℕ) (reads : C → ℕ → 
       }
 
   -- where an error came
-  pub broken-one : (x y : Bared) (s t : Situation) (r q v w : Option (List ℕ)) (k l : C) (m n : L) (piece : List ℕ) (moment : ℕ) (asks : List Asking) (e : RunError)
+  pub broken-one : (x y : BareSpace) (s t : Situation) (r q v w : Option (List ℕ)) (k l : C) (m n : L) (piece : List ℕ) (moment : ℕ) (asks : List Asking) (e : RunError)
       → Undelivered config number piece moment asks s t (notices_of x) (notices_of y) v w e → Consumes r q piece → reads k moment l → Askings loads m asks n
       → Broken config number reads loads (world x s (outside r v k m)) (world y t (outside q w l n)) false false [] e
   broken-one x y s t r q v w k l m n piece moment asks e (inl u) read clock loader = record {
@@ -195,7 +195,7 @@ module _ {C L : Type 0} (config : Config) (number : ℕ) (reads : C → ℕ → 
       record { left = record { late = []; lost = []; asked = []; unsent = u.0 }; carried = carried-one x y s t r q v w k l m n piece moment asks u.0 u.1 read clock loader; dropped = tt; moment = λ is. absurd (u.2 is) }
 
   -- where only records without replies and notes came
-  still : (x y : Bared) (s t : Situation) (around : Outside C L) (opens closes : Bool) → after_records config s (records_of number opens [] closes []) ≡ Some t → notices_of y ≡ notices_of x
+  still : (x y : BareSpace) (s t : Situation) (around : Outside C L) (opens closes : Bool) → after_records config s (records_of number opens [] closes []) ≡ Some t → notices_of y ≡ notices_of x
       → Carried config number reads loads (world x s around) (world y t around) opens closes [] nothing_left
   still x y s t around opens closes follows notices = record {
     turns = [];
@@ -211,16 +211,16 @@ module _ {C L : Type 0} (config : Config) (number : ℕ) (reads : C → ℕ → 
     loader = refl;
   }
 
-  pub carried-opened : (x y : Bared) (s t : Situation) (around : Outside C L) → Follows config s (record_of (event.Open number) []) t → notices_of y ≡ notices_of x
+  pub carried-opened : (x y : BareSpace) (s t : Situation) (around : Outside C L) → Follows config s (record_of (event.Open number) []) t → notices_of y ≡ notices_of x
       → Carried config number reads loads (world x s around) (world y t around) true false [] nothing_left
   carried-opened x y s t around follows notices = still x y s t around true false (record-one config s (record_of (event.Open number) []) t follows) notices
 
-  pub carried-same : (x y : Bared) (s t : Situation) (around : Outside C L) → t ≡ s → notices_of y ≡ notices_of x
+  pub carried-same : (x y : BareSpace) (s t : Situation) (around : Outside C L) → t ≡ s → notices_of y ≡ notices_of x
       → Carried config number reads loads (world x s around) (world y t around) false false [] nothing_left
   carried-same x y s t around same notices = still x y s t around false false (ap (λ m. Some m) (sym same)) notices
 
   -- a closing behind what was carried
-  pub carried-close : (a b : World C L) (y : Bared) (u : Situation) (opens : Bool) (left : Left)
+  pub carried-close : (a b : World C L) (y : BareSpace) (u : Situation) (opens : Bool) (left : Left)
       → Carried config number reads loads a b opens false [] left → Follows config b.situation (record_of (event.Close number) []) u → notices_of y ≡ b.notices
       → Carried config number reads loads a (world y u b.outside) opens true [] left
   carried-close a b y u opens left c follows notices = record {
@@ -239,7 +239,7 @@ module _ {C L : Type 0} (config : Config) (number : ℕ) (reads : C → ℕ → 
   }
 
   -- nothing came behind what was carried
-  pub carried-still : (a b : World C L) (y : Bared) (u : Situation) (opens closes : Bool) (drops : List Record) (left : Left)
+  pub carried-still : (a b : World C L) (y : BareSpace) (u : Situation) (opens closes : Bool) (drops : List Record) (left : Left)
       → Carried config number reads loads a b opens closes drops left → u ≡ b.situation → notices_of y ≡ b.notices
       → Carried config number reads loads a (world y u b.outside) opens closes drops left
   carried-still a b y u opens closes drops left c same notices = record {
@@ -257,7 +257,7 @@ module _ {C L : Type 0} (config : Config) (number : ℕ) (reads : C → ℕ → 
   }
 
   -- loads were given up behind what was carried
-  pub carried-drops : (a b : World C L) (y : Bared) (u : Situation) (opens closes : Bool) (drops more : List Record) (left : Left)
+  pub carried-drops : (a b : World C L) (y : BareSpace) (u : Situation) (opens closes : Bool) (drops more : List Record) (left : Left)
       → Carried config number reads loads a b opens closes drops left → after_records config b.situation more ≡ Some u → notices_of y ≡ b.notices ++ flat_map notes_in more
       → Carried config number reads loads a (world y u b.outside) opens closes (drops ++ more) left
   carried-drops a b y u opens closes drops more left c follows notices =

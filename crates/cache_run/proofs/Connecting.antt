@@ -15,7 +15,7 @@ use Rattle.audit_waiting_laws.specs.Alone.{IsTurnOf}
 use Rattle.cache_spaces.specs.Calls.{At, InSpace, IsOpened, IsUnknown, Refuses, Settled, TakesOutput}
 use Rattle.cache_spaces.specs.Sound.{IsSound}
 use Rattle.cache_spaces.specs.Spaces.{closing_of, config_of, known_of, untaken_output}
-use Rattle.cache_run.specs.Bared.{Bared, bare_tape}
+use Rattle.cache_spaces.specs.Bares.{BareSpace, bare_tape}
 use Rattle.cache_run.specs.Connected.{Connected, IsEnded, IsFed, IsLeftBy, IsOpenOrEnded, IsReady, HasTakenReplies}
 use Rattle.cache_run.specs.Loading.{SameButLoads}
 use Rattle.cache_run.proofs.Going.{output-none}
@@ -34,27 +34,27 @@ closed-where true true e opened opens refused = none-some e refused
 closed-where true false e opened opens refused = let no : false ≡ true = opens in cc
 closed-where false is_open e opened opens refused = let no : false ≡ true = opened in cc
 
-pub close-refused : (space : Bared) (number : ℕ) (e : ServiceError) → IsSound bare_tape space → IsOpened space number → refusal_of (config_of space) (known_of space) (event.Close number) ≡ Some e → closing_of space number ≡ None → ⊥
+pub close-refused : (space : BareSpace) (number : ℕ) (e : ServiceError) → IsSound bare_tape space → IsOpened space number → refusal_of (config_of space) (known_of space) (event.Close number) ≡ Some e → closing_of space number ≡ None → ⊥
 close-refused space number e sound opened refused is_open =
     closed-where ((known_of space).was_opened number) ((known_of space).is_open number) e opened (sound.suits.listed number opened ∙ ap is_none is_open) refused
 
 -- a refusal of a namespace that there is
-pub refused-here : (spaces : List Bared) (n : ℕ) (e : ServiceError) (Cause : Bared → Type 0) (x : Bared) → slice_get spaces n ≡ Some x → Refuses spaces n e Cause → Cause x
+pub refused-here : (spaces : List BareSpace) (n : ℕ) (e : ServiceError) (Cause : BareSpace → Type 0) (x : BareSpace) → slice_get spaces n ≡ Some x → Refuses spaces n e Cause → Cause x
 refused-here spaces n e Cause x at (inl none) = let within = slice_get_within spaces n x at in let past = none.1 in absurd (omega (arith, within, past))
 refused-here spaces n e Cause x at (inr i) = subst Cause (same_Some i.space x (sym i.at ∙ at)) i.fact
 
 -- what is true of the namespace of a number is true of this one
-pub fact-here : (Fact : Bared → Type 0) (spaces : List Bared) (n : ℕ) (x : Bared) → slice_get spaces n ≡ Some x → InSpace spaces n Fact → Fact x
+pub fact-here : (Fact : BareSpace → Type 0) (spaces : List BareSpace) (n : ℕ) (x : BareSpace) → slice_get spaces n ≡ Some x → InSpace spaces n Fact → Fact x
 fact-here Fact spaces n x at i = subst Fact (same_Some i.space x (sym i.at ∙ at)) i.fact
 
 -- a connection that was opened is known
-pub not-unknown : (space : Bared) (number : ℕ) (e : ServiceError) → IsOpened space number → IsUnknown space number e → ⊥
+pub not-unknown : (space : BareSpace) (number : ℕ) (e : ServiceError) → IsOpened space number → IsUnknown space number e → ⊥
 not-unknown space number e opened unknown = let h : true ≡ false = sym opened ∙ unknown.unknown in cc
 
 -- ---- how it stands after a call
 
 -- behind a feed, or a load that is settled
-pub connected-by : (IsLeft : ℕ → Bared → Type 0) (old new : List Bared) (n number other : ℕ) (happened : Event) → IsTurnOf other happened → IsSoundAt old n → ((x : Bared) → IsLeft number x → IsFed number x) → Connected old n number IsLeft
+pub connected-by : (IsLeft : ℕ → BareSpace → Type 0) (old new : List BareSpace) (n number other : ℕ) (happened : Event) → IsTurnOf other happened → IsSoundAt old n → ((x : BareSpace) → IsLeft number x → IsFed number x) → Connected old n number IsLeft
     → At old new n (λ was is. Settled bare_tape was is happened) → Connected new n number IsFed
 connected-by IsLeft old new n number other happened turn sound fed c a =
     let same = at-was (λ was is. Settled bare_tape was is happened) old new n a c.space c.at in
@@ -66,7 +66,7 @@ connected-by IsLeft old new n number other happened turn sound fed c a =
       left = stays-fed c.space a.is happened h number other turn (sound c.space c.at) (fed c.space c.left);
     }
 
-pub connected-taken : (old new : List Bared) (n number : ℕ) (text : List ℕ) → Connected old n number IsFed → At old new n (λ was is. TakesOutput was is number text) → Connected new n number HasTakenReplies
+pub connected-taken : (old new : List BareSpace) (n number : ℕ) (text : List ℕ) → Connected old n number IsFed → At old new n (λ was is. TakesOutput was is number text) → Connected new n number HasTakenReplies
 connected-taken old new n number text c a =
     let same = at-was (λ was is. TakesOutput was is number text) old new n a c.space c.at in
     let t : TakesOutput c.space a.is number text = subst (λ x. TakesOutput x a.is number text) same a.fact in
@@ -78,7 +78,7 @@ connected-taken old new n number text c a =
     }
 
 -- where only loads were taken
-pub connected-but-loads : (old new : List Bared) (n number : ℕ) → Connected old n number HasTakenReplies → At old new n SameButLoads → Connected new n number HasTakenReplies
+pub connected-but-loads : (old new : List BareSpace) (n number : ℕ) → Connected old n number HasTakenReplies → At old new n SameButLoads → Connected new n number HasTakenReplies
 connected-but-loads old new n number c a =
     let same = at-was SameButLoads old new n a c.space c.at in
     let e : SameButLoads c.space a.is = subst (λ x. SameButLoads x a.is) same a.fact in
@@ -90,16 +90,16 @@ connected-but-loads old new n number c a =
     }
 
 -- less of it is wanted
-pub connected-map : (IsLeft IsWanted : ℕ → Bared → Type 0) (spaces : List Bared) (n number : ℕ) → Connected spaces n number IsLeft → ((x : Bared) → IsLeft number x → IsWanted number x) → Connected spaces n number IsWanted
+pub connected-map : (IsLeft IsWanted : ℕ → BareSpace → Type 0) (spaces : List BareSpace) (n number : ℕ) → Connected spaces n number IsLeft → ((x : BareSpace) → IsLeft number x → IsWanted number x) → Connected spaces n number IsWanted
 connected-map IsLeft IsWanted spaces n number c h = record { space = c.space; at = c.at; opened = c.opened; left = h c.space c.left }
 
 -- where the replies were taken, whatever comes of it
-pub left-by : {T E : Type 0} (spaces : List Bared) (n number : ℕ) (r : Result T E) → Connected spaces n number HasTakenReplies → Connected spaces n number (IsLeftBy r)
+pub left-by : {T E : Type 0} (spaces : List BareSpace) (n number : ℕ) (r : Result T E) → Connected spaces n number HasTakenReplies → Connected spaces n number (IsLeftBy r)
 left-by spaces n number (Ok done) c = c
 left-by spaces n number (Err e) c = connected-map HasTakenReplies IsFed spaces n number c (λ x left. left.0)
 
 -- what is true of it where it stands
-pub connected-here : (IsLeft IsWanted : ℕ → Bared → Type 0) (spaces : List Bared) (n number : ℕ) (c : Connected spaces n number IsLeft) → IsWanted number c.space → Connected spaces n number IsWanted
+pub connected-here : (IsLeft IsWanted : ℕ → BareSpace → Type 0) (spaces : List BareSpace) (n number : ℕ) (c : Connected spaces n number IsLeft) → IsWanted number c.space → Connected spaces n number IsWanted
 connected-here IsLeft IsWanted spaces n number c wanted = record { space = c.space; at = c.at; opened = c.opened; left = wanted }
 
 -- a connection that has closed has closed for what it was fed

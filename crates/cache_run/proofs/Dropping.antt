@@ -20,7 +20,7 @@ use Rattle.cache_spaces.specs.Calls as served
 use Rattle.cache_spaces.specs.Calls.{At, TakesLoads}
 use Rattle.cache_spaces.specs.Sound.{IsSound}
 use Rattle.cache_spaces.specs.Spaces.{closing_of, config_of, notices_of, outgoing_of, place_of, taken_of}
-use Rattle.cache_run.specs.Bared.{Bared, bare_tape}
+use Rattle.cache_spaces.specs.Bares.{BareSpace, bare_tape}
 use Rattle.cache_run.specs.Happened.{AreDrops}
 use Rattle.cache_run.specs.Loading.{AreKnown, OnlyGivesUp, GivesUpLoads, SameButLoads, TakesMore}
 use Rattle.cache_run.proofs.Accounting.{taken-count}
@@ -34,7 +34,7 @@ drops-more [] ys a b = b
 drops-more (x ∷ xs) ys a b = (a.0, drops-more xs ys a.1 b)
 
 -- loads that were taken leave the namespace the same
-pub taken-same : (was is : Bared) (loads : List (LoadId × List ℕ)) → TakesLoads was is loads → SameButLoads was is
+pub taken-same : (was is : BareSpace) (loads : List (LoadId × List ℕ)) → TakesLoads was is loads → SameButLoads was is
 taken-same was is loads t = t.rest ∙ ap (λ o. record was { outgoing = o }) (sym (ap outgoing_of t.rest))
 
 given-none : (config : Config) (s t : Situation) (before after : List Note) → t ≡ s → after ≡ before → OnlyGivesUp config s t before after
@@ -70,14 +70,14 @@ known-taken place before (out ∷ outs) s turn few have =
     ((omega (arith, few, is), key-out out s.pending keys.0), known-taken place (suc before) outs s ours.1 (omega (arith, few)) keys.1)
 
 -- nothing was given up
-pub drops-none : (number : ℕ) (was is : Bared) → SameButLoads was is → GivesUpLoads number was is
+pub drops-none : (number : ℕ) (was is : BareSpace) → SameButLoads was is → GivesUpLoads number was is
 drops-none number was is same = (
   goes-same number was is (λ s t. OnlyGivesUp (config_of was) s t (notices_of was) (notices_of is)) same (λ s. given-none (config_of was) s s (notices_of was) (notices_of is) refl (ap notices_of same)),
   λ closed is_open. closed (sym (ap (λ x. closing_of x number) same) ∙ is_open),
 )
 
 -- one after another
-pub drops-again : (number : ℕ) (x y z : Bared) → GivesUpLoads number x y → GivesUpLoads number y z → GivesUpLoads number x z
+pub drops-again : (number : ℕ) (x y z : BareSpace) → GivesUpLoads number x y → GivesUpLoads number y z → GivesUpLoads number x z
 drops-again number x y z a b = (
   goes-more number x y z (λ s t. OnlyGivesUp (config_of x) s t (notices_of x) (notices_of y)) (λ s t. OnlyGivesUp (config_of y) s t (notices_of y) (notices_of z)) (λ s t. OnlyGivesUp (config_of x) s t (notices_of x) (notices_of z)) a.0 b.0
       (λ s t u f g. given-more (config_of x) s t u (notices_of x) (notices_of y) (notices_of z) f (subst (λ k. OnlyGivesUp k t u (notices_of y) (notices_of z)) a.0.config g)),
@@ -85,7 +85,7 @@ drops-again number x y z a b = (
 )
 
 -- one load was given up
-pub drops-one : (number : ℕ) (was is : Bared) (load : ℕ) → IsSound bare_tape was → served.Settled bare_tape was is (giving_up load 0) → GivesUpLoads number was is
+pub drops-one : (number : ℕ) (was is : BareSpace) (load : ℕ) → IsSound bare_tape was → served.Settled bare_tape was is (giving_up load 0) → GivesUpLoads number was is
 drops-one number was is load sound settled = (
   goes-by was is (giving_up load 0) settled number tt (λ s t. OnlyGivesUp (config_of was) s t (notices_of was) (notices_of is))
       (λ s t entry event turned follows own stands. record {
@@ -103,11 +103,11 @@ pub known-still : {X : Type 0} (F : X → X → Type 0) (old new : List X) (n : 
 known-still F old new n a = slice_get_within new n a.is (at-is F old new n a)
 
 -- loads were taken
-pub at-taken : (old new : List Bared) (n : ℕ) (loads : List (LoadId × List ℕ)) → At old new n (λ was is. TakesLoads was is loads) → At old new n SameButLoads
+pub at-taken : (old new : List BareSpace) (n : ℕ) (loads : List (LoadId × List ℕ)) → At old new n (λ was is. TakesLoads was is loads) → At old new n SameButLoads
 at-taken old new n loads a = at-map (λ was is. TakesLoads was is loads) SameButLoads old new n a (λ x y t. taken-same x y loads t)
 
 -- and are known
-pub at-more-taken : (old new : List Bared) (n : ℕ) (before loads : List (LoadId × List ℕ)) → IsSoundAt old n → At old new n (λ was is. TakesLoads was is loads) → At old new n (λ was is. TakesMore was is before loads)
+pub at-more-taken : (old new : List BareSpace) (n : ℕ) (before loads : List (LoadId × List ℕ)) → IsSoundAt old n → At old new n (λ was is. TakesLoads was is loads) → At old new n (λ was is. TakesMore was is before loads)
 at-more-taken old new n before loads sound a =
     at-given-was (λ was is. TakesLoads was is loads) (λ was is. TakesMore was is before loads) old new n a
     (λ x y at t. record {
@@ -119,16 +119,16 @@ at-more-taken old new n before loads sound a =
     })
 
 module _ (number n : ℕ) where
-  pub at-drop : (old new : List Bared) (load : ℕ) → IsSoundAt old n → At old new n (λ was is. served.Settled bare_tape was is (giving_up load 0)) → At old new n (GivesUpLoads number)
+  pub at-drop : (old new : List BareSpace) (load : ℕ) → IsSoundAt old n → At old new n (λ was is. served.Settled bare_tape was is (giving_up load 0)) → At old new n (GivesUpLoads number)
   at-drop old new load sound a =
       at-given-was (λ was is. served.Settled bare_tape was is (giving_up load 0)) (GivesUpLoads number) old new n a (λ x y at settled. drops-one number x y load (sound x at) settled)
 
-  pub at-undropped : (old new : List Bared) → At old new n SameButLoads → At old new n (GivesUpLoads number)
+  pub at-undropped : (old new : List BareSpace) → At old new n SameButLoads → At old new n (GivesUpLoads number)
   at-undropped old new a = at-map SameButLoads (GivesUpLoads number) old new n a (λ x y same. drops-none number x y same)
 
   -- nothing was called
-  pub at-undropped-still : (spaces : List Bared) (x : Bared) → slice_get spaces n ≡ Some x → At spaces spaces n (GivesUpLoads number)
+  pub at-undropped-still : (spaces : List BareSpace) (x : BareSpace) → slice_get spaces n ≡ Some x → At spaces spaces n (GivesUpLoads number)
   at-undropped-still spaces x at = at-same (GivesUpLoads number) spaces n x at (drops-none number x x refl)
 
-  pub at-drops-more : (first second third : List Bared) → At first second n (GivesUpLoads number) → At second third n (GivesUpLoads number) → At first third n (GivesUpLoads number)
+  pub at-drops-more : (first second third : List BareSpace) → At first second n (GivesUpLoads number) → At second third n (GivesUpLoads number) → At first third n (GivesUpLoads number)
   at-drops-more first second third a b = at-more (GivesUpLoads number) (GivesUpLoads number) (GivesUpLoads number) first second third n a b (λ x y z p q. drops-again number x y z p q)

@@ -28,7 +28,7 @@ use Rattle.cache_spaces.specs.Calls.{At, IsOpened, ServesEvent}
 use Rattle.cache_spaces.specs.Sound.{IsSound}
 use Rattle.cache_spaces.specs.Spaces.{closing_of, config_of, known_of, notices_of, untaken_output}
 use Rattle.cache_run.specs.Accounts.{Accounts, AddsNoLoads, DropsAll, KeepsLoads, SendsLater, has_no_waiting, pending_of}
-use Rattle.cache_run.specs.Bared.{Bared, bare_tape}
+use Rattle.cache_spaces.specs.Bares.{BareSpace, bare_tape}
 use Rattle.cache_run.specs.Carried.{Broken, Carried, nothing_left}
 use Rattle.cache_run.specs.Connected.{Connected, IsEnded, IsFed, IsOpenOrEnded, IsOver, IsReady}
 use Rattle.cache_run.specs.Delivered.{Unfed}
@@ -53,7 +53,7 @@ closed-why None closed = absurd (closed refl)
 closed-why (Some why) closed = (why, refl)
 
 -- nobody begins to wait as a connection opens or closes, and no other is touched
-goes-quiet : (number : ℕ) (was is : Bared) (happened : Event) (held : Bool) → ((s : Situation) → WaitsAlone number s.pending → WaitsAlone number (after_event happened s).pending) → ((s : Situation) → tasks_in s happened ≡ []) → IsPlain happened
+goes-quiet : (number : ℕ) (was is : BareSpace) (happened : Event) (held : Bool) → ((s : Situation) → WaitsAlone number s.pending → WaitsAlone number (after_event happened s).pending) → ((s : Situation) → tasks_in s happened ≡ []) → IsPlain happened
     → ((s : Situation) (other : ℕ) → other ≢ number → connection_in other (after_event happened s) ≡ connection_in other s) → ServesEvent bare_tape was is happened held
     → Goes number was is (λ s t. Quiet (config_of was) happened s t (notices_of was) (notices_of is))
 goes-quiet number was is happened held calm idle plain apart takes = record {
@@ -85,7 +85,7 @@ found-apart number other ne = ne_eqb number other (λ e. ne (sym e))
 
 -- ---- the opening
 
-module _ (old new : List Bared) (n number : ℕ) (a : At old new n (λ was is. ServesEvent bare_tape was is (event.Open number) false × (number ≡ length was.closings + 1))) where
+module _ (old new : List BareSpace) (n number : ℕ) (a : At old new n (λ was is. ServesEvent bare_tape was is (event.Open number) false × (number ≡ length was.closings + 1))) where
   pub at-opened : At old new n (λ was is. (number ≡ next_number was) × Goes number was is (λ s t. Quiet (config_of was) (event.Open number) s t (notices_of was) (notices_of is)))
   at-opened =
       at-map (λ was is. ServesEvent bare_tape was is (event.Open number) false × (number ≡ length was.closings + 1))
@@ -126,7 +126,7 @@ module _ (old new : List Bared) (n number : ℕ) (a : At old new n (λ was is. S
 
 -- ---- the closing
 
-pub at-closed : (old new : List Bared) (n number : ℕ) → IsSoundAt old n → Connected old n number IsFed → At old new n (λ was is. ServesEvent bare_tape was is (event.Close number) false) → At old new n (Closes number)
+pub at-closed : (old new : List BareSpace) (n number : ℕ) → IsSoundAt old n → Connected old n number IsFed → At old new n (λ was is. ServesEvent bare_tape was is (event.Close number) false) → At old new n (Closes number)
 at-closed old new n number sound c a =
     at-with (λ was is. ServesEvent bare_tape was is (event.Close number) false) (Closes number) old new n c.space c.at a
     (λ y p.
@@ -157,18 +157,18 @@ at-closed old new n number sound c a =
     closed-now None false why e is = let no : false ≡ true = is in cc
     closed-now (Some c) b why e is = let no : Some c ≡ None = e in cc
 
-ended-where-refused : (space : Bared) (number : ℕ) (e : ServiceError) → IsSound bare_tape space → IsOpened space number → IsOpenOrEnded (closing_of space number)
+ended-where-refused : (space : BareSpace) (number : ℕ) (e : ServiceError) → IsSound bare_tape space → IsOpened space number → IsOpenOrEnded (closing_of space number)
     → refusal_of (config_of space) (known_of space) (event.Close number) ≡ Some e → IsEnded (closing_of space number)
 ended-where-refused space number e sound opened (inl none) refused = absurd (close-refused space number e sound opened refused none)
 ended-where-refused space number e sound opened (inr ended) refused = ended
 
-pub at-closed-before : (spaces : List Bared) (n number : ℕ) (e : ServiceError) → IsSoundAt spaces n → (c : Connected spaces n number IsFed) → refusal_of (config_of c.space) (known_of c.space) (event.Close number) ≡ Some e → At spaces spaces n (Closes number)
+pub at-closed-before : (spaces : List BareSpace) (n number : ℕ) (e : ServiceError) → IsSoundAt spaces n → (c : Connected spaces n number IsFed) → refusal_of (config_of c.space) (known_of c.space) (event.Close number) ≡ Some e → At spaces spaces n (Closes number)
 at-closed-before spaces n number e sound c refused =
     at-same (Closes number) spaces n c.space c.at
     (inr (ended-where-refused c.space number e (sound c.space c.at) c.opened c.left refused, refl, goes-still number c.space (λ s t. Unfed s t (notices_of c.space) (notices_of c.space)) (λ s. record { same = refl; notices = refl })))
 
 -- the connection is still known behind a closing
-pub opened-behind : (old new : List Bared) (n number : ℕ) → IsSoundAt old n → Connected old n number IsFed → At old new n (λ was is. ServesEvent bare_tape was is (event.Close number) false) → (w : Bared) → slice_get new n ≡ Some w → IsOpened w number
+pub opened-behind : (old new : List BareSpace) (n number : ℕ) → IsSoundAt old n → Connected old n number IsFed → At old new n (λ was is. ServesEvent bare_tape was is (event.Close number) false) → (w : BareSpace) → slice_get new n ≡ Some w → IsOpened w number
 opened-behind old new n number sound c a w here =
     let was = at-was (λ was is. ServesEvent bare_tape was is (event.Close number) false) old new n a c.space c.at in
     let is : a.is ≡ w = same_Some a.is w (sym (at-is (λ was is. ServesEvent bare_tape was is (event.Close number) false) old new n a) ∙ here) in
@@ -178,7 +178,7 @@ opened-behind old new n number sound c a w here =
 
 module _ {C L : Type 0} (reads : C → ℕ → C → Type 0) (loads : L → List ℕ → Option Outcome → L → Type 0) (number : ℕ) (before after : Outside C L) where
   -- what was carried stands behind the opening
-  pub at-begun : (first second third : List Bared) (n : ℕ)
+  pub at-begun : (first second third : List BareSpace) (n : ℕ)
       → At first second n (λ was is. (number ≡ next_number was) × Goes number was is (λ s t. Quiet (config_of was) (event.Open number) s t (notices_of was) (notices_of is)))
       → At second third n (λ was is. Goes number was is (λ s t. Carried (config_of was) number reads loads (world was s before) (world is t after) false false [] nothing_left))
       → At first third n (λ was is. (number ≡ next_number was) × Goes number was is (λ s t. Carried (config_of was) number reads loads (world was s before) (world is t after) true false [] nothing_left))
@@ -196,7 +196,7 @@ module _ {C L : Type 0} (reads : C → ℕ → C → Type 0) (loads : L → List
       ))
 
   -- what was broken stands behind the opening
-  pub at-begun-broken : (first second third : List Bared) (n : ℕ) (e : RunError)
+  pub at-begun-broken : (first second third : List BareSpace) (n : ℕ) (e : RunError)
       → At first second n (λ was is. (number ≡ next_number was) × Goes number was is (λ s t. Quiet (config_of was) (event.Open number) s t (notices_of was) (notices_of is)))
       → At second third n (λ was is. Goes number was is (λ s t. Broken (config_of was) number reads loads (world was s before) (world is t after) false false [] e))
       → At first third n (λ was is. (number ≡ next_number was) × Goes number was is (λ s t. Broken (config_of was) number reads loads (world was s before) (world is t after) true false [] e))
@@ -213,7 +213,7 @@ module _ {C L : Type 0} (reads : C → ℕ → C → Type 0) (loads : L → List
             (subst (λ k. Broken k number reads loads (world y t before) (world z u after) false false [] e) p.1.config g)),
       ))
 
-  whole : (x z w : Bared) → number ≡ next_number x → Goes number x z (λ s t. Carried (config_of x) number reads loads (world x s before) (world z t after) true false [] nothing_left)
+  whole : (x z w : BareSpace) → number ≡ next_number x → Goes number x z (λ s t. Carried (config_of x) number reads loads (world x s before) (world z t after) true false [] nothing_left)
       → IsOver after.remaining number z → Closes number z w → AddsNoLoads x w → ServesWhole reads loads x w before after
   whole x z w next g (inl over) (inl closes) settled = record {
     number = number;
@@ -239,7 +239,7 @@ module _ {C L : Type 0} (reads : C → ℕ → C → Type 0) (loads : L → List
   }
 
   -- loads were given up behind the closing
-  dropped : (x w v : Bared) (closes : Bool) (e : RunError) → Goes number x w (λ s t. Broken (config_of x) number reads loads (world x s before) (world w t after) true closes [] e) → GivesUpLoads number w v
+  dropped : (x w v : BareSpace) (closes : Bool) (e : RunError) → Goes number x w (λ s t. Broken (config_of x) number reads loads (world x s before) (world w t after) true closes [] e) → GivesUpLoads number w v
       → Goes number x v (λ s t. (drops : List Record) × Broken (config_of x) number reads loads (world x s before) (world v t after) true closes drops e)
   dropped x w v closes e g d =
       goes-more number x w v (λ s t. Broken (config_of x) number reads loads (world x s before) (world w t after) true closes [] e) (λ s t. OnlyGivesUp (config_of w) s t (notices_of w) (notices_of v))
@@ -254,7 +254,7 @@ module _ {C L : Type 0} (reads : C → ℕ → C → Type 0) (loads : L → List
         },
       ))
 
-  partly : (x z w v : Bared) (e : RunError) → number ≡ next_number x → Goes number x z (λ s t. Broken (config_of x) number reads loads (world x s before) (world z t after) true false [] e)
+  partly : (x z w v : BareSpace) (e : RunError) → number ≡ next_number x → Goes number x z (λ s t. Broken (config_of x) number reads loads (world x s before) (world z t after) true false [] e)
       → Closes number z w → GivesUpLoads number w v → (WaitsAlone number (pending_of x) → AddsNoLoads x v) → ServesPartly reads loads x v before after e
   partly x z w v e next g (inl closes) d settled =
       let why = closed-why (closing_of v number) (d.1 (λ none. none-some by.Asked (sym none ∙ closes.1))) in
@@ -295,7 +295,7 @@ module _ {C L : Type 0} (reads : C → ℕ → C → Type 0) (loads : L → List
         settled = settled;
       }
 
-  pub at-whole : (first second third fourth : List Bared) (n : ℕ)
+  pub at-whole : (first second third fourth : List BareSpace) (n : ℕ)
       → At first second n (λ was is. (number ≡ next_number was) × Goes number was is (λ s t. Quiet (config_of was) (event.Open number) s t (notices_of was) (notices_of is)))
       → At second third n (λ was is. Goes number was is (λ s t. Carried (config_of was) number reads loads (world was s before) (world is t after) false false [] nothing_left))
       → Connected third n number (IsOver after.remaining) → At third fourth n (Closes number)
@@ -307,23 +307,23 @@ module _ {C L : Type 0} (reads : C → ℕ → C → Type 0) (loads : L → List
       (at-with (Closes number) (λ z w. IsOver after.remaining number z × Closes number z w) third fourth n c.space c.at d (λ w closes. (c.left, closes)))
       (λ x z w p q. whole x z w p.0 p.1 q.0 q.1)
 
-  pub at-partly : (first second third fourth fifth : List Bared) (n : ℕ) (e : RunError)
+  pub at-partly : (first second third fourth fifth : List BareSpace) (n : ℕ) (e : RunError)
       → At first second n (λ was is. (number ≡ next_number was) × Goes number was is (λ s t. Quiet (config_of was) (event.Open number) s t (notices_of was) (notices_of is)))
       → At second third n (λ was is. Goes number was is (λ s t. Broken (config_of was) number reads loads (world was s before) (world is t after) false false [] e))
       → At third fourth n (Closes number) → At fourth fifth n (GivesUpLoads number)
       → At first fifth n (λ was is. (WaitsAlone number (pending_of was) → AddsNoLoads was is) → ServesPartly reads loads was is before after e)
   at-partly first second third fourth fifth n e a b c d =
       at-more (λ x z. (number ≡ next_number x) × Goes number x z (λ s t. Broken (config_of x) number reads loads (world x s before) (world z t after) true false [] e))
-      (λ z v. (w : Bared) × Closes number z w × GivesUpLoads number w v) (λ x v. (WaitsAlone number (pending_of x) → AddsNoLoads x v) → ServesPartly reads loads x v before after e) first third fifth n
+      (λ z v. (w : BareSpace) × Closes number z w × GivesUpLoads number w v) (λ x v. (WaitsAlone number (pending_of x) → AddsNoLoads x v) → ServesPartly reads loads x v before after e) first third fifth n
       (at-begun-broken first second third n e a b)
-      (at-more (Closes number) (GivesUpLoads number) (λ z v. (w : Bared) × Closes number z w × GivesUpLoads number w v) third fourth fifth n c d (λ z w v p q. (w, p, q)))
+      (at-more (Closes number) (GivesUpLoads number) (λ z v. (w : BareSpace) × Closes number z w × GivesUpLoads number w v) third fourth fifth n c d (λ z w v p q. (w, p, q)))
       (λ x z v p q. partly x z q.0 v e p.0 p.1 q.1 q.2)
 
 -- however it ended, the connection may only have closed for what it was fed
-pub fed-after : {X E : Type 0} (spaces : List Bared) (n number : ℕ) (remaining : Option (List ℕ)) (r : Result X E) → MatchResult r (λ done. Connected spaces n number (IsOver remaining)) (λ e. Connected spaces n number IsFed) → Connected spaces n number IsFed
+pub fed-after : {X E : Type 0} (spaces : List BareSpace) (n number : ℕ) (remaining : Option (List ℕ)) (r : Result X E) → MatchResult r (λ done. Connected spaces n number (IsOver remaining)) (λ e. Connected spaces n number IsFed) → Connected spaces n number IsFed
 fed-after spaces n number remaining (Ok x) over = connected-map (IsOver remaining) IsFed spaces n number over (λ space is. fed space is)
   where
-    fed : (space : Bared) → IsOver remaining number space → IsFed number space
+    fed : (space : BareSpace) → IsOver remaining number space → IsFed number space
     fed space (inl p) = inl p.0
     fed space (inr p) = inr p
 fed-after spaces n number remaining (Err e) left = left
@@ -331,10 +331,10 @@ fed-after spaces n number remaining (Err e) left = left
 -- ---- what becomes of the loads
 
 -- where no other connection waits, nobody does behind the closing
-abbrev AloneStays : ℕ → Bared → Bared → Type 0
+abbrev AloneStays : ℕ → BareSpace → BareSpace → Type 0
 AloneStays number x w = WaitsAlone number (pending_of x) → IsTrue (has_no_waiting (pending_of w))
 
-alone-closes : (number : ℕ) (x z w : Bared) (F : Situation → Situation → Type 0) → IsSound bare_tape x → IsSound bare_tape w → IsOpened w number → Goes number x z F → Closes number z w → AloneStays number x w
+alone-closes : (number : ℕ) (x z w : BareSpace) (F : Situation → Situation → Type 0) → IsSound bare_tape x → IsSound bare_tape w → IsOpened w number → Goes number x z F → Closes number z w → AloneStays number x w
 alone-closes number x z w F before after opened g (inl closes) =
     nobody-behind number x w (λ s t. Unit {0}) before after opened
     (goes-more number x z w F (λ s t. Quiet (config_of z) (event.Close number) s t (notices_of z) (notices_of w)) (λ s t. Unit {0}) g closes.2 (λ s t u f q. tt)) (λ none. none-some by.Asked (sym none ∙ closes.1))
@@ -342,13 +342,13 @@ alone-closes number x z w F before after opened g (inr closes) =
     nobody-behind number x w (λ s t. Unit {0}) before after opened
     (goes-more number x z w F (λ s t. Unfed s t (notices_of z) (notices_of w)) (λ s t. Unit {0}) g closes.2 (λ s t u f q. tt)) (λ none. ended-none (closing_of z number) closes.0 (sym closes.1 ∙ none))
 
-module _ (number n : ℕ) (first second third fourth : List Bared) where
+module _ (number n : ℕ) (first second third fourth : List BareSpace) where
   -- each that is under way behind the closing was so before the opening
   at-adds-whole : At first second n KeepsLoads → At second third n AddsNoLoads → At third fourth n KeepsLoads → At first fourth n AddsNoLoads
   at-adds-whole a b c =
       at-adds-more first third fourth n (at-adds-more first second third n (at-map KeepsLoads AddsNoLoads first second n a (λ x y k. k.loads)) b) (at-map KeepsLoads AddsNoLoads third fourth n c (λ x y k. k.loads))
 
-  at-alone : (F : Bared → Bared → Situation → Situation → Type 0) → IsSoundAt first n → IsSoundAt fourth n → ((w : Bared) → slice_get fourth n ≡ Some w → IsOpened w number) → At first third n (λ was is. (number ≡ next_number was) × Goes number was is (F was is)) → At third fourth n (Closes number) → At first fourth n (AloneStays number)
+  at-alone : (F : BareSpace → BareSpace → Situation → Situation → Type 0) → IsSoundAt first n → IsSoundAt fourth n → ((w : BareSpace) → slice_get fourth n ≡ Some w → IsOpened w number) → At first third n (λ was is. (number ≡ next_number was) × Goes number was is (F was is)) → At third fourth n (Closes number) → At first fourth n (AloneStays number)
   at-alone F before after opened a b =
       at-more (λ was is. (IsSound bare_tape was × (number ≡ next_number was)) × Goes number was is (F was is)) (λ z w. Closes number z w × (IsSound bare_tape w × IsOpened w number)) (AloneStays number) first third fourth n
       (at-given-was (λ was is. (number ≡ next_number was) × Goes number was is (F was is)) (λ was is. (IsSound bare_tape was × (number ≡ next_number was)) × Goes number was is (F was is)) first third n a (λ x y at p. ((before x at, p.0), p.1)))
@@ -356,7 +356,7 @@ module _ (number n : ℕ) (first second third fourth : List Bared) where
       (λ x z w p q. alone-closes number x z w (F x z) p.0.0 q.1.0 q.1.1 p.1 q.0)
 
   -- each that is under way behind the give-ups was so before the opening
-  at-adds-partly : (fifth : List Bared) (outs : List (LoadId × List ℕ)) → At first second n KeepsLoads → At second third n (λ was is. Accounts was is [] outs) → At third fourth n KeepsLoads → At first fourth n (AloneStays number)
+  at-adds-partly : (fifth : List BareSpace) (outs : List (LoadId × List ℕ)) → At first second n KeepsLoads → At second third n (λ was is. Accounts was is [] outs) → At third fourth n KeepsLoads → At first fourth n (AloneStays number)
       → At fourth fifth n (DropsAll outs) → At first fifth n (λ was is. WaitsAlone number (pending_of was) → AddsNoLoads was is)
   at-adds-partly fifth outs a b c alone d =
       let opened = at-accounts-later first second n [] (at-map KeepsLoads SendsLater first second n a later-kept) in
@@ -367,17 +367,17 @@ module _ (number n : ℕ) (first second third fourth : List Bared) where
       (λ x w v p q alone. kept-behind x w v outs p.1 q (p.0 alone))
 
 -- what follows where that is given
-at-given : (F G : Bared → Bared → Type 0) (old new : List Bared) (n : ℕ) → At old new n G → At old new n (λ was is. G was is → F was is) → At old new n F
+at-given : (F G : BareSpace → BareSpace → Type 0) (old new : List BareSpace) (n : ℕ) → At old new n G → At old new n (λ was is. G was is → F was is) → At old new n F
 at-given F G old new n a b = at-map (λ was is. G was is × (G was is → F was is)) F old new n (at-both G (λ was is. G was is → F was is) old new n a b) (λ x y p. p.1 p.0)
 
 -- where no load was under way before, none is
-whole-none : {C L : Type 0} (reads : C → ℕ → C → Type 0) (loads : L → List ℕ → Option Outcome → L → Type 0) (before after : Outside C L) (old new : List Bared) (n : ℕ) → At old new n (λ was is. ServesWhole reads loads was is before after)
+whole-none : {C L : Type 0} (reads : C → ℕ → C → Type 0) (loads : L → List ℕ → Option Outcome → L → Type 0) (before after : Outside C L) (old new : List BareSpace) (n : ℕ) → At old new n (λ was is. ServesWhole reads loads was is before after)
     → At old new n (λ was is. pending_of was ≡ [] → pending_of is ≡ [])
 whole-none reads loads before after old new n a =
     at-map (λ was is. ServesWhole reads loads was is before after) (λ was is. pending_of was ≡ [] → pending_of is ≡ []) old new n a (λ x y w none. none-behind x y w.settled none)
 
 -- however a run ended
-pub run-none : {T C L : Type 0} (reads : C → ℕ → C → Type 0) (loads : L → List ℕ → Option Outcome → L → Type 0) (before after : Outside C L) (old new : List Bared) (n : ℕ) (x : Bared) → slice_get old n ≡ Some x → (A : RunError → Type 0) (B : Type 0) (r : Result T RunError)
+pub run-none : {T C L : Type 0} (reads : C → ℕ → C → Type 0) (loads : L → List ℕ → Option Outcome → L → Type 0) (before after : Outside C L) (old new : List BareSpace) (n : ℕ) (x : BareSpace) → slice_get old n ≡ Some x → (A : RunError → Type 0) (B : Type 0) (r : Result T RunError)
     → OnOk r (At old new n (λ was is. ServesWhole reads loads was is before after))
     → IfErr r (λ e. (A e × (new ≡ old) × B) ⊎ At old new n (λ was is. ServesPartly reads loads was is before after e))
     → At old new n (λ was is. pending_of was ≡ [] → pending_of is ≡ [])
@@ -390,7 +390,7 @@ run-none reads loads before after old new n x at A B (Err e) whole (inr partly) 
 
 -- ---- what a run leaves
 
-module _ {C L : Type 0} (reads : C → ℕ → C → Type 0) (loads : L → List ℕ → Option Outcome → L → Type 0) (first second third fourth : List Bared) (m n number : ℕ) (before after : Outside C L) where
+module _ {C L : Type 0} (reads : C → ℕ → C → Type 0) (loads : L → List ℕ → Option Outcome → L → Type 0) (first second third fourth : List BareSpace) (m n number : ℕ) (before after : Outside C L) where
   pub run-whole : m ≡ n
       → At first second n (λ was is. (number ≡ next_number was) × Goes number was is (λ s t. Quiet (config_of was) (event.Open number) s t (notices_of was) (notices_of is)))
       → At second third m (λ was is. Goes number was is (λ s t. Carried (config_of was) number reads loads (world was s before) (world is t after) false false [] nothing_left))
@@ -404,7 +404,7 @@ module _ {C L : Type 0} (reads : C → ℕ → C → Type 0) (loads : L → List
       (subst (λ k. At second third k (λ was is. Goes number was is (λ s t. Carried (config_of was) number reads loads (world was s before) (world is t after) false false [] nothing_left))) e carried)
       (subst (λ k. Connected third k number (IsOver after.remaining)) e over) (subst (λ k. At third fourth k (Closes number)) e closes))
 
-  pub run-partly : (fifth : List Bared) (error : RunError) → m ≡ n → IsSoundAt first n → IsSoundAt fourth m → ((w : Bared) → slice_get fourth m ≡ Some w → IsOpened w number)
+  pub run-partly : (fifth : List BareSpace) (error : RunError) → m ≡ n → IsSoundAt first n → IsSoundAt fourth m → ((w : BareSpace) → slice_get fourth m ≡ Some w → IsOpened w number)
       → At first second n (λ was is. (number ≡ next_number was) × Goes number was is (λ s t. Quiet (config_of was) (event.Open number) s t (notices_of was) (notices_of is)))
       → At second third m (λ was is. Goes number was is (λ s t. Broken (config_of was) number reads loads (world was s before) (world is t after) false false [] error))
       → At third fourth m (Closes number) → At fourth fifth m (GivesUpLoads number)
@@ -412,7 +412,7 @@ module _ {C L : Type 0} (reads : C → ℕ → C → Type 0) (loads : L → List
       → At first fifth n (λ was is. ServesPartly reads loads was is before after error)
   run-partly fifth error same before-sound after-sound known opened broken closes dropped outs opens accounted leaves drops =
       let begun = at-begun-broken reads loads number before after first second third n error opened (subst (λ k. At second third k (λ was is. Goes number was is (λ s t. Broken (config_of was) number reads loads (world was s before) (world is t after) false false [] error))) same broken) in
-      let alone = at-alone number n first second third fourth (λ x z s t. Broken (config_of x) number reads loads (world x s before) (world z t after) true false [] error) before-sound (subst (λ k. IsSoundAt fourth k) same after-sound) (subst (λ k. (w : Bared) → slice_get fourth k ≡ Some w → IsOpened w number) same known) begun (subst (λ k. At third fourth k (Closes number)) same closes) in
+      let alone = at-alone number n first second third fourth (λ x z s t. Broken (config_of x) number reads loads (world x s before) (world z t after) true false [] error) before-sound (subst (λ k. IsSoundAt fourth k) same after-sound) (subst (λ k. (w : BareSpace) → slice_get fourth k ≡ Some w → IsOpened w number) same known) begun (subst (λ k. At third fourth k (Closes number)) same closes) in
       at-given (λ was is. ServesPartly reads loads was is before after error) (λ was is. WaitsAlone number (pending_of was) → AddsNoLoads was is) first fifth n
       (at-adds-partly number n first second third fourth fifth outs opens (subst (λ k. At second third k (λ was is. Accounts was is [] outs)) same accounted) (subst (λ k. At third fourth k KeepsLoads) same leaves) alone (subst (λ k. At fourth fifth k (DropsAll outs)) same drops))
       (at-partly reads loads number before after first second third fourth fifth n error opened

@@ -14,7 +14,7 @@ use Rattle.cache_core.specs.Turned.{feeding, notes_in, replies_to}
 use Rattle.cache_lines.specs.Gathered.{reply_in}
 use Rattle.cache_spaces.specs.Calls.{At, IsOpened, ServesEvent, TakesOutput}
 use Rattle.cache_spaces.specs.Spaces.{StandsFor, closing_of, config_of, notices_of, untaken_output}
-use Rattle.cache_run.specs.Bared.{Bared, bare_tape}
+use Rattle.cache_spaces.specs.Bares.{BareSpace, bare_tape}
 use Rattle.cache_run.specs.Connected.{Connected, IsReady}
 use Rattle.cache_run.specs.Delivered.{Answered, IsCause, Unanswered}
 use Rattle.cache_run.specs.Goes.{Goes}
@@ -28,7 +28,7 @@ use Rattle.cache_run.proofs.Placing.{at-map, at-more, at-same, at-with}
 use Rattle.cache_run.proofs.Serving.{goes-by, happened-so, own-replies}
 
 -- one after another
-pub goes-more : (number : ℕ) (x y z : Bared) (F G H : Situation → Situation → Type 0) → Goes number x y F → Goes number y z G → ((s t u : Situation) → F s t → G t u → H s u) → Goes number x z H
+pub goes-more : (number : ℕ) (x y z : BareSpace) (F G H : Situation → Situation → Type 0) → Goes number x y F → Goes number y z G → ((s t u : Situation) → F s t → G t u → H s u) → Goes number x z H
 goes-more number x y z F G H a b h = record {
   each = λ s stands alone.
       let first = a.each s stands alone in
@@ -43,7 +43,7 @@ goes-more number x y z F G H a b h = record {
   config = b.config ∙ a.config;
 }
 
-pub goes-map : (number : ℕ) (x y : Bared) (F G : Situation → Situation → Type 0) → Goes number x y F → ((s t : Situation) → F s t → G s t) → Goes number x y G
+pub goes-map : (number : ℕ) (x y : BareSpace) (F G : Situation → Situation → Type 0) → Goes number x y F → ((s t : Situation) → F s t → G s t) → Goes number x y G
 goes-map number x y F G a h = record {
   each = λ s stands alone.
       let first = a.each s stands alone in record { next = first.next; stands = first.stands; alone = first.alone; fact = h s first.next first.fact; others = first.others };
@@ -53,11 +53,11 @@ goes-map number x y F G a h = record {
 -- ---- what is the same
 
 -- a namespace of which only loads were taken stands for the same situations
-pub still-stands : (was is : Bared) (s : Situation) → SameButLoads was is → StandsFor was s → StandsFor is s
+pub still-stands : (was is : BareSpace) (s : Situation) → SameButLoads was is → StandsFor was s → StandsFor is s
 still-stands was is s e x = subst (λ y. StandsFor y s) (sym e) (record { held = x.held; stands = x.stands; is = x.is })
 
 -- or of which replies were taken
-pub output-stands : (was is : Bared) (number : ℕ) (text : List ℕ) (s : Situation) → TakesOutput was is number text → StandsFor was s → StandsFor is s
+pub output-stands : (was is : BareSpace) (number : ℕ) (text : List ℕ) (s : Situation) → TakesOutput was is number text → StandsFor was s → StandsFor is s
 output-stands was is number text s t x = subst (λ y. StandsFor y s) (sym t.rest) (record { held = x.held; stands = x.stands; is = x.is })
 
 set-other : {A : Type 0} (d x : A) (xs : List A) (number other : ℕ) → 0 < number → other ≢ number → at_number d (slice_set xs (number - 1) x) other ≡ at_number d xs other
@@ -85,11 +85,11 @@ set-own xs (suc place) =
     there (y ∷ ys) zero = refl
     there (y ∷ ys) (suc i) = there ys i
 
-opened-positive : (space : Bared) (number : ℕ) → IsOpened space number → 0 < number
+opened-positive : (space : BareSpace) (number : ℕ) → IsOpened space number → 0 < number
 opened-positive space number opened = ltb-true 0 number (and_parts (nat_lt 0 number) (nat_le number (length space.closings)) opened).0
 
 -- where replies were taken, those of others stay, and each connection is closed as it was
-module _ (was is : Bared) (number : ℕ) (text : List ℕ) (t : TakesOutput was is number text) where
+module _ (was is : BareSpace) (number : ℕ) (text : List ℕ) (t : TakesOutput was is number text) where
   pub output-others : (other : ℕ) → other ≢ number → (untaken_output is other ≡ untaken_output was other) × (closing_of is other ≡ closing_of was other)
   output-others other ne = (ap (λ x. untaken_output x other) t.rest ∙ set-other [] [] was.outputs number other (opened-positive was number t.opened) ne, ap (λ x. closing_of x other) t.rest)
 
@@ -97,18 +97,18 @@ module _ (was is : Bared) (number : ℕ) (text : List ℕ) (t : TakesOutput was 
   output-none = ap (λ x. untaken_output x number) t.rest ∙ set-own was.outputs number
 
 -- a namespace of which only loads were taken
-pub goes-same : (number : ℕ) (was is : Bared) (F : Situation → Situation → Type 0) → SameButLoads was is → ((s : Situation) → F s s) → Goes number was is F
+pub goes-same : (number : ℕ) (was is : BareSpace) (F : Situation → Situation → Type 0) → SameButLoads was is → ((s : Situation) → F s s) → Goes number was is F
 goes-same number was is F same h = record {
   each = λ s stands alone. record { next = s; stands = still-stands was is s same stands; alone = alone; fact = h s; others = λ other ne. (ap (λ x. untaken_output x other) same, ap (λ x. closing_of x other) same) };
   config = ap config_of same;
 }
 
 -- nothing changed
-pub goes-still : (number : ℕ) (x : Bared) (F : Situation → Situation → Type 0) → ((s : Situation) → F s s) → Goes number x x F
+pub goes-still : (number : ℕ) (x : BareSpace) (F : Situation → Situation → Type 0) → ((s : Situation) → F s s) → Goes number x x F
 goes-still number x F h = goes-same number x x F refl h
 
 -- replies are taken behind it
-pub goes-output : (number : ℕ) (x y z : Bared) (text : List ℕ) (F : Situation → Situation → Type 0) → TakesOutput y z number text → Goes number x y F → Goes number x z F
+pub goes-output : (number : ℕ) (x y z : BareSpace) (text : List ℕ) (F : Situation → Situation → Type 0) → TakesOutput y z number text → Goes number x y F → Goes number x z F
 goes-output number x y z text F taken goes = record {
   each = λ s stands alone.
       let first = goes.each s stands alone in
@@ -124,16 +124,16 @@ goes-output number x y z text F taken goes = record {
 
 -- ---- among many
 
-pub at-goes-more : (number n : ℕ) (xs ys zs : List Bared) (F G H : Bared → Bared → Situation → Situation → Type 0)
+pub at-goes-more : (number n : ℕ) (xs ys zs : List BareSpace) (F G H : BareSpace → BareSpace → Situation → Situation → Type 0)
     → At xs ys n (λ was is. Goes number was is (F was is)) → At ys zs n (λ was is. Goes number was is (G was is))
-    → ((x y z : Bared) → config_of y ≡ config_of x → (s t u : Situation) → F x y s t → G y z t u → H x z s u)
+    → ((x y z : BareSpace) → config_of y ≡ config_of x → (s t u : Situation) → F x y s t → G y z t u → H x z s u)
     → At xs zs n (λ was is. Goes number was is (H was is))
 at-goes-more number n xs ys zs F G H a b h =
     at-more (λ was is. Goes number was is (F was is)) (λ was is. Goes number was is (G was is)) (λ was is. Goes number was is (H was is)) xs ys zs n a b
     (λ x y z p q. goes-more number x y z (F x y) (G y z) (H x z) p q (h x y z p.config))
 
-pub at-goes-map : (number n : ℕ) (xs ys : List Bared) (F G : Bared → Bared → Situation → Situation → Type 0)
-    → At xs ys n (λ was is. Goes number was is (F was is)) → ((x y : Bared) (s t : Situation) → F x y s t → G x y s t) → At xs ys n (λ was is. Goes number was is (G was is))
+pub at-goes-map : (number n : ℕ) (xs ys : List BareSpace) (F G : BareSpace → BareSpace → Situation → Situation → Type 0)
+    → At xs ys n (λ was is. Goes number was is (F was is)) → ((x y : BareSpace) (s t : Situation) → F x y s t → G x y s t) → At xs ys n (λ was is. Goes number was is (G was is))
 at-goes-map number n xs ys F G a h =
     at-map (λ was is. Goes number was is (F was is)) (λ was is. Goes number was is (G was is)) xs ys n a (λ x y p. goes-map number x y (F x y) (G x y) p (h x y))
 
@@ -158,7 +158,7 @@ fed-turn config number piece moment entry s t before after text follows is notic
     }
 
 -- it was fed and its replies were taken
-pub at-answered : (old between new : List Bared) (n number : ℕ) (piece : List ℕ) (moment : ℕ) (held : Bool) (text : List ℕ) → Connected old n number IsReady
+pub at-answered : (old between new : List BareSpace) (n number : ℕ) (piece : List ℕ) (moment : ℕ) (held : Bool) (text : List ℕ) → Connected old n number IsReady
     → At old between n (λ was is. ServesEvent bare_tape was is (feeding number piece moment) held) → At between new n (λ was is. TakesOutput was is number text)
     → At old new n (λ was is. Goes number was is (λ s t. Answered (config_of was) number piece moment [] s t (notices_of was) (notices_of is) text))
 at-answered old between new n number piece moment held text c a b =
@@ -175,7 +175,7 @@ at-answered old between new n number piece moment held text c a b =
     (taken.taken ∙ turned.outputs number ∙ ap (λ o. o ++ replies_to number entry.steps) takes.0 ∙ own-replies number entry.steps own))))
 
 -- it was fed, and a command was held back
-pub at-held : (old new : List Bared) (n number : ℕ) (piece : List ℕ) (moment : ℕ) (held : Bool)
+pub at-held : (old new : List BareSpace) (n number : ℕ) (piece : List ℕ) (moment : ℕ) (held : Bool)
     → At old new n (λ was is. ServesEvent bare_tape was is (feeding number piece moment) held)
     → At old new n (λ was is. Goes number was is (λ s t. Unanswered (config_of was) number piece moment [] s t (notices_of was) (notices_of is) OutOfMemory))
 at-held old new n number piece moment held a =
@@ -187,7 +187,7 @@ at-held old new n number piece moment held a =
     inr (flat_map reply_in entry.steps, fed-turn (config_of x) number piece moment entry s t (notices_of x) (notices_of y) (flat_map reply_in entry.steps) follows is turned.notes refl, refl)))
 
 -- it was refused
-pub at-refused : (spaces : List Bared) (n number : ℕ) (piece : List ℕ) (moment : ℕ) (asks : List Asking) (e : RunError) (x : Bared) → slice_get spaces n ≡ Some x → IsCause moment e
+pub at-refused : (spaces : List BareSpace) (n number : ℕ) (piece : List ℕ) (moment : ℕ) (asks : List Asking) (e : RunError) (x : BareSpace) → slice_get spaces n ≡ Some x → IsCause moment e
     → At spaces spaces n (λ was is. Goes number was is (λ s t. Unanswered (config_of was) number piece moment asks s t (notices_of was) (notices_of is) e))
 at-refused spaces n number piece moment asks e x at cause =
     at-same (λ x y. Goes number x y (λ s t. Unanswered (config_of x) number piece moment asks s t (notices_of x) (notices_of y) e)) spaces n x at

@@ -26,7 +26,7 @@ use Rattle.audit_waiting_laws.specs.Tidy.{Tidy}
 use Rattle.audit_waiting_laws.proofs.Closed.{closed, given-up}
 use Rattle.audit_waiting_laws.proofs.Sending.{all-but, all-from, all-own, one-of}
 use Rattle.cache_run.specs.Accounts.{Accounts, AddsNoLoads, DropsAll, DropsUnwaited, is_left, has_no_waiting, pending_of}
-use Rattle.cache_run.specs.Bared.{Bared, bare_tape}
+use Rattle.cache_spaces.specs.Bares.{BareSpace, bare_tape}
 use Rattle.cache_run.specs.Goes.{Goes}
 use Rattle.cache_run.proofs.Accounting.{accounts-begun, in-turn-has, loads-same, others-unknown, own-loads, sent-under, taken-count}
 use Rattle.cache_run.proofs.Placing.{at-given-was, at-more, at-same}
@@ -55,11 +55,11 @@ not-some None e = refl
 not-some (Some x) e = let no : true ≡ false = e in cc
 
 -- who waits does not depend on the values that are held
-tidy-with : (x : Bared) (held : List HeldValue) → Tidy [] (situation_with shown_of x []) → Tidy [] (situation_with shown_of x held)
+tidy-with : (x : BareSpace) (held : List HeldValue) → Tidy [] (situation_with shown_of x []) → Tidy [] (situation_with shown_of x held)
 tidy-with x held t = record { once = t.once; keys = t.keys }
 
 -- where no other connection waits, and this one has closed, nobody does
-pub nobody-behind : (number : ℕ) (x w : Bared) (F : Situation → Situation → Type 0) → IsSound bare_tape x → IsSound bare_tape w → IsOpened w number → Goes number x w F → closing_of w number ≢ None → WaitsAlone number (pending_of x)
+pub nobody-behind : (number : ℕ) (x w : BareSpace) (F : Situation → Situation → Type 0) → IsSound bare_tape x → IsSound bare_tape w → IsOpened w number → Goes number x w F → closing_of w number ≢ None → WaitsAlone number (pending_of x)
     → has_no_waiting (pending_of w) ≡ true
 nobody-behind number x w F before after opened goes closes alone =
     let g = goes.each before.some before.stands (subst (WaitsAlone number) (sym (pending-is x before.some before.stands)) alone) in
@@ -69,7 +69,7 @@ nobody-behind number x w F before after opened goes closes alone =
 
 -- ---- one load is given up
 
-drops-settled : (was is : Bared) (load : ℕ) → IsSound bare_tape was → served.Settled bare_tape was is (giving_up load 0) → DropsUnwaited (λ n. n == load) was is
+drops-settled : (was is : BareSpace) (load : ℕ) → IsSound bare_tape was → served.Settled bare_tape was is (giving_up load 0) → DropsUnwaited (λ n. n == load) was is
 drops-settled was is load sound settled none =
     let x = settled.turned sound.some sound.stands in
     let law = given-up (config_of was) sound.some x.2.next x.0 load _ x.1 x.2.follows (nobody-each sound.some.pending (ap has_no_waiting (pending-is was sound.some sound.stands) ∙ none)) in
@@ -88,7 +88,7 @@ drops-settled was is load sound settled none =
         either true = refl
         either false = refl
 
-drops-unknown : (x : Bared) (load : ℕ) → (known_of x).is_under_way load ≡ false → DropsUnwaited (λ n. n == load) x x
+drops-unknown : (x : BareSpace) (load : ℕ) → (known_of x).is_under_way load ≡ false → DropsUnwaited (λ n. n == load) x x
 drops-unknown x load unknown none =
     let u : ℕ → Bool = λ n. is_under_way n (pending_of x) in
     let q : ℕ → Bool = λ n. not (n == load) in
@@ -100,17 +100,17 @@ never-late false late e is refused = refl
 never-late true true e is refused = let high = leb-true (2 ^ 63) 0 is in absurd (omega (arith, high))
 never-late true false e is refused = absurd (none-some e refused)
 
-refused-unknown : (was : Bared) (load : ℕ) (e : ServiceError) → refusal_of (config_of was) (known_of was) (giving_up load 0) ≡ Some e → (known_of was).is_under_way load ≡ false
+refused-unknown : (was : BareSpace) (load : ℕ) (e : ServiceError) → refusal_of (config_of was) (known_of was) (giving_up load 0) ≡ Some e → (known_of was).is_under_way load ≡ false
 refused-unknown was load e refused = never-late ((known_of was).is_under_way load) (nat_le (2 ^ 63) 0) e refl refused
 
 -- ---- several loads are given up
 
-pub drops-still : (x : Bared) → DropsUnwaited (λ n. is_left n []) x x
+pub drops-still : (x : BareSpace) → DropsUnwaited (λ n. is_left n []) x x
 drops-still x none =
     let u : ℕ → Bool = λ n. is_under_way n (pending_of x) in
     record { taken = refl; nobody = none; loads = all-from u u (λ n. u n && true) (pending_of x) (λ n a b. and_from (u n) true a refl) (own-loads (pending_of x)) (own-loads (pending_of x)) }
 
-drops-more : (f g h : ℕ → Bool) (x y z : Bared) → ((n : ℕ) → not (f n) ≡ true → not (g n) ≡ true → not (h n) ≡ true) → DropsUnwaited f x y → DropsUnwaited g y z → DropsUnwaited h x z
+drops-more : (f g h : ℕ → Bool) (x y z : BareSpace) → ((n : ℕ) → not (f n) ≡ true → not (g n) ≡ true → not (h n) ≡ true) → DropsUnwaited f x y → DropsUnwaited g y z → DropsUnwaited h x z
 drops-more f g h x y z both p q none =
     let a = p none in
     let b = q a.nobody in
@@ -137,13 +137,13 @@ not-left outs out n a b =
     go true is = let no : false ≡ true = sym (ap not (eq-eqb n out.0.number (sym (eqb-true out.0.number n is)))) ∙ b in cc
     go false is = refl
 
-drops-next : (outs all : List (LoadId × List ℕ)) (out : LoadId × List ℕ) (load : ℕ) (x y z : Bared) → all ≡ outs ++ out ∷ [] → load ≡ out.0.number → DropsUnwaited (λ n. is_left n outs) x y → DropsUnwaited (λ n. n == load) y z → DropsUnwaited (λ n. is_left n all) x z
+drops-next : (outs all : List (LoadId × List ℕ)) (out : LoadId × List ℕ) (load : ℕ) (x y z : BareSpace) → all ≡ outs ++ out ∷ [] → load ≡ out.0.number → DropsUnwaited (λ n. is_left n outs) x y → DropsUnwaited (λ n. n == load) y z → DropsUnwaited (λ n. is_left n all) x z
 drops-next outs all out load x y z whole is p q =
     drops-more (λ n. is_left n outs) (λ n. n == load) (λ n. is_left n all) x y z
     (λ n a b. ap (λ l. not (is_left n l)) whole ∙ not-left outs out n a (ap (λ m. not (n == m)) (sym is) ∙ b)) p q
 
 -- those that were taken are given up, then the rest are taken and given up
-drops-all : (outs loads : List (LoadId × List ℕ)) (x y z w : Bared) → IsSound bare_tape y → DropsUnwaited (λ n. is_left n outs) x y → TakesLoads y z loads → DropsUnwaited (λ n. is_left n loads) z w → DropsAll outs x w
+drops-all : (outs loads : List (LoadId × List ℕ)) (x y z w : BareSpace) → IsSound bare_tape y → DropsUnwaited (λ n. is_left n outs) x y → TakesLoads y z loads → DropsUnwaited (λ n. is_left n loads) z w → DropsAll outs x w
 drops-all outs loads x y z w sound p t q none =
     let a = p none in
     let u : ℕ → Bool = λ n. is_under_way n (pending_of y) in
@@ -168,7 +168,7 @@ drops-all outs loads x y z w sound p t q none =
     b.loads b.loads
 
 -- each that is under way was kept
-pub kept-behind : (x w v : Bared) (outs : List (LoadId × List ℕ)) → Accounts x w [] outs → DropsAll outs w v → has_no_waiting (pending_of w) ≡ true → AddsNoLoads x v
+pub kept-behind : (x w v : BareSpace) (outs : List (LoadId × List ℕ)) → Accounts x w [] outs → DropsAll outs w v → has_no_waiting (pending_of w) ≡ true → AddsNoLoads x v
 kept-behind x w v outs a d none =
     let p : ℕ → Bool = λ n. is_under_way n (pending_of x) in
     let q : ℕ → Bool = λ n. p n || (is_left n outs || nat_lt (taken_of w) n) in
@@ -185,7 +185,7 @@ kept-behind x w v outs a d none =
     (d none) (d none)
 
 -- where none was under way, none is
-pub none-behind : (x v : Bared) → AddsNoLoads x v → pending_of x ≡ [] → pending_of v ≡ []
+pub none-behind : (x v : BareSpace) → AddsNoLoads x v → pending_of x ≡ [] → pending_of v ≡ []
 none-behind x v adds none = go (pending_of v) (ap (λ l. are_all (λ n. is_under_way n l) (pending_of v)) (sym none) ∙ adds)
   where
     go : (loads : List PendingLoad) → are_all (λ n. is_under_way n []) loads ≡ true → loads ≡ []
@@ -194,34 +194,34 @@ none-behind x v adds none = go (pending_of v) (ap (λ l. are_all (λ n. is_under
 
 -- ---- among many
 
-pub at-gone : (old new : List Bared) (n load : ℕ) → IsSoundAt old n → At old new n (λ was is. served.Settled bare_tape was is (giving_up load 0)) → At old new n (DropsUnwaited (λ m. m == load))
+pub at-gone : (old new : List BareSpace) (n load : ℕ) → IsSoundAt old n → At old new n (λ was is. served.Settled bare_tape was is (giving_up load 0)) → At old new n (DropsUnwaited (λ m. m == load))
 at-gone old new n load sound a =
     at-given-was (λ was is. served.Settled bare_tape was is (giving_up load 0)) (DropsUnwaited (λ m. m == load)) old new n a (λ x y at settled. drops-settled x y load (sound x at) settled)
 
 -- it is not under way
-pub at-gone-before : (spaces : List Bared) (n load : ℕ) (e : ServiceError) (x : Bared) → slice_get spaces n ≡ Some x → refusal_of (config_of x) (known_of x) (giving_up load 0) ≡ Some e → At spaces spaces n (DropsUnwaited (λ m. m == load))
+pub at-gone-before : (spaces : List BareSpace) (n load : ℕ) (e : ServiceError) (x : BareSpace) → slice_get spaces n ≡ Some x → refusal_of (config_of x) (known_of x) (giving_up load 0) ≡ Some e → At spaces spaces n (DropsUnwaited (λ m. m == load))
 at-gone-before spaces n load e x at refused = at-same (DropsUnwaited (λ m. m == load)) spaces n x at (drops-unknown x load (refused-unknown x load e refused))
 
 -- none was given up
-pub at-gone-none : (spaces : List Bared) (n : ℕ) (x : Bared) → slice_get spaces n ≡ Some x → At spaces spaces n (DropsUnwaited (λ m. is_left m []))
+pub at-gone-none : (spaces : List BareSpace) (n : ℕ) (x : BareSpace) → slice_get spaces n ≡ Some x → At spaces spaces n (DropsUnwaited (λ m. is_left m []))
 at-gone-none spaces n x at = at-same (DropsUnwaited (λ m. is_left m [])) spaces n x at (drops-still x)
 
-pub at-gone-next : (first second third : List Bared) (n : ℕ) (outs all : List (LoadId × List ℕ)) (out : LoadId × List ℕ) (load : ℕ) → all ≡ outs ++ out ∷ [] → load ≡ out.0.number
+pub at-gone-next : (first second third : List BareSpace) (n : ℕ) (outs all : List (LoadId × List ℕ)) (out : LoadId × List ℕ) (load : ℕ) → all ≡ outs ++ out ∷ [] → load ≡ out.0.number
     → At first second n (DropsUnwaited (λ m. is_left m outs)) → At second third n (DropsUnwaited (λ m. m == load)) → At first third n (DropsUnwaited (λ m. is_left m all))
 at-gone-next first second third n outs all out load whole is a b =
     at-more (DropsUnwaited (λ m. is_left m outs)) (DropsUnwaited (λ m. m == load)) (DropsUnwaited (λ m. is_left m all)) first second third n a b (λ x y z p q. drops-next outs all out load x y z whole is p q)
 
-pub at-gone-all : (first second third fourth : List Bared) (n : ℕ) (outs loads : List (LoadId × List ℕ)) → IsSoundAt second n
+pub at-gone-all : (first second third fourth : List BareSpace) (n : ℕ) (outs loads : List (LoadId × List ℕ)) → IsSoundAt second n
     → At first second n (DropsUnwaited (λ m. is_left m outs)) → At second third n (λ was is. TakesLoads was is loads) → At third fourth n (DropsUnwaited (λ m. is_left m loads)) → At first fourth n (DropsAll outs)
 at-gone-all first second third fourth n outs loads sound a b c =
-    at-more (DropsUnwaited (λ m. is_left m outs)) (λ y w. (z : Bared) × IsSound bare_tape y × TakesLoads y z loads × DropsUnwaited (λ m. is_left m loads) z w) (DropsAll outs) first second fourth n a
-    (at-more (λ was is. IsSound bare_tape was × TakesLoads was is loads) (DropsUnwaited (λ m. is_left m loads)) (λ y w. (z : Bared) × IsSound bare_tape y × TakesLoads y z loads × DropsUnwaited (λ m. is_left m loads) z w) second third fourth n
+    at-more (DropsUnwaited (λ m. is_left m outs)) (λ y w. (z : BareSpace) × IsSound bare_tape y × TakesLoads y z loads × DropsUnwaited (λ m. is_left m loads) z w) (DropsAll outs) first second fourth n a
+    (at-more (λ was is. IsSound bare_tape was × TakesLoads was is loads) (DropsUnwaited (λ m. is_left m loads)) (λ y w. (z : BareSpace) × IsSound bare_tape y × TakesLoads y z loads × DropsUnwaited (λ m. is_left m loads) z w) second third fourth n
     (at-given-was (λ was is. TakesLoads was is loads) (λ was is. IsSound bare_tape was × TakesLoads was is loads) second third n b (λ x y at t. (sound x at, t))) c (λ y z w p q. (z, p.0, p.1, q)))
     (λ x y w p q. drops-all outs loads x y q.0 w q.1 p q.2 q.3)
 
 -- the same loads
-pub at-gone-same : (old new : List Bared) (n : ℕ) (outs all : List (LoadId × List ℕ)) → outs ≡ all → At old new n (DropsUnwaited (λ m. is_left m outs)) → At old new n (DropsUnwaited (λ m. is_left m all))
+pub at-gone-same : (old new : List BareSpace) (n : ℕ) (outs all : List (LoadId × List ℕ)) → outs ≡ all → At old new n (DropsUnwaited (λ m. is_left m outs)) → At old new n (DropsUnwaited (λ m. is_left m all))
 at-gone-same old new n outs all same a = subst (λ xs. At old new n (DropsUnwaited (λ m. is_left m xs))) same a
 
-pub at-drops-same : (old new : List Bared) (n : ℕ) (outs all : List (LoadId × List ℕ)) → outs ≡ all → At old new n (DropsAll outs) → At old new n (DropsAll all)
+pub at-drops-same : (old new : List BareSpace) (n : ℕ) (outs all : List (LoadId × List ℕ)) → outs ≡ all → At old new n (DropsAll outs) → At old new n (DropsAll all)
 at-drops-same old new n outs all same a = subst (λ xs. At old new n (DropsAll xs)) same a

@@ -16,7 +16,7 @@ use Rattle.cache_core.specs.Settling.{answering, giving_up}
 use Rattle.cache_core.specs.Turned.{feeding}
 use Rattle.cache_spaces.specs.Calls.{RefusedFor}
 use Rattle.cache_spaces.specs.Spaces.{config_of, known_of}
-use Rattle.cache_run.specs.Bared.{Bared}
+use Rattle.cache_spaces.specs.Bares.{BareSpace}
 
 late-where : (moment : ℕ) (under_way late : Bool) → nat_le (2 ^ 63) moment ≡ late → option_or (refusal_where (not under_way) error.NoLoad) (refusal_where late error.Moment) ≡ Some error.Moment → 2 ^ 63 ≤ moment
 late-where moment false late is e = let h : Some error.NoLoad ≡ Some error.Moment = e in cc
@@ -49,7 +49,7 @@ fed-late-where moment held true true false is (inl e) = let h : error.Moment ≡
 fed-late-where moment held true true false is (inr e) = let h : error.Moment ≡ error.HeldAgain = e.0 in cc
 
 -- a feed is refused for its moment only where that is late
-pub fed-late : (space : Bared) (number : ℕ) (piece : List ℕ) (moment : ℕ) (held : Bool) → RefusedFor space (feeding number piece moment) held error.Moment → 2 ^ 63 ≤ moment
+pub fed-late : (space : BareSpace) (number : ℕ) (piece : List ℕ) (moment : ℕ) (held : Bool) → RefusedFor space (feeding number piece moment) held error.Moment → 2 ^ 63 ≤ moment
 fed-late space number piece moment held e = fed-late-where moment held ((known_of space).was_opened number) ((known_of space).is_open number) (nat_le (2 ^ 63) moment) refl e
 
 -- ---- an answer
@@ -94,7 +94,7 @@ kinds moment true false None e is r = inr (inr (inr r))
 kinds moment true false (Some refusal) e is r = inr (inr (inl (ap (λ x. Some x) (sym r))))
 
 -- the definition refuses it so, or memory was wanted
-abbrev RefusedAnswer : Bared → Event → ServiceError → Type 0
+abbrev RefusedAnswer : BareSpace → Event → ServiceError → Type 0
 RefusedAnswer space happened e = RefusedFor space happened false e
 
 unheld : (o : Option ServiceError) (e : ServiceError) → MatchOption o ((e ≡ error.OutOfMemory) ⊎ ((e ≡ error.HeldAgain) × (false ≡ true))) (λ refusal. e ≡ refusal) → MatchOption o (e ≡ error.OutOfMemory) (λ refusal. e ≡ refusal)
@@ -102,11 +102,11 @@ unheld None e (inl memory) = memory
 unheld None e (inr again) = let no : false ≡ true = again.1 in cc
 unheld (Some refusal) e is = is
 
-answer-kinds : (space : Bared) (load : ℕ) (outcome : Outcome) (moment : ℕ) (e : ServiceError) → RefusedAnswer space (answering load outcome moment) e → Kind moment (refusal_of_outcome (config_of space) outcome) e
+answer-kinds : (space : BareSpace) (load : ℕ) (outcome : Outcome) (moment : ℕ) (e : ServiceError) → RefusedAnswer space (answering load outcome moment) e → Kind moment (refusal_of_outcome (config_of space) outcome) e
 answer-kinds space load outcome moment e r =
     kinds moment ((known_of space).is_under_way load) (nat_le (2 ^ 63) moment) (refusal_of_outcome (config_of space) outcome) e refl (unheld (refusal_of (config_of space) (known_of space) (answering load outcome moment)) e r)
 
-pub answer-late : (space : Bared) (load : ℕ) (outcome : Outcome) (moment : ℕ) → RefusedAnswer space (answering load outcome moment) error.Moment → 2 ^ 63 ≤ moment
+pub answer-late : (space : BareSpace) (load : ℕ) (outcome : Outcome) (moment : ℕ) → RefusedAnswer space (answering load outcome moment) error.Moment → 2 ^ 63 ≤ moment
 answer-late space load outcome moment r = go (answer-kinds space load outcome moment error.Moment r)
   where
     go : Kind moment (refusal_of_outcome (config_of space) outcome) error.Moment → 2 ^ 63 ≤ moment
@@ -127,12 +127,12 @@ unknown-where config outcome true false r = go (refusal_of_outcome config outcom
     go (Some refusal) is h = absurd (outcome-kind config outcome error.NoLoad load-other (is ∙ ap (λ x. Some x) (sym h)))
 
 -- no load of that number is under way
-pub answer-unknown : (space : Bared) (load : ℕ) (outcome : Outcome) (moment : ℕ) → RefusedAnswer space (answering load outcome moment) error.NoLoad → (known_of space).is_under_way load ≡ false
+pub answer-unknown : (space : BareSpace) (load : ℕ) (outcome : Outcome) (moment : ℕ) → RefusedAnswer space (answering load outcome moment) error.NoLoad → (known_of space).is_under_way load ≡ false
 answer-unknown space load outcome moment r =
     unknown-where (config_of space) outcome ((known_of space).is_under_way load) (nat_le (2 ^ 63) moment) (unheld (refusal_of (config_of space) (known_of space) (answering load outcome moment)) error.NoLoad r)
 
 -- what is refused, and not for the load, the moment or memory, is the outcome
-pub answer-refused : (space : Bared) (load : ℕ) (outcome : Outcome) (moment : ℕ) (e : ServiceError) → RefusedAnswer space (answering load outcome moment) e → e ≢ error.NoLoad → e ≢ error.Moment → e ≢ error.OutOfMemory
+pub answer-refused : (space : BareSpace) (load : ℕ) (outcome : Outcome) (moment : ℕ) (e : ServiceError) → RefusedAnswer space (answering load outcome moment) e → e ≢ error.NoLoad → e ≢ error.Moment → e ≢ error.OutOfMemory
     → is_some (refusal_of_outcome (config_of space) outcome) ≡ true
 answer-refused space load outcome moment e r no_load no_moment no_memory = go (answer-kinds space load outcome moment e r)
   where

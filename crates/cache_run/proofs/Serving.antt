@@ -27,34 +27,34 @@ use Rattle.cache_spaces.specs.Calls.{IsOpened, ServesEvent, Settled}
 use Rattle.cache_spaces.specs.Sound.{IsSound}
 use Rattle.cache_spaces.specs.Spaces.{StandsFor, closing_of, config_of, outgoing_of, taken_of, untaken_output}
 use Rattle.cache_spaces.specs.Stores.{shown_of}
-use Rattle.cache_run.specs.Bared.{Bared, bare_tape}
+use Rattle.cache_spaces.specs.Bares.{BareSpace, bare_tape}
 use Rattle.cache_run.specs.Connected.{IsEnded, IsOpenOrEnded}
 use Rattle.cache_run.specs.Goes.{Goes}
 use Rattle.cache_run.proofs.Opening.{record-opened}
 
 -- ---- what a situation says of a namespace
 
-pub pending-is : (x : Bared) (s : Situation) → StandsFor x s → s.pending ≡ x.pending
+pub pending-is : (x : BareSpace) (s : Situation) → StandsFor x s → s.pending ≡ x.pending
 pending-is x s stands = ap (λ (t : Situation). t.pending) stands.is
 
-pub sent-is : (x : Bared) (s : Situation) → StandsFor x s → s.sent ≡ x.sent
+pub sent-is : (x : BareSpace) (s : Situation) → StandsFor x s → s.sent ≡ x.sent
 sent-is x s stands = ap (λ (t : Situation). t.sent) stands.is
 
-pub opened-is : (x : Bared) (s : Situation) → StandsFor x s → s.opened ≡ length x.closings
+pub opened-is : (x : BareSpace) (s : Situation) → StandsFor x s → s.opened ≡ length x.closings
 opened-is x s stands = ap (λ (t : Situation). t.opened) stands.is
 
 -- a connection is listed just while it has not closed
-pub listed-is : (x : Bared) (s : Situation) (number : ℕ) → IsSound bare_tape x → StandsFor x s → IsOpened x number → is_some (connection_in number s) ≡ is_none (closing_of x number)
+pub listed-is : (x : BareSpace) (s : Situation) (number : ℕ) → IsSound bare_tape x → StandsFor x s → IsOpened x number → is_some (connection_in number s) ≡ is_none (closing_of x number)
 listed-is x s number sound stands opened = ap (λ (t : Situation). is_some (connection_in number t)) stands.is ∙ sound.suits.listed number opened
 
 -- each namespace of that number is sound
-abbrev pub IsSoundAt : List Bared → ℕ → Type 0
-IsSoundAt spaces n = (x : Bared) → slice_get spaces n ≡ Some x → IsSound bare_tape x
+abbrev pub IsSoundAt : List BareSpace → ℕ → Type 0
+IsSoundAt spaces n = (x : BareSpace) → slice_get spaces n ≡ Some x → IsSound bare_tape x
 
 -- ---- an event
 
 -- an event happened
-pub happened-so : (was is : Bared) (happened : Event) (held : Bool) → ServesEvent bare_tape was is happened held → Settled bare_tape was is happened
+pub happened-so : (was is : BareSpace) (happened : Event) (held : Bool) → ServesEvent bare_tape was is happened held → Settled bare_tape was is happened
 happened-so was is happened held t = record {
   turned = λ s stands. let x = t.turned s stands in (x.0, x.1.event_is, x.2);
   stays = t.stays;
@@ -114,7 +114,7 @@ closed-behind : (config : Config) (s next : Situation) (entry : Record) (number 
 closed-behind config s next entry number (Some why) closed = refl
 closed-behind config s next entry number None closed = absurd (closed refl)
 
-module _ (was is : Bared) (happened : Event) (h : Settled bare_tape was is happened) where
+module _ (was is : BareSpace) (happened : Event) (h : Settled bare_tape was is happened) where
   -- connections that were opened stay so
   pub stays-opened : (number : ℕ) → IsSound bare_tape was → IsOpened was number → IsOpened is number
   stays-opened number sound opened =

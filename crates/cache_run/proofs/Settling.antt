@@ -20,7 +20,7 @@ use Rattle.cache_spaces.specs.Calls as served
 use Rattle.cache_spaces.specs.Calls.{At, TakesOutput}
 use Rattle.cache_spaces.specs.Spaces.{StandsFor, config_of, known_of, notices_of, untaken_output}
 use Rattle.cache_spaces.specs.Stores.{shown_of}
-use Rattle.cache_run.specs.Bared.{Bared, bare_tape}
+use Rattle.cache_spaces.specs.Bares.{BareSpace, bare_tape}
 use Rattle.cache_run.specs.Connected.{Connected, HasTakenReplies}
 use Rattle.cache_run.specs.Delivered.{AnsweredLoad}
 use Rattle.cache_run.specs.Goes.{Goes}
@@ -38,7 +38,7 @@ settling config asking moment happened (inl p) = λ number. subst (IsTurnOf numb
 settling config asking moment happened (inr p) = λ number. subst (IsTurnOf number) (sym p.1) tt
 
 -- a load was settled by what the loader said
-pub settled-goes : (number : ℕ) (was is : Bared) (happened : Event) (asking : Asking) (load moment : ℕ) → untaken_output was number ≡ [] → IsSettledBy (config_of was) asking.answer moment happened
+pub settled-goes : (number : ℕ) (was is : BareSpace) (happened : Event) (asking : Asking) (load moment : ℕ) → untaken_output was number ≡ [] → IsSettledBy (config_of was) asking.answer moment happened
     → ((s t : Situation) (entry : Record) → Follows (config_of was) s entry t → entry.event ≡ happened → IsKnown load asking.key s → IsKeyOf s entry.event asking.key) → served.Settled bare_tape was is happened
     → Goes number was is (λ s t. AnsweredLoad (config_of was) number load moment asking s t (notices_of was) (notices_of is) (untaken_output is number))
 settled-goes number was is happened asking load moment none said keyed settled =
@@ -61,11 +61,11 @@ some-none None e = refl
 some-none (Some x) e = let no : true ≡ false = e in cc
 
 -- no load of that number is under way in any situation that the namespace stands for
-unknown-there : (was : Bared) (s : Situation) (load : ℕ) → StandsFor was s → (known_of was).is_under_way load ≡ false → key_in load s ≡ None
+unknown-there : (was : BareSpace) (s : Situation) (load : ℕ) → StandsFor was s → (known_of was).is_under_way load ≡ false → key_in load s ≡ None
 unknown-there was s load stands unknown = ap (λ (t : Situation). key_in load t) stands.is ∙ some-none (key_in load (situation_with shown_of was [])) unknown
 
 -- a load was not under way, and what the loader said was dropped
-pub dropped-goes : (number : ℕ) (x : Bared) (asking : Asking) (moment load : ℕ) → untaken_output x number ≡ [] → (known_of x).is_under_way load ≡ false
+pub dropped-goes : (number : ℕ) (x : BareSpace) (asking : Asking) (moment load : ℕ) → untaken_output x number ≡ [] → (known_of x).is_under_way load ≡ false
     → Goes number x x (λ s t. AnsweredLoad (config_of x) number load moment asking s t (notices_of x) (notices_of x) (untaken_output x number))
 dropped-goes number x asking moment load none unknown = record {
   each = λ s stands alone. record {
@@ -88,7 +88,7 @@ dropped-goes number x asking moment load none unknown = record {
   config = refl;
 }
 
-module _ (old new : List Bared) (n number : ℕ) (moment : ℕ) (c : Connected old n number HasTakenReplies) where
+module _ (old new : List BareSpace) (n number : ℕ) (moment : ℕ) (c : Connected old n number HasTakenReplies) where
   -- a give-up
   pub at-given-up : (load : ℕ) → At old new n (λ was is. served.Settled bare_tape was is (giving_up load moment)) → At old new n (GivenUpSo number load moment)
   at-given-up load a =
@@ -104,7 +104,7 @@ module _ (old new : List Bared) (n number : ℕ) (moment : ℕ) (c : Connected o
       (λ s t entry follows is known. subst (λ h. IsKeyOf s h key) (sym is) (answered-key (config_of c.space) s t entry load outcome _ key follows is known.1)) settled)
 
 -- what was said of a load that is not under way
-module _ (spaces : List Bared) (n number moment : ℕ) (c : Connected spaces n number HasTakenReplies) (load : ℕ) (unknown : (known_of c.space).is_under_way load ≡ false) where
+module _ (spaces : List BareSpace) (n number moment : ℕ) (c : Connected spaces n number HasTakenReplies) (load : ℕ) (unknown : (known_of c.space).is_under_way load ≡ false) where
   pub at-dropped : At spaces spaces n (GivenUpSo number load moment)
   at-dropped = at-same (GivenUpSo number load moment) spaces n c.space c.at (λ asking refused. dropped-goes number c.space asking moment load c.left.1 unknown)
 
@@ -112,18 +112,18 @@ module _ (spaces : List Bared) (n number moment : ℕ) (c : Connected spaces n n
   at-dropped-said said = at-same (SettledSo number load moment said) spaces n c.space c.at (λ key. dropped-goes number c.space (asking_of key said) moment load c.left.1 unknown)
 
 -- an outcome is refused, and its load given up
-pub at-refused-outcome : (old new : List Bared) (n number : ℕ) (load moment : ℕ) (outcome : Outcome) (x : Bared) → slice_get old n ≡ Some x → is_some (refusal_of_outcome (config_of x) outcome) ≡ true
+pub at-refused-outcome : (old new : List BareSpace) (n number : ℕ) (load moment : ℕ) (outcome : Outcome) (x : BareSpace) → slice_get old n ≡ Some x → is_some (refusal_of_outcome (config_of x) outcome) ≡ true
     → At old new n (GivenUpSo number load moment) → At old new n (SettledSo number load moment (Some outcome))
 at-refused-outcome old new n number load moment outcome x at refused a =
     at-with (GivenUpSo number load moment) (SettledSo number load moment (Some outcome)) old new n x at a (λ y given key. given (asking_of key (Some outcome)) refused)
 
 -- a give-up without an outcome
-pub at-unsaid : (old new : List Bared) (n number : ℕ) (load moment : ℕ) (said : Option Outcome) → said ≡ None → At old new n (GivenUpSo number load moment) → At old new n (SettledSo number load moment said)
+pub at-unsaid : (old new : List BareSpace) (n number : ℕ) (load moment : ℕ) (said : Option Outcome) → said ≡ None → At old new n (GivenUpSo number load moment) → At old new n (SettledSo number load moment said)
 at-unsaid old new n number load moment said none a =
     at-map (GivenUpSo number load moment) (SettledSo number load moment said) old new n a (λ x y given key. given (asking_of key said) (subst (IsGivenUpFor (config_of x)) (sym none) tt))
 
 -- with the outcome that was said
-pub at-said : (old new : List Bared) (n number : ℕ) (load moment : ℕ) (said : Option Outcome) (outcome : Outcome) → said ≡ Some outcome → At old new n (SettledSo number load moment (Some outcome)) → At old new n (SettledSo number load moment said)
+pub at-said : (old new : List BareSpace) (n number : ℕ) (load moment : ℕ) (said : Option Outcome) (outcome : Outcome) → said ≡ Some outcome → At old new n (SettledSo number load moment (Some outcome)) → At old new n (SettledSo number load moment said)
 at-said old new n number load moment said outcome is a = subst (λ o. At old new n (SettledSo number load moment o)) (sym is) a
 
 pub on-ok : {X E : Type 0} (A B : Type 0) (r : Result X E) → OnOk r A → (A → B) → OnOk r B
@@ -135,7 +135,7 @@ on-err P Q (Ok x) a h = tt
 on-err P Q (Err e) a h = h e a
 
 -- the replies that came of it were taken
-pub at-replied : (old mid new : List Bared) (n number : ℕ) (load moment : ℕ) (said : Option Outcome) (key text : List ℕ) → At old mid n (SettledSo number load moment said) → At mid new n (λ was is. TakesOutput was is number text)
+pub at-replied : (old mid new : List BareSpace) (n number : ℕ) (load moment : ℕ) (said : Option Outcome) (key text : List ℕ) → At old mid n (SettledSo number load moment said) → At mid new n (λ was is. TakesOutput was is number text)
     → At old new n (λ was is. Goes number was is (λ s t. AnsweredLoad (config_of was) number load moment (asking_of key said) s t (notices_of was) (notices_of is) text))
 at-replied old mid new n number load moment said key text a b =
     at-more (SettledSo number load moment said) (λ was is. TakesOutput was is number text)

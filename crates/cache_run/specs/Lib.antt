@@ -1,4 +1,3 @@
-pub mod Bared
 pub mod Worlds
 pub mod Causes
 pub mod Happened

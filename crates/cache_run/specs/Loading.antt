@@ -12,7 +12,7 @@ use Rattle.cache_spaces.specs.Calls.{At}
 use Rattle.cache_spaces.specs.Spaces.{StandsFor, closing_of, config_of, notices_of, untaken_output}
 use Rattle.audit_waiting_laws.specs.Keys.{IsKnown}
 use Rattle.cache_core.specs.Turned.{notes_in}
-use Rattle.cache_run.specs.Bared.{Bared}
+use Rattle.cache_spaces.specs.Bares.{BareSpace}
 use Rattle.cache_run.specs.Carried.{Broken, Carried, nothing_left}
 use Rattle.cache_run.specs.Goes.{Goes}
 use Rattle.cache_run.specs.Delivered.{AnsweredLoad}
@@ -21,7 +21,7 @@ use Rattle.cache_run.specs.Worlds.{Outside, world}
 use Rattle.cache_run.specs.declared.errors.RunError.{RunError}
 
 -- loads may have been taken, and nothing else changed
-abbrev pub SameButLoads : Bared → Bared → Type 0
+abbrev pub SameButLoads : BareSpace → BareSpace → Type 0
 SameButLoads was is = is ≡ record was { outgoing = is.outgoing }
 
 -- each of the loads that were taken was sent, and where it is under way it has the key that it was taken with
@@ -30,17 +30,17 @@ AreKnown [] s = Unit {0}
 AreKnown (out ∷ outs) s = IsKnown out.0.number out.1 s × AreKnown outs s
 
 -- the same, and the keys of those that were taken are right
-pub record TakesMore (was is : Bared) (before after : List (LoadId × List ℕ)) : Type 0 where
+pub record TakesMore (was is : BareSpace) (before after : List (LoadId × List ℕ)) : Type 0 where
   pub same : SameButLoads was is
   pub known : (s : Situation) → StandsFor was s → AreKnown before s → AreKnown after s
 
 -- where the keys of the loads that were taken before were right, turns came, nothing was left, and the keys of those taken behind are right
-abbrev pub Carries : {C L : Type 0} → (C → ℕ → C → Type 0) → (L → List ℕ → Option Outcome → L → Type 0) → List Bared → List Bared → ℕ → ℕ → Outside C L → Outside C L → List (LoadId × List ℕ) → List (LoadId × List ℕ) → Type 0
+abbrev pub Carries : {C L : Type 0} → (C → ℕ → C → Type 0) → (L → List ℕ → Option Outcome → L → Type 0) → List BareSpace → List BareSpace → ℕ → ℕ → Outside C L → Outside C L → List (LoadId × List ℕ) → List (LoadId × List ℕ) → Type 0
 Carries reads loads old new namespace number a b before after =
     At old new namespace (λ was is. Goes number was is (λ s t. AreKnown before s → Carried (config_of was) number reads loads (world was s a) (world is t b) false false [] nothing_left × AreKnown after t))
 
 -- where the keys of the loads that were taken before were right, turns came, and then an error
-abbrev pub BreaksOff : {C L : Type 0} → (C → ℕ → C → Type 0) → (L → List ℕ → Option Outcome → L → Type 0) → List Bared → List Bared → ℕ → ℕ → Outside C L → Outside C L → List (LoadId × List ℕ) → RunError → Type 0
+abbrev pub BreaksOff : {C L : Type 0} → (C → ℕ → C → Type 0) → (L → List ℕ → Option Outcome → L → Type 0) → List BareSpace → List BareSpace → ℕ → ℕ → Outside C L → Outside C L → List (LoadId × List ℕ) → RunError → Type 0
 BreaksOff reads loads old new namespace number a b before e =
     At old new namespace (λ was is. Goes number was is (λ s t. AreKnown before s → Broken (config_of was) number reads loads (world was s a) (world is t b) false false [] e))
 
@@ -52,16 +52,16 @@ pub record OnlyGivesUp (config : Config) (s t : Situation) (before after : List 
   pub notices : after ≡ before ++ flat_map notes_in drops
 
 -- loads of a connection's namespace were given up, and the connection stays closed if it was
-abbrev pub GivesUpLoads : ℕ → Bared → Bared → Type 0
+abbrev pub GivesUpLoads : ℕ → BareSpace → BareSpace → Type 0
 GivesUpLoads number was is =
     Goes number was is (λ s t. OnlyGivesUp (config_of was) s t (notices_of was) (notices_of is)) × (closing_of was number ≢ None → closing_of is number ≢ None)
 
 -- a load was settled by what the loader said of its key, whatever that is, or had been settled
-abbrev pub SettledSo : ℕ → ℕ → ℕ → Option Outcome → Bared → Bared → Type 0
+abbrev pub SettledSo : ℕ → ℕ → ℕ → Option Outcome → BareSpace → BareSpace → Type 0
 SettledSo number load moment said was is =
     (key : List ℕ) → Goes number was is (λ s t. AnsweredLoad (config_of was) number load moment (asking_of key said) s t (notices_of was) (notices_of is) (untaken_output is number))
 
 -- a load was given up, which each asking allows that came to nothing that fits, or had been settled
-abbrev pub GivenUpSo : ℕ → ℕ → ℕ → Bared → Bared → Type 0
+abbrev pub GivenUpSo : ℕ → ℕ → ℕ → BareSpace → BareSpace → Type 0
 GivenUpSo number load moment was is =
     (asking : Asking) → IsGivenUpFor (config_of was) asking.answer → Goes number was is (λ s t. AnsweredLoad (config_of was) number load moment asking s t (notices_of was) (notices_of is) (untaken_output is number))

@@ -17,7 +17,7 @@ use Rattle.cache_spaces.specs.Spaces.{closing_of, config_of, notices_of}
 use Rattle.audit_model.specs.declared.event.Outcome.{Outcome}
 use Rattle.audit_waiting_laws.specs.Alone.{WaitsAlone}
 use Rattle.cache_run.specs.Accounts.{AddsNoLoads, pending_of}
-use Rattle.cache_run.specs.Bared.{Bared}
+use Rattle.cache_spaces.specs.Bares.{BareSpace}
 use Rattle.cache_run.specs.Carried.{Broken, Carried, nothing_left}
 use Rattle.cache_run.specs.Connected.{IsEnded}
 use Rattle.cache_run.specs.Delivered.{Unfed}
@@ -28,7 +28,7 @@ use Rattle.cache_run.specs.declared.errors.RunError.{RunError}
 use Rattle.cache_run.specs.declared.errors.RunError.TheVariants.{OutOfMemory}
 
 -- the number that the next connection gets
-abbrev pub next_number : Bared → ℕ
+abbrev pub next_number : BareSpace → ℕ
 next_number space = length space.closings + 1
 
 -- the event's record follows without steps, and nothing was told
@@ -37,7 +37,7 @@ pub record Quiet (config : Config) (happened : Event) (s t : Situation) (before 
   pub notices : after ≡ before
 
 -- an open connection closes as asked, and one that has closed for what it was fed stays so
-abbrev pub Closes : ℕ → Bared → Bared → Type 0
+abbrev pub Closes : ℕ → BareSpace → BareSpace → Type 0
 Closes number was is =
     ((closing_of was number ≡ None) × (closing_of is number ≡ Some by.Asked) × Goes number was is (λ s t. Quiet (config_of was) (event.Close number) s t (notices_of was) (notices_of is)))
     ⊎ (IsEnded (closing_of was number) × (closing_of is number ≡ closing_of was number) × Goes number was is (λ s t. Unfed s t (notices_of was) (notices_of is)))
@@ -49,7 +49,7 @@ EndsRun true closing remaining = (closing ≡ Some by.Asked) × IsAtEnd remainin
 EndsRun false closing remaining = IsEnded closing
 
 -- One connection was opened, fed with all that was read, and closed; the bytes written are its replies.
-pub record ServesWhole {C L : Type 0} (reads : C → ℕ → C → Type 0) (loads : L → List ℕ → Option Outcome → L → Type 0) (was is : Bared) (before after : Outside C L) : Type 0 where
+pub record ServesWhole {C L : Type 0} (reads : C → ℕ → C → Type 0) (loads : L → List ℕ → Option Outcome → L → Type 0) (was is : BareSpace) (before after : Outside C L) : Type 0 where
   pub number : ℕ
   pub next : number ≡ next_number was
   pub closes : Bool
@@ -59,7 +59,7 @@ pub record ServesWhole {C L : Type 0} (reads : C → ℕ → C → Type 0) (load
   pub settled : AddsNoLoads was is
 
 -- One connection was opened, fed, and closed after an error, and then loads were given up; the bytes written are a beginning of its replies.
-pub record ServesPartly {C L : Type 0} (reads : C → ℕ → C → Type 0) (loads : L → List ℕ → Option Outcome → L → Type 0) (was is : Bared) (before after : Outside C L) (e : RunError) : Type 0 where
+pub record ServesPartly {C L : Type 0} (reads : C → ℕ → C → Type 0) (loads : L → List ℕ → Option Outcome → L → Type 0) (was is : BareSpace) (before after : Outside C L) (e : RunError) : Type 0 where
   pub number : ℕ
   pub next : number ≡ next_number was
   pub closes : Bool
@@ -72,13 +72,13 @@ pub record ServesPartly {C L : Type 0} (reads : C → ℕ → C → Type 0) (loa
 -- ---- over devices
 
 -- so it was of a namespace, a reader, a writer, a clock and a loader
-abbrev pub RunsWhole : {R W C L : Type 0} → (R → Option (List ℕ)) → (W → Option (List ℕ)) → (C → ℕ → C → Type 0) → (L → List ℕ → Option Outcome → L → Type 0) → ℕ → List Bared → List Bared
+abbrev pub RunsWhole : {R W C L : Type 0} → (R → Option (List ℕ)) → (W → Option (List ℕ)) → (C → ℕ → C → Type 0) → (L → List ℕ → Option Outcome → L → Type 0) → ℕ → List BareSpace → List BareSpace
     → Watched R → Watched R → Watched W → Watched W → C → C → L → L → Type 0
 RunsWhole remaining contents reads loads namespace old new reader reader' writer writer' clock clock' loader loader' =
     At old new namespace (λ was is. ServesWhole reads loads was is (outside (remaining (device reader)) (contents (device writer)) clock loader) (outside (remaining (device reader')) (contents (device writer')) clock' loader'))
 
 -- no connection was opened for want of memory, and nothing was called; or one was served, but for what the error left
-abbrev pub RunsPartly : {R W C L : Type 0} → (R → Option (List ℕ)) → (W → Option (List ℕ)) → (C → ℕ → C → Type 0) → (L → List ℕ → Option Outcome → L → Type 0) → ℕ → List Bared → List Bared
+abbrev pub RunsPartly : {R W C L : Type 0} → (R → Option (List ℕ)) → (W → Option (List ℕ)) → (C → ℕ → C → Type 0) → (L → List ℕ → Option Outcome → L → Type 0) → ℕ → List BareSpace → List BareSpace
     → Watched R → Watched R → Watched W → Watched W → C → C → L → L → RunError → Type 0
 RunsPartly remaining contents reads loads namespace old new reader reader' writer writer' clock clock' loader loader' e =
     ((e ≡ OutOfMemory) × (new ≡ old) × (reader' ≡ reader) × (writer' ≡ writer) × (clock' ≡ clock) × (loader' ≡ loader))

@@ -10,15 +10,15 @@ use Rattle.cache_run.specs.Connected.{IsFed, IsReady, IsOver}
 use Rattle.cache_run.specs.Happened.{Asking}
 use Rattle.cache_run.specs.declared.turns.Progress.{Progress}
 use Rattle.cache_run.specs.declared.turns.Progress.TheVariants.{More, Over}
-use Rattle.cache_run.specs.Bared.{Bared}
+use Rattle.cache_spaces.specs.Bares.{BareSpace}
 
 -- a run goes on while the connection is open, and is over at the end of the input or where the connection has closed
-abbrev pub LeavesSo : Progress → Option (List ℕ) → ℕ → Bared → Type 0
+abbrev pub LeavesSo : Progress → Option (List ℕ) → ℕ → BareSpace → Type 0
 LeavesSo More remaining number space = IsReady number space
 LeavesSo Over remaining number space = IsOver remaining number space
 
 -- the same of a turn, behind which there may be an error
-abbrev pub TurnLeavesSo : {E : Type 0} → Result Progress E → Option (List ℕ) → ℕ → Bared → Type 0
+abbrev pub TurnLeavesSo : {E : Type 0} → Result Progress E → Option (List ℕ) → ℕ → BareSpace → Type 0
 TurnLeavesSo (Ok progress) remaining = LeavesSo progress remaining
 TurnLeavesSo (Err e) remaining = IsFed
 

@@ -8,7 +8,7 @@ ghost use Rattle.cache_spaces.specs.Calls.{At, ServesEvent, TakesOutput};
 ghost use Rattle.cache_spaces.specs.Services.{feed_is_held};
 ghost use Rattle.cache_spaces.specs.Spaces.{config_of, notices_of};
 ghost use Rattle.cache_run.specs.Accounts.{SendsLater};
-ghost use Rattle.cache_run.specs.Bared.{bare_tape};
+ghost use Rattle.cache_spaces.specs.Bares.{bare_tape};
 ghost use Rattle.cache_run.specs.Causes.{Because};
 ghost use Rattle.cache_run.specs.Connected.{Connected, IsFed, IsLeftBy, IsReady};
 ghost use Rattle.cache_run.specs.Delivered.{Answered, Delivered, IsCause, Unanswered, Undelivered};
