@@ -12,15 +12,16 @@ use Rattle.audit_model.specs.declared.event.Event.TheVariants as event
 use Rattle.audit_model.specs.declared.input.ServiceError.{ServiceError}
 use Rattle.audit_model.specs.declared.input.ServiceError.TheVariants as error
 use Rattle.audit_waiting_laws.specs.Alone.{IsTurnOf}
-use Rattle.cache_spaces.specs.Calls.{At, InSpace, IsOpened, IsUnknown, Refuses, Settled, TakesOutput}
+use Rattle.cache_core.specs.Turned.{feeding}
+use Rattle.cache_spaces.specs.Calls.{At, InSpace, IsOpened, IsUnknown, Refuses, ServesEvent, Settled, TakesOutput}
 use Rattle.cache_spaces.specs.Sound.{IsSound}
 use Rattle.cache_spaces.specs.Spaces.{closing_of, config_of, known_of, untaken_output}
 use Rattle.cache_spaces.specs.Bares.{BareSpace, bare_tape}
 use Rattle.cache_run.specs.Connected.{Connected, IsEnded, IsFed, IsLeftBy, IsOpenOrEnded, IsReady, HasTakenReplies}
 use Rattle.cache_run.specs.Loading.{SameButLoads}
 use Rattle.cache_run.proofs.Going.{output-none}
-use Rattle.cache_run.proofs.Placing.{at-is, at-was}
-use Rattle.cache_run.proofs.Serving.{IsSoundAt, stays-fed, stays-opened}
+use Rattle.cache_run.proofs.Placing.{at-is, at-map, at-was}
+use Rattle.cache_run.proofs.Serving.{IsSoundAt, happened-so, stays-fed, stays-opened}
 
 -- what stands at a place
 pub found-at : {X : Type 0} (xs : List X) (i : ℕ) → i < length xs → (x : X) × (slice_get xs i ≡ Some x)
@@ -112,3 +113,22 @@ pub ended-none : {A : Type 0} (closing : Option Closing) → IsEnded closing →
 ended-none closing (inl long) none = absurd (none-some by.Long (sym none ∙ long))
 ended-none closing (inr (inl quit)) none = absurd (none-some by.Quit (sym none ∙ quit))
 ended-none closing (inr (inr behind)) none = absurd (none-some by.Behind (sym none ∙ behind))
+
+-- where nothing changed
+pub connected-unmoved : {IsLeft : ℕ → BareSpace → Type 0} {n number : ℕ} (old new : List BareSpace) → new ≡ old → Connected old n number IsLeft → Connected new n number IsLeft
+connected-unmoved {IsLeft} {n} {number} old new e c = subst (λ l. Connected l n number IsLeft) (sym e) c
+
+-- behind a piece
+pub connected-fed : (old new : List BareSpace) (n number : ℕ) (piece : List ℕ) (moment : ℕ) (held : Bool) → IsSoundAt old n → Connected old n number IsReady → At old new n (λ was is. ServesEvent bare_tape was is (feeding number piece moment) held)
+    → Connected new n number IsFed
+connected-fed old new n number piece moment held sound c a =
+    connected-by IsReady old new n number number (feeding number piece moment) refl sound (λ x left. inl left.0) c
+    (at-map (λ was is. ServesEvent bare_tape was is (feeding number piece moment) held) (λ was is. Settled bare_tape was is (feeding number piece moment)) old new n a (λ x y t. happened-so x y (feeding number piece moment) held t))
+
+-- behind a load that is settled
+pub connected-settled : (old new : List BareSpace) (n number : ℕ) (happened : Event) → IsTurnOf number happened → IsSoundAt old n → Connected old n number HasTakenReplies → At old new n (λ was is. Settled bare_tape was is happened) → Connected new n number IsFed
+connected-settled old new n number happened turn sound c a = connected-by HasTakenReplies old new n number number happened turn sound (λ x left. left.0) c a
+
+-- there is a namespace of that number
+pub within-not : {X : Type 0} (xs : List X) (n : ℕ) (x : X) → slice_get xs n ≡ Some x → length xs ≤ n → ⊥
+within-not xs n x at past = let within = slice_get_within xs n x at in absurd (omega (arith, within, past))

@@ -5,7 +5,7 @@ use Rattle.std.specs.List.{flat_map, slice_get}
 use Rattle.std.specs.Option.{option_or}
 use Rattle.std.proofs.lemmas.Bool.{and_from, eq-eqb, le-leb, lt-ltb, ne_eqb}
 use Rattle.std.proofs.lemmas.List.{append-nil}
-use Rattle.std.proofs.lemmas.Option.{none-some, same_Some}
+use Rattle.std.proofs.lemmas.Option.{none-some, slice_get_within}
 use Rattle.audit_model.specs.Belongs.{refusal_of, refusal_where}
 use Rattle.audit_model.specs.Follows.{Follows, after_event, after_records, known_in, tasks_in}
 use Rattle.audit_model.specs.Situation.{Connection, Situation, Ready, connection_in}
@@ -24,7 +24,7 @@ use Rattle.audit_waiting_laws.specs.Alone.{WaitsAlone}
 use Rattle.audit_waiting_laws.proofs.Steps.{alone-without}
 use Rattle.audit_waiting_laws.proofs.Standing.{found-left}
 use Rattle.cache_core.specs.Turned.{closing_behind, notes_in, reason_of, replies_to}
-use Rattle.cache_spaces.specs.Calls.{At, IsOpened, ServesEvent}
+use Rattle.cache_spaces.specs.Calls.{At, InSpace, IsOpened, ServesEvent}
 use Rattle.cache_spaces.specs.Sound.{IsSound}
 use Rattle.cache_spaces.specs.Spaces.{closing_of, config_of, known_of, notices_of, untaken_output}
 use Rattle.cache_run.specs.Accounts.{Accounts, AddsNoLoads, DropsAll, KeepsLoads, SendsLater, has_no_waiting, pending_of}
@@ -40,7 +40,7 @@ use Rattle.cache_run.specs.Worlds.{Outside, world}
 use Rattle.cache_run.specs.declared.errors.RunError.{RunError}
 use Rattle.cache_run.proofs.Accounting.{at-accounts-later, at-accounts-more, at-adds-more, at-both, later-kept}
 use Rattle.cache_run.proofs.Carrying.{broken-more, carried-close, carried-drops, carried-more, carried-opened, carried-still}
-use Rattle.cache_run.proofs.Connecting.{close-refused, connected-map, ended-none}
+use Rattle.cache_run.proofs.Connecting.{close-refused, connected-map, ended-none, fact-here}
 use Rattle.cache_run.proofs.Going.{goes-more, goes-still}
 use Rattle.cache_run.proofs.Gone.{kept-behind, nobody-behind, none-behind}
 use Rattle.cache_run.proofs.Opening.{IsPlain, found-behind, found-last, found-none, plain-steps, quiet-steps, unrefused}
@@ -168,11 +168,23 @@ at-closed-before spaces n number e sound c refused =
     (inr (ended-where-refused c.space number e (sound c.space c.at) c.opened c.left refused, refl, goes-still number c.space (λ s t. Unfed s t (notices_of c.space) (notices_of c.space)) (λ s. record { same = refl; notices = refl })))
 
 -- the connection is still known behind a closing
-pub opened-behind : (old new : List BareSpace) (n number : ℕ) → IsSoundAt old n → Connected old n number IsFed → At old new n (λ was is. ServesEvent bare_tape was is (event.Close number) false) → (w : BareSpace) → slice_get new n ≡ Some w → IsOpened w number
-opened-behind old new n number sound c a w here =
+pub known-behind : (old new : List BareSpace) (n number : ℕ) → IsSoundAt old n → Connected old n number IsFed → At old new n (λ was is. ServesEvent bare_tape was is (event.Close number) false) → InSpace new n (λ space. IsOpened space number)
+known-behind old new n number sound c a =
     let was = at-was (λ was is. ServesEvent bare_tape was is (event.Close number) false) old new n a c.space c.at in
-    let is : a.is ≡ w = same_Some a.is w (sym (at-is (λ was is. ServesEvent bare_tape was is (event.Close number) false) old new n a) ∙ here) in
-    subst (λ x. IsOpened x number) is (stays-opened a.was a.is (event.Close number) (happened-so a.was a.is (event.Close number) false a.fact) number (sound a.was a.at) (subst (λ x. IsOpened x number) (sym was) c.opened))
+    record {
+      space = a.is;
+      at = at-is (λ was is. ServesEvent bare_tape was is (event.Close number) false) old new n a;
+      fact = stays-opened a.was a.is (event.Close number) (happened-so a.was a.is (event.Close number) false a.fact) number (sound a.was a.at) (subst (λ x. IsOpened x number) (sym was) c.opened);
+    }
+
+pub known-still : (old new : List BareSpace) (n number : ℕ) → new ≡ old → Connected old n number IsFed → InSpace new n (λ space. IsOpened space number)
+known-still old new n number e c = subst (λ l. InSpace l n (λ space. IsOpened space number)) (sym e) (record { space = c.space; at = c.at; fact = c.opened })
+
+pub known-here : (spaces : List BareSpace) (n number : ℕ) → InSpace spaces n (λ space. IsOpened space number) → (w : BareSpace) → slice_get spaces n ≡ Some w → IsOpened w number
+known-here spaces n number i w at = fact-here (λ space. IsOpened space number) spaces n w at i
+
+pub within-here : {X : Type 0} {Fact : X → Type 0} (spaces : List X) (n : ℕ) → InSpace spaces n Fact → n < length spaces
+within-here spaces n i = slice_get_within spaces n i.space i.at
 
 -- ---- the whole
 

@@ -57,3 +57,11 @@ at-with F G xs ys n x at a h =
 -- another fact, by where the first stood
 pub at-given-was : {X : Type 0} (F G : X → X → Type 0) (xs ys : List X) (n : ℕ) → At xs ys n F → ((x y : X) → slice_get xs n ≡ Some x → F x y → G x y) → At xs ys n G
 at-given-was F G xs ys n a h = record { was = a.was; is = a.is; at = a.at; set = a.set; fact = h a.was a.is a.at a.fact }
+
+-- what was left as it was
+pub at-unmoved : {X : Type 0} {F : X → X → Type 0} {n : ℕ} (old new : List X) → new ≡ old → At old old n F → At old new n F
+at-unmoved {X} {F} {n} old new e a = subst (λ l. At old l n F) (sym e) a
+
+-- what comes behind a call that left it so
+pub at-after : {X : Type 0} {F : X → X → Type 0} {n : ℕ} (old mid new : List X) → mid ≡ old → At mid new n F → At old new n F
+at-after {X} {F} {n} old mid new e a = subst (λ l. At l new n F) e a

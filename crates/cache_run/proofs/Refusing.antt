@@ -14,7 +14,7 @@ use Rattle.audit_model.specs.declared.input.ServiceError.{ServiceError}
 use Rattle.audit_model.specs.declared.input.ServiceError.TheVariants as error
 use Rattle.cache_core.specs.Settling.{answering, giving_up}
 use Rattle.cache_core.specs.Turned.{feeding}
-use Rattle.cache_spaces.specs.Calls.{RefusedFor}
+use Rattle.cache_spaces.specs.Calls.{RefusedFor, Refuses}
 use Rattle.cache_spaces.specs.Spaces.{config_of, known_of}
 use Rattle.cache_spaces.specs.Bares.{BareSpace}
 
@@ -141,3 +141,7 @@ answer-refused space load outcome moment e r no_load no_moment no_memory = go (a
     go (inr (inl p)) = absurd (no_moment p.0)
     go (inr (inr (inl refused))) = ap is_some refused
     go (inr (inr (inr is))) = absurd (no_memory is)
+
+pub feed-refused-late : (spaces : List BareSpace) (n number : ℕ) (piece : List ℕ) (moment : ℕ) (held : BareSpace → Bool) → Refuses spaces n error.Moment (λ was. RefusedFor was (feeding number piece moment) (held was) error.Moment) → 2 ^ 63 ≤ moment
+feed-refused-late spaces n number piece moment held (inl none) = let h : error.Moment ≡ error.NoNamespace = none.0 in cc
+feed-refused-late spaces n number piece moment held (inr i) = fed-late i.space number piece moment (held i.space) i.fact

@@ -1,6 +1,6 @@
 -- A load that is settled.
 use Rattle.std.proofs.Common.{◌≡◌, ℕ, Bool, true, false, List, [], ◌∷◌, ◌++◌, Option, None, Some, is_some, refl, sym, ap, ◌∙◌, subst, inl, inr}
-use Rattle.std.specs.Prelude.{Result, Ok, Err, OnOk, IfErr}
+use Rattle.std.specs.Prelude.{Result, Ok, Err, OnErr, OnOk, IfErr}
 use Rattle.std.specs.List.{flat_map, slice_get}
 use Rattle.std.proofs.lemmas.List.{append-nil}
 use Rattle.audit_model.specs.Belongs.{refusal_of_outcome}
@@ -133,6 +133,10 @@ on-ok A B (Err e) a h = tt
 pub on-err : {X E : Type 0} (P Q : E → Type 0) (r : Result X E) → IfErr r P → ((e : E) → P e → Q e) → IfErr r Q
 on-err P Q (Ok x) a h = tt
 on-err P Q (Err e) a h = h e a
+
+pub on-error : {X E : Type 0} (A B : Type 0) (r : Result X E) → OnErr r A → (A → B) → OnErr r B
+on-error A B (Ok x) a h = tt
+on-error A B (Err e) a h = h a
 
 -- the replies that came of it were taken
 pub at-replied : (old mid new : List BareSpace) (n number : ℕ) (load moment : ℕ) (said : Option Outcome) (key text : List ℕ) → At old mid n (SettledSo number load moment said) → At mid new n (λ was is. TakesOutput was is number text)

@@ -2,7 +2,7 @@
 ghost use Rattle.std.specs.Prelude.{◌≡◌, ◌<◌, ◌⊎◌, ◌^◌, ◌-◌, [], false, length, IfOk, IfErr, OnOk, IsErrOf, MatchResult};
 ghost use Rattle.audit_model.specs.declared.event.Event.TheVariants as event;
 ghost use Rattle.cache_devices.specs.Watched.{device};
-ghost use Rattle.cache_spaces.specs.Calls.{At};
+ghost use Rattle.cache_spaces.specs.Calls.{At, InSpace, IsOpened};
 ghost use Rattle.cache_spaces.specs.Spaces.{config_of, notices_of};
 ghost use Rattle.cache_run.specs.Accounts.{Accounts, AddsNoLoads, KeepsLoads, pending_of};
 ghost use Rattle.cache_run.specs.Carried.{Broken, Carried, nothing_left};
@@ -45,7 +45,7 @@ fn close_if_open(service: &mut Service, conn: Conn)
     requires fed { Connected service.old conn.namespace conn.number IsFed }
     ensures closes { At service.old service.new conn.namespace (Closes conn.number) }
     ensures loads { At service.old service.new conn.namespace KeepsLoads }
-    ensures known { conn.namespace < length service.new }
+    ensures known { InSpace service.new conn.namespace (λ space. IsOpened space conn.number) }
 {
     service.sound(conn.namespace);
     match service.close(conn) {
@@ -108,6 +108,7 @@ fn serve_with<R: Read, W: Write, C: Clock, L: Loader>(
     ensures err { IfErr result (RunsPartly R.remaining W.contents C.reads L.loads namespace service.old service.new reader.old reader.new writer.old writer.new clock.old clock.new loader.old loader.new) }
     ensures why { IfErr result (Because (Fails reader.old reader.new) (Fails writer.old writer.new) (RunsOut R.remaining L.loads reader.old reader.new writer.old writer.new loader.old loader.new) (HasToldLate C.reads clock.new)) }
 {
+    service.sound(namespace);
     let conn = match open_connection(service, namespace) {
         Ok(conn) => conn,
         Err(error) => return Err(error),
@@ -117,6 +118,7 @@ fn serve_with<R: Read, W: Write, C: Clock, L: Loader>(
         service, conn, buffer, reader, writer, clock, loader, &mut taken,
     );
     close_if_open(service, conn);
+    service.sound(conn.namespace);
     match outcome {
         Ok(()) => Ok(()),
         Err(error) => {

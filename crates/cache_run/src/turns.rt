@@ -84,7 +84,10 @@ pub fn take_turn<R: Read, W: Write, C: Clock, L: Loader>(
         Err(error) => return Err(error),
     }
     match settle_loads(service, conn, taken, writer, clock, loader) {
-        Ok(()) => Ok(progress_of(service, conn)),
+        Ok(()) => {
+            service.sound(conn.namespace);
+            Ok(progress_of(service, conn))
+        }
         Err(error) => Err(error),
     }
 }

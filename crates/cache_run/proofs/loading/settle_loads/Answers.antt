@@ -4,18 +4,16 @@ use Rattle.cache_run.specs.Connected.{IsFed, HasTakenReplies}
 use Rattle.cache_run.specs.declared.errors.RunError.TheVariants.{Moment, UsedUp}
 use Rattle.cache_run.proofs.Causing.{because-map}
 use Rattle.cache_run.proofs.Connecting.{connected-map}
-use Rattle.cache_run.proofs.Settling.{same-here}
 use Rattle.cache_run.proofs.Turning.{asked-fewer, asked-more, asked-none, at-broken, at-broken-more, at-carried-more, at-carried-same, at-none-taken}
-use Rattle.cache_run.proofs.Going.{at-but-loads}
 use Rattle.cache_run.specs.Accounts.{HasTakenAll}
-use Rattle.cache_run.proofs.Accounting.{at-accounts-later, at-accounts-more, at-later-same, none-there, some-there}
+use Rattle.cache_run.proofs.Accounting.{at-accounts-more, at-accounts-still, none-there, some-there}
 use Rattle.cache_run.proofs.Placing.{at-more}
 use Rattle.cache_run.proofs.loading.settle_loads.Goals as goal
 
 pub loop-turn-init : goal.loop-turn-init
 loop-turn-init g c = record {
-  carried = λ remaining. at-carried-same g.C.Clock.reads g.L.Loader.loads _ _ _ _ _ _ _ (at-none-taken _ _ _ _ (at-but-loads _ _ _ (same-here _ _ _ c.requires.taken)));
-  accounted = at-accounts-later _ _ _ _ (at-later-same _ _ _ (same-here _ _ _ c.requires.taken));
+  carried = λ remaining. at-carried-same g.C.Clock.reads g.L.Loader.loads _ _ _ _ _ _ _ (at-none-taken _ _ _ c.requires.taken.space c.requires.taken.at);
+  accounted = at-accounts-still _ _ c.requires.taken.space c.requires.taken.at _;
   taken = c.requires.taken;
   writes = omega arith;
   asked = asked-none g.L.Loader.loads _;

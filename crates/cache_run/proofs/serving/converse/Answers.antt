@@ -12,8 +12,8 @@ pub loop-turn-init : goal.loop-turn-init
 loop-turn-init g c = record {
   carried = at-carried-start g.C.Clock.reads g.L.Loader.loads _ _ _ _ _ c.requires.fresh c.requires.ready;
   fresh = c.requires.fresh;
-  settled = at-adds-still IsReady _ _ _ c.requires.ready;
-  accounted = at-accounts-start IsReady _ _ _ _ c.requires.fresh c.requires.ready;
+  settled = at-adds-still _ _ c.requires.ready.space c.requires.ready.at;
+  accounted = at-accounts-start _ _ c.requires.ready.space c.requires.ready.at _ c.requires.fresh;
   ready = c.requires.ready;
   reads = omega arith;
   writes = omega arith;

@@ -29,8 +29,8 @@ pub returns-then-eq : goal.returns-then-eq
 returns-then-eq g c = record {
   goes = turn-none g.C.Clock.reads g.L.Loader.loads _ _ _ _ _ _ _ _ _ c.requires.ready (consumes_none _ _ c.in-Err.ensures.bytes);
   left = c.requires.ready;
-  accounted = at-accounts-still IsReady _ _ _ _ c.requires.ready;
-  settled = λ none. (none, at-adds-still IsReady _ _ _ c.requires.ready);
+  accounted = at-accounts-still _ _ c.requires.ready.space c.requires.ready.at _;
+  settled = λ none. (none, at-adds-still _ _ c.requires.ready.space c.requires.ready.at);
   why = tt;
   asks = asked-none g.L.Loader.loads _;
   more = λ is. inl c.in-Err.ensures.failed;
@@ -43,7 +43,7 @@ returns-in-Err g c = record {
   goes = at-broken g.C.Clock.reads g.L.Loader.loads _ _ _ _ _ _ _ _ Read (λ is. let h : Read ≡ Moment = is in cc)
       (turn-none g.C.Clock.reads g.L.Loader.loads _ _ _ _ _ _ _ _ _ c.requires.ready (consumes_none _ _ c.in-Err.ensures.bytes));
   left = connected-map IsReady IsFed _ _ _ c.requires.ready (λ x left. inl left.0);
-  accounted = at-accounts-still IsReady _ _ _ _ c.requires.ready;
+  accounted = at-accounts-still _ _ c.requires.ready.space c.requires.ready.at _;
   settled = tt;
   why = c.in-Err.ensures.failed;
   asks = asked-none g.L.Loader.loads _;
@@ -57,8 +57,8 @@ returns-then-count-eq0 g c =
     let at_end = c.in-Ok.ensures.bytes.1 c.if-count-eq0.true (let room = c.requires.room in omega (arith, c.read.auto.buf)) in record {
       goes = turn-none g.C.Clock.reads g.L.Loader.loads _ _ _ _ _ _ _ _ _ c.requires.ready (rw c.if-count-eq0.true at c.in-Ok.ensures.bytes.0);
       left = connected-map IsReady (IsOver (g.R.Read.remaining (device c.read.new.self))) _ _ _ c.requires.ready (λ x left. inl (left.0, at_end));
-      accounted = at-accounts-still IsReady _ _ _ _ c.requires.ready;
-      settled = λ none. (none, at-adds-still IsReady _ _ _ c.requires.ready);
+      accounted = at-accounts-still _ _ c.requires.ready.space c.requires.ready.at _;
+      settled = λ none. (none, at-adds-still _ _ c.requires.ready.space c.requires.ready.at);
       why = tt;
       asks = asked-none g.L.Loader.loads _;
       more = λ is. let no : Over ≡ More = is in cc;
@@ -87,7 +87,7 @@ returns-in-Ok-settle_loads g c =
           (c.in-Ok-settle_loads.ensures.goes (g.R.Read.remaining (device c.read.new.self)));
       left = c.progress_of.ensures (g.R.Read.remaining (device c.read.new.self));
       accounted = accounted;
-      settled = λ none. (all.0, at-adds-none _ _ _ _ _ none all.0 (at-more _ HasTakenAll HasTakenAll _ _ _ _ c.in-Ok-deliver.ensures.later all.1 (λ x y z p q. q)) accounted);
+      settled = λ none. (all.0, at-adds-none _ _ _ _ _ c.sound.ensures none all.0 (at-more _ HasTakenAll HasTakenAll _ _ _ _ c.in-Ok-deliver.ensures.later all.1 (λ x y z p q. q)) accounted);
       why = tt;
       asks = c.in-Ok-settle_loads.ensures.asks;
       more = λ is. inr (read-some _ _ _ _ (omega (arith, c.in-Ok.ensures.bound)) (omega (arith, c.if-count-eq0.false)) c.in-Ok.ensures.bytes.0);
