@@ -21,7 +21,7 @@ use Rattle.cache_run.specs.Accounts.{Accounts, AddsNoLoads, HasTakenAll, KeepsLo
 use Rattle.cache_spaces.specs.Bares.{BareSpace, bare_tape}
 use Rattle.cache_run.proofs.Opening.{IsPlain, quiet-steps}
 use Rattle.cache_run.proofs.Placing.{at-given-was, at-is, at-map, at-more, at-same, at-was}
-use Rattle.cache_run.proofs.Serving.{IsSoundAt, happened-so, pending-is, sent-is}
+use Rattle.cache_run.proofs.Happening.{IsSoundAt, happened-so, pending-is, sent-is}
 
 -- ---- loads are sent later, or not at all
 

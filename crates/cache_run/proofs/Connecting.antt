@@ -21,7 +21,7 @@ use Rattle.cache_run.specs.Connected.{Connected, IsEnded, IsFed, IsLeftBy, IsOpe
 use Rattle.cache_run.specs.Loading.{SameButLoads}
 use Rattle.cache_run.proofs.Going.{output-none}
 use Rattle.cache_run.proofs.Placing.{at-is, at-map, at-was}
-use Rattle.cache_run.proofs.Serving.{IsSoundAt, happened-so, stays-fed, stays-opened}
+use Rattle.cache_run.proofs.Happening.{IsSoundAt, happened-so, stays-fed, stays-opened}
 
 -- what stands at a place
 pub found-at : {X : Type 0} (xs : List X) (i : ℕ) → i < length xs → (x : X) × (slice_get xs i ≡ Some x)

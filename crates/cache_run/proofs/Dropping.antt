@@ -27,7 +27,7 @@ use Rattle.cache_run.proofs.Accounting.{taken-count}
 use Rattle.cache_run.proofs.Carrying.{record-one, records-more}
 use Rattle.cache_run.proofs.Going.{goes-more, goes-same}
 use Rattle.cache_run.proofs.Placing.{at-given-was, at-is, at-map, at-more, at-same}
-use Rattle.cache_run.proofs.Serving.{IsSoundAt, goes-by, pending-is, sent-is, stays-closed}
+use Rattle.cache_run.proofs.Happening.{IsSoundAt, goes-by, pending-is, sent-is, stays-closed}
 
 pub drops-more : (xs ys : List Record) → AreDrops xs → AreDrops ys → AreDrops (xs ++ ys)
 drops-more [] ys a b = b

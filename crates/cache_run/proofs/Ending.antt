@@ -45,7 +45,7 @@ use Rattle.cache_run.proofs.Going.{goes-more, goes-still}
 use Rattle.cache_run.proofs.Gone.{kept-behind, nobody-behind, none-behind}
 use Rattle.cache_run.proofs.Opening.{IsPlain, found-behind, found-last, found-none, plain-steps, quiet-steps, unrefused}
 use Rattle.cache_run.proofs.Placing.{at-given-was, at-is, at-map, at-more, at-same, at-was, at-with}
-use Rattle.cache_run.proofs.Serving.{IsSoundAt, happened-so, listed-is, none-past, opened-is, same-closing, stays-opened}
+use Rattle.cache_run.proofs.Happening.{IsSoundAt, happened-so, listed-is, none-past, opened-is, same-closing, stays-opened}
 
 -- why a connection that is not open has closed
 closed-why : (c : Option Closing) → c ≢ None → (why : Closing) × (c ≡ Some why)

@@ -25,7 +25,7 @@ use Rattle.cache_run.specs.declared.errors.RunError.TheVariants.{OutOfMemory}
 use Rattle.cache_run.proofs.Carrying.{record-one}
 use Rattle.cache_run.proofs.Opening.{IsPlain, plain-record}
 use Rattle.cache_run.proofs.Placing.{at-map, at-more, at-same, at-with}
-use Rattle.cache_run.proofs.Serving.{goes-by, happened-so, own-replies}
+use Rattle.cache_run.proofs.Happening.{goes-by, happened-so, own-replies}
 
 -- one after another
 pub goes-more : (number : ℕ) (x y z : BareSpace) (F G H : Situation → Situation → Type 0) → Goes number x y F → Goes number y z G → ((s t u : Situation) → F s t → G t u → H s u) → Goes number x z H

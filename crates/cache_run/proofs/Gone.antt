@@ -30,7 +30,7 @@ use Rattle.cache_spaces.specs.Bares.{BareSpace, bare_tape}
 use Rattle.cache_run.specs.Goes.{Goes}
 use Rattle.cache_run.proofs.Accounting.{accounts-begun, in-turn-has, loads-same, others-unknown, own-loads, sent-under, taken-count}
 use Rattle.cache_run.proofs.Placing.{at-given-was, at-more, at-same}
-use Rattle.cache_run.proofs.Serving.{IsSoundAt, listed-is, pending-is}
+use Rattle.cache_run.proofs.Happening.{IsSoundAt, listed-is, pending-is}
 
 -- ---- nobody waits
 

@@ -1,6 +1,6 @@
 pub mod Opening
 pub mod Placing
-pub mod Serving
+pub mod Happening
 pub mod Causing
 pub mod Connecting
 pub mod Going

@@ -29,7 +29,7 @@ use Rattle.cache_run.specs.Loading.{GivenUpSo, SettledSo}
 use Rattle.cache_run.proofs.Carrying.{record-one}
 use Rattle.cache_run.proofs.Going.{goes-map, goes-output}
 use Rattle.cache_run.proofs.Placing.{at-map, at-more, at-same, at-with}
-use Rattle.cache_run.proofs.Serving.{goes-by, own-replies}
+use Rattle.cache_run.proofs.Happening.{goes-by, own-replies}
 
 -- ---- how the namespace goes on
 
