@@ -1,19 +1,16 @@
 //! One piece of a connection, and its closing.
-ghost use Rattle.std.specs.Io.KnownBytes.{Appends};
-ghost use Rattle.cache_devices.specs.Sent.{SentBut};
-ghost use Rattle.std.specs.Prelude.{◌≤◌, ◌^◌, ℕ, List, [], ◌≡◌, IfOk, IfErr, OnErr, MatchResult};
-ghost use Rattle.cache_devices.specs.Watched.{device, failures};
+ghost use Rattle.std.specs.Prelude.{◌≤◌, ◌^◌, ◌≡◌, IfOk, IfErr, OnErr, MatchResult};
+ghost use Rattle.cache_devices.specs.Watched.{failures};
 ghost use Rattle.cache_core.specs.Turned.{feeding};
 ghost use Rattle.cache_spaces.specs.Calls.{At, ServesEvent, TakesOutput};
 ghost use Rattle.cache_spaces.specs.Services.{feed_is_held};
-ghost use Rattle.cache_spaces.specs.Spaces.{config_of, notices_of};
 ghost use Rattle.cache_run.specs.Accounts.{SendsLater};
 ghost use Rattle.cache_spaces.specs.Bares.{bare_tape};
 ghost use Rattle.cache_run.specs.Causes.{Because};
 ghost use Rattle.cache_run.specs.Connected.{Connected, IsFed, IsLeftBy, IsReady};
-ghost use Rattle.cache_run.specs.Delivered.{Answered, Delivered, IsCause, Unanswered, Undelivered};
-ghost use Rattle.cache_run.specs.Goes.{Goes};
+ghost use Rattle.cache_run.specs.Delivered.{IsCause};
 ghost use Rattle.cache_run.specs.Turns.{Fails};
+ghost use Rattle.cache_run.specs.Promised.{AnswersPiece, BreaksPiece, DeliversPiece, LeavesPiece, SendsReplies};
 
 use crate::errors::{RunError, error_of_send};
 use audit_model::{Conn, Instant, ServiceError};
@@ -36,7 +33,7 @@ fn feed_piece(service: &mut Service, conn: Conn, piece: &[u8], moment: u64) -> R
 
 /// Sends replies, and has the writer hand them on.
 pub fn write_replies<W: Write>(replies: &[u8], writer: &mut Watched<W>) -> Result<(), RunError>
-    ensures sent { MatchResult result (λ done. Appends (W.contents (device writer.old)) (W.contents (device writer.new)) replies.now) (λ e. (rest : List ℕ) × SentBut rest replies.now (W.contents (device writer.old)) (W.contents (device writer.new))) }
+    ensures sent { SendsReplies result W.contents replies.now writer.old writer.new }
     ensures why { IfErr result (Because ⊥ (Fails writer.old writer.new) (Fails writer.old writer.new) ⊥) }
     ensures count { failures writer.old ≤ failures writer.new }
 {
@@ -69,9 +66,7 @@ fn answer_piece(
     moment: u64,
 ) -> Result<Vec<u8>, RunError>
     requires ready { Connected service.old conn.namespace conn.number IsReady }
-    ensures goes { MatchResult result
-        (λ text. At service.old service.new conn.namespace (λ was is. Goes conn.number was is (λ s t. Answered (config_of was) conn.number piece.now moment [] s t (notices_of was) (notices_of is) text.items)))
-        (λ e. At service.old service.new conn.namespace (λ was is. Goes conn.number was is (λ s t. Unanswered (config_of was) conn.number piece.now moment [] s t (notices_of was) (notices_of is) e))) }
+    ensures goes { MatchResult result (λ text. AnswersPiece conn piece.now moment service.old service.new text.items) (LeavesPiece conn piece.now moment service.old service.new) }
     ensures left { Connected service.new conn.namespace conn.number (IsLeftBy result) }
     ensures later { At service.old service.new conn.namespace SendsLater }
     ensures why { IfErr result (Because ⊥ ⊥ ⊥ (2 ^ 63 ≤ moment)) }
@@ -93,9 +88,7 @@ pub fn deliver<W: Write>(
     writer: &mut Watched<W>,
 ) -> Result<(), RunError>
     requires ready { Connected service.old conn.namespace conn.number IsReady }
-    ensures goes { MatchResult result
-        (λ done. At service.old service.new conn.namespace (λ was is. Goes conn.number was is (λ s t. Delivered (config_of was) conn.number piece.now moment [] s t (notices_of was) (notices_of is) (W.contents (device writer.old)) (W.contents (device writer.new)) [])))
-        (λ e. At service.old service.new conn.namespace (λ was is. Goes conn.number was is (λ s t. Undelivered (config_of was) conn.number piece.now moment [] s t (notices_of was) (notices_of is) (W.contents (device writer.old)) (W.contents (device writer.new)) e))) }
+    ensures goes { MatchResult result (λ done. DeliversPiece W.contents conn piece.now moment service.old service.new writer.old writer.new) (BreaksPiece W.contents conn piece.now moment service.old service.new writer.old writer.new) }
     ensures left { Connected service.new conn.namespace conn.number (IsLeftBy result) }
     ensures later { At service.old service.new conn.namespace SendsLater }
     ensures why { IfErr result (Because ⊥ (Fails writer.old writer.new) (Fails writer.old writer.new) (2 ^ 63 ≤ moment)) }

@@ -1,18 +1,16 @@
 //! The loads of a connection, asked of the loader.
-ghost use Rattle.std.specs.Prelude.{◌≡◌, ◌≢◌, ◌==◌, ◌≤◌, ◌<◌, ◌⊎◌, ◌^◌, ◌-◌, ℕ, List, [], Option, true, false, length, is_some, IfOk, IfErr, OnOk, MatchResult};
+ghost use Rattle.std.specs.Prelude.{◌≡◌, ◌≢◌, ◌==◌, ◌≤◌, ◌<◌, ◌⊎◌, ◌^◌, ◌-◌, [], Option, true, false, length, is_some, IfOk, IfErr, OnOk};
 ghost use Rattle.audit_model.specs.Belongs.{refusal_of_outcome};
-ghost use Rattle.cache_devices.specs.Watched.{device, failures};
+ghost use Rattle.cache_devices.specs.Watched.{failures};
 ghost use Rattle.cache_spaces.specs.Calls.{At, InSpace};
-ghost use Rattle.cache_spaces.specs.Spaces.{config_of, notices_of, untaken_output};
+ghost use Rattle.cache_spaces.specs.Spaces.{config_of};
 ghost use Rattle.cache_run.specs.Accounts.{Accounts, DropsAll, DropsUnwaited, HasTakenAll, SettlesLoad, is_left};
 ghost use Rattle.cache_run.specs.Causes.{Because};
 ghost use Rattle.cache_run.specs.Connected.{Connected, IsFed, IsLeftBy, HasTakenReplies};
-ghost use Rattle.cache_run.specs.Delivered.{AnsweredLoad, IsCause};
-ghost use Rattle.cache_run.specs.Goes.{Goes};
-ghost use Rattle.cache_run.specs.Happened.{Asking, IsGivenUpFor, asking_of};
-ghost use Rattle.cache_run.specs.Loading.{BreaksOff, Carries, GivenUpSo, GivesUpLoads, SettledSo, TakesMore};
+ghost use Rattle.cache_run.specs.Delivered.{IsCause};
+ghost use Rattle.cache_run.specs.Loading.{GivenUpSo, GivesUpLoads, SettledSo, TakesMore};
 ghost use Rattle.cache_run.specs.Turns.{Fails, HasAsked, HasToldLate};
-ghost use Rattle.cache_run.specs.Worlds.{outside};
+ghost use Rattle.cache_run.specs.Promised.{CarriesLoads, RepliesToLoad};
 
 use crate::errors::RunError;
 use crate::feeding::{deliver, take_replies, write_replies};
@@ -118,7 +116,7 @@ fn settle_load(
     moment: u64,
 ) -> Result<Vec<u8>, RunError>
     requires taken { Connected service.old conn.namespace conn.number HasTakenReplies }
-    ensures ok { IfOk result (λ text. (key : List ℕ) → At service.old service.new conn.namespace (λ was is. Goes conn.number was is (λ s t. AnsweredLoad (config_of was) conn.number load moment (asking_of key said) s t (notices_of was) (notices_of is) text.items))) }
+    ensures ok { IfOk result (λ text. RepliesToLoad conn load moment said service.old service.new text.items) }
     ensures taken { OnOk result (Connected service.new conn.namespace conn.number HasTakenReplies) }
     ensures gone { OnOk result (At service.old service.new conn.namespace (SettlesLoad load)) }
     ensures err { IfErr result (IsCause moment) }
@@ -142,9 +140,7 @@ fn settle_last<W: Write, C: Clock, L: Loader>(
 ) -> Result<(), RunError>
     requires taken { Connected service.old conn.namespace conn.number HasTakenReplies }
     requires some { taken.old.items ≢ [] }
-    ensures goes { (remaining : Option (List ℕ)) → MatchResult result
-        (λ done. Carries C.reads L.loads service.old service.new conn.namespace conn.number (outside remaining (W.contents (device writer.old)) clock.old loader.old) (outside remaining (W.contents (device writer.new)) clock.new loader.new) taken.old.items taken.new.items)
-        (λ e. BreaksOff C.reads L.loads service.old service.new conn.namespace conn.number (outside remaining (W.contents (device writer.old)) clock.old loader.old) (outside remaining (W.contents (device writer.new)) clock.new loader.new) taken.old.items e) }
+    ensures goes { CarriesLoads result W.contents C.reads L.loads conn service.old service.new taken.old.items taken.new.items writer.old writer.new clock.old clock.new loader.old loader.new }
     ensures left { Connected service.new conn.namespace conn.number (IsLeftBy result) }
     ensures accounted { At service.old service.new conn.namespace (λ was is. Accounts was is taken.old.items taken.new.items) }
     ensures asked { HasAsked L.loads loader.old 1 loader.new }
@@ -175,9 +171,7 @@ fn settle_next<W: Write, C: Clock, L: Loader>(
 ) -> Result<(), RunError>
     requires taken { Connected service.old conn.namespace conn.number HasTakenReplies }
     requires some { taken.old.items ≢ [] }
-    ensures goes { (remaining : Option (List ℕ)) → MatchResult result
-        (λ done. Carries C.reads L.loads service.old service.new conn.namespace conn.number (outside remaining (W.contents (device writer.old)) clock.old loader.old) (outside remaining (W.contents (device writer.new)) clock.new loader.new) taken.old.items taken.new.items)
-        (λ e. BreaksOff C.reads L.loads service.old service.new conn.namespace conn.number (outside remaining (W.contents (device writer.old)) clock.old loader.old) (outside remaining (W.contents (device writer.new)) clock.new loader.new) taken.old.items e) }
+    ensures goes { CarriesLoads result W.contents C.reads L.loads conn service.old service.new taken.old.items taken.new.items writer.old writer.new clock.old clock.new loader.old loader.new }
     ensures left { Connected service.new conn.namespace conn.number (IsLeftBy result) }
     ensures accounted { At service.old service.new conn.namespace (λ was is. Accounts was is taken.old.items taken.new.items) }
     ensures asked { HasAsked L.loads loader.old 1 loader.new }
@@ -224,9 +218,7 @@ pub fn settle_loads<W: Write, C: Clock, L: Loader>(
     loader: &mut L,
 ) -> Result<(), RunError>
     requires taken { Connected service.old conn.namespace conn.number HasTakenReplies }
-    ensures goes { (remaining : Option (List ℕ)) → MatchResult result
-        (λ done. Carries C.reads L.loads service.old service.new conn.namespace conn.number (outside remaining (W.contents (device writer.old)) clock.old loader.old) (outside remaining (W.contents (device writer.new)) clock.new loader.new) taken.old.items taken.new.items)
-        (λ e. BreaksOff C.reads L.loads service.old service.new conn.namespace conn.number (outside remaining (W.contents (device writer.old)) clock.old loader.old) (outside remaining (W.contents (device writer.new)) clock.new loader.new) taken.old.items e) }
+    ensures goes { CarriesLoads result W.contents C.reads L.loads conn service.old service.new taken.old.items taken.new.items writer.old writer.new clock.old clock.new loader.old loader.new }
     ensures left { Connected service.new conn.namespace conn.number (IsLeftBy result) }
     ensures accounted { At service.old service.new conn.namespace (λ was is. Accounts was is taken.old.items taken.new.items) }
     ensures all { OnOk result ((taken.new.items ≡ []) × At service.old service.new conn.namespace HasTakenAll) }

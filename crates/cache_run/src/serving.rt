@@ -1,17 +1,13 @@
 //! One connection, from its opening to its closing.
-ghost use Rattle.std.specs.Prelude.{◌≡◌, ◌<◌, ◌⊎◌, ◌^◌, ◌-◌, [], false, length, IfOk, IfErr, OnOk, IsErrOf, MatchResult};
+ghost use Rattle.std.specs.Prelude.{◌≡◌, ◌<◌, ◌^◌, ◌-◌, [], length, IfOk, IfErr, OnOk, IsErrOf, MatchResult};
 ghost use Rattle.audit_model.specs.declared.event.Event.TheVariants as event;
 ghost use Rattle.cache_devices.specs.Watched.{device};
 ghost use Rattle.cache_spaces.specs.Calls.{At, InSpace, IsOpened};
-ghost use Rattle.cache_spaces.specs.Spaces.{config_of, notices_of};
 ghost use Rattle.cache_run.specs.Accounts.{Accounts, AddsNoLoads, KeepsLoads, pending_of};
-ghost use Rattle.cache_run.specs.Carried.{Broken, Carried, nothing_left};
-ghost use Rattle.cache_run.specs.Causes.{Because};
 ghost use Rattle.cache_run.specs.Connected.{Connected, IsFed, IsOver, IsReady};
-ghost use Rattle.cache_run.specs.Goes.{Goes};
-ghost use Rattle.cache_run.specs.Runs.{Closes, Quiet, RunsPartly, RunsWhole, next_number};
+ghost use Rattle.cache_run.specs.Runs.{Closes, RunsPartly, RunsWhole};
 ghost use Rattle.cache_run.specs.Turns.{Fails, HasToldLate, RunsOut};
-ghost use Rattle.cache_run.specs.Worlds.{outside, world};
+ghost use Rattle.cache_run.specs.Promised.{Converses, Opens, StopsFor};
 
 use crate::errors::RunError;
 use crate::loading::drop_loads;
@@ -28,7 +24,7 @@ const PIECE_BYTES: usize = 8192;
 /// Opens a connection of a namespace that there is.
 fn open_connection(service: &mut Service, namespace: u64) -> Result<Conn, RunError>
     requires known { namespace < length service.old }
-    ensures ok { IfOk result (λ conn. (conn.namespace ≡ namespace) × At service.old service.new namespace (λ was is. (conn.number ≡ next_number was) × Goes conn.number was is (λ s t. Quiet (config_of was) (event.Open conn.number) s t (notices_of was) (notices_of is)))) }
+    ensures ok { IfOk result (λ conn. Opens conn namespace service.old service.new) }
     ensures ready { IfOk result (λ conn. Connected service.new conn.namespace conn.number IsReady) }
     ensures loads { IfOk result (λ conn. At service.old service.new namespace KeepsLoads) }
     ensures err { IfErr result (λ e. (e ≡ RunError.OutOfMemory) × (service.new ≡ service.old)) }
@@ -69,17 +65,11 @@ fn converse<R: Read, W: Write, C: Clock, L: Loader>(
     requires room { 0 < length buffer.old }
     requires ready { Connected service.old conn.namespace conn.number IsReady }
     requires fresh { taken.old.items ≡ [] }
-    ensures goes { MatchResult result
-        (λ done. At service.old service.new conn.namespace (λ was is. Goes conn.number was is (λ s t. Carried (config_of was) conn.number C.reads L.loads
-        (world was s (outside (R.remaining (device reader.old)) (W.contents (device writer.old)) clock.old loader.old))
-        (world is t (outside (R.remaining (device reader.new)) (W.contents (device writer.new)) clock.new loader.new)) false false [] nothing_left)))
-        (λ e. At service.old service.new conn.namespace (λ was is. Goes conn.number was is (λ s t. Broken (config_of was) conn.number C.reads L.loads
-        (world was s (outside (R.remaining (device reader.old)) (W.contents (device writer.old)) clock.old loader.old))
-        (world is t (outside (R.remaining (device reader.new)) (W.contents (device writer.new)) clock.new loader.new)) false false [] e))) }
+    ensures goes { Converses result R.remaining W.contents C.reads L.loads conn service.old service.new reader.old reader.new writer.old writer.new clock.old clock.new loader.old loader.new }
     ensures left { MatchResult result (λ done. Connected service.new conn.namespace conn.number (IsOver (R.remaining (device reader.new)))) (λ e. Connected service.new conn.namespace conn.number IsFed) }
     ensures settled { OnOk result (At service.old service.new conn.namespace AddsNoLoads) }
     ensures accounted { At service.old service.new conn.namespace (λ was is. Accounts was is [] taken.new.items) }
-    ensures why { IfErr result (Because (Fails reader.old reader.new) (Fails writer.old writer.new) (RunsOut R.remaining L.loads reader.old reader.new writer.old writer.new loader.old loader.new) (HasToldLate C.reads clock.new)) }
+    ensures why { IfErr result (StopsFor R.remaining C.reads L.loads reader.old reader.new writer.old writer.new clock.new loader.old loader.new) }
 {
     for _turn in 0..u64::MAX {
         match take_turn(service, conn, buffer, reader, writer, clock, loader, taken) {
@@ -106,7 +96,7 @@ fn serve_with<R: Read, W: Write, C: Clock, L: Loader>(
     requires room { 0 < length buffer.old }
     ensures ok { OnOk result (RunsWhole R.remaining W.contents C.reads L.loads namespace service.old service.new reader.old reader.new writer.old writer.new clock.old clock.new loader.old loader.new) }
     ensures err { IfErr result (RunsPartly R.remaining W.contents C.reads L.loads namespace service.old service.new reader.old reader.new writer.old writer.new clock.old clock.new loader.old loader.new) }
-    ensures why { IfErr result (Because (Fails reader.old reader.new) (Fails writer.old writer.new) (RunsOut R.remaining L.loads reader.old reader.new writer.old writer.new loader.old loader.new) (HasToldLate C.reads clock.new)) }
+    ensures why { IfErr result (StopsFor R.remaining C.reads L.loads reader.old reader.new writer.old writer.new clock.new loader.old loader.new) }
 {
     service.sound(namespace);
     let conn = match open_connection(service, namespace) {

@@ -1,12 +1,10 @@
 //! One turn of a run.
-ghost use Rattle.std.specs.Prelude.{◌≡◌, ◌≤◌, ◌<◌, ◌⊎◌, ◌^◌, ◌-◌, ℕ, List, [], Option, length, IfOk, IfErr, OnOk, MatchResult};
-ghost use Rattle.cache_devices.specs.Watched.{device, failures};
-ghost use Rattle.cache_run.specs.Accounts.{Accounts, AddsNoLoads};
+ghost use Rattle.std.specs.Prelude.{◌≡◌, ◌<◌, ◌⊎◌, ◌^◌, ◌-◌, ℕ, List, Option, length, IfOk, IfErr};
+ghost use Rattle.cache_devices.specs.Watched.{device};
 ghost use Rattle.cache_run.specs.Causes.{Because};
 ghost use Rattle.cache_run.specs.Connected.{Connected, IsReady, HasTakenReplies};
-ghost use Rattle.cache_run.specs.Loading.{BreaksOff, Carries};
 ghost use Rattle.cache_run.specs.Turns.{Fails, HasAsked, HasRead, HasToldLate, LeavesSo, TurnLeavesSo};
-ghost use Rattle.cache_run.specs.Worlds.{outside};
+ghost use Rattle.cache_run.specs.Promised.{GoesForward, LeavesLoads, RunsOn};
 
 use crate::errors::RunError;
 use crate::feeding::deliver;
@@ -50,21 +48,12 @@ pub fn take_turn<R: Read, W: Write, C: Clock, L: Loader>(
 ) -> Result<Progress, RunError>
     requires room { 0 < length buffer.old }
     requires ready { Connected service.old conn.namespace conn.number IsReady }
-    ensures goes { MatchResult result
-        (λ progress. Carries C.reads L.loads service.old service.new conn.namespace conn.number
-        (outside (R.remaining (device reader.old)) (W.contents (device writer.old)) clock.old loader.old)
-        (outside (R.remaining (device reader.new)) (W.contents (device writer.new)) clock.new loader.new) taken.old.items taken.new.items)
-        (λ e. BreaksOff C.reads L.loads service.old service.new conn.namespace conn.number
-        (outside (R.remaining (device reader.old)) (W.contents (device writer.old)) clock.old loader.old)
-        (outside (R.remaining (device reader.new)) (W.contents (device writer.new)) clock.new loader.new) taken.old.items e) }
+    ensures goes { RunsOn result R.remaining W.contents C.reads L.loads conn service.old service.new taken.old.items taken.new.items reader.old reader.new writer.old writer.new clock.old clock.new loader.old loader.new }
     ensures left { Connected service.new conn.namespace conn.number (TurnLeavesSo result (R.remaining (device reader.new))) }
-    ensures accounted { At service.old service.new conn.namespace (λ was is. Accounts was is taken.old.items taken.new.items) }
-    ensures settled { OnOk result (taken.old.items ≡ [] → (taken.new.items ≡ []) × At service.old service.new conn.namespace AddsNoLoads) }
     ensures why { IfErr result (Because (Fails reader.old reader.new) (Fails writer.old writer.new) (Fails writer.old writer.new ⊎ HasAsked L.loads loader.old (2 ^ 64 - 1) loader.new) (HasToldLate C.reads clock.new)) }
-    ensures asks { HasAsked L.loads loader.old 0 loader.new }
     ensures more { IfOk result (λ progress. progress ≡ Progress.More → Fails reader.old reader.new ⊎ HasRead (R.remaining (device reader.old)) (R.remaining (device reader.new)) 1) }
-    ensures reads { failures reader.old ≤ failures reader.new }
-    ensures writes { failures writer.old ≤ failures writer.new }
+    ensures loads { LeavesLoads result conn.namespace service.old service.new taken.old.items taken.new.items }
+    ensures forward { GoesForward reader.old reader.new writer.old writer.new L.loads loader.old loader.new }
 {
     let count = match reader.read(buffer) {
         Ok(count) => count,
