@@ -1,5 +1,5 @@
 //! The loads of a connection, asked of the loader.
-ghost use Rattle.std.specs.Prelude.{◌≡◌, ◌≢◌, ◌==◌, ◌≤◌, ◌<◌, ◌⊎◌, ◌^◌, ◌-◌, [], Option, true, false, length, is_some, IfOk, IfErr, OnOk};
+ghost use Rattle.std.specs.Prelude.{◌≡◌, ◌≢◌, ◌==◌, ◌≤◌, ◌<◌, ◌⊎◌, ◌^◌, ◌-◌, [], Option, true, false, length, is_some, IfOk, IfErr, OnErr, OnOk};
 ghost use Rattle.audit_model.specs.Belongs.{refusal_of_outcome};
 ghost use Rattle.cache_devices.specs.Watched.{failures};
 ghost use Rattle.cache_spaces.specs.Calls.{At, InSpace};
