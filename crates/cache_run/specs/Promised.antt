@@ -53,6 +53,11 @@ abbrev pub BreaksPiece : {W : Type 0} → (W → Option (List ℕ)) → Conn →
 BreaksPiece contents conn piece moment old new writer writer' e =
     At old new conn.namespace (λ was is. Goes conn.number was is (λ s t. Undelivered (config_of was) conn.number piece moment [] s t (notices_of was) (notices_of is) (contents (device writer)) (contents (device writer')) e))
 
+-- the one or the other
+abbrev pub SendsPiece : {T W : Type 0} → Result T RunError → (W → Option (List ℕ)) → Conn → List ℕ → ℕ → List BareSpace → List BareSpace → Watched W → Watched W → Type 0
+SendsPiece result contents conn piece moment old new writer writer' =
+    MatchResult result (λ done. DeliversPiece contents conn piece moment old new writer writer') (BreaksPiece contents conn piece moment old new writer writer')
+
 -- a load was settled by what the loader said of its key, whatever that is, and that text was the replies
 abbrev pub RepliesToLoad : Conn → ℕ → ℕ → Option Outcome → List BareSpace → List BareSpace → List ℕ → Type 0
 RepliesToLoad conn load moment said old new text =

@@ -10,7 +10,7 @@ ghost use Rattle.cache_run.specs.Causes.{Because};
 ghost use Rattle.cache_run.specs.Connected.{Connected, IsFed, IsLeftBy, IsReady};
 ghost use Rattle.cache_run.specs.Delivered.{IsCause};
 ghost use Rattle.cache_run.specs.Turns.{Fails};
-ghost use Rattle.cache_run.specs.Promised.{AnswersPiece, BreaksPiece, DeliversPiece, LeavesPiece, SendsReplies};
+ghost use Rattle.cache_run.specs.Promised.{AnswersPiece, LeavesPiece, SendsPiece, SendsReplies};
 
 use crate::errors::{RunError, error_of_send};
 use audit_model::{Conn, Instant, ServiceError};
@@ -88,7 +88,7 @@ pub fn deliver<W: Write>(
     writer: &mut Watched<W>,
 ) -> Result<(), RunError>
     requires ready { Connected service.old conn.namespace conn.number IsReady }
-    ensures goes { MatchResult result (λ done. DeliversPiece W.contents conn piece.now moment service.old service.new writer.old writer.new) (BreaksPiece W.contents conn piece.now moment service.old service.new writer.old writer.new) }
+    ensures goes { SendsPiece result W.contents conn piece.now moment service.old service.new writer.old writer.new }
     ensures left { Connected service.new conn.namespace conn.number (IsLeftBy result) }
     ensures later { At service.old service.new conn.namespace SendsLater }
     ensures why { IfErr result (Because ⊥ (Fails writer.old writer.new) (Fails writer.old writer.new) (2 ^ 63 ≤ moment)) }
