@@ -1,20 +1,15 @@
 use Rattle.std.proofs.Common.{subst, sym}
 use Rattle.cache_spaces.specs.Played.{ArePlayed}
-use Rattle.cache_spaces.proofs.Journaling.{played-none, played-skip, played-step, played-to-end}
+use Rattle.cache_spaces.proofs.Journaling.{played-none, played-step, played-to-end}
 use Rattle.cache_play.proofs.play.Goals as goal
 
 pub loop-input-init : goal.loop-input-init
 loop-input-init c = record { played = played-none c.args.configs.now c.args.generator c.args.moment c.in-Ok.recorded c.in-Ok.ensures.made }
 
-pub loop-input-preserved-in-Ok-copy_input : goal.loop-input-preserved-in-Ok-copy_input
-loop-input-preserved-in-Ok-copy_input c = record {
-  played = played-step c.args.configs.now c.args.moment c.args.inputs.now c.loop-input.input-index c.input-item.result c.loop-input.recorded c.step.new.self c.step.result
-      c.loop-input-test.true c.input-item.is c.loop-input.invariant.played c.step.ensures.performed c.step.ensures.unchanged;
-}
-
-pub loop-input-preserved-in-Err-copy_input : goal.loop-input-preserved-in-Err-copy_input
-loop-input-preserved-in-Err-copy_input c = record {
-  played = played-skip c.args.configs.now c.args.moment c.args.inputs.now c.loop-input.input-index c.input-item.result c.loop-input.recorded c.loop-input-test.true c.input-item.is c.loop-input.invariant.played;
+pub loop-input-preserved : goal.loop-input-preserved
+loop-input-preserved c = record {
+  played = played-step c.args.configs.now c.args.moment c.args.inputs.now c.loop-input.input-index c.input-item.result c.loop-input.recorded c.hand_in.new.recorded c.hand_in.result
+      c.loop-input-test.true c.input-item.is c.loop-input.invariant.played c.hand_in.ensures.performed c.hand_in.ensures.unchanged;
 }
 
 pub returns-clause-played : goal.returns-clause-played
