@@ -93,6 +93,40 @@ fn each_part_has_its_share(rt: HostRuntime) {
     );
 }
 
+// of four parts, each of which has room for two
+const EIGHT_IN_FOUR: Config = Config {
+    capacity: Some(8),
+    parts: 4,
+    ..TWO
+};
+
+// keys of length 4 all have the hash 0
+const KEYS_OF_ONE_HASH_SHARE_A_PART: &[Row<'static>] = &[
+    Row::Accepts(b"zero", b"1", None, 0),
+    Row::Runs(1, 1),
+    Row::Accepts(b"one.", b"2", None, 0),
+    Row::Runs(2, 2),
+    Row::Accepts(b"two.", b"3", None, 0),
+    Row::Runs(2, 2),
+    Row::Tells(RemovalCause::Size, b"zero", b"1"),
+    Row::TellsNone,
+    Row::LooksUp(b"zero", None),
+    Row::LooksUp(b"one.", Some(b"2")),
+    Row::LooksUp(b"two.", Some(b"3")),
+    Row::Removes(b"two."),
+    Row::Lists(b"one.\n", 1),
+    Row::Tells(RemovalCause::Explicit, b"two.", b"3"),
+    Row::TellsNone,
+];
+
+#[test]
+fn keys_of_one_hash_share_a_part(rt: HostRuntime) {
+    none_wrong(
+        &rt,
+        wrong(rt.alloc(), EIGHT_IN_FOUR, KEYS_OF_ONE_HASH_SHARE_A_PART),
+    );
+}
+
 const EACH_PART_KEEPS_ITS_ORDER_OF_USE: &[Row<'static>] = &[
     Row::Accepts(b"xx", b"1", None, 1),
     Row::Accepts(b"a", b"1", None, 0),

@@ -121,11 +121,16 @@ const TWO_NAMESPACES: &[Row<'static>] = &[
         Asked::Feeds(SECOND, b"GET a\n", Instant { nanos: 3 }),
         Output::All,
     ),
+    Row::Takes(
+        Asked::Feeds(FIRST, b"GET a\n", Instant { nanos: 5 }),
+        Output::All,
+    ),
     Row::Takes(Asked::Closes(SECOND), Output::Done),
-    Row::Records(0, Ok(2)),
+    Row::Records(0, Ok(3)),
     Row::Records(1, Ok(3)),
     Row::Records(2, Err(ServiceError::NoNamespace)),
     Row::Did(1, 1, &[(b"GET a", b"NONE\n", 0)]),
+    Row::Did(0, 2, &[(b"GET a", b"VAL 1\n", 0)]),
 ];
 
 #[test]
