@@ -21,7 +21,7 @@ pub(crate) struct Inner<K: Eq + Hash, V, S: BuildHasher, R: Rules<K, V>, E> {
     policy: Policy,
 }
 
-/// A cache that threads share; a clone is another handle of the same one. Whenever its lock is taken, what it guards is a state that calls of a cache that is lent lead to.
+/// A cache that threads share; a clone is another handle of the same one. Whenever its lock is taken, what it guards keeps what a cache that is lent keeps between calls.
 ///
 /// Each call may wait for the lock, and is one hold of it; a call that makes a value or computes is a few, and its closure runs between them. Each draws its moment, the greater of the environment's and the last call's, and the next step.
 /// A call of one hold that is refused has changed nothing.
