@@ -1,6 +1,5 @@
-use crate::script::{Call, Closure, Done, Form, are_right};
-use crate::selecting::Select;
 use engine_rules::RemovalCause;
+use front_rows::{Call, Closure, Done, Form, Select, are_right};
 
 /// A number by which keys spread over parts.
 const SPREAD: u64 = 11_400_714_819_323_198_485;

@@ -7,7 +7,11 @@ use front_access::{CompResult, Entry};
 use front_reference::{At, CacheError, Op, TurnKind};
 
 /// One call with a closure.
-pub fn perform_closure(state: &mut Numbers, at: At, call: Closure) -> Result<bool, CacheError>
+pub(crate) fn perform_closure(
+    state: &mut Numbers,
+    at: At,
+    call: Closure,
+) -> Result<bool, CacheError>
     requires { ComesAfter at.now at.step state.old }
 {
     match call {

@@ -32,8 +32,11 @@ pub struct Form {
 /// How a turn begins.
 #[derive(Clone, Copy, PartialEq, Eq)]
 pub enum Start {
+    /// This value is visible.
     Found(u64),
+    /// The turn of this number is under way.
     Wait(u64),
+    /// The turn of this number began.
     Lead(u64),
 }
 
@@ -48,7 +51,9 @@ fn start_of(start: TurnStart<u64>) -> Start {
 /// One call, and what it is to answer.
 #[derive(Clone, Copy)]
 pub enum Call {
+    /// The visible value of a key, of which it is a use.
     Get(u64, Option<u64>),
+    /// Whether a key has a visible value.
     Has(u64, bool),
     /// The visible value of a key, without a use of it.
     Peek(u64, Option<u64>),
@@ -56,22 +61,31 @@ pub enum Call {
     Touch(u64),
     /// How many keys have a visible value.
     Visible(usize),
+    /// A key gets a value.
     Insert(u64, u64),
     /// `insert_with_hash` of what names a key.
     InsertNamed(u64, u64),
+    /// A key is removed, whose value is this.
     Remove(u64, Option<u64>),
+    /// A key is removed.
     Invalidate(u64),
+    /// All keys are removed.
     Clear,
+    /// Maintenance runs to its end.
     Run,
     /// How many entries there are, as of the last run.
     Count(u64),
     /// The value of a key or this one, and whether it was made now.
     OrInsert(u64, u64, (u64, bool)),
+    /// A call that makes a value begins, of a kind, for a key.
     Begin(TurnKind, u64, Start),
+    /// A compute call begins, for a key.
     BeginCompute(u64, Start),
     /// The turn of this number ends with a value.
     Finish(u64, u64, Result<(), CacheError>),
+    /// The turn of this number is given up.
     Abandon(u64, Result<(), CacheError>),
+    /// Whether no turn of a kind and a key is under way.
     IsFree(TurnKind, u64, bool),
     /// The oldest notice is of this key and cause.
     Told(u64, RemovalCause),
@@ -90,7 +104,9 @@ pub enum Closure {
     GetWith(u64, u64, u64),
     /// `get_with_if`, where this value is replaced.
     GetWithIf(u64, u64, u64, u64),
+    /// `optionally_get_with` of a key with what is made.
     Optionally(u64, Option<u64>, Option<u64>),
+    /// `get_or_try_insert_with` of a key with what is made.
     Try(u64, Result<u64, ()>, Result<u64, ()>),
     /// `or_insert`, and whether the entry is fresh.
     OrInsert(u64, u64, (u64, bool)),
@@ -109,10 +125,15 @@ pub enum Closure {
 /// What a compute call did.
 #[derive(Clone, Copy, PartialEq, Eq)]
 pub enum Done {
+    /// There was no value, and there is none.
     StillNone,
+    /// This value stays.
     Unchanged(u64),
+    /// This value is the first.
     Inserted(u64),
+    /// This value came for another.
     ReplacedWith(u64),
+    /// This value was removed.
     Removed(u64),
 }
 
@@ -333,7 +354,7 @@ fn perform(alloc: Global, state: &mut Numbers, nanos: u64, call: Call) -> Result
 }
 
 /// How many of these calls, each at its moment, answer what they are to before one does not.
-pub fn right_calls(alloc: Global, state: &mut Numbers, calls: &[(u64, Call)]) -> usize {
+fn right_calls(alloc: Global, state: &mut Numbers, calls: &[(u64, Call)]) -> usize {
     for place in 0..calls.len() {
         let (nanos, call) = calls[place];
         if !is_right(alloc, state, nanos, call) {

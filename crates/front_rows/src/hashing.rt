@@ -18,7 +18,7 @@ pub struct TimesHasher {
 impl Hasher for TimesHasher {
     ghost use Rattle.std.specs.Prelude.{◌*◌, ◌%◌, ◌^◌};
     ghost use Rattle.std.specs.List.{fold};
-    ghost use Rattle.front_tests.specs.Hashed.{byte_read};
+    ghost use Rattle.front_rows.specs.Hashed.{byte_read};
 
     ghost write = { λ s bytes. record s { number = fold byte_read s.number bytes } };
 

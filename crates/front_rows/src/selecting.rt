@@ -17,9 +17,13 @@ pub enum Select {
     Optionally(Option<u64>, Option<u64>),
     /// `try_get_with_by_ref`.
     Try(Result<u64, ()>, Result<u64, ()>),
+    /// `or_insert_with` of this value.
     OrInsertWith(u64, Shown),
+    /// `or_default`.
     OrDefault(Shown),
+    /// `or_optionally_insert_with`.
     OrOptionally(Option<u64>, Option<Shown>),
+    /// `or_try_insert_with`.
     OrTry(Result<u64, ()>, Result<Shown, ()>),
     /// `and_try_compute_with` to this value, to what is there, or to a fault: the value that there is then.
     TryCompute(Result<Option<u64>, ()>, Result<Option<u64>, ()>),
@@ -28,7 +32,7 @@ pub enum Select {
 }
 
 /// One such call.
-pub fn perform_select(
+pub(crate) fn perform_select(
     state: &mut Numbers,
     at: At,
     key: u64,
