@@ -1,1 +1,1 @@
-pub mod Turning
+pub mod Accessing

@@ -2,8 +2,9 @@
 ghost use Rattle.std.specs.Prelude.{◌≡◌, Ok, IfOk, IfErr, OnErr};
 ghost use Rattle.front_access.specs.Answering.{Suits};
 ghost use Rattle.front_reference.specs.declared.data.Made.{Made};
-ghost use Rattle.moka_sync.specs.Turning.{DoesAsDecided, GivesFresh, IsMakingRefusal};
+ghost use Rattle.moka_sync.specs.Accessing.{GivesFresh, IsMakingRefusal};
 ghost use Rattle.sync_slots.specs.Refusals.{IsEndRefusal};
+ghost use Rattle.sync_turns.specs.Turning.{DoesAsDecided};
 ghost use Rattle.std.specs.Fn.{FnOnceReturnsAt};
 
 use crate::cache::Cache;
@@ -94,8 +95,14 @@ impl<
         match kind {
             Some(kind) => self
                 .cache
+                .inner
+                .desk
                 .coalesce_asking_once(&self.rt, kind, SharedName { key: &key }, replace_if, make),
-            None => self.cache.coalesce_now(&self.rt, &key, replace_if, make),
+            None => self
+                .cache
+                .inner
+                .desk
+                .coalesce_now(&self.rt, &key, replace_if, make),
         }
     }
 
@@ -110,7 +117,7 @@ impl<
         ensures does { IfOk result (DoesAsDecided (λ seen decided. D.post decide seen decided)) }
         ensures cause { IfErr result IsEndRefusal }
     {
-        self.cache.compute(&self.rt, &key, decide)
+        self.cache.inner.desk.compute(&self.rt, &key, decide)
     }
 
     /// An iterator over the visible keys with clones of their values. It holds the lock for the keys of one segment, and then for an item at a time. To look is no use of a value.
@@ -167,7 +174,7 @@ impl<
     E: Env + Drop,
     H: Wait,
 > Access<K, V> for Attached<K, V, S, R, E, H> {
-    ghost use Rattle.moka_sync.specs.Turning.{IsMakingRefusal};
+    ghost use Rattle.moka_sync.specs.Accessing.{IsMakingRefusal};
     ghost use Rattle.sync_slots.specs.Refusals.{IsEndRefusal};
 
     type When = ();

@@ -8,15 +8,14 @@ use front_reference::CacheError;
 use front_state::LentState;
 use std::alloc::{AllocError, Global};
 use std::hash::{BuildHasher, Hash};
-use std::sync::{Arc, Condvar, Mutex, Wait};
-use sync_desk::Desk;
+use std::sync::{Arc, Wait};
 use sync_env::Env;
+use sync_turns::SharedDesk;
 
-/// The lock, what tells of turns that ended, and what of a cache never changes.
+/// What is under the lock, and what of a cache never changes.
 #[derive(Drop)]
 pub(crate) struct Inner<K: Eq + Hash, V, S: BuildHasher, R: Rules<K, V>, E> {
-    pub(crate) desk: Mutex<Desk<K, V, S, R, E>>,
-    pub(crate) changed: Condvar,
+    pub(crate) desk: SharedDesk<K, V, S, R, E>,
     name: Option<String>,
     policy: Policy,
 }
@@ -67,8 +66,7 @@ impl<
         let inner = Arc::new(
             alloc,
             Inner {
-                desk: Mutex::new(Desk::new(alloc, state, env)),
-                changed: Condvar::new(),
+                desk: SharedDesk::new(alloc, state, env),
                 name,
                 policy,
             },

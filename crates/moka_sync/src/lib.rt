@@ -5,9 +5,7 @@ mod attached;
 mod building;
 mod cache;
 mod coalescing;
-mod computing;
 mod iterator;
-mod turns;
 mod wholes;
 
 pub use attached::Attached;

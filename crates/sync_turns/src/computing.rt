@@ -2,10 +2,10 @@
 ghost use Rattle.std.specs.Prelude.{◌≡◌, IfOk, IfErr};
 ghost use Rattle.front_access.specs.Answering.{IsOutcomeOf};
 ghost use Rattle.front_reference.specs.declared.data.Op.TheVariants as op;
-ghost use Rattle.moka_sync.specs.Turning.{DoesAsDecided};
+ghost use Rattle.sync_turns.specs.Turning.{DoesAsDecided};
 ghost use Rattle.sync_slots.specs.Refusals.{IsEndRefusal, IsShortage};
 
-use crate::cache::Cache;
+use crate::shared::SharedDesk;
 use crate::turns::Lead;
 use engine_rules::Rules;
 use front_keys::Shared;
@@ -59,15 +59,15 @@ impl<
         ensures { IfErr result IsEndRefusal }
     {
         let Lead {
-            cache,
+            shared,
             kind: _,
             number,
         } = self;
-        let mut guard = cache.inner.desk.lock(rt);
+        let mut guard = shared.lock(rt);
         let desk = &mut *guard;
         let ended = desk.put(number, value);
         drop(guard);
-        cache.inner.changed.notify_all();
+        shared.changed.notify_all();
         ended
     }
 
@@ -77,15 +77,15 @@ impl<
         ensures { IfErr result IsShortage }
     {
         let Lead {
-            cache,
+            shared,
             kind: _,
             number,
         } = self;
-        let mut guard = cache.inner.desk.lock(rt);
+        let mut guard = shared.lock(rt);
         let desk = &mut *guard;
         let removed = desk.take_out(number, key);
         drop(guard);
-        cache.inner.changed.notify_all();
+        shared.changed.notify_all();
         removed
     }
 
@@ -170,14 +170,14 @@ impl<
     S: BuildHasher + Drop,
     R: Rules<K, V> + Drop,
     E: Env + Drop,
-> Cache<K, V, S, R, E> {
+> SharedDesk<K, V, S, R, E> {
     /// Leads the compute turn of a key, once no other does; with the visible value, of which it is a use.
     fn lead_compute<H: Wait>(&self, rt: &H, key: &Shared<K>) -> Result<(u64, Option<V>), CacheError>
         requires exact { (x y : V) → V.is_clone x y → y ≡ x }
         ensures cause { IfErr result IsShortage }
     {
         for _ in rt.forever() {
-            let mut guard = self.inner.desk.lock(rt);
+            let mut guard = self.lock(rt);
             let desk = &mut *guard;
             match desk.begin_compute(key)? {
                 ComputeStart::Lead(number, seen) => return Ok((number, seen)),
@@ -190,7 +190,7 @@ impl<
     }
 
     /// Lets `decide` say by the visible value what is to be done with a key, does it, and answers what was done; or the error of `decide`, and then nothing is written. `decide` runs without the lock, and such calls for one key come one at a time.
-    pub(crate) fn compute<X: Drop, H: Wait, D: FnOnce(Option<V>) -> Result<Op<V>, X> + Drop>(
+    pub fn compute<X: Drop, H: Wait, D: FnOnce(Option<V>) -> Result<Op<V>, X> + Drop>(
         &self,
         rt: &H,
         key: &Shared<K>,

@@ -1,25 +1,19 @@
 -- What calls that make a value come to.
-use Rattle.std.specs.Prelude.{◌≡◌, Bool, true, Option, Some, None, MatchOption, Result, Ok}
+use Rattle.std.specs.Prelude.{◌≡◌, Bool, true, Option, MatchOption, Result, Ok}
 use Rattle.std.specs.declared.alloc.AllocError.{AllocError}
-use Rattle.front_access.specs.Answering.{Decides, Gives}
+use Rattle.front_access.specs.Answering.{Decides}
 use Rattle.front_reference.specs.declared.data.Computed.{Computed}
 use Rattle.front_reference.specs.declared.data.Made.{Made}
 use Rattle.front_reference.specs.declared.data.Op.{Op}
 use Rattle.front_reference.specs.declared.data.TurnKind.{TurnKind}
 use Rattle.front_reference.specs.declared.errors.CacheError.{CacheError}
-use Rattle.moka_sync.specs.declared.turns.Turn.{Turn}
-use Rattle.moka_sync.specs.declared.turns.Turn.TheVariants.{Answered, Led, GivenUp}
+use Rattle.sync_turns.specs.declared.turns.Turn.{Turn}
+use Rattle.sync_turns.specs.declared.turns.Turn.TheVariants.{Answered, Led, GivenUp}
 use Rattle.sync_slots.specs.Endings.{suits}
-use Rattle.sync_slots.specs.Refusals.{IsShortage, IsTurnRefusal}
 
 -- a closure decided by something that it was shown, and what it decided was done; or its error is answered
 abbrev pub DoesAsDecided : {V E : Type 0} → (Says : Option V → Result (Op V) E → Type 0) → Result (Computed V) E → Type 0
 DoesAsDecided Says answer = Decides (λ seen. Unit {0}) (λ does done. Unit {0}) Says answer
-
--- a call that makes a value is refused: one of a kind as its turn is; one of none, which waits for nobody, for want of memory or numbers alone
-abbrev pub IsMakingRefusal : Option TurnKind → CacheError → Type 0
-IsMakingRefusal None e = IsShortage e
-IsMakingRefusal (Some kind) e = IsTurnRefusal e
 
 module _ {V F : Type 0} where
   -- what was waited for was given up, or ended with such as its kind may
@@ -31,10 +25,6 @@ module _ {V F : Type 0} where
   HasAnswer kind (Answered made) = suits kind made ≡ true
   HasAnswer kind (Led number) = Unit {0}
   HasAnswer kind (GivenUp asked) = Unit {0}
-
-  -- what is answered as fresh was made; of what was seen nothing is said
-  abbrev pub GivesFresh : {E : Type 0} → (Ignores : V → Bool → Type 0) → (Makes : Result (Made V F) E → Type 0) → Made V F → (is_fresh : Bool) → Type 0
-  GivesFresh Ignores Makes answer is_fresh = Gives (λ seen. Unit {0}) (λ ignored made fresh. Unit {0}) Ignores (λ made. Makes (Ok made)) answer is_fresh
 
   -- whatever a closure makes is such as a turn of the kind may end with
   abbrev pub MayMake : TurnKind → (Result (Made V F) AllocError → Type 0) → Type 0

@@ -1,12 +1,12 @@
 //! Turns: who leads one ends it, and who waits for one sees how it ended.
 ghost use Rattle.std.specs.Prelude.{◌≡◌, true, Ok, IfOk, IfErr};
 ghost use Rattle.front_reference.specs.declared.data.Made.{Made};
-ghost use Rattle.moka_sync.specs.Turning.{HasAnswer, HasReceived, IsAnswer, MayMake};
+ghost use Rattle.sync_turns.specs.Turning.{HasAnswer, HasReceived, IsAnswer, MayMake};
 ghost use Rattle.sync_desk.specs.Coalescing.{IsMadeOrFound};
 ghost use Rattle.sync_slots.specs.Endings.{suits};
 ghost use Rattle.sync_slots.specs.Refusals.{IsShortage, IsEndRefusal, IsTurnRefusal};
 
-use crate::cache::Cache;
+use crate::shared::SharedDesk;
 use engine_rules::Rules;
 use front_keys::Shared;
 use front_reference::{CacheError, Made, TurnKind};
@@ -22,7 +22,7 @@ pub(crate) const BEGINNINGS: u32 = 200;
 
 /// A turn that the caller leads. It can't be dropped, so each path ends it or gives it up.
 pub(crate) struct Lead<'a, K: Eq + Hash, V, S: BuildHasher, R: Rules<K, V>, E> {
-    pub(crate) cache: &'a Cache<K, V, S, R, E>,
+    pub(crate) shared: &'a SharedDesk<K, V, S, R, E>,
     pub(crate) kind: TurnKind,
     pub(crate) number: u64,
 }
@@ -46,11 +46,11 @@ impl<
     E: Env + Drop,
 > Lead<'a, K, V, S, R, E> {
     /// A turn that began.
-    pub(crate) fn new(cache: &'a Cache<K, V, S, R, E>, kind: TurnKind, number: u64) -> Self
+    pub(crate) fn new(shared: &'a SharedDesk<K, V, S, R, E>, kind: TurnKind, number: u64) -> Self
         ensures { result.kind ≡ kind }
     {
         Lead {
-            cache,
+            shared,
             kind,
             number,
         }
@@ -62,30 +62,30 @@ impl<
         ensures { IfErr result IsEndRefusal }
     {
         let Lead {
-            cache,
+            shared,
             kind,
             number,
         } = self;
-        let mut guard = cache.inner.desk.lock(rt);
+        let mut guard = shared.lock(rt);
         let desk = &mut *guard;
         let ended = desk.finish(kind, number, made);
         drop(guard);
-        cache.inner.changed.notify_all();
+        shared.changed.notify_all();
         ended
     }
 
     /// Gives the turn up.
     pub(crate) fn abandon(self, rt: &impl Wait) {
         let Lead {
-            cache,
+            shared,
             kind,
             number,
         } = self;
-        let mut guard = cache.inner.desk.lock(rt);
+        let mut guard = shared.lock(rt);
         let desk = &mut *guard;
         desk.abandon(kind, number);
         drop(guard);
-        cache.inner.changed.notify_all();
+        shared.changed.notify_all();
     }
 
     /// Ends the turn with what was made, and answers it.
@@ -163,7 +163,7 @@ impl<
     S: BuildHasher + Drop,
     R: Rules<K, V> + Drop,
     E: Env + Drop,
-> Cache<K, V, S, R, E> {
+> SharedDesk<K, V, S, R, E> {
     /// Waits for a turn to end: what it ended with, or nothing where it was given up. The lock is let go while it waits.
     pub(crate) fn wait_for<H: Wait>(
         &self,
@@ -179,7 +179,7 @@ impl<
         for _ in rt.forever() {
             let desk = &mut *guard;
             match desk.look(kind, number)? {
-                Ending::Underway => guard = self.inner.changed.wait(rt, guard),
+                Ending::Underway => guard = self.changed.wait(rt, guard),
                 Ending::Done(made) => return Ok(Some(made)),
                 Ending::GivenUp => return Ok(None),
             }
@@ -201,7 +201,7 @@ impl<
         ensures answers { IfOk result (HasAnswer kind) }
         ensures cause { IfErr result IsShortage }
     {
-        let mut guard = self.inner.desk.lock(rt);
+        let mut guard = self.lock(rt);
         let desk = &mut *guard;
         match desk.begin(kind, asked, replace_if)? {
             Start::Found(value) => Ok(Turn::Answered(Made::Value(value))),
@@ -251,7 +251,7 @@ impl<
     }
 
     /// The same with a closure that is asked once. Where the turn that was waited for is given up, what it said serves for what is visible then.
-    pub(crate) fn coalesce_asking_once<
+    pub fn coalesce_asking_once<
         H: Wait,
         A: Asked<K>,
         P: FnOnce(&V) -> bool + Drop,
@@ -291,7 +291,7 @@ impl<
     }
 
     /// The visible value of a key, unless `replace_if` says yes of it, and false; or what `make` makes, and true. All is done in one hold of the lock, and nobody is waited for.
-    pub(crate) fn coalesce_now<
+    pub fn coalesce_now<
         H: Wait,
         P: FnOnce(&V) -> bool + Drop,
         M: FnOnce() -> Result<Made<V, Shared<R::Fault>>, AllocError> + Drop,
@@ -307,7 +307,7 @@ impl<
         ensures answer { IfOk result (λ a. IsMadeOrFound (λ made. M.post make (Ok made)) a.0 a.1) }
         ensures cause { IfErr result IsShortage }
     {
-        let mut guard = self.inner.desk.lock(rt);
+        let mut guard = self.lock(rt);
         let desk = &mut *guard;
         desk.coalesce_now(key, replace_if, make)
     }

@@ -1,0 +1,16 @@
+-- What a shared cache says of its calls to selectors.
+use Rattle.std.specs.Prelude.{Bool, Option, Some, None, Result, Ok}
+use Rattle.front_access.specs.Answering.{Gives}
+use Rattle.front_reference.specs.declared.data.Made.{Made}
+use Rattle.front_reference.specs.declared.data.TurnKind.{TurnKind}
+use Rattle.front_reference.specs.declared.errors.CacheError.{CacheError}
+use Rattle.sync_slots.specs.Refusals.{IsShortage, IsTurnRefusal}
+
+-- a call that makes a value is refused: one of a kind as its turn is; one of none, which waits for nobody, for want of memory or numbers alone
+abbrev pub IsMakingRefusal : Option TurnKind → CacheError → Type 0
+IsMakingRefusal None e = IsShortage e
+IsMakingRefusal (Some kind) e = IsTurnRefusal e
+
+-- what is answered as fresh was made; of what was seen nothing is said
+abbrev pub GivesFresh : {V F E : Type 0} → (Ignores : V → Bool → Type 0) → (Makes : Result (Made V F) E → Type 0) → Made V F → (is_fresh : Bool) → Type 0
+GivesFresh Ignores Makes answer is_fresh = Gives (λ seen. Unit {0}) (λ ignored made fresh. Unit {0}) Ignores (λ made. Makes (Ok made)) answer is_fresh

@@ -1,0 +1,146 @@
+//! Calls that make a value where none is visible. Of several callers for a key one makes it, and the others wait for it.
+ghost use Rattle.std.specs.Prelude.{◌≡◌, true, IfOk, IfErr};
+ghost use Rattle.front_reference.specs.declared.data.TurnKind.TheVariants as turns;
+ghost use Rattle.sync_slots.specs.Endings.{suits};
+ghost use Rattle.sync_slots.specs.Refusals.{IsTurnRefusal};
+
+use crate::shared::SharedDesk;
+use crate::turns::BEGINNINGS;
+use engine_rules::Rules;
+use front_keys::Shared;
+use front_reference::{CacheError, Made, TurnKind};
+use std::alloc::AllocError;
+use std::hash::{BuildHasher, Hash};
+use std::sync::{Arc, Wait};
+use sync_env::Env;
+use sync_slots::Asked;
+
+/// The value that was made.
+fn value_made<V, F: Drop>(made: Made<V, F>) -> V
+    requires { suits turns.With made ≡ true }
+{
+    match made {
+        Made::Value(value) => value,
+        _ => unreachable!(),
+    }
+}
+
+/// The value that was made, if one was.
+fn option_made<V, F: Drop>(made: Made<V, F>) -> Option<V>
+    requires { suits turns.Optionally made ≡ true }
+{
+    match made {
+        Made::Value(value) => Some(value),
+        Made::Nothing => None,
+        Made::Fault(_) => unreachable!(),
+    }
+}
+
+/// The value that was made, or why none was.
+fn result_made<V, F: Drop>(made: Made<V, Shared<F>>) -> Result<V, Arc<F>>
+    requires { suits turns.Try made ≡ true }
+{
+    match made {
+        Made::Value(value) => Ok(value),
+        Made::Fault(fault) => Err(fault.into_arc()),
+        Made::Nothing => unreachable!(),
+    }
+}
+
+impl<
+    K: Eq + Hash + Drop,
+    V: Clone + Drop,
+    S: BuildHasher + Drop,
+    R: Rules<K, V> + Drop,
+    E: Env + Drop,
+> SharedDesk<K, V, S, R, E> {
+    /// The visible value that is not passed over, or the one that is made.
+    pub fn make_value<H: Wait, A: Asked<K>, P: Fn(&V) -> bool + Drop, M: FnOnce() -> V + Drop>(
+        &self,
+        rt: &H,
+        asked: A,
+        replace_if: P,
+        make: M,
+    ) -> Result<V, CacheError>
+        requires becomes { (a : A) → A.can_become a }
+        requires exact { (x y : V) → V.is_clone x y → y ≡ x }
+        requires callable { P.IsAlwaysCallable replace_if × M.IsAlwaysCallable make }
+        ensures cause { IfErr result IsTurnRefusal }
+    {
+        let (made, _is_fresh) = self.coalesce(
+            rt,
+            TurnKind::With,
+            asked,
+            replace_if,
+            || -> Result<Made<V, Shared<R::Fault>>, AllocError>
+                requires { M.IsAlwaysCallable make }
+                ensures { IfOk result (λ made. suits turns.With made ≡ true) }
+            { Ok(Made::Value(make())) },
+            BEGINNINGS,
+        )?;
+        Ok(value_made(made))
+    }
+
+    /// The visible value, or the one that is made, if one is.
+    pub fn make_option<H: Wait, A: Asked<K>, M: FnOnce() -> Option<V> + Drop>(
+        &self,
+        rt: &H,
+        asked: A,
+        make: M,
+    ) -> Result<Option<V>, CacheError>
+        requires becomes { (a : A) → A.can_become a }
+        requires exact { (x y : V) → V.is_clone x y → y ≡ x }
+        requires callable { M.IsAlwaysCallable make }
+        ensures cause { IfErr result IsTurnRefusal }
+    {
+        let (made, _is_fresh) = self.coalesce(
+            rt,
+            TurnKind::Optionally,
+            asked,
+            |_: &V| -> bool { false },
+            || -> Result<Made<V, Shared<R::Fault>>, AllocError>
+                requires { M.IsAlwaysCallable make }
+                ensures { IfOk result (λ made. suits turns.Optionally made ≡ true) }
+            {
+                match make() {
+                    Some(value) => Ok(Made::Value(value)),
+                    None => Ok(Made::Nothing),
+                }
+            },
+            BEGINNINGS,
+        )?;
+        Ok(option_made(made))
+    }
+
+    /// The visible value, or the one that is made, or why none is.
+    pub fn make_result<H: Wait, A: Asked<K>, M: FnOnce() -> Result<V, R::Fault> + Drop>(
+        &self,
+        rt: &H,
+        asked: A,
+        make: M,
+    ) -> Result<Result<V, Arc<R::Fault>>, CacheError>
+        requires becomes { (a : A) → A.can_become a }
+        requires exact { (x y : V) → V.is_clone x y → y ≡ x }
+        requires callable { M.IsAlwaysCallable make }
+        ensures cause { IfErr result IsTurnRefusal }
+    {
+        let alloc = self.alloc;
+        let (made, _is_fresh) = self.coalesce(
+            rt,
+            TurnKind::Try,
+            asked,
+            |_: &V| -> bool { false },
+            || -> Result<Made<V, Shared<R::Fault>>, AllocError>
+                requires { M.IsAlwaysCallable make }
+                ensures { IfOk result (λ made. suits turns.Try made ≡ true) }
+            {
+                match make() {
+                    Ok(value) => Ok(Made::Value(value)),
+                    Err(fault) => Ok(Made::Fault(Shared::new(alloc, fault)?)),
+                }
+            },
+            BEGINNINGS,
+        )?;
+        Ok(result_made(made))
+    }
+}

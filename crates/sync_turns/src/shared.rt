@@ -1,0 +1,39 @@
+//! The lock.
+
+use engine_rules::Rules;
+use front_state::LentState;
+use std::alloc::Global;
+use std::hash::{BuildHasher, Hash};
+use std::sync::{Condvar, Mutex, MutexGuard, Wait};
+use sync_desk::Desk;
+use sync_env::Env;
+
+/// What threads share of a cache: a desk under one lock, and what tells those that wait for a turn that one ended. Whenever the lock is taken, what it guards keeps what a cache that is lent keeps between calls.
+#[derive(Drop)]
+pub struct SharedDesk<K: Eq + Hash, V, S: BuildHasher, R: Rules<K, V>, E> {
+    pub(crate) alloc: Global,
+    desk: Mutex<Desk<K, V, S, R, E>>,
+    pub(crate) changed: Condvar,
+}
+
+impl<
+    K: Eq + Hash + Drop,
+    V: Clone + Drop,
+    S: BuildHasher + Drop,
+    R: Rules<K, V> + Drop,
+    E: Env + Drop,
+> SharedDesk<K, V, S, R, E> {
+    /// A cache that was lent, of whose turns none is under way, with what its moments come from.
+    pub fn new(alloc: Global, state: LentState<K, V, S, R>, env: E) -> Self {
+        SharedDesk {
+            alloc,
+            desk: Mutex::new(Desk::new(alloc, state, env)),
+            changed: Condvar::new(),
+        }
+    }
+
+    /// Takes the lock, which is let go where the guard is. May wait for it.
+    pub fn lock<H: Wait>(&self, rt: &H) -> MutexGuard<'_, Desk<K, V, S, R, E>> {
+        self.desk.lock(rt)
+    }
+}
