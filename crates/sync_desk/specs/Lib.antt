@@ -1,1 +1,2 @@
 pub mod Coalescing
+pub mod Drawing

@@ -1,6 +1,8 @@
 //! Calls that are one hold of the lock.
-ghost use Rattle.std.specs.Prelude.{◌≡◌, IfErr, OnErr};
+ghost use Rattle.std.specs.Prelude.{◌≡◌, IfOk, IfErr, OnOk, OnErr};
 ghost use Rattle.front_reference.specs.declared.errors.CacheError.TheVariants as errors;
+ghost use Rattle.front_state.specs.Calls.{ways_by};
+ghost use Rattle.sync_desk.specs.Drawing.{InsertsAsDrawn, LooksUpAsDrawn};
 ghost use Rattle.sync_slots.specs.Refusals.{IsShortage};
 
 use crate::desk::Desk;
@@ -29,6 +31,7 @@ impl<
     /// A clone of the visible value of a key, of which it is a use.
     pub fn get(&mut self, key: &K) -> Result<Option<V>, CacheError>
         requires exact { (x y : V) → V.is_clone x y → y ≡ x }
+        ensures found { IfOk result (LooksUpAsDrawn (ways_by R.Rules K.eq K.hash_input S.BuildHasher S.Hasher.Hasher) key.now self.old.state self.new.state) }
         ensures err { OnErr result (self.new.state ≡ self.old.state) }
         ensures cause { IfErr result IsShortage }
     {
@@ -51,6 +54,7 @@ impl<
 
     /// Inserts a value. A cache of capacity 0 takes none.
     pub fn insert(&mut self, key: K, value: V) -> Result<(), CacheError>
+        ensures inserts { OnOk result (InsertsAsDrawn (ways_by R.Rules K.eq K.hash_input S.BuildHasher S.Hasher.Hasher) key value self.old.state self.new.state) }
         ensures err { OnErr result (self.new.state ≡ self.old.state) }
         ensures cause { IfErr result IsShortage }
     {

@@ -2,6 +2,7 @@
 ghost use Rattle.std.specs.Prelude.{◌≡◌, ◌<◌, IfSome};
 ghost use Rattle.front_reference.specs.Fronts.{ComesAfter};
 ghost use Rattle.front_reference.specs.Wholes.{total_number, total_weight};
+ghost use Rattle.sync_desk.specs.Drawing.{IsDrawn};
 
 use engine_rules::Rules;
 use front_keys::Shared;
@@ -44,6 +45,7 @@ impl<
     pub(crate) fn draw(&mut self) -> Option<At>
         ensures follows { IfSome result (λ at. ComesAfter at.now at.step self.old.state) }
         ensures rises { IfSome result (λ at. self.old.state.step < at.step) }
+        ensures drawn { IfSome result (IsDrawn self.old.state) }
         ensures state { self.new.state ≡ self.old.state }
     {
         let last = self.state.last_call();

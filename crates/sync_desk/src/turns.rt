@@ -1,7 +1,10 @@
 //! Turns: who leads, who waits, and how they end.
-ghost use Rattle.std.specs.Prelude.{◌≡◌, true, None, Ok, IfOk, IfErr, OnErr, IsSome};
-ghost use Rattle.front_reference.specs.Fronts.{turn_of};
+ghost use Rattle.std.specs.Prelude.{◌≡◌, true, None, Ok, IfOk, IfErr, OnOk, OnErr, IsSome, is_some};
+ghost use Rattle.std.specs.Fn.{FnOnceReturnsAt};
+ghost use Rattle.front_reference.specs.Fronts.{turn_at, turn_of};
+ghost use Rattle.front_state.specs.Calls.{ways_by};
 ghost use Rattle.sync_desk.specs.Coalescing.{GivesUp, IsMadeOrFound};
+ghost use Rattle.sync_desk.specs.Drawing.{BeginsAsDrawn, FinishesAsDrawn};
 ghost use Rattle.sync_slots.specs.Endings.{fits, suits};
 ghost use Rattle.sync_slots.specs.Refusals.{IsEndRefusal, IsShortage};
 
@@ -53,6 +56,7 @@ impl<
         requires becomes { (a : A) → A.can_become a }
         requires exact { (x y : V) → V.is_clone x y → y ≡ x }
         requires callable { P.IsAlwaysCallable replace_if }
+        ensures begins { IfOk result (BeginsAsDrawn (ways_by R.Rules K.eq K.hash_input S.BuildHasher S.Hasher.Hasher) kind (A.named_key asked) (FnOnceReturnsAt P.FnOnce replace_if) self.old.state self.new.state) }
         ensures cause { IfErr result IsShortage }
     {
         if self.state.is_turn_free(kind, asked.key()) {
@@ -73,6 +77,7 @@ impl<
         requires becomes { (a : A) → A.can_become a }
         requires exact { (x y : V) → V.is_clone x y → y ≡ x }
         requires callable { P.IsAlwaysCallable replace_if }
+        ensures begins { IfOk result (BeginsAsDrawn (ways_by R.Rules K.eq K.hash_input S.BuildHasher S.Hasher.Hasher) kind (A.named_key asked) (FnOnceReturnsAt P.FnOnce replace_if) self.old.state self.new.state) }
         ensures cause { IfErr result IsShortage }
     {
         let Some(at) = self.draw() else {
@@ -103,6 +108,7 @@ impl<
         requires busy { IsSome (turn_of K.eq self.old.state.turns kind (A.named_key asked)) }
         requires exact { (x y : V) → V.is_clone x y → y ≡ x }
         requires callable { P.IsAlwaysCallable replace_if }
+        ensures begins { IfOk result (BeginsAsDrawn (ways_by R.Rules K.eq K.hash_input S.BuildHasher S.Hasher.Hasher) kind (A.named_key asked) (FnOnceReturnsAt P.FnOnce replace_if) self.old.state self.new.state) }
         ensures cause { IfErr result IsShortage }
     {
         let Some(at) = self.draw() else {
@@ -188,6 +194,9 @@ impl<
         made: Made<V, Shared<R::Fault>>,
     ) -> Result<(), CacheError>
         requires suits { suits kind made ≡ true }
+        ensures ends { OnOk result (FinishesAsDrawn (ways_by R.Rules K.eq K.hash_input S.BuildHasher S.Hasher.Hasher) number made self.old.state self.new.state) }
+        ensures known { OnOk result (is_some (turn_at self.old.state.turns number) ≡ true) }
+        ensures err { OnErr result (GivesUp number self.old.state self.new.state) }
         ensures cause { IfErr result IsEndRefusal }
     {
         match self.copy_for_waiting(kind, number, &made) {
@@ -225,6 +234,9 @@ impl<
         ending: Ending<V, Shared<R::Fault>>,
     ) -> Result<(), CacheError>
         requires { fits kind ending ≡ true }
+        ensures ends { OnOk result (FinishesAsDrawn (ways_by R.Rules K.eq K.hash_input S.BuildHasher S.Hasher.Hasher) number made self.old.state self.new.state) }
+        ensures known { OnOk result (is_some (turn_at self.old.state.turns number) ≡ true) }
+        ensures err { OnErr result (GivesUp number self.old.state self.new.state) }
         ensures cause { IfErr result IsEndRefusal }
     {
         match self.end_state(number, made) {
@@ -241,6 +253,9 @@ impl<
 
     /// Ends the turn of the state. What is refused for no want is no turn that is under way.
     fn end_state(&mut self, number: u64, made: Made<V, Shared<R::Fault>>) -> Result<(), CacheError>
+        ensures ends { OnOk result (FinishesAsDrawn (ways_by R.Rules K.eq K.hash_input S.BuildHasher S.Hasher.Hasher) number made self.old.state self.new.state) }
+        ensures known { OnOk result (is_some (turn_at self.old.state.turns number) ≡ true) }
+        ensures err { OnErr result (self.new.state ≡ self.old.state) }
         ensures cause { IfErr result IsEndRefusal }
     {
         let Some(at) = self.draw() else {
