@@ -7,7 +7,7 @@ use crate::cache::Cache;
 use engine_rules::Rules;
 use front_keys::Shared;
 use front_reference::CacheError;
-use moka_engine::Notice;
+use front_state::Notice;
 use std::hash::{BuildHasher, Hash};
 use std::sync::Wait;
 use sync_env::Env;
