@@ -1,8 +1,7 @@
 //! More keys than there is room for.
 use engine_rules::RemovalCause;
-use front_builder::BuildError;
 use front_reference::CacheError;
-use front_rows::{Form, Numbers, next, numbers};
+use front_rows::{BuildError, Form, Numbers, next, numbers};
 use std::alloc::Global;
 
 /// A cache of capacity 500.
