@@ -1,7 +1,6 @@
 //! Calls of a cache, one after another.
-ghost use Rattle.std.specs.Prelude.{◌≡◌, ◌<◌, IfSome};
+ghost use Rattle.std.specs.Prelude.{◌<◌, IfSome};
 ghost use Rattle.front_reference.specs.Fronts.{ComesAfter};
-ghost use Rattle.front_state.specs.Calls.{hash_in};
 
 use crate::closures::perform_closure;
 use crate::hashing::Times;
