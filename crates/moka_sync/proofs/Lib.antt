@@ -1,1 +1,1 @@
-mod Showing
+pub mod Showing

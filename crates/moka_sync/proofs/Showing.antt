@@ -7,8 +7,8 @@ use Rattle.front_reference.specs.Fronts.{Front}
 use Rattle.moka_sync.specs.Shown.{Shown, ShowsAs, ShowsPlan}
 
 module _ {K V Q S X W P F : Type 0} where
-  pub built-shows : {p : Plan} {expiry : X} {weigher : W} {hasher : S} {moment : ℕ} {f : Front K V Q S (Bundle X W P F)} {c : Shown} → IsBuilt p expiry weigher hasher moment f → ShowsAs f c → ShowsPlan p c
-  built-shows built shows = record {
+  pub built_shows : {p : Plan} {expiry : X} {weigher : W} {hasher : S} {moment : ℕ} {f : Front K V Q S (Bundle X W P F)} {c : Shown} → IsBuilt p expiry weigher hasher moment f → ShowsAs f c → ShowsPlan p c
+  built_shows built shows = record {
     name = trans shows.name built.made.named;
     capacity = trans shows.policy.capacity built.made.wants;
     live = trans shows.policy.live (ap (λ common. common.settings.live) built.made.common);

@@ -35,7 +35,7 @@ pub trait Build<K: Eq + Hash, V>: Sized {
         alloc: Global,
         env: E,
     ) -> Result<Cache<K, V, StdHasher, Self::Rules, E>, BuildError>
-        ensures shows { IfOk result (shows self) }
+        ensures shown { IfOk result (shows self) }
         ensures sound { OnOk result (fault self ≡ None) }
         ensures cause { IfErr result (λ e. (fault self ≡ Some e) ⊎ ((e ≡ OutOfMemory) × (fault self ≡ None))) };
 
@@ -46,7 +46,7 @@ pub trait Build<K: Eq + Hash, V>: Sized {
         hasher: S,
         env: E,
     ) -> Result<Cache<K, V, S, Self::Rules, E>, BuildError>
-        ensures shows { IfOk result (shows self) }
+        ensures shown { IfOk result (shows self) }
         ensures sound { OnOk result (fault self ≡ None) }
         ensures cause { IfErr result (λ e. (fault self ≡ Some e) ⊎ ((e ≡ OutOfMemory) × (fault self ≡ None))) };
 }
@@ -76,6 +76,7 @@ impl<
         self.build_with_hasher(alloc, BuildHasherDefault::new(), env)
     }
 
+    #[tactic(auto, using(crate::proofs::Showing::built_shows))]
     fn build_with_hasher<S: BuildHasher + Drop, E: Env + Drop>(
         self,
         alloc: Global,
@@ -97,7 +98,7 @@ impl<
 impl<K: Eq + Hash + Drop, V: Clone + Drop, E: Env + Drop> Cache<K, V, StdHasher, PlainRules, E> {
     /// A cache that holds at most so many entries, of which nothing else is set.
     pub fn new(alloc: Global, max_capacity: u64, env: E) -> Result<Self, BuildError>
-        ensures shows { IfOk result (ShowsPlan (record blank { max_capacity = Some max_capacity })) }
+        ensures shown { IfOk result (ShowsPlan (record blank { max_capacity = Some max_capacity })) }
         ensures cause { IfErr result (λ e. e ≡ OutOfMemory) }
     {
         CacheBuilder::new(max_capacity).build(alloc, env)
@@ -110,7 +111,7 @@ impl<K: Eq + Hash + Drop, V: Clone + Drop, E: Env + Drop> Cache<K, V, StdHasher,
         segments: usize,
         env: E,
     ) -> Result<Self, BuildError>
-        ensures shows { IfOk result (ShowsPlan (record blank { max_capacity = Some max_capacity; segments = segments })) }
+        ensures shown { IfOk result (ShowsPlan (record blank { max_capacity = Some max_capacity; segments = segments })) }
         ensures cause { IfErr result (λ e. (segments_fault segments ≡ Some e) ⊎ (e ≡ OutOfMemory)) }
     {
         CacheBuilder::new(max_capacity)
