@@ -1,2 +1,1 @@
 pub mod Accessing
-pub mod Shown
