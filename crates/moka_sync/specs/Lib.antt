@@ -1,1 +1,2 @@
 pub mod Accessing
+pub mod Shown

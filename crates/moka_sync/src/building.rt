@@ -1,8 +1,9 @@
 //! Building a cache that threads share.
-ghost use Rattle.std.specs.Prelude.{◌≡◌, ◌⊎◌, Option, Some, None, IfErr, OnOk};
+ghost use Rattle.std.specs.Prelude.{◌≡◌, ◌⊎◌, Option, Some, None, IfOk, IfErr, OnOk};
 ghost use Rattle.front_builder.specs.Building.{blank, fault_of, segments_fault};
 ghost use Rattle.front_builder.specs.declared.errors.BuildError.{BuildError};
 ghost use Rattle.front_builder.specs.declared.errors.BuildError.TheVariants.{OutOfMemory};
+ghost use Rattle.moka_sync.specs.Shown.{Shown, ShowsPlan};
 
 use crate::cache::Cache;
 use engine_rules::{Bundle, Expiry, NoExpiry, NoPredicate, Predicate, Rules, WeighOne, Weigher};
@@ -25,12 +26,16 @@ pub trait Build<K: Eq + Hash, V>: Sized {
     // what is wrong with what is set, if anything
     ghost fault: { Self → Option BuildError };
 
+    // what the cache shows that is built
+    ghost shows: { Self → Shown → Type 0 };
+
     /// A cache that hashes keys by std's fixed hasher, made at the moment that its environment tells.
     fn build<E: Env + Drop>(
         self,
         alloc: Global,
         env: E,
     ) -> Result<Cache<K, V, StdHasher, Self::Rules, E>, BuildError>
+        ensures shown { IfOk result (shows self) }
         ensures sound { OnOk result (fault self ≡ None) }
         ensures cause { IfErr result (λ e. (fault self ≡ Some e) ⊎ ((e ≡ OutOfMemory) × (fault self ≡ None))) };
 
@@ -41,6 +46,7 @@ pub trait Build<K: Eq + Hash, V>: Sized {
         hasher: S,
         env: E,
     ) -> Result<Cache<K, V, S, Self::Rules, E>, BuildError>
+        ensures shown { IfOk result (shows self) }
         ensures sound { OnOk result (fault self ≡ None) }
         ensures cause { IfErr result (λ e. (fault self ≡ Some e) ⊎ ((e ≡ OutOfMemory) × (fault self ≡ None))) };
 }
@@ -54,10 +60,13 @@ impl<
     F: Drop,
 > Build<K, V> for CacheBuilder<X, W, P, F> {
     ghost use Rattle.front_builder.specs.Building.{fault_of};
+    ghost use Rattle.moka_sync.specs.Shown.{ShowsPlan};
 
     type Rules = Bundle<X, W, P, F>;
 
     ghost fault = { λ builder. fault_of builder.plan };
+
+    ghost shows = { λ builder. ShowsPlan builder.plan };
 
     fn build<E: Env + Drop>(
         self,
@@ -67,6 +76,7 @@ impl<
         self.build_with_hasher(alloc, BuildHasherDefault::new(), env)
     }
 
+    #[tactic(auto, using(crate::proofs::Showing::built_shows))]
     fn build_with_hasher<S: BuildHasher + Drop, E: Env + Drop>(
         self,
         alloc: Global,
@@ -88,7 +98,8 @@ impl<
 impl<K: Eq + Hash + Drop, V: Clone + Drop, E: Env + Drop> Cache<K, V, StdHasher, PlainRules, E> {
     /// A cache that holds at most so many entries, of which nothing else is set.
     pub fn new(alloc: Global, max_capacity: u64, env: E) -> Result<Self, BuildError>
-        ensures { IfErr result (λ e. e ≡ OutOfMemory) }
+        ensures shown { IfOk result (ShowsPlan (record blank { max_capacity = Some max_capacity })) }
+        ensures cause { IfErr result (λ e. e ≡ OutOfMemory) }
     {
         CacheBuilder::new(max_capacity).build(alloc, env)
     }
@@ -100,7 +111,8 @@ impl<K: Eq + Hash + Drop, V: Clone + Drop, E: Env + Drop> Cache<K, V, StdHasher,
         segments: usize,
         env: E,
     ) -> Result<Self, BuildError>
-        ensures { IfErr result (λ e. (segments_fault segments ≡ Some e) ⊎ (e ≡ OutOfMemory)) }
+        ensures shown { IfOk result (ShowsPlan (record blank { max_capacity = Some max_capacity; segments = segments })) }
+        ensures cause { IfErr result (λ e. (segments_fault segments ≡ Some e) ⊎ (e ≡ OutOfMemory)) }
     {
         CacheBuilder::new(max_capacity)
             .segments(segments)

@@ -1,6 +1,8 @@
 //! The cache, and its calls that are one hold of the lock.
-ghost use Rattle.std.specs.Prelude.{◌≡◌, IfErr};
+ghost use Rattle.std.specs.Prelude.{◌≡◌, IfOk, IfErr, option_map};
+ghost use Rattle.std.specs.String.{string_bytes};
 ghost use Rattle.front_reference.specs.declared.errors.CacheError.TheVariants as errors;
+ghost use Rattle.moka_sync.specs.Shown.{ShowsAs};
 ghost use Rattle.sync_slots.specs.Refusals.{IsShortage};
 
 use engine_rules::{Policy, Rules};
@@ -8,6 +10,7 @@ use front_reference::CacheError;
 use front_state::LentState;
 use std::alloc::{AllocError, Global};
 use std::hash::{BuildHasher, Hash};
+use std::marker::Model;
 use std::sync::{Arc, Wait};
 use sync_env::Env;
 use sync_turns::SharedDesk;
@@ -30,8 +33,24 @@ pub struct Cache<K: Eq + Hash, V, S: BuildHasher, R: Rules<K, V>, E> {
     pub(crate) alloc: Global,
 }
 
+impl<K: Eq + Hash, V, S: BuildHasher, R: Rules<K, V>, E> Model for Cache<K, V, S, R, E> {
+    ghost use Rattle.std.specs.Arc.{arc_value};
+    ghost use Rattle.std.specs.Prelude.{option_map};
+    ghost use Rattle.std.specs.String.{string_bytes};
+    ghost use Rattle.moka_sync.specs.Shown.{Shown};
+
+    ghost Value = { Shown };
+
+    ghost view = { λ c. record {
+      name = option_map string_bytes (arc_value c.inner).name;
+      policy = (arc_value c.inner).policy;
+    } };
+}
+
 impl<K: Eq + Hash + Drop, V: Drop, S: BuildHasher + Drop, R: Rules<K, V> + Drop, E: Drop> Clone
     for Cache<K, V, S, R, E> {
+    ghost is_clone = { λ old made. made ≡ old };
+
     fn clone(&self) -> Result<Self, AllocError> {
         Ok(Cache {
             inner: Arc::try_clone(&self.inner)?,
@@ -41,7 +60,9 @@ impl<K: Eq + Hash + Drop, V: Drop, S: BuildHasher + Drop, R: Rules<K, V> + Drop,
 }
 
 /// A copy of a cache's name.
-fn copy_name(alloc: Global, name: Option<&str>) -> Result<Option<String>, AllocError> {
+fn copy_name(alloc: Global, name: Option<&str>) -> Result<Option<String>, AllocError>
+    ensures { IfOk result (λ copy. option_map string_bytes copy ≡ option_map (λ text. text.now) name.entry) }
+{
     match name {
         Some(name) => Ok(Some(String::from_str(alloc, name)?)),
         None => Ok(None),
@@ -60,7 +81,9 @@ impl<
         alloc: Global,
         state: LentState<K, V, S, R>,
         env: E,
-    ) -> Result<Self, AllocError> {
+    ) -> Result<Self, AllocError>
+        ensures { IfOk result (ShowsAs state) }
+    {
         let name = copy_name(alloc, state.name())?;
         let policy = state.policy();
         let inner = Arc::new(
@@ -75,7 +98,9 @@ impl<
     }
 
     /// What the cache is called, if it was given a name.
-    pub fn name(&self) -> Option<&str> {
+    pub fn name(&self) -> Option<&str>
+        ensures { option_map (λ text. text.now) result ≡ self.now.name }
+    {
         match &self.inner.name {
             Some(name) => Some(name.as_str()),
             None => None,
@@ -83,7 +108,9 @@ impl<
     }
 
     /// The wanted capacity, the number of segments, and the times that the cache was made with, up to the last moment that there is.
-    pub fn policy(&self) -> Policy {
+    pub fn policy(&self) -> Policy
+        ensures { result ≡ self.now.policy }
+    {
         self.inner.policy
     }
 
